@@ -1,0 +1,41 @@
+-- Shapes: who takes part, and who of them may lie (the setting of Dolev and Strong 1983: n processors, at most f
+-- of them traitors; the clients are this project's).
+use Rattle.std.specs.Prelude.{◌≡◌, ℕ, ◌*◌, ◌%◌, ◌^◌, ◌<◌, ◌≤◌, Bool, true, false}
+use Rattle.dsr_names.specs.Bits.{is_bit_set, count_below}
+use Rattle.dsr_names.specs.declared.actor.Actor.{Actor}
+use Rattle.dsr_names.specs.declared.actor.Actor.TheVariants.{Replica, Client}
+
+-- n replicas, at most f traitors among them, m clients; bit i of `traitors` says that replica i is a traitor
+pub record Members : Type 0 where
+  pub n : ℕ
+  pub f : ℕ
+  pub m : ℕ
+  pub traitors : ℕ
+
+abbrev pub shape_of : ℕ → ℕ → ℕ → ℕ → Members
+shape_of n f m traitors = record { n = n; f = f; m = m; traitors = traitors }
+
+-- whether the bits of a shape call this replica a traitor
+abbrev pub is_traitor : Members → ℕ → Bool
+is_traitor shape p = is_bit_set shape.traitors p
+
+-- a shape within the limits: 1 to 16 replicas, more than twice as many as traitors are allowed; 1 to 32 clients;
+-- only replicas are traitors, and at most f of them
+pub record IsAllowed (shape : Members) : Type 0 where
+  pub some_replica : 0 < shape.n
+  pub few_replicas : shape.n ≤ 16
+  pub most_loyal : 2 * shape.f < shape.n
+  pub some_client : 0 < shape.m
+  pub few_clients : shape.m ≤ 32
+  pub replicas_alone : shape.traitors < 2 ^ shape.n
+  pub few_traitors : count_below (is_traitor shape) shape.n ≤ shape.f
+
+-- an actor of the shape: a replica below n, or a client below m
+abbrev pub IsActor : Members → Actor → Type 0
+IsActor shape (Replica r) = r < shape.n
+IsActor shape (Client c) = c < shape.m
+
+-- an actor of the shape that is no traitor; clients are loyal
+abbrev pub IsLoyal : Members → Actor → Type 0
+IsLoyal shape (Replica r) = (r < shape.n) × (is_traitor shape r ≡ false)
+IsLoyal shape (Client c) = c < shape.m

@@ -1,0 +1,174 @@
+ghost use Rattle.std.specs.Prelude.{◌≡◌, ◌<◌, ◌↔◌, Some, IsOk, IfOk, IfErr};
+ghost use Rattle.std.specs.Option.{SomeIff};
+ghost use Rattle.dsr_names.specs.declared.actor.Actor.{Actor};
+ghost use Rattle.dsr_names.specs.Actor.{actor_text, IsNumbered};
+
+use crate::refusal::Refusal;
+use crate::token::read_num;
+use std::fmt;
+use std::marker::Model;
+
+/// A replica by its number, from 0 to 15.
+#[derive(Clone, Copy, Debug, PartialEq, Eq)]
+pub struct ReplicaId {
+    number: u8,
+}
+
+impl Model for ReplicaId {
+    ghost use Rattle.std.specs.Prelude.{ℕ, ◌<◌};
+
+    ghost Value = { ℕ };
+
+    ghost view = { λ r. r.number };
+
+    ghost invariant = { λ r. r.number < 16 };
+
+    ghost inverse = { λ n. record { number = n } };
+}
+
+impl ReplicaId {
+    /// Replica 0.
+    pub const FIRST: ReplicaId = ReplicaId { number: 0 };
+
+    /// The replica of this number. `NoActor` from 16 on.
+    pub fn new(number: u8) -> Result<ReplicaId, Refusal>
+        ensures ok { IfOk result (λ replica. replica ≡ number) }
+        ensures when { IsOk result ↔ (number < 16) }
+        ensures refusal { IfErr result (λ e. e ≡ Refusal.NoActor) }
+    {
+        if number < 16 {
+            Ok(ReplicaId { number })
+        } else {
+            Err(Refusal::NoActor)
+        }
+    }
+
+    /// The replica of this number, where it is known to be below 16.
+    pub(crate) fn of(number: u8) -> ReplicaId
+        requires { number < 16 }
+        ensures { result ≡ number }
+    {
+        ReplicaId { number }
+    }
+
+    /// The replica's number, below 16.
+    pub fn number(self) -> u8
+        ensures same { result ≡ self }
+        ensures small { result < 16 }
+    {
+        self.number
+    }
+}
+
+/// A client by its number, from 0 to 31.
+#[derive(Clone, Copy, Debug, PartialEq, Eq)]
+pub struct ClientId {
+    number: u8,
+}
+
+impl Model for ClientId {
+    ghost use Rattle.std.specs.Prelude.{ℕ, ◌<◌};
+
+    ghost Value = { ℕ };
+
+    ghost view = { λ c. c.number };
+
+    ghost invariant = { λ c. c.number < 32 };
+
+    ghost inverse = { λ n. record { number = n } };
+}
+
+impl ClientId {
+    /// Client 0.
+    pub const FIRST: ClientId = ClientId { number: 0 };
+
+    /// The client of this number. `NoActor` from 32 on.
+    pub fn new(number: u8) -> Result<ClientId, Refusal>
+        ensures ok { IfOk result (λ client. client ≡ number) }
+        ensures when { IsOk result ↔ (number < 32) }
+        ensures refusal { IfErr result (λ e. e ≡ Refusal.NoActor) }
+    {
+        if number < 32 {
+            Ok(ClientId { number })
+        } else {
+            Err(Refusal::NoActor)
+        }
+    }
+
+    /// The client's number, below 32.
+    pub fn number(self) -> u8
+        ensures same { result ≡ self }
+        ensures small { result < 32 }
+    {
+        self.number
+    }
+}
+
+/// Whoever takes a step: a replica or a client.
+#[derive(Clone, Copy, Debug, PartialEq, Eq)]
+pub enum Actor {
+    /// A replica, loyal or a traitor.
+    Replica(ReplicaId),
+    /// A client.
+    Client(ClientId),
+}
+
+impl Actor {
+    /// The actor whose token the bytes are, as `r0` or `c31`; `None` exactly where they are no such token.
+    pub fn read(bytes: &[u8]) -> Option<Actor>
+        ensures { (a : Actor) → (result ≡ Some a) ↔ (IsNumbered a × (bytes.now ≡ actor_text a)) }
+    {
+        if bytes.is_empty() {
+            return None;
+        }
+        let number = read_num(&bytes[1..])?;
+        match bytes[0] {
+            b'r' => replica_of(number),
+            b'c' => client_of(number),
+            _ => None,
+        }
+    }
+}
+
+impl fmt::Display for Actor {
+    ghost output = { λ a. Some (actor_text a) };
+
+    fn fmt<W: fmt::Write>(&self, f: &mut fmt::Formatter<W>) -> fmt::Result {
+        match self {
+            Actor::Replica(replica) => {
+                let number = replica.number;
+                write!(f, "r{number}")
+            }
+            Actor::Client(client) => {
+                let number = client.number;
+                write!(f, "c{number}")
+            }
+        }
+    }
+}
+
+/// The replica of this number, where there is one.
+fn replica_of(number: u64) -> Option<Actor>
+    ensures { SomeIff result (number < 16) (Actor.Replica number) }
+{
+    if number < 16 {
+        Some(Actor::Replica(ReplicaId {
+            number: number as u8,
+        }))
+    } else {
+        None
+    }
+}
+
+/// The client of this number, where there is one.
+fn client_of(number: u64) -> Option<Actor>
+    ensures { SomeIff result (number < 32) (Actor.Client number) }
+{
+    if number < 32 {
+        Some(Actor::Client(ClientId {
+            number: number as u8,
+        }))
+    } else {
+        None
+    }
+}

@@ -1,0 +1,16 @@
+ghost use Rattle.std.specs.Prelude.{◌≡◌, ◌≤◌};
+ghost use Rattle.dsr_names.specs.Bits.{is_bit_set, count_below};
+
+/// How many of the lowest `n` bits of `bits` are set.
+pub(crate) fn count_bits(bits: u16, n: u8) -> u8
+    requires { n ≤ 16 }
+    ensures { result ≡ count_below (is_bit_set bits) n }
+{
+    let mut count = 0;
+    for i in 0..n {
+        if (bits >> i) & 1 == 1 {
+            count += 1;
+        }
+    }
+    count
+}

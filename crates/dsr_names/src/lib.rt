@@ -1,0 +1,20 @@
+//! The names that every layer of the directory uses: actors and shapes, refusals, the tokens of all
+//! texts, and whole inputs and outputs.
+#![tactic(auto)]
+
+mod actor;
+mod bits;
+mod input;
+mod output;
+mod outside;
+mod refusal;
+mod shape;
+mod token;
+
+pub use actor::{Actor, ClientId, ReplicaId};
+pub use input::{MOST_BYTES, MOST_CALLS, Source, read_input};
+pub use output::{Sink, write_output};
+pub use outside::Outside;
+pub use refusal::Refusal;
+pub use shape::Shape;
+pub use token::{Old, read_num, read_old, read_val};

@@ -1,0 +1,135 @@
+ghost use Rattle.std.specs.Prelude.{◌≡◌};
+ghost use Rattle.dsr_names.specs.Refusal.{code_of, word_of};
+
+use std::fmt;
+
+/// Why a call was refused. The number of each is its `code`, from 1 to 19.
+#[derive(Clone, Copy, Debug, PartialEq, Eq)]
+pub enum Refusal {
+    /// The replicas, traitors or clients of a shape are outside the limits.
+    BadShape,
+    /// Not a register name.
+    BadName,
+    /// A request number of 0, or of 2^40 and more.
+    BadNumber,
+    /// A request of this client is outstanding.
+    Busy,
+    /// This actor's protocol has no such step now.
+    NotDue,
+    /// The box holds an envelope.
+    BoxFull,
+    /// The box holds none.
+    BoxEmpty,
+    /// A signature is neither by a key held nor known.
+    Forged,
+    /// A counter would pass its limit.
+    Exhausted,
+    /// The gate answered false.
+    Stopped,
+    /// The turns ran out.
+    Unanswered,
+    /// A growth was refused.
+    NoMemory,
+    /// The first line, counted from 1, that is not in the grammar.
+    BadText { line: u64 },
+    /// The lines before are a run, and this one, counted from 1, does not continue it.
+    NotARun { line: u64 },
+    /// Not an actor of the shape.
+    NoActor,
+    /// The actor may not take this part.
+    WrongRole,
+    /// The reader failed, or the input passes its limit.
+    ReadFailed,
+    /// The writer failed, took none of a rest that was not empty, or its calls ran out.
+    WriteFailed,
+    /// A thread could not be started, for want of memory too.
+    NoThread,
+}
+
+impl Refusal {
+    /// The number of this refusal, from 1 to 19.
+    pub fn code(&self) -> u8
+        ensures { result ≡ code_of self.now }
+    {
+        match self {
+            Refusal::BadShape => 1,
+            Refusal::BadName => 2,
+            Refusal::BadNumber => 3,
+            Refusal::Busy => 4,
+            Refusal::NotDue => 5,
+            Refusal::BoxFull => 6,
+            Refusal::BoxEmpty => 7,
+            Refusal::Forged => 8,
+            Refusal::Exhausted => 9,
+            Refusal::Stopped => 10,
+            Refusal::Unanswered => 11,
+            Refusal::NoMemory => 12,
+            Refusal::BadText { .. } => 13,
+            Refusal::NotARun { .. } => 14,
+            Refusal::NoActor => 15,
+            Refusal::WrongRole => 16,
+            Refusal::ReadFailed => 17,
+            Refusal::WriteFailed => 18,
+            Refusal::NoThread => 19,
+        }
+    }
+
+    /// The name of this refusal's variant.
+    pub fn word(&self) -> &'static str
+        ensures { result.now ≡ word_of self.now }
+    {
+        match self {
+            Refusal::BadShape => "BadShape",
+            Refusal::BadName => "BadName",
+            Refusal::BadNumber => "BadNumber",
+            Refusal::Busy => "Busy",
+            Refusal::NotDue => "NotDue",
+            Refusal::BoxFull => "BoxFull",
+            Refusal::BoxEmpty => "BoxEmpty",
+            Refusal::Forged => "Forged",
+            Refusal::Exhausted => "Exhausted",
+            Refusal::Stopped => "Stopped",
+            Refusal::Unanswered => "Unanswered",
+            Refusal::NoMemory => "NoMemory",
+            Refusal::BadText { .. } => "BadText",
+            Refusal::NotARun { .. } => "NotARun",
+            Refusal::NoActor => "NoActor",
+            Refusal::WrongRole => "WrongRole",
+            Refusal::ReadFailed => "ReadFailed",
+            Refusal::WriteFailed => "WriteFailed",
+            Refusal::NoThread => "NoThread",
+        }
+    }
+}
+
+/// The text that a fault prints, without the program's name before it.
+impl fmt::Display for Refusal {
+    ghost use Rattle.std.specs.Prelude.{Some};
+    ghost use Rattle.dsr_names.specs.Refusal.{refusal_text};
+
+    ghost output = { λ r. Some (refusal_text r) };
+
+    fn fmt<W: fmt::Write>(&self, f: &mut fmt::Formatter<W>) -> fmt::Result {
+        match self {
+            Refusal::BadShape => f.write_str("the shape is not allowed"),
+            Refusal::BadName => f.write_str("not a register name"),
+            Refusal::BadNumber => f.write_str("number out of range"),
+            Refusal::Busy => f.write_str("a request is outstanding"),
+            Refusal::NotDue => f.write_str("not due"),
+            Refusal::BoxFull => f.write_str("the box is full"),
+            Refusal::BoxEmpty => f.write_str("the box is empty"),
+            Refusal::Forged => f.write_str("a signature is forged"),
+            Refusal::Exhausted => f.write_str("a counter is exhausted"),
+            Refusal::Stopped => f.write_str("stopped by the gate"),
+            Refusal::Unanswered => f.write_str("no answer within the turns"),
+            Refusal::NoMemory => f.write_str("no memory"),
+            Refusal::BadText { line } => write!(f, "bad text in line {line}"),
+            Refusal::NotARun { line } => write!(f, "not a run at line {line}"),
+            Refusal::NoActor => f.write_str("no such actor"),
+            Refusal::WrongRole => f.write_str("not that actor's part"),
+            Refusal::ReadFailed => f.write_str("reading failed"),
+            Refusal::WriteFailed => f.write_str("writing failed"),
+            Refusal::NoThread => f.write_str("no thread"),
+        }
+    }
+}
