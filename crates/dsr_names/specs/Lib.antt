@@ -1,7 +1,9 @@
 pub mod Actor
 pub mod Bits
 pub mod Output
+pub mod Padded
 pub mod Refusal
 pub mod Shape
 pub mod ShapeText
+pub mod Split
 pub mod Token

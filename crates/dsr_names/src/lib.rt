@@ -9,6 +9,7 @@ mod output;
 mod outside;
 mod refusal;
 mod shape;
+mod split;
 mod token;
 
 pub use actor::{Actor, ClientId, ReplicaId};
@@ -17,4 +18,5 @@ pub use output::{Sink, write_output};
 pub use outside::Outside;
 pub use refusal::Refusal;
 pub use shape::Shape;
+pub use split::split_once;
 pub use token::{Old, read_num, read_old, read_val};

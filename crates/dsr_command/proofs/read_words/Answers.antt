@@ -1,0 +1,1 @@
+use Rattle.dsr_command.proofs.WordLemmas.{IsRefused}

@@ -1,0 +1,19 @@
+-- What a clause says of a reading of the command line.
+use Rattle.dsr_command.specs.declared.Reading.{Reading}
+use Rattle.dsr_command.specs.declared.Reading.TheVariants.{Do, Help, Usage}
+use Rattle.dsr_command.specs.declared.Task.{Task}
+
+-- P of the task, where the reading is one
+abbrev pub IfDo : Reading → (Task → Type 0) → Type 0
+IfDo (Do task) P = P task
+IfDo _ P = Unit {0}
+
+-- P, where the reading is the help
+abbrev pub OnHelp : Reading → Type 0 → Type 0
+OnHelp (Help text) P = P
+OnHelp _ P = Unit {0}
+
+-- P, where the reading is a usage fault
+abbrev pub OnUsage : Reading → Type 0 → Type 0
+OnUsage (Usage text) P = P
+OnUsage _ P = Unit {0}
