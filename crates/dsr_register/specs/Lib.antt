@@ -1,0 +1,3 @@
+pub mod NameText
+pub mod Values
+pub mod NameFields

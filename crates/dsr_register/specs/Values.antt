@@ -1,0 +1,56 @@
+-- What registers hold after a list of operations, newest first, and what the next operation answers (the state
+-- machine of Schneider 1990: an operation's answer hangs on the operations before it alone). A register holds a
+-- number, or none.
+use Rattle.std.specs.Prelude.{ℕ, Bool, ◌&&◌, not, ◌==◌, nat_eq, nat_le, is_none, is_some, if◌then◌else◌, List, [], ◌∷◌, count_by, Option, None, Some}
+use Rattle.std.specs.List.{list_any}
+use Rattle.std.specs.Option.{option_eq}
+use Rattle.std.specs.Str.{bytes_eq}
+use Rattle.dsr_register.specs.declared.op.Op.{Op}
+use Rattle.dsr_register.specs.declared.op.Op.TheVariants.{Read, Write, Swap, Remove}
+use Rattle.dsr_register.specs.declared.answer.Answer.{Answer}
+use Rattle.dsr_register.specs.declared.answer.Answer.TheVariants.{Held, Written, Swapped, Kept, Full, Removed}
+
+-- the register that an operation is on
+abbrev pub register_of : Op → List ℕ
+register_of (Read name) = name
+register_of (Write name value) = name
+register_of (Swap name from to) = name
+register_of (Remove name) = name
+
+-- the registers that operations are on, each once
+abbrev pub registers : List Op → List (List ℕ)
+registers [] = []
+registers (op ∷ older) = if list_any (bytes_eq (register_of op)) (registers older) then registers older else register_of op ∷ registers older
+
+-- whether 1,024 of these registers hold a number
+abbrev pub is_full : (List ℕ → Option ℕ) → List (List ℕ) → Bool
+is_full value names = nat_le 1024 (count_by (λ name. is_some (value name)) names)
+
+-- what the operation leaves in its register, which held `held`; a write or a swap may fill an empty register only
+-- where not all 1,024 are taken
+abbrev pub left_by : Op → Option ℕ → Bool → Option ℕ
+left_by (Read name) held full = held
+left_by (Write name value) held full = if is_none held && full then held else Some value
+left_by (Swap name from to) held full = if option_eq nat_eq held from && not (is_none held && full) then Some to else held
+left_by (Remove name) held full = None
+
+-- what the register holds after the operations: what the latest operation on it left
+abbrev pub value : List Op → List ℕ → Option ℕ
+value [] name = None
+value (op ∷ older) name =
+    if bytes_eq (register_of op) name then left_by op (value older name) (is_full (λ other. value older other) (registers older)) else value older name
+
+-- how many registers hold a number after the operations
+abbrev pub count_held : List Op → ℕ
+count_held ops = count_by (λ name. is_some (value ops name)) (registers ops)
+
+-- what an operation on a register that holds `held` answers
+abbrev pub answer_on : Op → Option ℕ → Bool → Answer
+answer_on (Read name) held full = Held held
+answer_on (Write name value) held full = if is_none held && full then Full else Written
+answer_on (Swap name from to) held full = if not (option_eq nat_eq held from) then Kept held else (if is_none held && full then Full else Swapped)
+answer_on (Remove name) held full = Removed held
+
+-- what the operation answers after the older ones
+abbrev pub answer_after : List Op → Op → Answer
+answer_after older op = answer_on op (value older (register_of op)) (is_full (λ other. value older other) (registers older))
