@@ -1,1 +1,4 @@
 mod Names
+mod PlaceLemmas
+mod TableLemmas
+mod ValueLemmas

@@ -1,3 +1,4 @@
 pub mod NameText
+pub mod Table
 pub mod Values
 pub mod NameFields

@@ -2,9 +2,11 @@
 #![tactic(auto)]
 
 mod answer;
+mod directory;
 mod name;
 mod op;
 
 pub use answer::Answer;
+pub use directory::Directory;
 pub use name::Name;
 pub use op::Op;

@@ -2,6 +2,7 @@ ghost use Rattle.std.specs.Prelude.{◌≡◌, ◌↔◌, ◌∷◌, [], Some, I
 ghost use Rattle.dsr_register.specs.NameText.{IsName, is_name_byte};
 
 use dsr_names::Refusal;
+use std::cmp::Ordering;
 use std::hash::{Hash, Hasher};
 use std::marker::Model;
 use std::{fmt, str};
@@ -54,6 +55,8 @@ fn is_name(bytes: &[u8]) -> bool
 }
 
 impl Name {
+    ghost use Rattle.dsr_register.specs.Table.{is_before};
+
     /// The name that the bytes spell. `BadName` exactly where they are empty, more than 32, or have
     /// another byte than a name's.
     pub fn read(bytes: &[u8]) -> Result<Name, Refusal>
@@ -89,6 +92,13 @@ impl Name {
             Ok(text) => text,
             Err(_) => unreachable!(),
         }
+    }
+
+    /// Whether this name comes before the other in the order of their bytes.
+    pub(crate) fn is_before(&self, other: &Name) -> bool
+        ensures { result ≡ is_before self.now other.now }
+    {
+        self.as_bytes().cmp(other.as_bytes()) == Ordering::Less
     }
 
     /// Whether two names are the same name.

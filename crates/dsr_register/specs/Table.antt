@@ -1,0 +1,46 @@
+-- The table of registers as contracts see it: the registers that hold a number, by rising names.
+use Rattle.std.specs.Prelude.{◌≡◌, ℕ, ◌≤◌, Bool, take, drop, length, List, [], ◌∷◌, Option, Some, slice_get}
+use Rattle.std.specs.List.{AllByRecursion}
+use Rattle.std.specs.Map.{lookup}
+use Rattle.std.specs.Ordering.{nat_cmp, is_lt}
+use Rattle.std.specs.Cmp.Lexicographic.{slice_cmp}
+use Rattle.std.specs.declared.cmp.Ordering.{Ordering}
+use Rattle.std.specs.declared.cmp.Ordering.TheVariants.{Less}
+use Rattle.std.specs.Str.{bytes_eq}
+use Rattle.dsr_register.specs.declared.op.Op.{Op}
+use Rattle.dsr_register.specs.Values.{value}
+
+-- the register's number, or none where the table lacks its name
+abbrev pub content : List (List ℕ × ℕ) → List ℕ → Option ℕ
+content table name = lookup (bytes_eq name) table
+
+-- the table stands for the operations: each register holds what they left there
+abbrev pub StandsFor : List (List ℕ × ℕ) → List Op → Type 0
+StandsFor table ops = (name : List ℕ) → content table name ≡ value ops name
+
+-- the order of names, byte by byte
+abbrev pub compare_names : List ℕ → List ℕ → Ordering
+compare_names = slice_cmp nat_cmp
+
+-- the first name comes before the second
+abbrev pub is_before : List ℕ → List ℕ → Bool
+is_before x y = is_lt (compare_names x y)
+
+-- each entry's name comes after this one
+abbrev pub IsBelowEach : List ℕ → List (List ℕ × ℕ) → Type 0
+IsBelowEach name table = AllByRecursion (λ entry. compare_names name entry.0 ≡ Less) table
+
+-- the names rise strictly
+abbrev pub IsAscending : List (List ℕ × ℕ) → Type 0
+IsAscending [] = Unit {0}
+IsAscending (entry ∷ rest) = IsBelowEach entry.0 rest × IsAscending rest
+
+-- the entry at the place is that of the register
+abbrev pub IsEntryOf : List (List ℕ × ℕ) → ℕ → List ℕ → Type 0
+IsEntryOf table place name = (number : ℕ) × (slice_get table place ≡ Some (name, number))
+
+-- the register has no entry, and its place among the others is this one
+pub record IsGapFor (table : List (List ℕ × ℕ)) (place : ℕ) (name : List ℕ) : Type 0 where
+  pub within : place ≤ length table
+  pub below : AllByRecursion (λ entry. compare_names entry.0 name ≡ Less) (take place table)
+  pub above : IsBelowEach name (drop place table)

@@ -1,0 +1,178 @@
+use std::alloc::Global;
+use std::marker::Model;
+
+use dsr_names::Refusal;
+
+use crate::answer::Answer;
+use crate::name::Name;
+use crate::op::Op;
+
+ghost use Rattle.std.specs.Prelude.{◌≡◌, ℕ, ◌<◌, ◌≤◌, ◌↔◌, ◌&&◌, ◌∷◌, [], List, Option, None, Some, Ok, true, false, not, is_none, nat_le, length, if◌then◌else◌, IfOk, IfErr, IsTrue};
+ghost use Rattle.std.specs.Str.{bytes_eq};
+ghost use Rattle.std.specs.List.Sorted.{IsPartitionPoint};
+ghost use Rattle.dsr_register.specs.declared.op.Op.{Op};
+ghost use Rattle.dsr_register.specs.Values.{value, count_held, answer_after, answer_on, left_by, register_of};
+ghost use Rattle.dsr_register.specs.Table.{content, is_before, StandsFor, IsEntryOf, IsGapFor, IsAscending};
+
+/// The most registers that hold a value.
+const MOST_REGISTERS: usize = 1024;
+
+/// The registers that hold a value, at most 1,024, by their names. Its memory is taken at once when it
+/// is made, and none after that.
+#[derive(Drop)]
+pub struct Directory {
+    entries: Vec<(Name, u64)>,
+}
+
+impl Model for Directory {
+    ghost use Rattle.std.specs.Prelude.{List, ℕ, ◌≤◌, length, vec_capacity};
+    ghost use Rattle.dsr_register.specs.Table.{IsAscending};
+
+    ghost Value = { List (List ℕ × ℕ) };
+
+    ghost view = { λ d. d.entries.items };
+
+    ghost invariant = { λ d. IsAscending d.entries.items × (length d.entries.items ≤ 1024) × (1024 ≤ vec_capacity d.entries) };
+}
+
+impl Directory {
+    /// A directory in which no register holds a value, with the room for all that it can ever hold.
+    /// `NoMemory` where that room is refused.
+    pub fn new(alloc: Global) -> Result<Directory, Refusal>
+        ensures empty { IfOk result (λ directory. StandsFor directory []) }
+        ensures refusal { IfErr result (λ e. e ≡ Refusal.NoMemory) }
+    {
+        match Vec::with_capacity(alloc, MOST_REGISTERS) {
+            Ok(entries) => Ok(Directory { entries }),
+            Err(_) => Err(Refusal::NoMemory),
+        }
+    }
+
+    /// Takes every value out, and keeps the room.
+    pub fn clear(&mut self)
+        ensures { StandsFor self.new [] }
+    {
+        self.entries.clear();
+    }
+
+    /// What the register holds.
+    pub fn get(&self, name: &Name) -> Option<u64>
+        ensures content { result ≡ content self.now name.now }
+        ensures value { (ops : List Op) → StandsFor self.now ops → result ≡ value ops name.now }
+    {
+        match self.find(name) {
+            Ok(place) => Some(self.entries[place].1),
+            Err(_) => None,
+        }
+    }
+
+    /// How many registers hold a value, at most 1,024.
+    pub fn len(&self) -> usize
+        ensures entries { result ≡ length self.now }
+        ensures count { (ops : List Op) → StandsFor self.now ops → result ≡ count_held ops }
+        ensures few { result ≤ 1024 }
+    {
+        self.entries.len()
+    }
+
+    /// Whether no register holds a value.
+    pub fn is_empty(&self) -> bool
+        ensures { (ops : List Op) → StandsFor self.now ops → IsTrue result ↔ (count_held ops ≡ 0) }
+    {
+        self.len() == 0
+    }
+
+    /// How many registers of the table have a name before this one.
+    fn place_of(&self, name: &Name) -> usize
+        ensures within { result ≤ length self.now }
+        ensures place { IsPartitionPoint (λ e. is_before e.0 name.now ≡ true) (λ e. is_before e.0 name.now ≡ false) self.now result }
+    {
+        let entries = self.entries.as_slice();
+        entries.partition_point(|entry| entry.0.is_before(name))
+    }
+
+    /// Where the register stands, or where it would.
+    fn find(&self, name: &Name) -> Result<usize, usize>
+        ensures found { IfOk result (λ place. IsEntryOf self.now place name.now) }
+        ensures gap { IfErr result (λ place. IsGapFor self.now place name.now) }
+    {
+        let place = self.place_of(name);
+        if place < self.entries.len() && self.entries[place].0.same(name) {
+            Ok(place)
+        } else {
+            Err(place)
+        }
+    }
+
+    /// Lets the register hold the value, if it holds one or not all 1,024 are taken.
+    fn put(&mut self, name: Name, value: u64) -> bool
+        ensures done { result ≡ not (is_none (content self.old name) && nat_le 1024 (length self.old)) }
+        ensures contents { (other : List ℕ) → content self.new other ≡ (if bytes_eq name other && result then Some value else content self.old other) }
+    {
+        match self.find(&name) {
+            Ok(place) => {
+                self.entries[place] = (name, value);
+                true
+            }
+            Err(place) => {
+                let has_room = self.len() < MOST_REGISTERS;
+                has_room && self.entries.insert(place, (name, value)).is_ok()
+            }
+        }
+    }
+
+    /// Takes the register's value out.
+    fn take(&mut self, name: &Name) -> Option<u64>
+        ensures held { result ≡ content self.old name.now }
+        ensures contents { (other : List ℕ) → content self.new other ≡ (if bytes_eq name.now other then None else content self.old other) }
+    {
+        match self.find(name) {
+            Ok(place) => Some(self.entries.remove(place).1),
+            Err(_) => None,
+        }
+    }
+
+    /// Does the operation and answers it. It takes no memory.
+    pub fn apply(&mut self, op: Op) -> Answer
+        ensures answer { (ops : List Op) → StandsFor self.old ops → result ≡ answer_after ops op }
+        ensures change { (ops : List Op) → StandsFor self.old ops → StandsFor self.new (op ∷ ops) }
+    {
+        match op {
+            Op::Read { name } => Answer::Held(self.get(&name)),
+            Op::Write { name, value } => self.write(name, value),
+            Op::Swap { name, from, to } => self.swap(name, from, to),
+            Op::Remove { name } => Answer::Removed(self.take(&name)),
+        }
+    }
+
+    /// Lets the register hold the value, if it may hold one.
+    fn write(&mut self, name: Name, value: u64) -> Answer
+        ensures rises { IsAscending self.old }
+        ensures answer { result ≡ answer_on (Op.Write name value) (content self.old name) (nat_le 1024 (length self.old)) }
+        ensures contents { (other : List ℕ) → content self.new other ≡ (if bytes_eq name other then left_by (Op.Write name value) (content self.old other) (nat_le 1024 (length self.old)) else content self.old other) }
+    {
+        let _ = &self.entries;
+        if self.put(name, value) {
+            Answer::Written
+        } else {
+            Answer::Full
+        }
+    }
+
+    /// Lets the register hold `to`, if it holds `from` and may hold a value.
+    fn swap(&mut self, name: Name, from: Option<u64>, to: u64) -> Answer
+        ensures rises { IsAscending self.old }
+        ensures answer { result ≡ answer_on (Op.Swap name from to) (content self.old name) (nat_le 1024 (length self.old)) }
+        ensures contents { (other : List ℕ) → content self.new other ≡ (if bytes_eq name other then left_by (Op.Swap name from to) (content self.old other) (nat_le 1024 (length self.old)) else content self.old other) }
+    {
+        let _ = &self.entries;
+        let held = self.get(&name);
+        if held != from {
+            Answer::Kept(held)
+        } else if self.put(name, to) {
+            Answer::Swapped
+        } else {
+            Answer::Full
+        }
+    }
+}
