@@ -1,0 +1,67 @@
+use std::alloc::Global;
+use std::marker::Model;
+
+use dsr_names::{ClientId, Refusal};
+
+use crate::reply::Reply;
+
+ghost use Rattle.std.specs.Prelude.{◌≡◌, ◌<◌, ◌↔◌, None, Some, IfOk, IfErr, IsTrue, length, replicate, slice_set};
+ghost use Rattle.dsr_ledger.specs.Kept.{kept_of, Acts};
+
+/// The last reply of each client of a shape, if it had one.
+#[derive(Drop)]
+pub struct Ledger {
+    replies: Vec<Option<Reply>>,
+}
+
+impl Model for Ledger {
+    ghost use Rattle.std.specs.Prelude.{List, Option};
+    ghost use Rattle.dsr_ledger.specs.declared.reply.Reply.{Reply};
+
+    ghost Value = { List (Option Reply) };
+
+    ghost view = { λ ledger. ledger.replies.items };
+}
+
+impl Ledger {
+    /// The ledger of `clients` clients, none of which had a reply. Its memory is taken here, and none
+    /// after that. `NoMemory` where it is refused.
+    pub fn new(alloc: Global, clients: u8) -> Result<Ledger, Refusal>
+        ensures empty { IfOk result (λ ledger. ledger ≡ replicate clients None) }
+        ensures refusal { IfErr result (λ e. e ≡ Refusal.NoMemory) }
+    {
+        match vec![in alloc; None; clients as usize] {
+            Ok(replies) => Ok(Ledger { replies }),
+            Err(_) => Err(Refusal::NoMemory),
+        }
+    }
+
+    /// Whether a request of this client with this number would act: its number is above the one of the
+    /// kept reply, or at least 1 where none is kept.
+    pub fn acts(&self, client: ClientId, number: u64) -> bool
+        requires { client < length self.now }
+        ensures { IsTrue result ↔ Acts (kept_of self.now client) number }
+    {
+        match self.kept(client) {
+            Some(reply) => reply.number < number,
+            None => number > 0,
+        }
+    }
+
+    /// The client's last reply.
+    pub fn kept(&self, client: ClientId) -> Option<Reply>
+        requires { client < length self.now }
+        ensures { result ≡ kept_of self.now client }
+    {
+        self.replies[client.number() as usize]
+    }
+
+    /// Keeps this reply as the client's last one; its number is one that acts.
+    pub fn note(&mut self, client: ClientId, reply: Reply)
+        requires inside { client < length self.old }
+        requires acts { Acts (kept_of self.old client) reply.number }
+        ensures { self.new ≡ slice_set self.old client (Some reply) }
+    {
+        self.replies[client.number() as usize] = Some(reply);
+    }
+}
