@@ -1,0 +1,12 @@
+-- Requests as contracts see them (Schneider 1990: a request names its client, and clients number theirs).
+use Rattle.std.specs.Prelude.{ℕ}
+use Rattle.dsr_register.specs.declared.op.Op.{Op}
+
+-- an operation that a client issued under a number
+pub record Issued : Type 0 where
+  pub client : ℕ
+  pub number : ℕ
+  pub op : Op
+
+abbrev pub issued : ℕ → ℕ → Op → Issued
+issued client number op = record { client = client; number = number; op = op }

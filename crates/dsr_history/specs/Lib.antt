@@ -1,0 +1,2 @@
+pub mod Issued
+pub mod RequestsFields

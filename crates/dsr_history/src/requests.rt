@@ -1,0 +1,73 @@
+use std::marker::Model;
+
+use crate::request::Request;
+
+ghost use Rattle.std.specs.Prelude.{◌≡◌, ◌<◌, ◌≤◌, ◌↔◌, length, slice_get, IsSome, IfSome, IsTrue};
+
+/// The most requests of one value.
+const MOST_REQUESTS: usize = 8;
+
+/// A list of 1 to 8 requests, of fixed size: it is copied without taking memory.
+#[derive(Clone, Copy, Debug)]
+pub struct Requests {
+    items: [Request; 8],
+    len: u8,
+}
+
+impl Model for Requests {
+    ghost use Rattle.std.specs.Prelude.{List, take};
+    ghost use Rattle.dsr_history.specs.Issued.{Issued};
+
+    ghost Value = { List Issued };
+
+    ghost use Rattle.dsr_history.specs.RequestsFields.{IsRequestsFields, requests_fields, fields_back};
+
+    ghost view = { λ r. take r.len r.items };
+
+    ghost invariant = { IsRequestsFields };
+
+    ghost inverse = { requests_fields };
+
+    ghost inverse_ok = { fields_back };
+}
+
+impl Requests {
+    /// The list of these requests. `None` where there are none, or more than 8.
+    pub fn of(requests: &[Request]) -> Option<Requests>
+        ensures some { IfSome result (λ list. list ≡ requests.now) }
+        ensures when { IsSome result ↔ ((0 < length requests.now) × (length requests.now ≤ 8)) }
+    {
+        let len = requests.len();
+        if len == 0 || len > MOST_REQUESTS {
+            return None;
+        }
+        let mut items = [requests[0]; MOST_REQUESTS];
+        items[..len].copy_from_slice(requests);
+        Some(Requests { items, len: len as u8 })
+    }
+
+    /// The requests in their order, 1 to 8 of them.
+    pub fn as_slice(&self) -> &[Request]
+        ensures same { result.now ≡ self.now }
+        ensures some { 0 < length self.now }
+        ensures few { length self.now ≤ 8 }
+    {
+        &self.items[..self.len as usize]
+    }
+
+    /// How many there are, 1 to 8.
+    pub fn len(&self) -> usize
+        ensures same { result ≡ length self.now }
+        ensures some { 0 < result }
+        ensures few { result ≤ 8 }
+    {
+        self.len as usize
+    }
+
+    /// The request at this place, counted from 0.
+    pub fn get(&self, place: usize) -> Option<Request>
+        ensures { result ≡ slice_get self.now place }
+    {
+        self.as_slice().get(place).copied()
+    }
+}
