@@ -1,1 +1,2 @@
+pub mod HistoryLaws
 mod RequestLists

@@ -1,8 +1,10 @@
 //! The sequential directory as a machine: which requests act, in which order, and what each is answered.
 #![tactic(auto)]
 
+mod laws;
 mod request;
 mod requests;
 
+pub use laws::{history_is_legal, history_only_grows};
 pub use request::Request;
 pub use requests::Requests;

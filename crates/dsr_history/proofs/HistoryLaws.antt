@@ -1,0 +1,81 @@
+-- Laws over histories.
+use Rattle.std.proofs.Common.{◌≡◌, ◌≢◌, ℕ, zero, suc, ◌+◌, ◌<◌, ◌≤◌, Bool, true, false, cond, not, ◌&&◌, ◌||◌, nat_eq, nat_lt, List, [], ◌∷◌, ◌++◌, length, map, reverse, Option, None, Some, max, refl, sym, ◌∙◌, ap, subst, arith, append_assoc, length-append, eq-eqb}
+use borrow.Author.Tests.{ltb-true}
+use Rattle.std.specs.List.{AllByRecursion}
+use Rattle.std.proofs.lemmas.Bool.Decides.{nat_tests}
+use Rattle.std.proofs.lemmas.Bool.{ne_eqb, eqb-false}
+use Rattle.dsr_register.specs.Values.{answer_after}
+use Rattle.dsr_ledger.specs.declared.reply.Reply.{Reply}
+use Rattle.dsr_history.specs.Issued.{Issued}
+use Rattle.dsr_history.specs.History.{requests_of, rises_above, acting, acted, operations, answer_at, reply_in, IsLegal, GrewFrom}
+
+-- prefixes
+
+pub requests-append : (newer older : List (List Issued)) → requests_of (newer ++ older) ≡ requests_of newer ++ requests_of older
+requests-append [] older = refl
+requests-append (v ∷ newer) older = ap (λ rs. reverse v ++ rs) (requests-append newer older) ∙ sym (append_assoc (reverse v) (requests_of newer) (requests_of older))
+
+acting_step : (b : Bool) (request : Issued) (h earlier newer : List Issued) → h ≡ newer ++ earlier
+    → (more : List Issued) × (cond b (request ∷ h) h ≡ more ++ earlier)
+acting_step true request h earlier newer e = (request ∷ newer, ap (λ l. request ∷ l) e)
+acting_step false request h earlier newer e = (newer, e)
+
+acting-append : (newer older : List Issued) → (more : List Issued) × (acting (newer ++ older) ≡ more ++ acting older)
+acting-append [] older = ([], refl)
+acting-append (r ∷ newer) older =
+    let rest = acting-append newer older in
+    acting_step (rises_above r (newer ++ older)) r (acting (newer ++ older)) (acting older) rest.0 rest.1
+
+answer_kept : (newer earlier : List Issued) (place : ℕ) → place < length earlier → answer_at (newer ++ earlier) place ≡ answer_at earlier place
+answer_kept [] earlier place h = refl
+answer_kept (r ∷ newer) earlier place h =
+    let other : nat_eq (length (newer ++ earlier)) place ≡ false =
+    ne_eqb (length (newer ++ earlier)) place (λ e. omega (arith, length-append newer earlier)) in
+    rw other (answer_kept newer earlier place h)
+
+pub grew_from : (newer values : List (List Issued)) → GrewFrom (acted values) (acted (newer ++ values))
+grew_from newer values =
+    let parts = acting-append (requests_of newer) (requests_of values) in
+    let is : acted (newer ++ values) ≡ parts.0 ++ acted values = ap acting (requests-append newer values) ∙ parts.1 in
+    record {
+      newer = parts.0;
+      is = is;
+      answers = λ place h. ap (λ later. answer_at later place) is ∙ answer_kept parts.0 (acted values) place h;
+    }
+
+-- numbers rise
+
+both_true : (a b : Bool) → (a && b) ≡ true → (a ≡ true) × (b ≡ true)
+both_true true b h = (refl, h)
+both_true false b h = cc
+
+number_above : (same below : Bool) → (not same || below) ≡ true → same ≡ true → below ≡ true
+number_above true below h e = h
+number_above false below h e = cc
+
+ltb_holds : (a b : ℕ) → nat_lt a b ≡ true → a < b
+ltb_holds a b h = ltb-true a b h
+
+-- what rises above all older requests rises above those that act
+legal_head : (request : Issued) (older : List Issued) → rises_above request older ≡ true
+    → AllByRecursion (λ q. q.client ≡ request.client → q.number < request.number) (acting older)
+legal_head request [] h = tt
+legal_head request (r ∷ older) h =
+    let parts = both_true (not (nat_eq r.client request.client) || nat_lt r.number request.number) (rises_above request older) h in
+    kept (rises_above r older)
+    (λ same. ltb_holds r.number request.number (number_above (nat_eq r.client request.client) (nat_lt r.number request.number) parts.0 (eq-eqb r.client request.client same)))
+    (legal_head request older parts.1)
+  where
+    kept : (b : Bool) → (r.client ≡ request.client → r.number < request.number)
+        → AllByRecursion (λ q. q.client ≡ request.client → q.number < request.number) (acting older)
+        → AllByRecursion (λ q. q.client ≡ request.client → q.number < request.number) (cond b (r ∷ acting older) (acting older))
+    kept true first rest = (first, rest)
+    kept false first rest = rest
+
+legal_step : (b : Bool) (request : Issued) (older : List Issued) → b ≡ rises_above request older → IsLegal (acting older) → IsLegal (cond b (request ∷ acting older) (acting older))
+legal_step true request older e h = (legal_head request older (sym e), h)
+legal_step false request older e h = h
+
+pub legal_acting : (requests : List Issued) → IsLegal (acting requests)
+legal_acting [] = tt
+legal_acting (r ∷ older) = legal_step (rises_above r older) r older refl (legal_acting older)

@@ -1,0 +1,59 @@
+-- Which requests act, and what each is answered. Values, requests and histories stand newest first: a place is the
+-- number of older requests. A value is the list of requests that one slot decides, oldest first; the empty one is idle.
+use Rattle.std.specs.Prelude.{◌≡◌, ℕ, ◌+◌, ◌<◌, Bool, true, not, ◌&&◌, ◌||◌, ◌==◌, nat_lt, if◌then◌else◌, List, [], ◌∷◌, ◌++◌, length, map, reverse, Option, None, Some}
+use Rattle.std.specs.List.{AllByRecursion}
+use Rattle.dsr_register.specs.declared.op.Op.{Op}
+use Rattle.dsr_register.specs.declared.answer.Answer.{Answer}
+use Rattle.dsr_register.specs.Values.{answer_after}
+use Rattle.dsr_ledger.specs.declared.reply.Reply.{Reply}
+use Rattle.dsr_history.specs.Issued.{Issued}
+
+-- the requests of the values, each value's in the order of its list
+abbrev pub requests_of : List (List Issued) → List Issued
+requests_of [] = []
+requests_of (requests ∷ older) = reverse requests ++ requests_of older
+
+-- whether the request's number is greater than every number of its client among the older requests
+abbrev pub rises_above : Issued → List Issued → Bool
+rises_above request [] = true
+rises_above request (r ∷ older) = (not (r.client == request.client) || nat_lt r.number request.number) && rises_above request older
+
+-- the requests that act: those that rise above all older ones of their client (Schneider 1990: each request of a
+-- client is processed once, in the order in which the client issued them)
+abbrev pub acting : List Issued → List Issued
+acting [] = []
+acting (request ∷ older) = if rises_above request older then request ∷ acting older else acting older
+
+-- the history of the values: their requests that act
+abbrev pub acted : List (List Issued) → List Issued
+acted values = acting (requests_of values)
+
+-- the operations of the requests
+abbrev pub operations : List Issued → List Op
+operations requests = map (λ r. r.op) requests
+
+-- what the request at this place of the history is answered; none past the end
+abbrev pub answer_at : List Issued → ℕ → Option Answer
+answer_at [] place = None
+answer_at (r ∷ older) place = if length older == place then Some (answer_after (operations older) r.op) else answer_at older place
+
+-- the reply to the client's last request in the history: its number, its place and its answer
+abbrev pub reply_in : List Issued → ℕ → Option Reply
+reply_in [] client = None
+reply_in (r ∷ older) client =
+    if r.client == client then Some (record { number = r.number; place = length older; answer = answer_after (operations older) r.op }) else reply_in older client
+
+-- the reply to the client's last request that acted
+abbrev pub reply : List (List Issued) → ℕ → Option Reply
+reply values client = reply_in (acted values) client
+
+-- within each client the numbers rise strictly
+abbrev pub IsLegal : List Issued → Type 0
+IsLegal [] = Unit {0}
+IsLegal (r ∷ older) = AllByRecursion (λ q. q.client ≡ r.client → q.number < r.number) older × IsLegal older
+
+-- the later history is the earlier one with newer requests, and each place of the earlier one keeps its answer
+pub record GrewFrom (earlier later : List Issued) : Type 0 where
+  pub newer : List Issued
+  pub is : later ≡ newer ++ earlier
+  pub answers : (place : ℕ) → place < length earlier → answer_at later place ≡ answer_at earlier place
