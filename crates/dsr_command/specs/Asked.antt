@@ -1,6 +1,7 @@
 -- What each list of words asks for, the program's own name left out.
-use Rattle.std.specs.Prelude.{◌||◌, Bool, List, [], ◌∷◌, ℕ, codes, if◌then◌else◌, nat_eq}
-use Rattle.std.specs.List.{starts_with}
+use Rattle.std.specs.Prelude.{◌&&◌, ◌||◌, Bool, List, [], ◌∷◌, ℕ, codes, drop, if◌then◌else◌}
+use Rattle.std.specs.Prelude.{nat_eq}
+use Rattle.std.specs.List.{list_any, starts_with}
 use Rattle.std.specs.Str.{bytes_eq, chars}
 use Rattle.dsr_command.specs.declared.Task.{Task}
 use Rattle.dsr_command.specs.declared.Task.TheVariants.{Apply}
@@ -11,9 +12,14 @@ pub data Asked : Type 0 where
   help : Asked
   unknown : Asked
 
--- the word is `--help`, or its characters begin with `-h`
+-- the word is `--help`, or a hyphen and then characters that begin with `h`
 abbrev pub is_help : List ℕ → Bool
-is_help word = bytes_eq word (codes "--help") || starts_with nat_eq (chars word) (codes "-h")
+is_help word = bytes_eq word (codes "--help")
+    || (starts_with nat_eq word (codes "-") && starts_with nat_eq (chars (drop 1 word)) (codes "h"))
+
+-- whether one of the words is `--`
+abbrev pub has_two_hyphens : List (List ℕ) → Bool
+has_two_hyphens words = list_any (λ word. bytes_eq word (codes "--")) words
 
 -- what a word asks for that names no task: the help, or nothing known
 abbrev pub asked_by_other : List ℕ → Asked

@@ -2,12 +2,10 @@
 #![tactic(auto)]
 
 ghost use Rattle.std.specs.Prelude.{◌≡◌, ◌≢◌, IfOk, codes, false, map};
-ghost use Rattle.std.specs.List.{list_any};
-ghost use Rattle.std.specs.Str.{bytes_eq};
-ghost use Rattle.clap.specs.Words.{app_of, kind_of, new_app};
+ghost use Rattle.clap.specs.Words.{FailsBy, app_of, fault_of, kind_of, new_app};
 ghost use Rattle.clap.specs.declared.builder.command.Command.TheViews.{out-Command as fields_of};
-ghost use Rattle.clap.specs.declared.error.kind.ErrorKind.TheVariants.{DisplayHelp, OutOfMemory};
-ghost use Rattle.dsr_command.specs.Asked.{asked_of, help, task, unknown};
+ghost use Rattle.clap.specs.declared.error.kind.ErrorKind.TheVariants.{DisplayHelp, OutOfMemory, UnknownArgument};
+ghost use Rattle.dsr_command.specs.Asked.{asked_of, has_two_hyphens, help, task, unknown};
 ghost use Rattle.dsr_command.specs.CommandLine.{command_line, program};
 ghost use Rattle.dsr_command.specs.Readings.{IfDo, OnHelp, OnUsage};
 
@@ -16,25 +14,31 @@ use clap::{Command, Error};
 use std::alloc::{AllocError, Global};
 use std::convert::AsStr;
 
-const ABOUT: &str = "dsr keeps a directory of named registers, each of them free or holding a number.\n\
-Clients, c0 to c31, send it numbered requests, and it answers each of them.\n\
-With no command it does what `dsr apply` does.";
+const ABOUT: &str = "dsr keeps a directory of named registers, each free or holding a number.\n\
+Clients send it numbered requests, and it answers each of them.\n\
+Without a command it does what `dsr apply` does.";
 
-const AFTER_HELP: &str = "Examples:\n  \
+const EXAMPLES: &str = "Examples:\n  \
 $ printf 'c0 1 write a 5\\n' | dsr\n  \
 0 written\n\n  \
 $ printf 'c0 1 write a 5\\nc0 2 read a\\n' | dsr apply\n  \
 0 written\n  \
 1 held 5\n\n\
 Exit status:\n  \
-0  each line of the input was answered\n  \
+0  the whole input was answered, or help was shown\n  \
 1  the input was refused, or reading or writing failed\n  \
 2  the words of the command line were not understood\n  \
 3  memory ran out";
 
-const APPLY_ABOUT: &str = "Answer the request lines of standard input, one line for each";
+const APPLY_ABOUT: &str = "Read request lines from standard input, and write one line for each";
 
-const APPLY_AFTER_HELP: &str = "x";
+const APPLY_EXAMPLE: &str =
+    "A request line has a client, the number of its request, and an operation.\n\
+The line written for it has the place of the request and its answer.\n\n\
+Example:\n  \
+$ printf 'c0 1 write a 5\\nc0 2 read a\\n' | dsr apply\n  \
+0 written\n  \
+1 held 5";
 
 /// What the program was asked to do.
 #[derive(Clone, Copy, Debug, PartialEq, Eq)]
@@ -59,38 +63,56 @@ pub enum Reading {
 
 /// Reads the words that follow the program's own name on its command line. Only `NoMemory` may
 /// come whatever the words are.
+#[tactic(auto, using(crate::proofs::ReadingLemmas::readings))]
 pub fn read_words<S: AsStr>(alloc: Global, words: &[S]) -> Reading
     ensures task { IfDo result (λ done. asked_of (map S.text words.now) ≡ task done) }
     ensures help { OnHelp result (asked_of (map S.text words.now) ≡ help) }
     ensures usage { OnUsage result (asked_of (map S.text words.now) ≡ unknown) }
 {
-    let mut command = match dsr_command(alloc) {
-        Ok(command) => command,
-        Err(_) => return Reading::NoMemory,
-    };
-    match command.try_get_matches_from_mut(words) {
-        Ok(_) if has_separator(words) => separator_refused(alloc, &mut command),
-        Ok(_) => Reading::Do(Task::Apply),
+    match parse(alloc, words) {
+        Ok(()) if has_separator(words) => separator_refused(alloc),
+        Ok(()) => Reading::Do(Task::Apply),
         Err(error) => reading_of(alloc, &error),
     }
 }
 
+/// Whether `clap` takes the words.
+fn parse<S: AsStr>(alloc: Global, words: &[S]) -> Result<(), Error>
+    ensures { FailsBy (fault_of command_line (map S.text words.now)) result }
+{
+    let command = dsr_command(alloc)?;
+    command.try_get_matches_from(words)?;
+    Ok(())
+}
+
 /// Whether a word is `--`, which `clap` reads over and the program does not know.
 fn has_separator<S: AsStr>(words: &[S]) -> bool
-    ensures { result ≡ list_any (bytes_eq (codes "--")) (map S.text words.now) }
+    ensures { result ≡ has_two_hyphens (map S.text words.now) }
 {
-    words.iter().any(|word| word.as_str() == "--")
+    for word in words {
+        if word.as_str() == "--" {
+            return true;
+        }
+    }
+    false
 }
 
 /// The usage fault of a word `--`.
-fn separator_refused(alloc: Global, command: &mut Command<'_>) -> Reading
+fn separator_refused(alloc: Global) -> Reading
     ensures task { IfDo result (λ _. ⊥) }
     ensures help { OnHelp result ⊥ }
 {
-    match command.error(ErrorKind::UnknownArgument, "unexpected argument '--' found") {
+    match separator_error(alloc) {
         Ok(error) => reading_of(alloc, &error),
         Err(_) => Reading::NoMemory,
     }
+}
+
+fn separator_error(alloc: Global) -> Result<Error, AllocError>
+    ensures { IfOk result (λ error. kind_of error ≡ UnknownArgument) }
+{
+    let mut command = dsr_command(alloc)?;
+    command.error(ErrorKind::UnknownArgument, "unexpected argument '--' found")
 }
 
 /// What an error of the parse says to the user.
@@ -115,19 +137,20 @@ fn dsr_command<'a>(alloc: Global) -> Result<Command<'a>, AllocError>
     ensures { IfOk result (λ command. (app_of command ≡ command_line)
         × ((fields_of command).has_globals ≡ false)) }
 {
-    let dsr = dsr_alone(alloc);
+    let dsr = dsr_alone(alloc)?;
     dsr.subcommand(apply_command(alloc))
 }
 
-fn dsr_alone<'a>(alloc: Global) -> Command<'a>
-    ensures app { app_of result ≡ program }
-    ensures local { (fields_of result).has_globals ≡ false }
+fn dsr_alone<'a>(alloc: Global) -> Result<Command<'a>, AllocError>
+    ensures { IfOk result (λ command. (app_of command ≡ program)
+        × ((fields_of command).has_globals ≡ false)) }
 {
     Command::new(alloc, "dsr")
         .about(ABOUT)
-        .after_help(AFTER_HELP)
+        .after_help(EXAMPLES)
         .no_binary_name(true)
         .disable_help_subcommand(true)
+        .bin_name("dsr")
 }
 
 fn apply_command<'a>(alloc: Global) -> Command<'a>
@@ -136,6 +159,8 @@ fn apply_command<'a>(alloc: Global) -> Command<'a>
 {
     Command::new(alloc, "apply")
         .about(APPLY_ABOUT)
-        .after_help(APPLY_AFTER_HELP)
+        .after_help(APPLY_EXAMPLE)
 }
 
+#[cfg(test)]
+mod tests;

@@ -1,0 +1,135 @@
+-- From what the parse gave to what the words ask for.
+use Rattle.std.proofs.Common.{◌≡◌, ◌≢◌, ◌∙◌, Bool, true, false, refl, sym, ap, subst, arith, inl, inr, List, [], ◌∷◌, length, true≢false}
+use Rattle.clap.specs.Kinds.{HasKind, IsAmong, Kinds}
+use Rattle.clap.specs.Values.{kind_of}
+use Rattle.clap.specs.Walk.{Text}
+use Rattle.clap.specs.Faults.{fault_of}
+use Rattle.clap.specs.declared.error.Error.{Error}
+use Rattle.clap.specs.declared.error.kind.ErrorKind.{ErrorKind}
+use Rattle.clap.specs.declared.error.kind.ErrorKind.TheVariants.{DisplayHelp, InvalidSubcommand, OutOfMemory, TooManyValues, UnknownArgument}
+use Rattle.dsr_command.specs.Asked.{Asked, asked_of, has_two_hyphens, help, task, unknown}
+use Rattle.dsr_command.specs.CommandLine.{command_line}
+use Rattle.dsr_command.specs.Readings.{OnHelp, OnUsage}
+use Rattle.dsr_command.specs.declared.Reading.{Reading}
+use Rattle.dsr_command.specs.declared.Reading.TheVariants as reading
+use Rattle.dsr_command.specs.declared.Task.TheVariants.{Apply}
+use Rattle.dsr_command.proofs.WordLemmas.{Comes, IsRefused, asked}
+
+-- what is said of a help text may say less
+on_help : (r : Reading) (P Q : Type 0) → (P → Q) → OnHelp r P → OnHelp r Q
+on_help (reading.Do t) P Q f h = h
+on_help (reading.Help text) P Q f h = f h
+on_help (reading.Usage text) P Q f h = h
+on_help reading.NoMemory P Q f h = h
+
+-- the same of a usage fault
+on_usage : (r : Reading) (P Q : Type 0) → (P → Q) → OnUsage r P → OnUsage r Q
+on_usage (reading.Do t) P Q f h = h
+on_usage (reading.Help text) P Q f h = h
+on_usage (reading.Usage text) P Q f h = f h
+on_usage reading.NoMemory P Q f h = h
+
+-- whether an error of this kind shows the help
+abbrev is_call : ErrorKind → Bool
+is_call DisplayHelp = true
+is_call _ = false
+
+-- a list that begins with a kind is not the empty one
+one_is_some : (kinds : Kinds) (k : ErrorKind) (rest : Kinds) → kinds ≡ k ∷ rest → kinds ≡ [] → ⊥
+one_is_some kinds k rest is none = let bad : length {A = ErrorKind} [] ≡ length (k ∷ rest) = ap length (sym none ∙ is) in omega (arith, bad)
+
+-- so a refusal has a kind
+refused_is_some : (kinds : Kinds) → IsRefused kinds → kinds ≡ [] → ⊥
+refused_is_some kinds (inl h) none = one_is_some kinds _ _ h none
+refused_is_some kinds (inr (inl h)) none = one_is_some kinds _ _ h none
+refused_is_some kinds (inr (inr h)) none = one_is_some kinds _ _ h none
+
+-- where the parse passes and no word is `--`, the task was asked for
+taken : (a : Asked) (sep : Bool) (kinds : Kinds) → Comes a sep kinds → kinds ≡ [] → sep ≡ false → a ≡ task Apply
+taken (task Apply) sep kinds h none without = refl
+taken help sep kinds h none without = absurd (one_is_some kinds _ _ h none)
+taken unknown sep kinds (inl h) none without = absurd (refused_is_some kinds h none)
+taken unknown sep kinds (inr h) none without = absurd (true≢false (sym h.1 ∙ without))
+
+-- where it passes and a word is `--`, nothing known was
+separator_taken : (a : Asked) (sep : Bool) (kinds : Kinds) → Comes a sep kinds → kinds ≡ [] → sep ≡ true → a ≡ unknown
+separator_taken (task t) sep kinds h none with = absurd (true≢false (sym with ∙ h.1))
+separator_taken help sep kinds h none with = absurd (one_is_some kinds _ _ h none)
+separator_taken unknown sep kinds h none with = refl
+
+-- no kind is among none
+none_among : (k : ErrorKind) (kinds : Kinds) → kinds ≡ [] → IsAmong k kinds → ⊥
+none_among k kinds none h = subst (λ (ks : Kinds). IsAmong k ks) none h
+
+-- another kind than that of the help is not it
+no_call : (k : ErrorKind) → is_call k ≡ false → DisplayHelp ≡ k → ⊥
+no_call k other is = true≢false (ap is_call is ∙ other)
+
+-- and the help is not among it alone
+one_other : (k : ErrorKind) → is_call k ≡ false → IsAmong DisplayHelp (k ∷ []) → ⊥
+one_other k other (inl is) = no_call k other is
+one_other k other (inr h) = elim h [ ]
+
+-- nor among the kinds of a refusal
+refused_is_other : (kinds : Kinds) → IsRefused kinds → IsAmong DisplayHelp kinds → ⊥
+refused_is_other kinds (inl h) among = one_other UnknownArgument refl (subst (λ (ks : Kinds). IsAmong DisplayHelp ks) h among)
+refused_is_other kinds (inr (inl h)) among = one_other TooManyValues refl (subst (λ (ks : Kinds). IsAmong DisplayHelp ks) h among)
+refused_is_other kinds (inr (inr h)) among = go (subst (λ (ks : Kinds). IsAmong DisplayHelp ks) h among)
+  where
+    go : IsAmong DisplayHelp (UnknownArgument ∷ InvalidSubcommand ∷ []) → ⊥
+    go (inl is) = no_call UnknownArgument refl is
+    go (inr (inl is)) = no_call InvalidSubcommand refl is
+    go (inr (inr h)) = elim h [ ]
+
+-- where the parse shows the help, the help was asked for
+called : (a : Asked) (sep : Bool) (kinds : Kinds) → Comes a sep kinds → IsAmong DisplayHelp kinds → a ≡ help
+called (task t) sep kinds h among = absurd (none_among _ kinds h.0 among)
+called help sep kinds h among = refl
+called unknown sep kinds (inl h) among = absurd (refused_is_other kinds h among)
+called unknown sep kinds (inr h) among = absurd (none_among _ kinds h.0 among)
+
+-- where it fails otherwise, nothing known was
+faulted : (a : Asked) (sep : Bool) (kinds : Kinds) (k : ErrorKind) → Comes a sep kinds → IsAmong k kinds → k ≢ DisplayHelp → a ≡ unknown
+faulted (task t) sep kinds k h among other = absurd (none_among _ kinds h.0 among)
+faulted help sep kinds k h among other = go (subst (λ (ks : Kinds). IsAmong k ks) h among)
+  where
+    go : IsAmong k (DisplayHelp ∷ []) → help ≡ unknown
+    go (inl is) = absurd (other is)
+    go (inr h) = elim h [ ]
+faulted unknown sep kinds k h among other = refl
+
+-- `clap` takes the words, and none of them is `--`
+pub taken_is_task : (words : List Text) → fault_of command_line words ≡ [] → has_two_hyphens words ≡ false → asked_of words ≡ task Apply
+taken_is_task words none without = taken _ (has_two_hyphens words) (fault_of command_line words) (asked words) none without
+
+-- `clap` takes the words, and one of them is `--`
+pub separator_is_unknown : (words : List Text) → fault_of command_line words ≡ [] → has_two_hyphens words ≡ true → asked_of words ≡ unknown
+separator_is_unknown words none with = separator_taken _ (has_two_hyphens words) (fault_of command_line words) (asked words) none with
+
+-- a usage fault where one is due
+pub on_separator : (r : Reading) (P : Type 0) → P → OnUsage r P
+on_separator (reading.Do t) P h = tt
+on_separator (reading.Help text) P h = tt
+on_separator (reading.Usage text) P h = h
+on_separator reading.NoMemory P h = tt
+
+-- `clap` fails with a call for help
+pub call_is_help : (words : List Text) (e : Error) (r : Reading) → HasKind (fault_of command_line words) e → OnHelp r (kind_of e ≡ DisplayHelp) → OnHelp r (asked_of words ≡ help)
+call_is_help words e r has h = on_help r _ _ (go has) h
+  where
+    go : HasKind (fault_of command_line words) e → kind_of e ≡ DisplayHelp → asked_of words ≡ help
+    go (inl memory) is = absurd (no_call OutOfMemory refl (sym is ∙ memory))
+    go (inr among) is =
+        called _ (has_two_hyphens words) (fault_of command_line words) (asked words) (subst (λ (k : ErrorKind). IsAmong k (fault_of command_line words)) is among)
+
+-- `clap` fails otherwise
+pub fault_is_unknown : (words : List Text) (e : Error) (r : Reading) → HasKind (fault_of command_line words) e
+    → OnUsage r ((kind_of e ≢ DisplayHelp) × (kind_of e ≢ OutOfMemory)) → OnUsage r (asked_of words ≡ unknown)
+fault_is_unknown words e r has h = on_usage r _ _ (go has) h
+  where
+    go : HasKind (fault_of command_line words) e → (kind_of e ≢ DisplayHelp) × (kind_of e ≢ OutOfMemory) → asked_of words ≡ unknown
+    go (inl memory) other = absurd (other.1 memory)
+    go (inr among) other = faulted _ (has_two_hyphens words) (fault_of command_line words) (kind_of e) (asked words) among other.0
+
+-- what the clauses of `read_words` stand on
+pub ruleset readings = (taken_is_task, separator_is_unknown, on_separator, call_is_help, fault_is_unknown)

@@ -1,1 +1,0 @@
-use Rattle.dsr_command.proofs.WordLemmas.{IsRefused}
