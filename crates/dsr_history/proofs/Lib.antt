@@ -1,2 +1,3 @@
 pub mod HistoryLaws
+mod MachineLemmas
 mod RequestLists

@@ -1,3 +1,5 @@
 pub mod History
 pub mod Issued
+pub mod Machine
+pub mod MachineState
 pub mod RequestsFields

@@ -2,9 +2,11 @@
 #![tactic(auto)]
 
 mod laws;
+mod machine;
 mod request;
 mod requests;
 
 pub use laws::{history_is_legal, history_only_grows};
+pub use machine::Machine;
 pub use request::Request;
 pub use requests::Requests;

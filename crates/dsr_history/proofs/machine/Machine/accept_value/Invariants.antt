@@ -1,0 +1,14 @@
+use Rattle.std.proofs.Common.{◌≡◌, ℕ, ◌+◌, ◌≤◌, List, ◌++◌, length, take, reverse}
+use Rattle.dsr_history.specs.Issued.{Issued}
+use Rattle.dsr_history.specs.History.{acting, requests_of}
+use Rattle.dsr_history.specs.MachineState.{Stands}
+use Rattle.dsr_history.proofs.machine.Machine.accept_value.Given as goal
+
+-- the requests so far are processed, those that acted are counted, and the room is enough for the rest
+abbrev pub invariant-loop-request : goal.invariant-loop-request
+invariant-loop-request l =
+    ((values : List (List Issued)) → Stands l.initial.self values → l.self.history ≡ acting (reverse (take l.request-index l.requests) ++ requests_of values))
+    × (length l.self.history ≡ length l.initial.self.history + l.count)
+    × (l.count ≤ l.request-index)
+    × (l.self.clients ≡ l.initial.self.clients)
+    × (8 ≤ l.self.room + l.request-index)

@@ -1,0 +1,163 @@
+use std::alloc::Global;
+use std::marker::Model;
+
+use dsr_ledger::{Ledger, Reply};
+use dsr_names::{ClientId, Refusal, Shape};
+use dsr_register::{Answer, Directory, Name};
+
+use crate::request::Request;
+
+ghost use Rattle.std.specs.Prelude.{◌≡◌, ℕ, ◌+◌, ◌<◌, ◌≤◌, ◌^◌, ◌↔◌, ◌∷◌, [], List, All, Option, length, map, reverse, if◌then◌else◌, OnOk, OnErr, IsOk, IfOk, IfErr, IsTrue};
+ghost use Rattle.dsr_register.specs.Values.{value};
+ghost use Rattle.dsr_history.specs.Issued.{Issued};
+ghost use Rattle.dsr_history.specs.History.{acted, acting, rises_above, operations, reply, reply_in, answer_at};
+ghost use Rattle.dsr_history.specs.MachineState.{Stands};
+
+/// The most requests of one value.
+const MOST_REQUESTS: usize = 8;
+
+/// The sequential directory that processes values one after another, and keeps the history of the requests
+/// that acted, their answers, and the last reply of each client. It replays nothing: the directory is kept
+/// up to date.
+#[derive(Drop)]
+pub struct Machine {
+    directory: Directory,
+    ledger: Ledger,
+    history: Vec<Request>,
+    answers: Vec<Answer>,
+}
+
+impl Model for Machine {
+    ghost use Rattle.dsr_history.specs.MachineState.{MachineState};
+
+    ghost Value = { MachineState };
+
+    ghost use Rattle.dsr_history.specs.Machine.{state_of, IsMachine};
+
+    ghost view = { state_of };
+
+    ghost invariant = { IsMachine };
+}
+
+impl Machine {
+    /// A machine that has accepted no value, for the clients of the shape. `NoMemory` where the memory for
+    /// its registers and replies is refused.
+    pub fn new(alloc: Global, shape: &Shape) -> Result<Machine, Refusal>
+        ensures empty { IfOk result (λ machine. machine.history ≡ []) }
+        ensures clients { IfOk result (λ machine. machine.clients ≡ shape.now.m) }
+        ensures refusal { IfErr result (λ e. e ≡ Refusal.NoMemory) }
+    {
+        let directory = Directory::new(alloc)?;
+        let ledger = Ledger::new(alloc, shape.m())?;
+        Ok(Machine {
+            directory,
+            ledger,
+            history: Vec::new(alloc),
+            answers: Vec::new(alloc),
+        })
+    }
+
+    /// Makes room for the next value: `accept_value` then takes no memory. `NoMemory` where it is refused.
+    pub fn room(&mut self) -> Result<(), Refusal>
+        ensures ok { OnOk result (8 ≤ self.new.room) }
+        ensures refusal { IfErr result (λ e. e ≡ Refusal.NoMemory) }
+        ensures history { self.new.history ≡ self.old.history }
+        ensures clients { self.new.clients ≡ self.old.clients }
+    {
+        if self.history.reserve(MOST_REQUESTS).is_err() || self.answers.reserve(MOST_REQUESTS).is_err() {
+            return Err(Refusal::NoMemory);
+        }
+        Ok(())
+    }
+
+    /// Processes the requests of a value in the order of its list, and says how many of them acted; the empty
+    /// list is the idle value. `NoMemory` where there was no room, and none was given: then nothing changed.
+    pub fn accept_value(&mut self, requests: &[Request]) -> Result<u8, Refusal>
+        requires few { length requests.now ≤ 8 }
+        requires clients { All (λ r. r.client < self.old.clients) requests.now }
+        requires short { length self.old.history < 2 ^ 39 }
+        ensures accepted { OnOk result ((values : List (List Issued)) → Stands self.old values → Stands self.new (requests.now ∷ values)) }
+        ensures count { IfOk result (λ n. length self.new.history ≡ length self.old.history + n) }
+        ensures refusal { IfErr result (λ e. e ≡ Refusal.NoMemory) }
+        ensures unchanged { OnErr result (self.new.history ≡ self.old.history) }
+        ensures clients { self.new.clients ≡ self.old.clients }
+        ensures in_room { 8 ≤ self.old.room → IsOk result }
+    {
+        if self.spare() < MOST_REQUESTS {
+            self.room()?;
+        }
+        let mut count = 0;
+        for request in requests {
+            if self.process(request) {
+                count += 1;
+            }
+        }
+        Ok(count)
+    }
+
+    /// How many more requests fit without taking memory.
+    fn spare(&self) -> usize
+        ensures { result ≡ self.now.room }
+    {
+        let history = self.history.capacity() - self.history.len();
+        let answers = self.answers.capacity() - self.answers.len();
+        history.min(answers)
+    }
+
+    /// Lets the request act if it is to, and says whether it did.
+    fn process(&mut self, request: &Request) -> bool
+        requires room { 0 < self.old.room }
+        requires client { request.now.client < self.old.clients }
+        ensures acted { (older : List Issued) → self.old.history ≡ acting older → self.new.history ≡ acting (request.now ∷ older) }
+        ensures count { length self.new.history ≡ length self.old.history + (if result then 1 else 0) }
+        ensures clients { self.new.clients ≡ self.old.clients }
+        ensures room { self.old.room ≤ self.new.room + 1 }
+    {
+        let client = request.client();
+        let number = request.number();
+        if !self.ledger.acts(client, number) {
+            return false;
+        }
+        let place = self.history.len() as u64;
+        let answer = self.directory.apply(request.op());
+        self.ledger.note(client, Reply { number, place, answer });
+        let _ = self.history.push(*request);
+        let _ = self.answers.push(answer);
+        true
+    }
+
+    /// The client's last reply: to the last of its requests that acted.
+    pub fn kept(&self, client: ClientId) -> Option<Reply>
+        requires { client < self.now.clients }
+        ensures last { result ≡ reply_in self.now.history client }
+        ensures reply { (values : List (List Issued)) → Stands self.now values → result ≡ reply values client }
+    {
+        self.ledger.kept(client)
+    }
+
+    /// The requests that acted, in their order.
+    pub fn history(&self) -> &[Request]
+        ensures same { result.now ≡ reverse self.now.history }
+        ensures acted { (values : List (List Issued)) → Stands self.now values → result.now ≡ reverse (acted values) }
+    {
+        self.history.as_slice()
+    }
+
+    /// What the request at this place of the history, counted from 0, was answered; `None` past its end.
+    pub fn answer_at(&self, place: u64) -> Option<Answer>
+        ensures { result ≡ answer_at self.now.history place }
+    {
+        if place < self.answers.len() as u64 {
+            Some(self.answers[place as usize])
+        } else {
+            None
+        }
+    }
+
+    /// What the register holds after the whole history.
+    pub fn get(&self, name: &Name) -> Option<u64>
+        ensures { result ≡ value (operations self.now.history) name.now }
+    {
+        self.directory.get(name)
+    }
+}
