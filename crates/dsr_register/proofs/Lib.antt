@@ -1,4 +1,9 @@
+mod AnswerLemmas
 mod Names
+mod OpLemmas
 mod PlaceLemmas
+pub mod SplitLemmas
 mod TableLemmas
+pub mod TextLemmas
 mod ValueLemmas
+mod Words

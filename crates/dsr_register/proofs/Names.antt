@@ -1,5 +1,5 @@
 -- A name that was written over blanks.
-use Rattle.std.proofs.Common.{◌≡◌, ℕ, List, ◌++◌, length, drop, take, replicate, ap, sym, ◌∙◌, subst, refl, ◌<◌, IsTrue, IsUtf8, arith}
+use Rattle.std.proofs.Common.{◌≡◌, ℕ, List, ◌++◌, length, drop, replicate, ap, sym, ◌∙◌, subst, ◌<◌, IsTrue, IsUtf8, arith}
 use Rattle.std.proofs.lemmas.Bool.Decides.{nat_tests}
 use Rattle.std.proofs.lemmas.Str.{IsUtf8-from_ascii}
 use Rattle.std.proofs.lemmas.Str.Ascii.{IsAscii-from_all}

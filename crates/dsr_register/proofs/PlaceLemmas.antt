@@ -11,8 +11,24 @@ use Rattle.std.proofs.lemmas.Bool.Decides.{nat_tests}
 use Rattle.std.proofs.lemmas.List.{take-append-drop, get_or_default}
 use Rattle.std.proofs.lemmas.Option.{slice_get-get_or, get_or_from_slice_get}
 use Rattle.dsr_register.specs.Table.{content, compare_names, is_before, IsBelowEach, IsAscending, IsEntryOf, IsGapFor}
-use Rattle.dsr_register.proofs.TableLemmas.{Entries, Misses, IsBelow, same_name, name_itself, above_otherwise, misses_below
-  , misses_above, misses_both, content_missed, content_with, ascending_insert, ascending_remove, ascending_set, misses_front, misses_back}
+use Rattle.dsr_register.proofs.TableLemmas.{
+  Entries,
+  Misses,
+  IsBelow,
+  same_name,
+  name_itself,
+  above_otherwise,
+  misses_below,
+  misses_above,
+  misses_both,
+  content_missed,
+  content_with,
+  ascending_insert,
+  ascending_remove,
+  ascending_set,
+  misses_front,
+  misses_back,
+}
 
 and_true : (b : Bool) → (b && true) ≡ b
 and_true true = refl
@@ -130,10 +146,10 @@ less_from_before x y h = is_less (compare_names x y) h
 pub parted : (table : Entries) (name : List ℕ) → IsAscending table → IsPartitionedBy (λ e. is_before e.0 name) table
 parted table name rises i j d le within before =
     elim (eq-or-lt_of_le le) [
-      inl same ↦ subst (λ k. is_before (get_or table k d).0 name ≡ true) (sym same) before
+      | inl same ↦ subst (λ k. is_before (get_or table k d).0 name ≡ true) (sym same) before
       | inr lt ↦
-      ap is_lt (nat_list_cmp_total.trans (get_or table i d).0 (get_or table j d).0 name (ascending_at table i j d rises lt within)
-      (less_from_before (get_or table j d).0 name before))
+          ap is_lt (nat_list_cmp_total.trans (get_or table i d).0 (get_or table j d).0 name (ascending_at table i j d rises lt within)
+          (less_from_before (get_or table j d).0 name before))
     ]
 
 fronts_before : (table : Entries) (place : ℕ) (name : List ℕ) → place ≤ length table
@@ -180,10 +196,11 @@ gap_at table place name within rises before after apart =
 
 pub entry_found : (inside table : Entries) (place : ℕ) (e : List ℕ × ℕ) (name : List ℕ) → inside ≡ table → place < length inside
     → e ≡ get_or inside place e → e.0 ≡ name → IsEntryOf table place name
-entry_found inside table place e name same within is named =
-    (e.1
-    , ap (λ t. slice_get t place) (sym same)
-    ∙ (slice_get-get_or inside place e within ∙ (ap Some (sym is) ∙ ap (λ n. Some (n, e.1)) named)))
+entry_found inside table place e name same within is named = (
+  e.1,
+  ap (λ t. slice_get t place) (sym same)
+      ∙ (slice_get-get_or inside place e within ∙ (ap Some (sym is) ∙ ap (λ n. Some (n, e.1)) named)),
+)
 
 apart_names : (x y : List ℕ) (b : Bool) → b ≡ bytes_eq x y → (x ≡ y → ⊥) → bytes_eq x y ≡ false
 apart_names x y true e differ = absurd (differ (same_name x y (sym e)))
@@ -223,12 +240,13 @@ pub entry_set : (inside table : Entries) (place new : ℕ) (name : List ℕ) →
     → IsAscending (set inside place (name, new))
     × ((other : List ℕ) → content (set inside place (name, new)) other ≡ cond (bytes_eq name other && true) (Some new) (content table other))
 entry_set inside table place new name same rises there =
-    let rise : IsAscending table = subst IsAscending same rises in
-    (subst (λ t. IsAscending (set t place (name, new))) (sym same) (rises_after_set table place name there.0 rise there.1 new)
-    , (λ other.
-    ap (λ t. content (set t place (name, new)) other) same
-    ∙ (content_after_set table place name there.0 rise there.1 new other
-    ∙ ap (λ b. cond b (Some new) (content table other)) (sym (and_true (bytes_eq name other))))))
+    let rise : IsAscending table = subst IsAscending same rises in (
+      subst (λ t. IsAscending (set t place (name, new))) (sym same) (rises_after_set table place name there.0 rise there.1 new),
+      (λ other.
+          ap (λ t. content (set t place (name, new)) other) same
+          ∙ (content_after_set table place name there.0 rise there.1 new other
+          ∙ ap (λ b. cond b (Some new) (content table other)) (sym (and_true (bytes_eq name other))))),
+    )
 
 -- an entry taken out
 pub entry_removed : (inside table after : Entries) (place : ℕ) (name : List ℕ) → inside ≡ table → IsAscending inside → IsEntryOf table place name
@@ -236,9 +254,10 @@ pub entry_removed : (inside table after : Entries) (place : ℕ) (name : List �
     → IsAscending after × ((other : List ℕ) → content after other ≡ cond (bytes_eq name other) None (content table other))
 entry_removed inside table after place name same rises there is =
     let rise : IsAscending table = subst IsAscending same rises in
-    let out : after ≡ remove table place = is ∙ ap (λ t. remove t place) same in
-    (subst IsAscending (sym out) (rises_after_remove table place name there.0 rise there.1)
-    , (λ other. ap (λ t. content t other) out ∙ content_after_remove table place name there.0 rise there.1 other))
+    let out : after ≡ remove table place = is ∙ ap (λ t. remove t place) same in (
+      subst IsAscending (sym out) (rises_after_remove table place name there.0 rise there.1),
+      (λ other. ap (λ t. content t other) out ∙ content_after_remove table place name there.0 rise there.1 other),
+    )
 
 -- nothing taken out where nothing stands
 pub none_removed : (table : Entries) (place : ℕ) (name other : List ℕ) → IsGapFor table place name
@@ -255,12 +274,13 @@ pub entry_inserted : (inside table after : Entries) (place new : ℕ) (name : Li
     → IsAscending after × ((other : List ℕ) → content after other ≡ cond (bytes_eq name other && ok) (Some new) (content table other))
 entry_inserted inside table after place new name ok same rises gap done is =
     let rise : IsAscending table = subst IsAscending same rises in
-    let put : after ≡ insert table place (name, new) = is ∙ (ap (λ b. cond b (insert inside place (name, new)) inside) done ∙ ap (λ t. insert t place (name, new)) same) in
-    (subst IsAscending (sym put) (rises_after_insert table place name gap new rise)
-    , (λ other.
-    ap (λ t. content t other) put
-    ∙ (content_after_insert table place name gap new other
-    ∙ ap (λ b. cond b (Some new) (content table other)) (sym (ap (λ b. bytes_eq name other && b) done ∙ and_true (bytes_eq name other))))))
+    let put : after ≡ insert table place (name, new) = is ∙ (ap (λ b. cond b (insert inside place (name, new)) inside) done ∙ ap (λ t. insert t place (name, new)) same) in (
+      subst IsAscending (sym put) (rises_after_insert table place name gap new rise),
+      (λ other.
+          ap (λ t. content t other) put
+          ∙ (content_after_insert table place name gap new other
+          ∙ ap (λ b. cond b (Some new) (content table other)) (sym (ap (λ b. bytes_eq name other && b) done ∙ and_true (bytes_eq name other))))),
+    )
 
 -- a register that holds a number may always be written
 pub may_write : (inside table : Entries) (place : ℕ) (name : List ℕ) (full : Bool) → inside ≡ table → IsAscending inside → IsEntryOf table place name

@@ -1,7 +1,7 @@
 -- What registers hold after a list of operations, newest first, and what the next operation answers (the state
 -- machine of Schneider 1990: an operation's answer hangs on the operations before it alone). A register holds a
 -- number, or none.
-use Rattle.std.specs.Prelude.{ℕ, Bool, ◌&&◌, not, ◌==◌, nat_eq, nat_le, is_none, is_some, if◌then◌else◌, List, [], ◌∷◌, count_by, Option, None, Some}
+use Rattle.std.specs.Prelude.{ℕ, Bool, ◌&&◌, not, nat_eq, nat_le, is_none, is_some, if◌then◌else◌, List, [], ◌∷◌, count_by, Option, None, Some}
 use Rattle.std.specs.List.{list_any}
 use Rattle.std.specs.Option.{option_eq}
 use Rattle.std.specs.Str.{bytes_eq}

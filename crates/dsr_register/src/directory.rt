@@ -1,18 +1,16 @@
-use std::alloc::Global;
-use std::marker::Model;
-
-use dsr_names::Refusal;
-
-use crate::answer::Answer;
-use crate::name::Name;
-use crate::op::Op;
-
 ghost use Rattle.std.specs.Prelude.{◌≡◌, ℕ, ◌<◌, ◌≤◌, ◌↔◌, ◌&&◌, ◌∷◌, [], List, Option, None, Some, Ok, true, false, not, is_none, nat_le, length, if◌then◌else◌, IfOk, IfErr, IsTrue};
 ghost use Rattle.std.specs.Str.{bytes_eq};
 ghost use Rattle.std.specs.List.Sorted.{IsPartitionPoint};
 ghost use Rattle.dsr_register.specs.declared.op.Op.{Op};
 ghost use Rattle.dsr_register.specs.Values.{value, count_held, answer_after, answer_on, left_by, register_of};
 ghost use Rattle.dsr_register.specs.Table.{content, is_before, StandsFor, IsEntryOf, IsGapFor, IsAscending};
+
+use crate::answer::Answer;
+use crate::name::Name;
+use crate::op::Op;
+use dsr_names::Refusal;
+use std::alloc::Global;
+use std::marker::Model;
 
 /// The most registers that hold a value.
 const MOST_REGISTERS: usize = 1024;

@@ -5,8 +5,10 @@ mod answer;
 mod directory;
 mod name;
 mod op;
+#[cfg(test)]
+mod tests;
 
 pub use answer::Answer;
 pub use directory::Directory;
 pub use name::Name;
-pub use op::Op;
+pub use op::{Joined, Op};

@@ -11,12 +11,12 @@ returns-then-same-clause-found c =
 pub returns-else-place-len-clause-gap : goal.returns-else-place-len-clause-gap
 returns-else-place-len-clause-gap c =
     elim c.else-place-len.branch [
-      else-place-len-via-then-place-len+else-same w ↦
-      gap_here c.self.inside.entries.items c.args.self.now c.place_of-place.result w.index.result.now c.args.name.now
-      c.self.view_is c.self.invariant.0 c.place_of-place.ensures.within c.place_of-place.ensures.place.0 c.place_of-place.ensures.place.1
-      w.index.ensures (λ named. let same : w.same.result ≡ true = w.same.ensures.1 named in let other : w.same.result ≡ false = w.if-same.false in cc)
+      | else-place-len-via-then-place-len+else-same w ↦
+          gap_here c.self.inside.entries.items c.args.self.now c.place_of-place.result w.index.result.now c.args.name.now
+          c.self.view_is c.self.invariant.0 c.place_of-place.ensures.within c.place_of-place.ensures.place.0 c.place_of-place.ensures.place.1
+          w.index.ensures (λ named. let same : w.same.result ≡ true = w.same.ensures.1 named in let other : w.same.result ≡ false = w.if-same.false in cc)
       | else-place-len-via-else-place-len w ↦
-      gap_past c.self.inside.entries.items c.args.self.now c.place_of-place.result c.args.name.now
-      c.self.view_is c.self.invariant.0 c.place_of-place.ensures.within c.place_of-place.ensures.place.0 c.place_of-place.ensures.place.1
-      (omega arith)
+          gap_past c.self.inside.entries.items c.args.self.now c.place_of-place.result c.args.name.now
+          c.self.view_is c.self.invariant.0 c.place_of-place.ensures.within c.place_of-place.ensures.place.0 c.place_of-place.ensures.place.1
+          (omega arith)
     ]

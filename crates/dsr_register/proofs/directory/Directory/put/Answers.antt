@@ -5,11 +5,12 @@ use Rattle.dsr_register.proofs.PlaceLemmas.{entry_set, entry_inserted, may_write
 use Rattle.dsr_register.proofs.directory.Directory.put.Goals as goal
 
 pub invariant_of-self : goal.invariant_of-self
-invariant_of-self c =
-    ((entry_set c.self.inside.entries.items c.args.self.now c.in-Ok.place c.args.value c.args.name
-    c.self.view_is c.self.invariant.0 c.in-Ok.ensures.found).0
-    , omega (arith, length-set c.self.inside.entries.items c.in-Ok.place (c.args.name, c.args.value), c.self.invariant.1)
-    , c.self.invariant.2)
+invariant_of-self c = (
+  (entry_set c.self.inside.entries.items c.args.self.now c.in-Ok.place c.args.value c.args.name
+      c.self.view_is c.self.invariant.0 c.in-Ok.ensures.found).0,
+  omega (arith, length-set c.self.inside.entries.items c.in-Ok.place (c.args.name, c.args.value), c.self.invariant.1),
+  c.self.invariant.2,
+)
 
 pub returns-in-Ok-clause-contents : goal.returns-in-Ok-clause-contents
 returns-in-Ok-clause-contents c =
@@ -25,11 +26,12 @@ pub invariant_of-self-then-has_room : goal.invariant_of-self-then-has_room
 invariant_of-self-then-has_room c =
     let room : c.len-has_room.result < 1024 = c.if-has_room.true in
     let entries : length c.self.inside.entries.items ≡ c.len-has_room.result = ap length c.self.view_is ∙ sym c.len-has_room.ensures.entries in
-    let ok : is_ok c.insert.result ≡ true = c.insert.ensures.succeeds (omega (arith, c.self.invariant.2, room, entries)) in
-    ((entry_inserted c.self.inside.entries.items c.args.self.now c.insert.new.self.items c.in-Err.place c.args.value c.args.name
-    (is_ok c.insert.result) c.self.view_is c.self.invariant.0 c.in-Err.ensures.gap ok c.insert.ensures.items).0
-    , omega (arith, room, entries, c.insert.ensures.len, ap (λ b. if b then vec_len c.self.inside.entries + 1 else vec_len c.self.inside.entries) ok)
-    , omega (arith, c.insert.ensures.capacity, c.self.invariant.2))
+    let ok : is_ok c.insert.result ≡ true = c.insert.ensures.succeeds (omega (arith, c.self.invariant.2, room, entries)) in (
+      (entry_inserted c.self.inside.entries.items c.args.self.now c.insert.new.self.items c.in-Err.place c.args.value c.args.name
+          (is_ok c.insert.result) c.self.view_is c.self.invariant.0 c.in-Err.ensures.gap ok c.insert.ensures.items).0,
+      omega (arith, room, entries, c.insert.ensures.len, ap (λ b. if b then vec_len c.self.inside.entries + 1 else vec_len c.self.inside.entries) ok),
+      omega (arith, c.insert.ensures.capacity, c.self.invariant.2),
+    )
 
 pub returns-then-has_room-clause-contents : goal.returns-then-has_room-clause-contents
 returns-then-has_room-clause-contents c other =

@@ -3,11 +3,12 @@ use Rattle.dsr_register.proofs.PlaceLemmas.{entry_read, entry_removed, none_remo
 use Rattle.dsr_register.proofs.directory.Directory.take.Goals as goal
 
 pub invariant_of-self : goal.invariant_of-self
-invariant_of-self c =
-    ((entry_removed c.self.inside.entries.items c.args.self.now c.remove.new.self.items c.in-Ok.place c.args.name.now
-    c.self.view_is c.self.invariant.0 c.in-Ok.ensures.found c.remove.ensures.items).0
-    , omega (arith, c.remove.ensures.len, c.self.invariant.1)
-    , omega (arith, c.remove.ensures.capacity, c.self.invariant.2))
+invariant_of-self c = (
+  (entry_removed c.self.inside.entries.items c.args.self.now c.remove.new.self.items c.in-Ok.place c.args.name.now
+      c.self.view_is c.self.invariant.0 c.in-Ok.ensures.found c.remove.ensures.items).0,
+  omega (arith, c.remove.ensures.len, c.self.invariant.1),
+  omega (arith, c.remove.ensures.capacity, c.self.invariant.2),
+)
 
 pub returns-in-Ok-clause-held : goal.returns-in-Ok-clause-held
 returns-in-Ok-clause-held c =
