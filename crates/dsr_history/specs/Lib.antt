@@ -2,4 +2,5 @@ pub mod History
 pub mod Issued
 pub mod Machine
 pub mod MachineState
+pub mod RequestText
 pub mod RequestsFields

@@ -4,6 +4,7 @@
 mod laws;
 mod machine;
 mod request;
+mod request_text;
 mod requests;
 
 pub use laws::{history_is_legal, history_only_grows};

@@ -1,5 +1,5 @@
 -- Counting bits from the lowest on.
-use Rattle.std.proofs.Common.{◌≡◌, ◌≢◌, ℕ, suc, ◌+◌, ◌/◌, ◌^◌, Bool, true, false, cond, eqb, bit_and, sym, ◌∙◌, ap, add-one, add-zero, eq-eqb, arith, refl}
+use Rattle.std.proofs.Common.{◌≡◌, ◌≢◌, ℕ, ◌+◌, ◌/◌, ◌^◌, true, false, eqb, bit_and, sym, ◌∙◌, ap, add-one, add-zero, eq-eqb}
 use Rattle.std.proofs.lemmas.Bool.{ne_eqb}
 use Rattle.std.proofs.lemmas.Nat.Bits.{shr_and_one}
 use Rattle.std.specs.Int.{bit_at}

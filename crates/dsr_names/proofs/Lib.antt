@@ -1,3 +1,4 @@
 pub mod BitLemmas
 pub mod Numerals
+pub mod Rising
 mod Sending

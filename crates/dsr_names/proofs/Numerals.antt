@@ -1,50 +1,15 @@
 -- Decimals without sign or leading zero are what `decimal` writes, and nothing else.
-use Rattle.std.proofs.Common.{
-  ◌≡◌,
-  ℕ,
-  zero,
-  suc,
-  subst,
-  ◌<◌,
-  ◌^◌,
-  ◌↔◌,
-  None,
-  Some,
-  Option,
-  length,
-  List,
-  [],
-  ◌∷◌,
-  ◌++◌,
-  get_or,
-  arith,
-  refl,
-  sym,
-  ◌∙◌,
-  ap,
-  rules,
-  codes,
-}
+use Rattle.std.proofs.Common.{◌≡◌, ℕ, zero, suc, subst, ◌<◌, ◌^◌, ◌↔◌, None, Some, Option, length, List, [], ◌∷◌, get_or, arith, refl, sym, ◌∙◌, ap, codes}
 use Rattle.std.specs.Option.{SomeIff}
 use Rattle.dsr_names.specs.Token.{IsOld, old_text}
 use Rattle.std.specs.Str.{IsUtf8}
 use Rattle.std.specs.Fmt.{decimal}
 use Rattle.std.specs.Str.Parse.{IsNumeral, AllDigits, digits_value}
 use Rattle.std.proofs.lemmas.Str.Parse.{IsNumeralModel, numerals_by_value, tells_digits}
-use Rattle.std.proofs.lemmas.Fmt.{
-  IsAscii-from_digits,
-  digits_decimal,
-  digits_value-decimal,
-  decimal_nonempty,
-  first_decimal,
-  decimal-digits_value,
-  decimal_digit,
-  decimal_injective,
-  decimal_is_IsNumeral,
-}
+use Rattle.std.proofs.lemmas.Fmt.{IsAscii-from_digits, digits_decimal, first_decimal, decimal-digits_value, decimal_digit, decimal_is_IsNumeral}
 use Rattle.std.proofs.lemmas.Str.{IsUtf8-from_ascii}
 
-own : IsNumeralModel (AllDigits 10) (digits_value 10)
+pub own : IsNumeralModel (AllDigits 10) (digits_value 10)
 own = numerals_by_value (AllDigits 10) tells_digits
 
 -- a numeral is text

@@ -2,6 +2,7 @@ pub mod Actor
 pub mod Bits
 pub mod Output
 pub mod Padded
+pub mod Parts
 pub mod Refusal
 pub mod Shape
 pub mod ShapeText

@@ -1,14 +1,21 @@
 -- How texts spell a shape (this project): `n f m traitors`, as `3 1 1 r0` or `3 1 1 -`.
-use Rattle.std.specs.Prelude.{ℕ, zero, suc, ◌^◌, ◌<◌, Bool, if◌then◌else◌, List, [], ◌∷◌, ◌++◌, codes}
+use Rattle.std.specs.Prelude.{◌≡◌, ℕ, zero, suc, ◌^◌, ◌<◌, Bool, if◌then◌else◌, List, [], ◌∷◌, ◌++◌, codes, Result, Ok, Err}
 use Rattle.std.specs.Fmt.{decimal}
 use Rattle.dsr_names.specs.Actor.{actor_text}
-use Rattle.dsr_names.specs.Shape.{Members, is_traitor}
+use Rattle.dsr_names.specs.Bits.{is_bit_set}
+use Rattle.dsr_names.specs.Shape.{Members, IsAllowed}
 use Rattle.dsr_names.specs.declared.actor.Actor.TheVariants.{Replica}
+use Rattle.dsr_names.specs.declared.refusal.Refusal.{Refusal}
+use Rattle.dsr_names.specs.declared.refusal.Refusal.TheVariants.{BadShape}
 
 -- the numbers below n that pass the test, rising
 abbrev pub numbers_below : (ℕ → Bool) → ℕ → List ℕ
 numbers_below test zero = []
 numbers_below test (suc n) = numbers_below test n ++ (if test n then n ∷ [] else [])
+
+-- the replicas whose bits are set, rising
+unfoldable pub replicas_of : ℕ → List ℕ
+replicas_of bits = numbers_below (is_bit_set bits) 16
 
 -- further replicas, each after a plus
 abbrev pub more_replicas_text : List ℕ → List ℕ
@@ -23,7 +30,7 @@ replicas_text (r ∷ rs) = actor_text (Replica r) ++ more_replicas_text rs
 -- the token of a shape
 abbrev pub shape_text : Members → List ℕ
 shape_text shape =
-    decimal shape.n ++ (codes " " ++ (decimal shape.f ++ (codes " " ++ (decimal shape.m ++ (codes " " ++ replicas_text (numbers_below (is_traitor shape) 16))))))
+    decimal shape.n ++ (codes " " ++ (decimal shape.f ++ (codes " " ++ (decimal shape.m ++ (codes " " ++ replicas_text (replicas_of shape.traitors))))))
 
 -- a shape that a text can spell, within the limits or not
 pub record IsSpelled (shape : Members) : Type 0 where
@@ -31,3 +38,15 @@ pub record IsSpelled (shape : Members) : Type 0 where
   pub f_is_number : shape.f < 2 ^ 40
   pub m_is_number : shape.m < 2 ^ 40
   pub replicas_exist : shape.traitors < 2 ^ 16
+
+-- what a spelled shape is read as: the shape itself where it is allowed, else the refusal
+abbrev pub IsVerdict : Members → Result Members Refusal → Type 0
+IsVerdict shape (Ok read) = (read ≡ shape) × IsAllowed shape
+IsVerdict shape (Err e) = (e ≡ BadShape) × (¬ IsAllowed shape)
+
+-- the bytes are the token of some shape, and this is what it is read as
+pub record IsShapeReading (bytes : List ℕ) (answer : Result Members Refusal) : Type 0 where
+  pub shape : Members
+  pub spelled : IsSpelled shape
+  pub text : bytes ≡ shape_text shape
+  pub verdict : IsVerdict shape answer

@@ -9,7 +9,10 @@ mod output;
 mod outside;
 mod refusal;
 mod shape;
+mod shape_text;
 mod split;
+#[cfg(test)]
+mod tests;
 mod token;
 
 pub use actor::{Actor, ClientId, ReplicaId};

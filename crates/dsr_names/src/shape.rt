@@ -73,6 +73,14 @@ impl Shape {
         self.m
     }
 
+    /// The traitors, replica i by bit i.
+    pub(crate) fn traitors(&self) -> u16
+        ensures same { result ≡ self.now.traitors }
+        ensures allowed { IsAllowed self.now }
+    {
+        self.traitors
+    }
+
     /// Whether this is an actor of the shape: a replica below n, or a client below m.
     pub fn has(&self, actor: Actor) -> bool
         ensures { IsTrue result ↔ IsActor self.now actor }

@@ -1,4 +1,4 @@
-use Rattle.std.proofs.Common.{◌≡◌, ◌∙◌, arith}
+use Rattle.std.proofs.Common.{◌∙◌, arith}
 use Rattle.dsr_names.proofs.BitLemmas.{count_set, count_clear}
 use Rattle.dsr_names.proofs.bits.count_bits.Goals as goal
 use Rattle.dsr_names.proofs.bits.count_bits.Goals.{then-bits-i-eq1, else-bits-i-eq1}

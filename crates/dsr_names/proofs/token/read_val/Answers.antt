@@ -1,4 +1,4 @@
-use Rattle.std.proofs.Common.{◌≡◌, ℕ, ◌<◌, get_or, length, arith}
+use Rattle.std.proofs.Common.{◌≡◌, ◌<◌, get_or, length, arith}
 use Rattle.dsr_names.proofs.Numerals.{no_leading_zero, reads_decimals}
 use Rattle.dsr_names.proofs.token.read_val.Goals as goal
 use Rattle.dsr_names.proofs.token.read_val.Goals.{else-bytes-gt1-via-then-bytes-gt1+else-bytes-eq48, else-bytes-gt1-via-else-bytes-gt1}
