@@ -1,3 +1,4 @@
 pub mod HistoryLaws
 mod MachineLemmas
 mod RequestLists
+mod RequestTextLemmas

@@ -60,8 +60,8 @@ fn read_parts(client: &[u8], number: &[u8], op: &[u8], separator: u8) -> Option<
 fn read_client(bytes: &[u8]) -> Option<ClientId>
     ensures { (client : ℕ) → (result ≡ Some client) ↔ ((client < 32) × (bytes.now ≡ actor_text (Client client))) }
 {
-    match Actor::read(bytes) {
-        Some(Actor::Client(client)) => Some(client),
-        _ => None,
+    match Actor::read(bytes)? {
+        Actor::Client(client) => Some(client),
+        Actor::Replica(_) => None,
     }
 }

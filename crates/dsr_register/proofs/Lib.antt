@@ -6,4 +6,4 @@ pub mod SplitLemmas
 mod TableLemmas
 pub mod TextLemmas
 mod ValueLemmas
-mod Words
+pub mod Words
