@@ -1,3 +1,4 @@
+pub mod Applied
 pub mod History
 pub mod Issued
 pub mod Machine

@@ -78,6 +78,7 @@ impl Machine {
         requires short { length self.old.history < 2 ^ 39 }
         ensures accepted { OnOk result ((values : List (List Issued)) → Stands self.old values → Stands self.new (requests.now ∷ values)) }
         ensures count { IfOk result (λ n. length self.new.history ≡ length self.old.history + n) }
+        ensures most { IfOk result (λ n. n ≤ length requests.now) }
         ensures refusal { IfErr result (λ e. e ≡ Refusal.NoMemory) }
         ensures unchanged { OnErr result (self.new.history ≡ self.old.history) }
         ensures clients { self.new.clients ≡ self.old.clients }

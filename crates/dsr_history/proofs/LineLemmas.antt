@@ -1,0 +1,47 @@
+-- A text begins with the line of a request in at most one way.
+use Rattle.std.proofs.Common.{◌≡◌, ◌≢◌, ◌⊎◌, inl, inr, ℕ, ◌+◌, ◌<◌, ◌≤◌, ◌^◌, ◌↔◌, List, [], ◌∷◌, ◌++◌, length, Option, None, Some, IfNone, refl, sym, ◌∙◌, ap, subst, arith, append_assoc, length-append}
+use Rattle.std.specs.Fmt.{decimal}
+use Rattle.std.proofs.lemmas.List.Elements.{All-cons, All-append}
+use Rattle.dsr_names.specs.Split.{IsAbsent}
+use Rattle.dsr_names.specs.Actor.{actor_text}
+use Rattle.dsr_names.specs.declared.actor.Actor.TheVariants.{Client}
+use Rattle.dsr_register.specs.OpText.{op_text}
+use Rattle.dsr_register.proofs.SplitLemmas.{one_cut, not_absent}
+use Rattle.dsr_register.proofs.TextLemmas.{decimal_without, op_without}
+use Rattle.dsr_history.specs.Issued.{Issued}
+use Rattle.dsr_history.specs.RequestText.{request_text, IsRequest}
+use Rattle.dsr_history.specs.Applied.{request_line, IsNoLine}
+
+joined_without : (byte : ℕ) (first second : List ℕ) (mark : ℕ) → (mark ≡ byte → ⊥) → IsAbsent byte first → IsAbsent byte second → IsAbsent byte (first ++ mark ∷ second)
+joined_without byte first second mark apart p q =
+    All-append (λ b. b ≡ byte → ⊥) first (mark ∷ second) p (All-cons (λ b. b ≡ byte → ⊥) mark second apart q)
+
+-- no line feed stands in the text of a request
+request_without : (request : Issued) → IsRequest request → IsAbsent 10 (request_text 32 32 request)
+request_without request h =
+    let apart : ◌≡◌ {A = ℕ} 32 10 → ⊥ = λ (e : ◌≡◌ {A = ℕ} 32 10). omega arith in
+    let letter : ◌≡◌ {A = ℕ} 99 10 → ⊥ = λ (e : ◌≡◌ {A = ℕ} 99 10). omega arith in
+    joined_without 10 (actor_text (Client request.client)) (decimal request.number ++ 32 ∷ op_text 32 request.op) 32 apart
+    (All-cons (λ b. b ≡ 10 → ⊥) 99 (decimal request.client) letter (decimal_without 10 request.client refl (omega (arith, h.client_exists))))
+    (joined_without 10 (decimal request.number) (op_text 32 request.op) 32 apart (decimal_without 10 request.number refl (omega (arith, h.small_number)))
+    (op_without 10 32 request.op refl apart h.is_op))
+
+regrouped : (request : Issued) (after : List ℕ) → request_line request ++ after ≡ request_text 32 32 request ++ 10 ∷ after
+regrouped request after = append_assoc (request_text 32 32 request) (10 ∷ []) after
+
+-- where no line feed stands
+pub no_feed : (text : List ℕ) → IsAbsent 10 text → IsNoLine text
+no_feed text whole request after h e =
+    not_absent 10 (request_text 32 32 request) after (subst (IsAbsent 10) (e ∙ regrouped request after) whole)
+
+-- where the first line is read as no request
+pub no_request : (text line after : List ℕ) → text ≡ line ++ 10 ∷ after → IsAbsent 10 line
+    → ((request : Issued) → (◌≡◌ {A = Option Issued} None (Some request)) ↔ (IsRequest request × (line ≡ request_text 32 32 request))) → IsNoLine text
+no_request text line after cut whole reads request rest h e =
+    let same = one_cut 10 line after (request_text 32 32 request) rest whole (request_without request h) (sym cut ∙ (e ∙ regrouped request rest)) in
+    let none : ◌≡◌ {A = Option Issued} None (Some request) = (reads request).1 (h, same.0) in
+    cc
+
+pub if_none : {X : Type 0} {P : Type 0} (r : Option X) → P → IfNone r P
+if_none None p = p
+if_none (Some x) p = tt

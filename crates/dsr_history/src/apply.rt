@@ -1,0 +1,120 @@
+use std::alloc::Global;
+use std::io::Write;
+
+use dsr_names::{Refusal, Shape, Sink, Source, read_input, split_once, write_output};
+
+use crate::machine::Machine;
+use crate::request::Request;
+use crate::request_text::read_request;
+
+ghost use Rattle.std.specs.Prelude.{◌≡◌, ℕ, ◌+◌, ◌<◌, ◌≤◌, ◌^◌, List, ◌∷◌, ◌++◌, [], length, Option, Some, OnOk, IfOk, IfErr, IfSome, IfNone, IsErrOf, vec_len};
+ghost use Rattle.dsr_history.specs.Issued.{Issued};
+ghost use Rattle.dsr_history.specs.MachineState.{Stands};
+ghost use Rattle.dsr_history.specs.RequestText.{IsRequest};
+ghost use Rattle.dsr_history.specs.Applied.{request_line, values_of, applied, AppliedAll, StandsAfter, IsNoLine, HasAnswered, HasAnsweredTo};
+
+/// A machine, and the answers that it gave so far.
+#[derive(Drop)]
+struct Run {
+    machine: Machine,
+    answers: Vec<u8>,
+}
+
+impl Run {
+    /// Lets the machine process the request as a value of its own, and writes the line that answers it.
+    fn answer(&mut self, request: &Request) -> Result<(), Refusal>
+        requires client { request.now.client < self.old.machine.clients }
+        requires short { length self.old.machine.history < 2 ^ 39 }
+        ensures done { OnOk result ((older : List Issued) → Stands self.old.machine (values_of older) → self.old.answers.items ≡ applied older
+            → Stands self.new.machine (values_of (request.now ∷ older)) × (self.new.answers.items ≡ applied (request.now ∷ older))) }
+        ensures refusal { IfErr result (λ e. e ≡ Refusal.NoMemory) }
+        ensures clients { self.new.machine.clients ≡ self.old.machine.clients }
+        ensures longer { length self.new.machine.history ≤ length self.old.machine.history + 1 }
+    {
+        self.machine.accept_value(&[*request])?;
+        let kept = self.machine.kept(request.client());
+        let written = match kept {
+            Some(reply) if request.number() < reply.number => writeln!(self.answers, "old"),
+            Some(reply) => {
+                let place = reply.place;
+                let answer = reply.answer;
+                writeln!(self.answers, "{place} {answer}")
+            }
+            None => writeln!(self.answers),
+        };
+        match written {
+            Ok(()) => Ok(()),
+            Err(_) => Err(Refusal::NoMemory),
+        }
+    }
+}
+
+/// The request of a line, and the text after that line.
+#[derive(Clone, Copy)]
+struct Line<'a> {
+    request: Request,
+    after: &'a [u8],
+}
+
+/// The first line of the text; `None` where the text does not begin with the line of a request.
+fn first_line(text: &[u8]) -> Option<Line<'_>>
+    ensures found { IfSome result (λ line. text.now ≡ request_line line.request ++ line.after.now) }
+    ensures request { IfSome result (λ line. IsRequest line.request) }
+    ensures none { IfNone result (IsNoLine text.now) }
+{
+    let (line, after) = split_once(text, b'\n')?;
+    let request = read_request(line, b' ', b' ')?;
+    Some(Line { request, after })
+}
+
+impl Run {
+    /// Answers the lines of the text up to the first that is no request's, and tells that line, counted from 1.
+    fn answer_lines(&mut self, text: &[u8]) -> Result<Option<u64>, Refusal>
+        requires clients { self.old.machine.clients ≡ 32 }
+        requires new { self.old.machine.history ≡ [] }
+        requires silent { self.old.answers.items ≡ [] }
+        requires short { length text.now < 2 ^ 39 }
+        ensures all { IfOk result (λ bad. IfNone bad (HasAnswered text.now self.new.answers.items)) }
+        ensures bad { IfOk result (λ bad. IfSome bad (λ line. HasAnsweredTo line text.now self.new.answers.items)) }
+        ensures refusal { IfErr result (λ e. e ≡ Refusal.NoMemory) }
+    {
+        let mut rest = text;
+        let mut count = 0;
+        while !rest.is_empty() {
+            count += 1;
+            let Some(line) = first_line(rest) else {
+                return Ok(Some(count));
+            };
+            self.answer(&line.request)?;
+            rest = line.after;
+        }
+        Ok(None)
+    }
+}
+
+/// Reads lines of requests, `CLIENT NUMBER OPERATION`, and writes the line that answers each: the place and the
+/// answer of the reply that its client has after it, or `old` where that reply has a greater number. The directory
+/// is empty at first, and every line is one value of one request.
+///
+/// `BadText` names the first line, counted from 1, that is no request's; the lines before it are answered. After
+/// `NoMemory` and `ReadFailed` nothing was written, and after `WriteFailed` a front of the answers was. What was
+/// read is gone. A source in memory answers `ReadFailed` only for too many bytes, and a sink never fails where its
+/// known room is enough.
+pub fn run_apply<S: Source, K: Sink>(alloc: Global, source: &mut S, sink: &mut K) -> Result<(), Refusal>
+    ensures done { OnOk result (AppliedAll (S.left source.old) (K.contents sink.old) (K.contents sink.new)) }
+    ensures refused { IfErr result (λ e. StandsAfter e (S.left source.old) (K.contents sink.old) (K.contents sink.new)) }
+    ensures in_memory { S.is_in_memory source.old → IsErrOf result Refusal.ReadFailed → IfSome (S.left source.old) (λ bytes. 16777216 < length bytes) }
+{
+    let text = read_input(alloc, source)?;
+    let shape = Shape::new(1, 0, 32, 0)?;
+    let mut run = Run {
+        machine: Machine::new(alloc, &shape)?,
+        answers: Vec::new(alloc),
+    };
+    let bad = run.answer_lines(text.as_slice())?;
+    write_output(sink, run.answers.as_slice())?;
+    match bad {
+        None => Ok(()),
+        Some(line) => Err(Refusal::BadText { line }),
+    }
+}
