@@ -95,21 +95,22 @@ pub record AppliedToLine (line : ℕ) (left old new : Option (List ℕ)) : Type 
   pub counted : line ≡ length requests + 1
   pub went_out : Appends old new (applied requests)
 
--- a front of the answers went out
-pub record AppliedPart (left old new : Option (List ℕ)) : Type 0 where
+-- a front of the answers went out; a known room was too small for all of them
+pub record AppliedPart (left : Option (List ℕ)) (room : Option ℕ) (old new : Option (List ℕ)) : Type 0 where
   pub text : List ℕ
   pub requests : List Issued
   pub rest : List ℕ
   pub given : IsTextOf left text
   pub begins : BeginsWith text requests rest
   pub ended : (rest ≡ []) ⊎ IsBad rest
+  pub too_long : IfSome room (λ most. most < length (applied requests))
   pub went_out : SentFront old new (applied requests)
 
 -- what stands after each refusal: after a bad line the lines before it are answered; with no memory, and where
--- reading failed, nothing was written; where writing failed, a front of the answers was
-abbrev pub StandsAfter : Refusal → Option (List ℕ) → Option (List ℕ) → Option (List ℕ) → Type 0
-StandsAfter (BadText line) left old new = AppliedToLine line left old new
-StandsAfter NoMemory left old new = Keeps old new
-StandsAfter ReadFailed left old new = Keeps old new
-StandsAfter WriteFailed left old new = AppliedPart left old new
-StandsAfter other left old new = ⊥
+-- reading failed, nothing was written; where writing failed, a front of the answers was; there is no other refusal
+abbrev pub StandsAfter : Refusal → Option (List ℕ) → Option ℕ → Option (List ℕ) → Option (List ℕ) → Type 0
+StandsAfter (BadText line) left room old new = AppliedToLine line left old new
+StandsAfter NoMemory left room old new = Keeps old new
+StandsAfter ReadFailed left room old new = Keeps old new
+StandsAfter WriteFailed left room old new = AppliedPart left room old new
+StandsAfter other left room old new = ⊥

@@ -102,7 +102,7 @@ impl Run {
 /// known room is enough.
 pub fn run_apply<S: Source, K: Sink>(alloc: Global, source: &mut S, sink: &mut K) -> Result<(), Refusal>
     ensures done { OnOk result (AppliedAll (S.left source.old) (K.contents sink.old) (K.contents sink.new)) }
-    ensures refused { IfErr result (λ e. StandsAfter e (S.left source.old) (K.contents sink.old) (K.contents sink.new)) }
+    ensures refused { IfErr result (λ e. StandsAfter e (S.left source.old) (K.room sink.old) (K.contents sink.old) (K.contents sink.new)) }
     ensures in_memory { S.is_in_memory source.old → IsErrOf result Refusal.ReadFailed → IfSome (S.left source.old) (λ bytes. 16777216 < length bytes) }
 {
     let text = read_input(alloc, source)?;
