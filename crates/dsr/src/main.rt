@@ -1,0 +1,46 @@
+//! The program `dsr`: a directory of named registers, kept by replicas of which some may be traitors.
+#![tactic(auto)]
+
+use std::alloc::AllocError;
+use std::env;
+use std::io;
+use std::io::{ErrorKind, Write};
+use std::process::ExitCode;
+
+use dsr_names::Outside;
+
+/// The exit status where the words of the command line are no text.
+const USAGE_FAULT: u8 = 2;
+
+/// The exit status after want of memory.
+const NO_MEMORY: u8 = 3;
+
+/// Says on standard error why the words could not be read, and gives the status for it.
+fn refuse_words(rt: &HostRuntime, kind: ErrorKind) -> ExitCode {
+    let (text, status) = match kind {
+        ErrorKind::OutOfMemory => ("dsr: no memory\n", NO_MEMORY),
+        _ => ("dsr: the words of the command line are no text\n", USAGE_FAULT),
+    };
+    // Where this cannot be written either, the status alone tells.
+    let _ = rt.stderr().write_all(text.as_bytes());
+    ExitCode::from(status)
+}
+
+fn main(rt: HostRuntime) -> io::Result<ExitCode> {
+    let words = match env::args(&rt) {
+        Ok(words) => words,
+        Err(error) => return Ok(refuse_words(&rt, error.kind())),
+    };
+    let words: Result<Vec<String>, AllocError> = words.skip(1).collect(rt.alloc());
+    let Ok(words) = words else {
+        return Ok(refuse_words(&rt, ErrorKind::OutOfMemory));
+    };
+    let status = dsr_cli::run(
+        rt.alloc(),
+        words.as_slice(),
+        &mut Outside(rt.stdin()),
+        &mut Outside(rt.stdout()),
+        &mut rt.stderr(),
+    );
+    Ok(ExitCode::from(status))
+}
