@@ -1,17 +1,19 @@
 //! The program `dsr` over any words, reader and writers.
 #![tactic(auto)]
 
-use std::alloc::Global;
-use std::convert::AsStr;
-use std::io::Write;
-
-use dsr_command::{Reading, Task, read_words};
-use dsr_history::run_apply;
-use dsr_names::{Refusal, Sink, Source, write_output};
+#[cfg(test)]
+mod tests;
 
 ghost use Rattle.std.specs.Prelude.{◌≡◌, map};
 ghost use Rattle.dsr_command.specs.Asked.{asked_of};
 ghost use Rattle.dsr_cli.specs.Status.{StatusFor, WhatApplyLeft, status_of, IsHelpStatus};
+
+use dsr_command::{Reading, Task, read_words};
+use dsr_history::run_apply;
+use dsr_names::{Refusal, Sink, Source, write_output};
+use std::alloc::Global;
+use std::convert::AsStr;
+use std::io::Write;
 
 /// The exit status where all that was asked for was done.
 const DONE: u8 = 0;
@@ -19,8 +21,8 @@ const DONE: u8 = 0;
 /// The exit status after words that the program does not know.
 const USAGE_FAULT: u8 = 2;
 
-/// Does what the words ask for and answers the program's exit status: 0 where it was done, 1 after a refusal but
-/// want of memory, 2 after words that the program does not know, and 3 after want of memory. The words are those
+/// Does what the words ask for and answers the program's exit status: 0 where it was done, 1 after a refusal other
+/// than want of memory, 2 after words that the program does not know, and 3 after want of memory. The words are those
 /// after the program's own name; none means `apply`. A refusal is told on `errors` as `dsr: ` and its text, a usage
 /// fault by its text; the help goes to `output`.
 pub fn run<S: AsStr, I: Source, O: Sink, E: Write>(
@@ -30,7 +32,7 @@ pub fn run<S: AsStr, I: Source, O: Sink, E: Write>(
     output: &mut O,
     errors: &mut E,
 ) -> u8
-    ensures { StatusFor (asked_of (map S.text words.now)) result (I.left input.old) (O.room output.old) (O.contents output.old) (O.contents output.new) }
+    ensures { StatusFor (asked_of (map S.text words.now)) result (I.is_in_memory input.old) (I.left input.old) (O.room output.old) (O.contents output.old) (O.contents output.new) }
 {
     match read_words(alloc, words) {
         Reading::Do(Task::Apply) => apply(alloc, input, output, errors),
@@ -44,8 +46,13 @@ pub fn run<S: AsStr, I: Source, O: Sink, E: Write>(
 }
 
 /// Answers the request lines of the input on the output.
-fn apply<I: Source, O: Sink, E: Write>(alloc: Global, input: &mut I, output: &mut O, errors: &mut E) -> u8
-    ensures { WhatApplyLeft result (I.left input.old) (O.room output.old) (O.contents output.old) (O.contents output.new) }
+fn apply<I: Source, O: Sink, E: Write>(
+    alloc: Global,
+    input: &mut I,
+    output: &mut O,
+    errors: &mut E,
+) -> u8
+    ensures { WhatApplyLeft result (I.is_in_memory input.old) (I.left input.old) (O.room output.old) (O.contents output.old) (O.contents output.new) }
 {
     match run_apply(alloc, input, output) {
         Ok(()) => DONE,

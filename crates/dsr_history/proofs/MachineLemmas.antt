@@ -1,5 +1,5 @@
 -- What a machine's parts hold, one request later.
-use Rattle.std.proofs.Common.{◌≡◌, ◌≢◌, ◌⊎◌, inl, inr, ℕ, zero, suc, ◌+◌, ◌<◌, ◌≤◌, Bool, true, false, cond, not, ◌&&◌, ◌||◌, nat_eq, nat_lt, List, [], ◌∷◌, ◌++◌, length, map, reverse, get_or, set, Option, None, Some, max, refl, sym, ◌∙◌, ap, subst, arith, slice_get, length-append, length-set, eq-eqb}
+use Rattle.std.proofs.Common.{◌≡◌, ◌≢◌, ◌⊎◌, inl, inr, ℕ, zero, suc, ◌+◌, ◌<◌, ◌≤◌, Bool, true, false, cond, not, ◌&&◌, ◌||◌, nat_eq, nat_lt, List, [], ◌∷◌, ◌++◌, length, map, reverse, get_or, set, Option, None, Some, IfSome, max, refl, sym, ◌∙◌, ap, subst, arith, slice_get, length-append, length-set, eq-eqb}
 use Rattle.std.proofs.lemmas.Bool.Decides.{nat_tests}
 use Rattle.std.proofs.lemmas.Bool.{ne_eqb, eqb-false}
 use Rattle.std.proofs.lemmas.List.{reverse-append, reverse-reverse, length-reverse, get_or-set_same, get_or-set_other}
@@ -119,25 +119,24 @@ falls_from_idle request older kept some is idle =
 -- the parts after a request that acted
 
 replies_step : (b : Bool) (ledger : List (Option Reply)) (h : List Issued) (request : Issued) (new : Reply) (client : ℕ) → b ≡ nat_eq request.client client
-    → client < length ledger → new ≡ record { number = request.number; place = length h; answer = answer_after (operations h) request.op }
+    → request.client < length ledger → new ≡ record { number = request.number; place = length h; answer = answer_after (operations h) request.op }
     → kept_of ledger client ≡ reply_in h client
     → kept_of (set ledger request.client (Some new)) client
-      ≡ cond b (Some (record { number = request.number; place = length h; answer = answer_after (operations h) request.op })) (reply_in h client)
+    ≡ cond b (Some (record { number = request.number; place = length h; answer = answer_after (operations h) request.op })) (reply_in h client)
 replies_step true ledger h request new client e within is same =
     let here : client ≡ request.client = sym (eqb-true request.client client (sym e)) in
     ap (λ c. get_or (set ledger request.client (Some new)) c None) here
-    ∙ (get_or-set_same ledger request.client (Some new) None (subst (λ c. c < length ledger) here within) ∙ ap Some is)
+    ∙ (get_or-set_same ledger request.client (Some new) None within ∙ ap Some is)
 replies_step false ledger h request new client e within is same =
     get_or-set_other ledger request.client client (Some new) None (λ here. eqb-false request.client client (sym e) (sym here)) ∙ same
 
 pub replies_after : (ledger : List (Option Reply)) (h : List Issued) (request : Issued) (new : Reply) (client : ℕ)
-    → client < length (set ledger request.client (Some new))
+    → request.client < length ledger
     → new ≡ record { number = request.number; place = length h; answer = answer_after (operations h) request.op }
-    → ((c : ℕ) → c < length ledger → kept_of ledger c ≡ reply_in h c)
+    → ((c : ℕ) → kept_of ledger c ≡ reply_in h c)
     → kept_of (set ledger request.client (Some new)) client ≡ reply_in (request ∷ h) client
 replies_after ledger h request new client within is same =
-    let inside : client < length ledger = omega (arith, length-set ledger request.client (Some new)) in
-    replies_step (nat_eq request.client client) ledger h request new client refl inside is (same client inside)
+    replies_step (nat_eq request.client client) ledger h request new client refl within is (same client)
 
 pub reply_made : (number place : ℕ) (answer : Answer) (request : Issued) (h : List Issued) → number ≡ request.number → place ≡ length h
     → answer ≡ answer_after (operations h) request.op
@@ -194,12 +193,12 @@ idle_by request h older e falls = e ∙ ap (λ b. cond b (request ∷ acting old
 
 -- a machine after a request that acted
 pub machine_after : (a b : Inside) (request : Issued) (answer : Answer) (number place client : ℕ) → IsMachine a
-    → number ≡ request.number → client ≡ request.client → place ≡ length a.history.items
+    → number ≡ request.number → client ≡ request.client → request.client < length a.ledger → place ≡ length a.history.items
     → ((ops : List Op) → StandsFor a.directory ops → answer ≡ answer_after ops request.op)
     → ((ops : List Op) → StandsFor a.directory ops → StandsFor b.directory (request.op ∷ ops))
     → b.ledger ≡ set a.ledger client (Some (record { number = number; place = place; answer = answer }))
     → b.history.items ≡ a.history.items ++ request ∷ [] → b.answers.items ≡ a.answers.items ++ answer ∷ [] → IsMachine b
-machine_after a b request answer number place client m same_number same_client same_place answers change ledger history kept =
+machine_after a b request answer number place client m same_number same_client within same_place answers change ledger history kept =
     let h : List Issued = reverse a.history.items in
     let later : reverse b.history.items ≡ request ∷ h = pushed a.history.items b.history.items request history in
     let given : answer ≡ answer_after (operations h) request.op = answers (operations h) m.table in
@@ -208,14 +207,46 @@ machine_after a b request answer number place client m same_number same_client s
     record {
       table = subst (λ l. StandsFor b.directory (operations l)) (sym later) (change (operations h) m.table);
       replies =
-      λ c within.
-      subst (λ l. kept_of b.ledger c ≡ reply_in l c) (sym later)
-      (ap (λ l. kept_of l c) noted
-      ∙ replies_after a.ledger h request (record { number = number; place = place; answer = answer }) c (subst (λ l. c < length l) noted within)
-      (reply_made number place answer request h same_number (same_place ∙ sym (length-reverse a.history.items)) given) m.replies);
+          λ c.
+          subst (λ l. kept_of b.ledger c ≡ reply_in l c) (sym later)
+          (ap (λ l. kept_of l c) noted
+          ∙ replies_after a.ledger h request (record { number = number; place = place; answer = answer }) c within
+          (reply_made number place answer request h same_number (same_place ∙ sym (length-reverse a.history.items)) given) m.replies);
       answers =
-      pushed a.answers.items b.answers.items answer kept
-      ∙ (ap (λ x. x ∷ reverse a.answers.items) given
-      ∙ (ap (λ xs. answer_after (operations h) request.op ∷ xs) m.answers
-      ∙ ap answers_of (sym later)));
+          pushed a.answers.items b.answers.items answer kept
+          ∙ (ap (λ x. x ∷ reverse a.answers.items) given
+          ∙ (ap (λ xs. answer_after (operations h) request.op ∷ xs) m.answers
+          ∙ ap answers_of (sym later)));
     }
+
+-- a reply tells the answer at its place
+
+pub record IsTrueReply (h : List Issued) (r : Reply) : Type 0 where
+  pub within : r.place < length h
+  pub answered : answer_at h r.place ≡ Some r.answer
+
+true_step : (b : Bool) (h : List Issued) (request : Issued) (client : ℕ) → IfSome (reply_in h client) (IsTrueReply h)
+    → IfSome (cond b (Some (record { number = request.number; place = length h; answer = answer_after (operations h) request.op })) (reply_in h client)) (IsTrueReply (request ∷ h))
+true_step true h request client so_far =
+    record {
+      within = omega arith;
+      answered = ap (λ same. cond same (Some (answer_after (operations h) request.op)) (answer_at h (length h))) (eq-eqb (length h) (length h) refl);
+    }
+true_step false h request client so_far = older (reply_in h client) so_far
+  where
+    older : (kept : Option Reply) → IfSome kept (IsTrueReply h) → IfSome kept (IsTrueReply (request ∷ h))
+    older None k = tt
+    older (Some r) k =
+        record {
+          within = omega (arith, k.within);
+          answered = ap (λ same. cond same (Some (answer_after (operations h) request.op)) (answer_at h r.place))
+              (ne_eqb (length h) r.place (λ e. omega (arith, k.within))) ∙ k.answered;
+        }
+
+pub true_replies : (h : List Issued) (client : ℕ) → IfSome (reply_in h client) (IsTrueReply h)
+true_replies [] client = tt
+true_replies (r ∷ older) client = true_step (nat_eq r.client client) older r client (true_replies older client)
+
+pub told : (h : List Issued) (kept : Option Reply) → IfSome kept (IsTrueReply h) → IfSome kept (λ r. answer_at h r.place ≡ Some r.answer)
+told h None k = tt
+told h (Some r) k = k.answered

@@ -16,8 +16,8 @@ written_requests requests written first some few same is =
     record {
       some = some;
       places =
-      subst (λ blank. IsPadded 8 blank (written ++ drop (length requests) (replicate 8 first)) (length requests))
-      (first_written requests (drop (length requests) (replicate 8 first)) first some is
-      ∙ ap (λ items. first_request (items ++ drop (length requests) (replicate 8 first))) (sym same))
-      (items_over_blanks 8 (length requests) first written (ap length same) few);
+          subst (λ blank. IsPadded 8 blank (written ++ drop (length requests) (replicate 8 first)) (length requests))
+          (first_written requests (drop (length requests) (replicate 8 first)) first some is
+          ∙ ap (λ items. first_request (items ++ drop (length requests) (replicate 8 first))) (sym same))
+          (items_over_blanks 8 (length requests) first written (ap length same) few);
     }

@@ -34,12 +34,12 @@ one_more text rest after line history later answers more request s h cut step =
     record {
       requests = request ∷ s.requests;
       begins =
-      record {
-        each = (h, s.begins.each);
-        lines =
-        s.begins.lines
-        ∙ (ap (λ r. request_lines s.requests ++ r) cut ∙ sym (append_assoc (request_lines s.requests) (request_line request) after));
-      };
+          record {
+            each = (h, s.begins.each);
+            lines =
+                s.begins.lines
+                ∙ (ap (λ r. request_lines s.requests ++ r) cut ∙ sym (append_assoc (request_lines s.requests) (request_line request) after));
+          };
       stands = next.0;
       answered = next.1;
       counted = omega (arith, s.counted);

@@ -1,6 +1,6 @@
 -- What lines of requests are answered with (this project). Requests stand newest first: the last line's request is
 -- the first of the list.
-use Rattle.std.specs.Prelude.{◌≡◌, ◌≢◌, ◌⊎◌, ℕ, ◌+◌, ◌<◌, nat_lt, if◌then◌else◌, List, [], ◌∷◌, ◌++◌, length, map, codes, Option, None, Some, IfSome}
+use Rattle.std.specs.Prelude.{◌≡◌, ◌≢◌, ◌⊎◌, ℕ, ◌+◌, ◌<◌, ◌≤◌, nat_lt, if◌then◌else◌, List, [], ◌∷◌, ◌++◌, length, map, codes, Option, None, Some, IfSome}
 use Rattle.std.specs.List.{AllByRecursion}
 use Rattle.std.specs.Fmt.{decimal}
 use Rattle.std.specs.Io.KnownBytes.{Appends, Keeps}
@@ -26,7 +26,7 @@ request_lines (request ∷ older) = request_lines older ++ request_line request
 abbrev pub values_of : List Issued → List (List Issued)
 values_of requests = map (λ request. request ∷ []) requests
 
--- what a request is told by its client's last reply: `old` where that has a greater number, else its place and answer
+-- what a request is told by its client's last reply, which there always is after its own line: `old` where that has a greater number, else its place and answer
 abbrev pub told_by : Issued → Option Reply → List ℕ
 told_by request None = []
 told_by request (Some last) =
@@ -79,6 +79,7 @@ IsTextOf (Some bytes) text = text ≡ bytes
 -- all lines were good, and what they are answered with went out
 pub record AppliedAll (left old new : Option (List ℕ)) : Type 0 where
   pub text : List ℕ
+  pub short : length text ≤ 16777216
   pub requests : List Issued
   pub given : IsTextOf left text
   pub begins : BeginsWith text requests []
@@ -87,6 +88,7 @@ pub record AppliedAll (left old new : Option (List ℕ)) : Type 0 where
 -- the lines before the bad one are answered, and it is counted from 1
 pub record AppliedToLine (line : ℕ) (left old new : Option (List ℕ)) : Type 0 where
   pub text : List ℕ
+  pub short : length text ≤ 16777216
   pub requests : List Issued
   pub rest : List ℕ
   pub given : IsTextOf left text
@@ -98,6 +100,7 @@ pub record AppliedToLine (line : ℕ) (left old new : Option (List ℕ)) : Type 
 -- a front of the answers went out; a known room was too small for all of them
 pub record AppliedPart (left : Option (List ℕ)) (room : Option ℕ) (old new : Option (List ℕ)) : Type 0 where
   pub text : List ℕ
+  pub short : length text ≤ 16777216
   pub requests : List Issued
   pub rest : List ℕ
   pub given : IsTextOf left text

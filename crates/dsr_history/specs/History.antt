@@ -19,7 +19,7 @@ rises_above request [] = true
 rises_above request (r ∷ older) = (not (r.client == request.client) || nat_lt r.number request.number) && rises_above request older
 
 -- the requests that act: those that rise above all older ones of their client (Schneider 1990: each request of a
--- client is processed once, in the order in which the client issued them)
+-- client is processed at most once, in the order in which the client issued them)
 abbrev pub acting : List Issued → List Issued
 acting [] = []
 acting (request ∷ older) = if rises_above request older then request ∷ acting older else acting older

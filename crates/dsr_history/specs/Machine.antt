@@ -30,5 +30,5 @@ state_of a =
 -- along the history
 pub record IsMachine (a : Inside) : Type 0 where
   pub table : StandsFor a.directory (operations (history_of a))
-  pub replies : (client : ℕ) → client < length a.ledger → kept_of a.ledger client ≡ reply_in (history_of a) client
+  pub replies : (client : ℕ) → kept_of a.ledger client ≡ reply_in (history_of a) client
   pub answers : reverse a.answers.items ≡ answers_of (history_of a)

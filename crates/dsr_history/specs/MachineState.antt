@@ -11,6 +11,6 @@ pub record MachineState : Type 0 where
   pub clients : ℕ
   pub room : ℕ
 
--- the machine stands for these values, newest first: it accepted them
+-- the machine stands for these values, newest first: its history is theirs
 abbrev pub Stands : MachineState → List (List Issued) → Type 0
 Stands machine values = machine.history ≡ acted values

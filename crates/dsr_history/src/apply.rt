@@ -1,17 +1,15 @@
-use std::alloc::Global;
-use std::io::Write;
-
-use dsr_names::{Refusal, Shape, Sink, Source, read_input, split_once, write_output};
-
-use crate::machine::Machine;
-use crate::request::Request;
-use crate::request_text::read_request;
-
 ghost use Rattle.std.specs.Prelude.{◌≡◌, ℕ, ◌+◌, ◌<◌, ◌≤◌, ◌^◌, List, ◌∷◌, ◌++◌, [], length, Option, Some, OnOk, IfOk, IfErr, IfSome, IfNone, IsErrOf, vec_len};
 ghost use Rattle.dsr_history.specs.Issued.{Issued};
 ghost use Rattle.dsr_history.specs.MachineState.{Stands};
 ghost use Rattle.dsr_history.specs.RequestText.{IsRequest};
 ghost use Rattle.dsr_history.specs.Applied.{request_line, values_of, applied, AppliedAll, StandsAfter, IsNoLine, HasAnswered, HasAnsweredTo};
+
+use crate::machine::Machine;
+use crate::request::Request;
+use crate::request_text::read_request;
+use dsr_names::{Refusal, Shape, Sink, Source, read_input, split_once, write_output};
+use std::alloc::Global;
+use std::io::Write;
 
 /// A machine, and the answers that it gave so far.
 #[derive(Drop)]
@@ -40,6 +38,7 @@ impl Run {
                 let answer = reply.answer;
                 writeln!(self.answers, "{place} {answer}")
             }
+            // A client has a reply after its own line, so there is always something to tell.
             None => writeln!(self.answers),
         };
         match written {
@@ -100,7 +99,11 @@ impl Run {
 /// `NoMemory` and `ReadFailed` nothing was written, and after `WriteFailed` a front of the answers was. What was
 /// read is gone. A source in memory answers `ReadFailed` only for too many bytes, and a sink never fails where its
 /// known room is enough.
-pub fn run_apply<S: Source, K: Sink>(alloc: Global, source: &mut S, sink: &mut K) -> Result<(), Refusal>
+pub fn run_apply<S: Source, K: Sink>(
+    alloc: Global,
+    source: &mut S,
+    sink: &mut K,
+) -> Result<(), Refusal>
     ensures done { OnOk result (AppliedAll (S.left source.old) (K.contents sink.old) (K.contents sink.new)) }
     ensures refused { IfErr result (λ e. StandsAfter e (S.left source.old) (K.room sink.old) (K.contents sink.old) (K.contents sink.new)) }
     ensures in_memory { S.is_in_memory source.old → IsErrOf result Refusal.ReadFailed → IfSome (S.left source.old) (λ bytes. 16777216 < length bytes) }

@@ -2,6 +2,8 @@
 #![tactic(auto)]
 
 mod apply;
+#[cfg(test)]
+mod apply_tests;
 mod laws;
 mod machine;
 mod request;

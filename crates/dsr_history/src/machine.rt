@@ -1,17 +1,15 @@
-use std::alloc::Global;
-use std::marker::Model;
-
-use dsr_ledger::{Ledger, Reply};
-use dsr_names::{ClientId, Refusal, Shape};
-use dsr_register::{Answer, Directory, Name};
-
-use crate::request::Request;
-
-ghost use Rattle.std.specs.Prelude.{◌≡◌, ℕ, ◌+◌, ◌<◌, ◌≤◌, ◌^◌, ◌↔◌, ◌∷◌, [], List, All, Option, length, map, reverse, if◌then◌else◌, OnOk, OnErr, IsOk, IfOk, IfErr, IsTrue};
+ghost use Rattle.std.specs.Prelude.{◌≡◌, ℕ, ◌+◌, ◌<◌, ◌≤◌, ◌^◌, ◌↔◌, ◌∷◌, [], List, All, Option, length, map, reverse, if◌then◌else◌, Some, OnOk, OnErr, IsOk, IfSome, IfOk, IfErr, IsTrue};
 ghost use Rattle.dsr_register.specs.Values.{value};
 ghost use Rattle.dsr_history.specs.Issued.{Issued};
 ghost use Rattle.dsr_history.specs.History.{acted, acting, rises_above, operations, reply, reply_in, answer_at};
 ghost use Rattle.dsr_history.specs.MachineState.{Stands};
+
+use crate::request::Request;
+use dsr_ledger::{Ledger, Reply};
+use dsr_names::{ClientId, Refusal, Shape};
+use dsr_register::{Answer, Directory, Name};
+use std::alloc::Global;
+use std::marker::Model;
 
 /// The most requests of one value.
 const MOST_REQUESTS: usize = 8;
@@ -64,14 +62,16 @@ impl Machine {
         ensures history { self.new.history ≡ self.old.history }
         ensures clients { self.new.clients ≡ self.old.clients }
     {
-        if self.history.reserve(MOST_REQUESTS).is_err() || self.answers.reserve(MOST_REQUESTS).is_err() {
+        if self.history.reserve(MOST_REQUESTS).is_err()
+            || self.answers.reserve(MOST_REQUESTS).is_err()
+        {
             return Err(Refusal::NoMemory);
         }
         Ok(())
     }
 
     /// Processes the requests of a value in the order of its list, and says how many of them acted; the empty
-    /// list is the idle value. `NoMemory` where there was no room, and none was given: then nothing changed.
+    /// list is the idle value. `NoMemory` where there was no room and no memory for it: then nothing changed.
     pub fn accept_value(&mut self, requests: &[Request]) -> Result<u8, Refusal>
         requires few { length requests.now ≤ 8 }
         requires clients { All (λ r. r.client < self.old.clients) requests.now }
@@ -121,7 +121,14 @@ impl Machine {
         }
         let place = self.history.len() as u64;
         let answer = self.directory.apply(request.op());
-        self.ledger.note(client, Reply { number, place, answer });
+        self.ledger.note(
+            client,
+            Reply {
+                number,
+                place,
+                answer,
+            },
+        );
         let _ = self.history.push(*request);
         let _ = self.answers.push(answer);
         true
@@ -129,8 +136,8 @@ impl Machine {
 
     /// The client's last reply: to the last of its requests that acted.
     pub fn kept(&self, client: ClientId) -> Option<Reply>
-        requires { client < self.now.clients }
         ensures last { result ≡ reply_in self.now.history client }
+        ensures stands { IfSome result (λ last. answer_at self.now.history last.place ≡ Some last.answer) }
         ensures reply { (values : List (List Issued)) → Stands self.now values → result ≡ reply values client }
     {
         self.ledger.kept(client)

@@ -1,10 +1,9 @@
-use std::marker::Model;
+ghost use Rattle.std.specs.Prelude.{◌≡◌, ◌<◌, ◌^◌, ◌↔◌, IsOk, IfOk, IfErr, IsTrue};
+ghost use Rattle.dsr_history.specs.Issued.{issued};
 
 use dsr_names::{ClientId, Refusal};
 use dsr_register::Op;
-
-ghost use Rattle.std.specs.Prelude.{◌≡◌, ◌<◌, ◌^◌, ◌↔◌, IsOk, IfOk, IfErr, IsTrue};
-ghost use Rattle.dsr_history.specs.Issued.{issued};
+use std::marker::Model;
 
 /// One more than the greatest request number: 2^40.
 const NUMBER_END: u64 = 1_099_511_627_776;

@@ -1,10 +1,3 @@
-use std::fmt;
-
-use dsr_names::{Actor, ClientId, read_num, split_once};
-use dsr_register::{Joined, Op};
-
-use crate::request::Request;
-
 ghost use Rattle.std.specs.Prelude.{◌≡◌, ◌⊎◌, ◌↔◌, ℕ, ◌<◌, Some};
 ghost use Rattle.std.specs.Fmt.{decimal};
 ghost use Rattle.dsr_names.specs.Actor.{actor_text};
@@ -12,6 +5,11 @@ ghost use Rattle.dsr_names.specs.declared.actor.Actor.TheVariants.{Client};
 ghost use Rattle.dsr_register.specs.OpText.{op_text};
 ghost use Rattle.dsr_history.specs.Issued.{Issued};
 ghost use Rattle.dsr_history.specs.RequestText.{request_text, IsRequest};
+
+use crate::request::Request;
+use dsr_names::{Actor, ClientId, read_num, split_once};
+use dsr_register::{Joined, Op};
+use std::fmt;
 
 impl Request {
     /// The request whose token the bytes are, as `c0#7:write:a:5`. `None` exactly where they are no such token.

@@ -1,8 +1,7 @@
-use std::marker::Model;
+ghost use Rattle.std.specs.Prelude.{◌≡◌, ◌<◌, ◌≤◌, ◌↔◌, length, slice_get, IsSome, IfSome, IsTrue};
 
 use crate::request::Request;
-
-ghost use Rattle.std.specs.Prelude.{◌≡◌, ◌<◌, ◌≤◌, ◌↔◌, length, slice_get, IsSome, IfSome, IsTrue};
+use std::marker::Model;
 
 /// The most requests of one value.
 const MOST_REQUESTS: usize = 8;
@@ -43,7 +42,10 @@ impl Requests {
         }
         let mut items = [requests[0]; MOST_REQUESTS];
         items[..len].copy_from_slice(requests);
-        Some(Requests { items, len: len as u8 })
+        Some(Requests {
+            items,
+            len: len as u8,
+        })
     }
 
     /// The requests in their order, 1 to 8 of them.

@@ -1,12 +1,10 @@
-use std::alloc::Global;
-use std::marker::Model;
-
-use dsr_names::{ClientId, Refusal};
-
-use crate::reply::Reply;
-
 ghost use Rattle.std.specs.Prelude.{◌≡◌, ◌<◌, ◌↔◌, None, Some, IfOk, IfErr, IsTrue, length, replicate, slice_set};
 ghost use Rattle.dsr_ledger.specs.Kept.{kept_of, Acts};
+
+use crate::reply::Reply;
+use dsr_names::{ClientId, Refusal};
+use std::alloc::Global;
+use std::marker::Model;
 
 /// The last reply of each client of a shape, if it had one.
 #[derive(Drop)]
@@ -48,12 +46,16 @@ impl Ledger {
         }
     }
 
-    /// The client's last reply.
+    /// The client's last reply; none for a client outside the shape.
     pub fn kept(&self, client: ClientId) -> Option<Reply>
-        requires { client < length self.now }
         ensures { result ≡ kept_of self.now client }
     {
-        self.replies[client.number() as usize]
+        let place = client.number() as usize;
+        if place < self.replies.len() {
+            self.replies[place]
+        } else {
+            None
+        }
     }
 
     /// Keeps this reply as the client's last one; its number is one that acts.

@@ -55,9 +55,9 @@ impl<R: Read> Source for Outside<R> {
 pub fn read_input<S: Source>(alloc: Global, source: &mut S) -> Result<Vec<u8>, Refusal>
     ensures all { IfOk result (λ text. IfSome (S.left source.old) (λ bytes. text.items ≡ bytes)) }
     ensures end { OnOk result (IsAtEnd (S.left source.new)) }
-    ensures fits { IfOk result (λ text. vec_len text ≤ MOST_BYTES) }
+    ensures fits { IfOk result (λ text. vec_len text ≤ 16777216) }
     ensures refusals { IfErr result IsReadRefusal }
-    ensures in_memory { S.is_in_memory source.old → IsErrOf result Refusal.ReadFailed → IfSome (S.left source.old) (λ bytes. MOST_BYTES < length bytes) }
+    ensures in_memory { S.is_in_memory source.old → IsErrOf result Refusal.ReadFailed → IfSome (S.left source.old) (λ bytes. 16777216 < length bytes) }
 {
     let mut text = Vec::new(alloc);
     let mut buffer = [0u8; 8192];

@@ -1,5 +1,5 @@
 -- What registers hold after a list of operations, newest first, and what the next operation answers (the state
--- machine of Schneider 1990: an operation's answer hangs on the operations before it alone). A register holds a
+-- machine of Schneider 1990: an operation's answer depends only on the operations before it). A register holds a
 -- number, or none.
 use Rattle.std.specs.Prelude.{ℕ, Bool, ◌&&◌, not, nat_eq, nat_le, is_none, is_some, if◌then◌else◌, List, [], ◌∷◌, count_by, Option, None, Some}
 use Rattle.std.specs.List.{list_any}
@@ -24,14 +24,17 @@ registers (op ∷ older) = if list_any (bytes_eq (register_of op)) (registers ol
 
 -- whether 1,024 of these registers hold a number
 abbrev pub is_full : (List ℕ → Option ℕ) → List (List ℕ) → Bool
-is_full value names = nat_le 1024 (count_by (λ name. is_some (value name)) names)
+is_full content names = nat_le 1024 (count_by (λ name. is_some (content name)) names)
 
--- what the operation leaves in its register, which held `held`; a write or a swap may fill an empty register only
--- where not all 1,024 are taken
+-- whether a write or a swap on a register that holds `held` is blocked: it would be one register too many
+abbrev pub is_blocked : Option ℕ → Bool → Bool
+is_blocked held full = is_none held && full
+
+-- what the operation leaves in its register, which held `held`
 abbrev pub left_by : Op → Option ℕ → Bool → Option ℕ
 left_by (Read name) held full = held
-left_by (Write name value) held full = if is_none held && full then held else Some value
-left_by (Swap name from to) held full = if option_eq nat_eq held from && not (is_none held && full) then Some to else held
+left_by (Write name value) held full = if is_blocked held full then held else Some value
+left_by (Swap name from to) held full = if option_eq nat_eq held from && not (is_blocked held full) then Some to else held
 left_by (Remove name) held full = None
 
 -- what the register holds after the operations: what the latest operation on it left
@@ -47,8 +50,8 @@ count_held ops = count_by (λ name. is_some (value ops name)) (registers ops)
 -- what an operation on a register that holds `held` answers
 abbrev pub answer_on : Op → Option ℕ → Bool → Answer
 answer_on (Read name) held full = Held held
-answer_on (Write name value) held full = if is_none held && full then Full else Written
-answer_on (Swap name from to) held full = if not (option_eq nat_eq held from) then Kept held else (if is_none held && full then Full else Swapped)
+answer_on (Write name value) held full = if is_blocked held full then Full else Written
+answer_on (Swap name from to) held full = if not (option_eq nat_eq held from) then Kept held else (if is_blocked held full then Full else Swapped)
 answer_on (Remove name) held full = Removed held
 
 -- what the operation answers after the older ones

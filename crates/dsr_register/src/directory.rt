@@ -2,7 +2,7 @@ ghost use Rattle.std.specs.Prelude.{◌≡◌, ℕ, ◌<◌, ◌≤◌, ◌↔�
 ghost use Rattle.std.specs.Str.{bytes_eq};
 ghost use Rattle.std.specs.List.Sorted.{IsPartitionPoint};
 ghost use Rattle.dsr_register.specs.declared.op.Op.{Op};
-ghost use Rattle.dsr_register.specs.Values.{value, count_held, answer_after, answer_on, left_by, register_of};
+ghost use Rattle.dsr_register.specs.Values.{value, is_blocked, count_held, answer_after, answer_on, left_by, register_of};
 ghost use Rattle.dsr_register.specs.Table.{content, is_before, StandsFor, IsEntryOf, IsGapFor, IsAscending};
 
 use crate::answer::Answer;
@@ -104,7 +104,7 @@ impl Directory {
 
     /// Lets the register hold the value, if it holds one or not all 1,024 are taken.
     fn put(&mut self, name: Name, value: u64) -> bool
-        ensures done { result ≡ not (is_none (content self.old name) && nat_le 1024 (length self.old)) }
+        ensures done { result ≡ not (is_blocked (content self.old name) (nat_le 1024 (length self.old))) }
         ensures contents { (other : List ℕ) → content self.new other ≡ (if bytes_eq name other && result then Some value else content self.old other) }
     {
         match self.find(&name) {
@@ -149,6 +149,7 @@ impl Directory {
         ensures answer { result ≡ answer_on (Op.Write name value) (content self.old name) (nat_le 1024 (length self.old)) }
         ensures contents { (other : List ℕ) → content self.new other ≡ (if bytes_eq name other then left_by (Op.Write name value) (content self.old other) (nat_le 1024 (length self.old)) else content self.old other) }
     {
+        // The contract speaks of the table's order, which is known where a field is used.
         let _ = &self.entries;
         if self.put(name, value) {
             Answer::Written
@@ -163,6 +164,7 @@ impl Directory {
         ensures answer { result ≡ answer_on (Op.Swap name from to) (content self.old name) (nat_le 1024 (length self.old)) }
         ensures contents { (other : List ℕ) → content self.new other ≡ (if bytes_eq name other then left_by (Op.Swap name from to) (content self.old other) (nat_le 1024 (length self.old)) else content self.old other) }
     {
+        // The contract speaks of the table's order, which is known where a field is used.
         let _ = &self.entries;
         let held = self.get(&name);
         if held != from {

@@ -13,7 +13,7 @@ returns-then-not-acts-clause-acted c older e =
     let here : history_of c.self.inside ≡ acting older = ap (λ m. m.history) c.self.view_is ∙ e in
     let clients : length c.self.inside.ledger ≡ c.args.self.now.clients = ap (λ m. m.clients) c.self.view_is in
     let kept : kept_of c.self.inside.ledger c.client-client.result ≡ reply_in (acting older) c.args.request.now.client =
-    c.self.invariant.replies c.client-client.result (omega (arith, c.requires.client, c.client-client.ensures, clients))
+    c.self.invariant.replies c.client-client.result
     ∙ (ap (λ h. reply_in h c.client-client.result) here ∙ ap (reply_in (acting older)) c.client-client.ensures) in
     let some : 0 < c.args.request.now.number = omega (arith, c.number-number.ensures.some, c.number-number.ensures.same) in
     idle_by c.args.request.now c.args.self.now.history older e
@@ -31,7 +31,7 @@ invariant_of-self c =
     let second : is_ok c.push-2.result ≡ true = c.push-2.ensures.succeeds (omega (arith, room, c.requires.room)) in
     let place : c.len-place.result ≡ length c.self.inside.history.items = search rules in
     machine_after c.self.inside _ c.args.request.now c.apply-answer.result c.number-number.result c.len-place.result c.client-client.result
-    c.self.invariant c.number-number.ensures.same c.client-client.ensures place
+    c.self.invariant c.number-number.ensures.same c.client-client.ensures (omega (arith, c.requires.client, ap (λ m. m.clients) c.self.view_is)) place
     (λ ops stands. c.apply-answer.ensures.answer ops stands ∙ ap (answer_after ops) c.op.ensures)
     (λ ops stands. subst (λ op. StandsFor c.apply-answer.new.self (op ∷ ops)) c.op.ensures (c.apply-answer.ensures.change ops stands))
     c.note.ensures
@@ -45,7 +45,7 @@ returns-clause-acted c older e =
     let clients : length c.self.inside.ledger ≡ c.args.self.now.clients = ap (λ m. m.clients) c.self.view_is in
     let first : is_ok c.push.result ≡ true = c.push.ensures.succeeds (omega (arith, room, c.requires.room)) in
     let kept : kept_of c.self.inside.ledger c.client-client.result ≡ reply_in (acting older) c.args.request.now.client =
-    c.self.invariant.replies c.client-client.result (omega (arith, c.requires.client, c.client-client.ensures, clients))
+    c.self.invariant.replies c.client-client.result
     ∙ (ap (λ h. reply_in h c.client-client.result) here ∙ ap (reply_in (acting older)) c.client-client.ensures) in
     let acts : Acts (kept_of c.self.inside.ledger c.client-client.result) c.args.request.now.number =
     subst (Acts (kept_of c.self.inside.ledger c.client-client.result)) c.number-number.ensures.same (c.acts.ensures.0 c.if-not-acts.false) in
