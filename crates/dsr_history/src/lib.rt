@@ -9,6 +9,8 @@ mod machine;
 mod request;
 mod request_text;
 mod requests;
+#[cfg(test)]
+mod tests;
 
 pub use apply::run_apply;
 pub use laws::{history_is_legal, history_only_grows};

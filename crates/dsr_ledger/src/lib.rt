@@ -3,6 +3,8 @@
 
 mod ledger;
 mod reply;
+#[cfg(test)]
+mod tests;
 
 pub use ledger::Ledger;
 pub use reply::Reply;

@@ -1,4 +1,4 @@
-use crate::{Answer, Joined, Name, Op};
+use crate::{Answer, Directory, Joined, Name, Op};
 use std::alloc::{AllocError, Global};
 use std::process::Abort;
 use std::test::Fail;
@@ -127,4 +127,85 @@ fn answers_are_read_and_printed(rt: HostRuntime) -> Result<(), AllocError> {
         assert_eq!(rt; Answer::read(text.as_bytes()), None, "{text}");
     }
     Ok(())
+}
+
+// The directory answers each operation as its row says, one after another.
+fn answers(rt: &impl Abort, directory: &mut Directory, rows: &[(&str, &str)]) -> Result<(), Fail> {
+    for (text, answer) in rows {
+        let op = Op::read(text.as_bytes(), b' ').ok_or("no operation")?;
+        let answer = Answer::read(answer.as_bytes()).ok_or("no answer")?;
+        assert_eq!(rt; directory.apply(op), answer, "{text}");
+    }
+    Ok(())
+}
+
+#[test]
+fn a_directory_answers(rt: HostRuntime) -> Result<(), Fail> {
+    let mut directory = Directory::new(rt.alloc())?;
+    assert!(rt; directory.is_empty());
+    let swaps = [
+        ("swap a none 1", "swapped"),
+        ("swap a none 2", "kept 1"),
+        ("read a", "held 1"),
+        ("swap a 1 18446744073709551615", "swapped"),
+        ("read a", "held 18446744073709551615"),
+    ];
+    answers(&rt, &mut directory, &swaps)?;
+    let a = Name::read(b"a")?;
+    let b = Name::read(b"b")?;
+    assert_eq!(rt; directory.get(&a), Some(18_446_744_073_709_551_615));
+    assert_eq!(rt; directory.get(&b), None);
+    assert_eq!(rt; (directory.len(), directory.is_empty()), (1, false));
+    directory.clear();
+    assert_eq!(rt; directory.get(&a), None);
+    assert_eq!(rt; (directory.len(), directory.is_empty()), (0, true));
+    let removes = [
+        ("write a 5", "written"),
+        ("remove a", "removed 5"),
+        ("remove a", "removed none"),
+        ("read a", "held none"),
+        ("swap a none 6", "swapped"),
+        ("read a", "held 6"),
+    ];
+    answers(&rt, &mut directory, &removes)
+}
+
+// The registers k0 to k1023 are empty, and then each holds 0.
+fn fill(rt: &impl Abort, alloc: Global, directory: &mut Directory) -> Result<(), Fail> {
+    for number in 0..1024 {
+        let text = format!(in alloc; "k{number}")?;
+        let name = Name::read(text.as_bytes())?;
+        assert_eq!(rt; directory.get(&name), None, "{name}");
+        assert_eq!(rt;
+            directory.apply(Op::Write { name, value: 0 }),
+            Answer::Written,
+            "{name}"
+        );
+    }
+    assert_eq!(rt; directory.len(), 1024);
+    Ok(())
+}
+
+#[test]
+fn a_directory_is_full_at_1024_registers(rt: HostRuntime) -> Result<(), Fail> {
+    let mut directory = Directory::new(rt.alloc())?;
+    fill(&rt, rt.alloc(), &mut directory)?;
+    let full = [
+        ("write z 1", "full"),
+        ("swap z 7 8", "kept none"),
+        ("swap z none 8", "full"),
+        ("write k0 9", "written"),
+    ];
+    answers(&rt, &mut directory, &full)?;
+    assert_eq!(rt; directory.len(), 1024);
+    let room_again = [
+        ("remove k0", "removed 9"),
+        ("write z 1", "written"),
+        ("write k0 2", "full"),
+        ("read k0", "held none"),
+    ];
+    answers(&rt, &mut directory, &room_again)?;
+    directory.clear();
+    fill(&rt, rt.alloc(), &mut directory)?;
+    answers(&rt, &mut directory, &[("write z 1", "full")])
 }
