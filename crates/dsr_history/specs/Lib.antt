@@ -5,3 +5,5 @@ pub mod Machine
 pub mod MachineState
 pub mod RequestText
 pub mod RequestsFields
+pub mod Equality
+pub mod RequestsEq

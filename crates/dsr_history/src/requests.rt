@@ -72,4 +72,30 @@ impl Requests {
     {
         self.as_slice().get(place).copied()
     }
+
+    /// Whether two lists have the same requests in the same order.
+    pub fn same(&self, other: &Requests) -> bool
+        ensures { IsTrue result ↔ (self.now ≡ other.now) }
+    {
+        self == other
+    }
+}
+
+impl PartialEq for Requests {
+    ghost use Rattle.dsr_history.specs.RequestsEq.{requests_eq, requests_eq_equiv};
+    ghost use Rattle.std.specs.Cmp.{partial_equiv_from_equiv};
+
+    ghost eq = { requests_eq };
+
+    ghost laws = { partial_equiv_from_equiv requests_eq_equiv };
+
+    fn eq(&self, other: &Requests) -> bool {
+        self.as_slice() == other.as_slice()
+    }
+}
+
+impl Eq for Requests {
+    ghost use Rattle.dsr_history.specs.RequestsEq.{requests_eq_equiv};
+
+    ghost laws = { requests_eq_equiv };
 }

@@ -1,0 +1,5 @@
+mod BatchLists
+mod FaultLemmas
+mod Fitting
+mod Sameness
+mod Twice

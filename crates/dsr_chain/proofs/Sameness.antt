@@ -1,0 +1,18 @@
+-- Values with the same signed requests are the same.
+use Rattle.std.proofs.Common.{◌≡◌, List, [], ◌∷◌, Bool, refl, ap, sym, ◌∙◌}
+use Rattle.std.specs.Bool.{Decides}
+use Rattle.std.proofs.lemmas.Bool.Decides.{Decides-like}
+use Rattle.dsr_chain.specs.BatchEq.{batch_eq, batch_eq-Decides}
+use Rattle.dsr_chain.specs.SignedLists.{value_of}
+use Rattle.dsr_chain.specs.declared.signed_request.SignedRequest.{SignedRequest}
+use Rattle.dsr_chain.specs.declared.slot_value.SlotValue.{SlotValue}
+
+same_lists : (xs ys : List SignedRequest) → value_of xs ≡ value_of ys → xs ≡ ys
+same_lists [] [] e = refl
+same_lists [] (y ∷ ys) e = cc
+same_lists (x ∷ xs) [] e = cc
+same_lists (x ∷ xs) (y ∷ ys) e = cc
+
+pub same_value-Decides : (xs ys : List SignedRequest) (v w : SlotValue) → value_of xs ≡ v → value_of ys ≡ w → Decides (batch_eq xs ys) (v ≡ w)
+same_value-Decides xs ys v w v_is w_is =
+    Decides-like (batch_eq xs ys) (λ e. sym v_is ∙ (ap value_of e ∙ w_is)) (λ e. same_lists xs ys (v_is ∙ (e ∙ sym w_is))) (batch_eq-Decides xs ys)

@@ -1,0 +1,24 @@
+-- What a slot carries (Dolev and Strong 1983: the value that the sender signs; that it is a list of requests, and
+-- that links cover the requests alone, is this project's).
+use Rattle.std.specs.Prelude.{List, [], Option, None, Some, map}
+use Rattle.dsr_names.specs.declared.actor.Actor.{Actor}
+use Rattle.dsr_history.specs.Issued.{Issued}
+use Rattle.dsr_desk.specs.Signed.{signed}
+use Rattle.dsr_desk.specs.declared.statement.Statement.TheVariants.{Ask}
+use Rattle.dsr_chain.specs.declared.signed_request.SignedRequest.{SignedRequest}
+use Rattle.dsr_chain.specs.declared.slot_value.SlotValue.{SlotValue}
+use Rattle.dsr_chain.specs.declared.slot_value.SlotValue.TheVariants.{Idle, Act}
+
+-- the request with this actor's signature on it beside it
+abbrev pub signed_by : Issued → Actor → SignedRequest
+signed_by request signer = record { request = request; signature = signed signer (Ask request) }
+
+-- the signed requests of a value, none where it is idle
+abbrev pub signed_in : SlotValue → List SignedRequest
+signed_in Idle = []
+signed_in (Act batch) = batch
+
+-- what a link covers: the requests without the signatures beside them, or nothing where the value is idle
+abbrev pub content : SlotValue → Option (List Issued)
+content Idle = None
+content (Act batch) = Some (map (λ s. s.request) batch)

@@ -1,0 +1,9 @@
+pub mod BatchEq
+pub mod BatchFields
+pub mod Content
+pub mod Faults
+pub mod Proper
+pub mod SignedLists
+pub mod SignedRequestEq
+pub mod SignedValue
+pub mod SlotValueEq

@@ -1,0 +1,232 @@
+ghost use Rattle.std.specs.Prelude.{◌≡◌, ◌<◌, ◌≤◌, ◌+◌, ◌↔◌, ◌++◌, ◌∷◌, [], Any, length, IfOk, IfErr, IsTrue};
+ghost use Rattle.dsr_chain.specs.SignedValue.{signers_of as signers_of_lem};
+
+use crate::shared_value::SharedValue;
+use crate::signed_request::SignedRequest;
+use crate::slot_value::SlotValue;
+use dsr_desk::{Key, Signature, Signers, Statement};
+use dsr_history::Requests;
+use dsr_names::{Actor, Refusal};
+use std::alloc::Global;
+use std::marker::Model;
+use std::sync::Arc;
+
+/// What the handles of one chain share.
+#[derive(Drop)]
+struct Body {
+    slot: u64,
+    value: SharedValue,
+    signatures: Vec<Signature>,
+}
+
+/// The value of a slot with at most 16 signatures on it. A chain is never changed: copies share what
+/// they hold, and chains made by `extend` share their value.
+#[derive(Drop)]
+pub struct Chain {
+    body: Arc<Body, Global>,
+}
+
+impl Model for Chain {
+    ghost use Rattle.std.specs.Prelude.{length, ◌≤◌};
+    ghost use Rattle.std.specs.Arc.{arc_value};
+    ghost use Rattle.dsr_chain.specs.SignedValue.{SignedValue, signed_value};
+
+    ghost Value = { SignedValue };
+
+    ghost view = { λ c. signed_value (arc_value c.body).slot (arc_value c.body).value (arc_value c.body).signatures.items };
+
+    ghost invariant = { λ c. length (arc_value c.body).signatures.items ≤ 16 };
+}
+
+impl Chain {
+    ghost use Rattle.dsr_chain.specs.Content.{content, signed_in};
+    ghost use Rattle.dsr_chain.specs.SignedValue.{signed_value, started, extended};
+
+    /// The chain of this value with the key's signature alone. `NoMemory` where a growth is refused.
+    pub fn start(alloc: Global, slot: u64, value: SlotValue, key: &Key) -> Result<Chain, Refusal>
+        ensures started { IfOk result (λ chain. chain ≡ started slot value key.now) }
+        ensures refusal { IfErr result (λ e. e ≡ Refusal.NoMemory) }
+    {
+        let link = Statement::Link {
+            slot,
+            value: value.content(),
+            before: Signers::new(),
+        };
+        let signatures = with_one_more(alloc, &[], key.sign(link))?;
+        Chain::of(alloc, slot, value, signatures)
+    }
+
+    /// The chain with the key's signature put at its end, on the link that fits there. The chain itself
+    /// comes back with `NoMemory`, where a growth is refused.
+    pub fn extend(self, alloc: Global, key: &Key) -> Result<Chain, (Chain, Refusal)>
+        requires { length self.signatures < 16 }
+        ensures extended { IfOk result (λ chain. chain ≡ extended self key.now) }
+        ensures back { IfErr result (λ e. e.0 ≡ self) }
+        ensures refusal { IfErr result (λ e. e.1 ≡ Refusal.NoMemory) }
+    {
+        match self.try_extended(alloc, key) {
+            Ok(chain) => Ok(chain),
+            Err(refusal) => Err((self, refusal)),
+        }
+    }
+
+    /// The chain of these parts, whatever they are. `NoMemory` where a growth is refused.
+    pub fn of(
+        alloc: Global,
+        slot: u64,
+        value: SlotValue,
+        signatures: Vec<Signature>,
+    ) -> Result<Chain, Refusal>
+        requires { length signatures.items ≤ 16 }
+        ensures made { IfOk result (λ chain. chain ≡ signed_value slot value signatures.items) }
+        ensures refusal { IfErr result (λ e. e ≡ Refusal.NoMemory) }
+    {
+        let value = SharedValue::of(alloc, value)?;
+        Chain::share(
+            alloc,
+            Body {
+                slot,
+                value,
+                signatures,
+            },
+        )
+    }
+
+    /// The same chain once more. It shares what this one holds.
+    pub fn try_copy(&self) -> Result<Chain, Refusal>
+        ensures same { IfOk result (λ chain. chain ≡ self.now) }
+        ensures refusal { IfErr result (λ e. e ≡ Refusal.NoMemory) }
+    {
+        match Arc::try_clone(&self.body) {
+            Ok(body) => Ok(Chain { body }),
+            Err(_) => Err(Refusal::NoMemory),
+        }
+    }
+
+    /// The slot that the chain is for.
+    pub fn slot(&self) -> u64
+        ensures { result ≡ self.now.slot }
+    {
+        self.body.slot
+    }
+
+    /// The value that was signed.
+    pub fn value(&self) -> SlotValue
+        ensures { result ≡ self.now.value }
+    {
+        self.body.value.value()
+    }
+
+    /// The requests of the value, without the signatures beside them; `None` where it is idle.
+    pub fn content(&self) -> Option<Requests>
+        ensures { result ≡ content self.now.value }
+    {
+        self.body.value.content()
+    }
+
+    /// The signatures in their order, at most 16.
+    pub fn signatures(&self) -> &[Signature]
+        ensures same { result.now ≡ self.now.signatures }
+        ensures few { length self.now.signatures ≤ 16 }
+    {
+        self.body.signatures.as_slice()
+    }
+
+    /// The signed requests of the value, none where it is idle.
+    pub(crate) fn signed(&self) -> &[SignedRequest]
+        ensures { result.now ≡ signed_in self.now.value }
+    {
+        self.body.value.signed()
+    }
+
+    /// Whether one of the signatures is by this actor.
+    pub fn has_signer(&self, actor: Actor) -> bool
+        ensures { IsTrue result ↔ Any (λ signature. signature.signer ≡ actor) self.now.signatures }
+    {
+        self.signatures()
+            .iter()
+            .any(|signature| signature.signer() == actor)
+    }
+
+    /// Whether two chains have the same slot, value and signatures.
+    pub fn same(&self, other: &Chain) -> bool
+        ensures { IsTrue result ↔ (self.now ≡ other.now) }
+    {
+        self.slot() == other.slot()
+            && same_signatures(self.signatures(), other.signatures())
+            && self.body.value.same(&other.body.value)
+    }
+
+    /// The chain of this body.
+    fn share(alloc: Global, body: Body) -> Result<Chain, Refusal>
+        requires { length body.signatures.items ≤ 16 }
+        ensures made { IfOk result (λ chain. chain ≡ signed_value body.slot body.value body.signatures.items) }
+        ensures refusal { IfErr result (λ e. e ≡ Refusal.NoMemory) }
+    {
+        match Arc::new(alloc, body) {
+            Ok(body) => Ok(Chain { body }),
+            Err(_) => Err(Refusal::NoMemory),
+        }
+    }
+
+    /// A chain that has the key's signature put at its end, and shares the value.
+    fn try_extended(&self, alloc: Global, key: &Key) -> Result<Chain, Refusal>
+        requires { length self.now.signatures < 16 }
+        ensures extended { IfOk result (λ chain. chain ≡ extended self.now key.now) }
+        ensures refusal { IfErr result (λ e. e ≡ Refusal.NoMemory) }
+    {
+        let link = Statement::Link {
+            slot: self.slot(),
+            value: self.content(),
+            before: signers_of(self.signatures()),
+        };
+        let signatures = with_one_more(alloc, self.signatures(), key.sign(link))?;
+        let value = self.body.value.try_share()?;
+        Chain::share(
+            alloc,
+            Body {
+                slot: self.slot(),
+                value,
+                signatures,
+            },
+        )
+    }
+}
+
+/// Who signed, in their order.
+pub(crate) fn signers_of(signatures: &[Signature]) -> Signers
+    requires { length signatures.now ≤ 16 }
+    ensures { result ≡ signers_of_lem signatures.now }
+{
+    let mut signers = Signers::new();
+    for signature in signatures {
+        signers.push(signature.signer());
+    }
+    signers
+}
+
+/// Whether two lists have the same signatures in the same order.
+fn same_signatures(ours: &[Signature], theirs: &[Signature]) -> bool
+    ensures { IsTrue result ↔ (ours.now ≡ theirs.now) }
+{
+    ours == theirs
+}
+
+/// The signatures and one more, in a list of that length.
+fn with_one_more(
+    alloc: Global,
+    signatures: &[Signature],
+    last: Signature,
+) -> Result<Vec<Signature>, Refusal>
+    requires { length signatures.now < 16 }
+    ensures all { IfOk result (λ all. all.items ≡ signatures.now ++ last ∷ []) }
+    ensures refusal { IfErr result (λ e. e ≡ Refusal.NoMemory) }
+{
+    let Ok(mut all) = Vec::with_capacity(alloc, signatures.len() + 1) else {
+        return Err(Refusal::NoMemory);
+    };
+    if all.extend_from_slice(signatures).is_err() || all.push(last).is_err() {
+        return Err(Refusal::NoMemory);
+    }
+    Ok(all)
+}

@@ -1,0 +1,144 @@
+ghost use Rattle.std.specs.Prelude.{◌≡◌, ◌<◌, ◌≤◌, ◌↔◌, ◌+◌, Any, Some, length, slice_get, IsTrue, IsOk, IfErr, IfSome, IfNone};
+ghost use Rattle.dsr_names.specs.declared.actor.Actor.{Actor};
+ghost use Rattle.dsr_desk.specs.declared.statement.Statement.{Statement};
+ghost use Rattle.dsr_chain.specs.Proper.{IsReplica, IsAsked, IsProper};
+ghost use Rattle.dsr_chain.specs.Faults.{StandsTwice, HasMisfit, HasNoFault, IsFirstFault};
+
+use crate::chain::{Chain, signers_of};
+use crate::fault::ChainFault;
+use crate::signed_request::SignedRequest;
+use dsr_desk::{Signature, Signers, Statement};
+use dsr_history::Requests;
+use dsr_names::{Actor, ReplicaId, Shape};
+
+impl Chain {
+    /// Whether the chain is proper for this round of the slot. Otherwise the first fault that holds, in
+    /// the order of `ChainFault`. The rounds of a slot are 1 to f+1.
+    pub fn check(&self, shape: &Shape, slot: u64, round: u8) -> Result<(), ChainFault>
+        requires some { 0 < round }
+        requires within { round ≤ shape.now.f + 1 }
+        ensures proper { IsOk result ↔ IsProper shape.now slot round self.now }
+        ensures fault { IfErr result (IsFirstFault shape.now slot round self.now) }
+    {
+        match self.first_fault(shape, slot, round) {
+            Some(fault) => Err(fault),
+            None => Ok(()),
+        }
+    }
+
+    /// The first fault that holds.
+    fn first_fault(&self, shape: &Shape, slot: u64, round: u8) -> Option<ChainFault>
+        ensures some { IfSome result (IsFirstFault shape.now slot round self.now) }
+        ensures none { IfNone result (HasNoFault shape.now slot round self.now) }
+    {
+        let signers = signers_of(self.signatures());
+        let signers = signers.as_slice();
+        if self.slot() != slot {
+            Some(ChainFault::OtherSlot)
+        } else if self.signatures().len() != round as usize {
+            Some(ChainFault::WrongCount)
+        } else if !begins_with(signers, shape.sender(slot)) {
+            Some(ChainFault::WrongSender)
+        } else if has_no_replica(shape, signers) {
+            Some(ChainFault::NoReplica)
+        } else if stands_twice(signers) {
+            Some(ChainFault::SignedTwice)
+        } else if self.has_misfit() {
+            Some(ChainFault::Misfit)
+        } else if has_bad_request(shape, self.signed()) {
+            Some(ChainFault::BadRequest)
+        } else {
+            None
+        }
+    }
+
+    /// Whether one of the signatures is on a statement that does not fit its place.
+    fn has_misfit(&self) -> bool
+        ensures { IsTrue result ↔ HasMisfit self.now }
+    {
+        let slot = self.slot();
+        let value = self.content();
+        let signatures = self.signatures();
+        let mut before = Signers::new();
+        for signature in signatures {
+            if !is_on_link(signature, slot, &value, &before) {
+                return true;
+            }
+            before.push(signature.signer());
+        }
+        false
+    }
+}
+
+/// Whether the signature is on the link of this slot and value after these signers.
+fn is_on_link(signature: &Signature, slot: u64, value: &Option<Requests>, before: &Signers) -> bool
+    ensures { IsTrue result ↔ (signature.now.statement ≡ Statement.Link slot value.now before.now) }
+{
+    let link = Statement::Link {
+        slot,
+        value: *value,
+        before: *before,
+    };
+    signature.statement().same(&link)
+}
+
+/// Whether the actor is a replica of the shape.
+fn is_replica(shape: &Shape, actor: Actor) -> bool
+    ensures { IsTrue result ↔ IsReplica shape.now actor }
+{
+    match actor {
+        Actor::Replica(replica) => replica.number() < shape.n(),
+        Actor::Client(_) => false,
+    }
+}
+
+/// Whether the first of the signers is this replica.
+fn begins_with(signers: &[Actor], sender: ReplicaId) -> bool
+    ensures { IsTrue result ↔ (slice_get signers.now 0 ≡ Some (Actor.Replica sender)) }
+{
+    signers.first().copied() == Some(Actor::Replica(sender))
+}
+
+/// Whether one of the signers is no replica of the shape.
+fn has_no_replica(shape: &Shape, signers: &[Actor]) -> bool
+    ensures { IsTrue result ↔ Any (λ a. ¬ IsReplica shape.now a) signers.now }
+{
+    signers.iter().any(|signer| !is_replica(shape, *signer))
+}
+
+/// Whether the actor is one of the signers.
+fn stands_in(actor: Actor, signers: &[Actor]) -> bool
+    ensures { IsTrue result ↔ Any (λ a. a ≡ actor) signers.now }
+{
+    signers.iter().any(|signer| *signer == actor)
+}
+
+/// Whether one of the signers stands twice.
+fn stands_twice(signers: &[Actor]) -> bool
+    ensures { IsTrue result ↔ StandsTwice signers.now }
+{
+    match signers {
+        [] => false,
+        [first, rest @ ..] => stands_in(*first, rest) || stands_twice(rest),
+    }
+}
+
+/// Whether the request's client is of the shape, and the signature beside it is that client's on it.
+fn is_asked(shape: &Shape, signed: &SignedRequest) -> bool
+    ensures { IsTrue result ↔ IsAsked shape.now signed.now }
+{
+    let client = signed.request.client();
+    client.number() < shape.m()
+        && signed.signature.signer() == Actor::Client(client)
+        && signed
+            .signature
+            .statement()
+            .same(&Statement::Ask(signed.request))
+}
+
+/// Whether one of the requests was not asked by its client, a client of the shape.
+fn has_bad_request(shape: &Shape, signed: &[SignedRequest]) -> bool
+    ensures { IsTrue result ↔ Any (λ s. ¬ IsAsked shape.now s) signed.now }
+{
+    signed.iter().any(|request| !is_asked(shape, request))
+}

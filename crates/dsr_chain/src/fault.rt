@@ -1,0 +1,28 @@
+use thiserror::Error;
+
+/// Why a chain is not proper. Where several of these hold, a check tells the first.
+#[derive(Clone, Copy, Debug, PartialEq, Eq, Error)]
+pub enum ChainFault {
+    /// The chain is of another slot.
+    #[error("the chain is of another slot")]
+    OtherSlot,
+    /// The chain has not as many signatures as the round asks for.
+    #[error("the chain does not have one signature for each round")]
+    WrongCount,
+    /// The first signer is not the sender of the slot.
+    #[error("the first signer is not the sender of the slot")]
+    WrongSender,
+    /// A signer is no replica of the shape.
+    #[error("a signer is no replica of the shape")]
+    NoReplica,
+    /// A signer signed twice.
+    #[error("a signer signed twice")]
+    SignedTwice,
+    /// A signature is on a statement that does not fit its place.
+    #[error("a signature is on a statement that does not fit its place")]
+    Misfit,
+    /// A request's client is not in the shape, or the signature beside the request is not that client's
+    /// on that request.
+    #[error("a request is not signed by its client, a client of the shape")]
+    BadRequest,
+}

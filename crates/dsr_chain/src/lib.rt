@@ -1,0 +1,21 @@
+//! Chains: the value of a slot with the signatures on it, and when a chain is proper.
+#![tactic(auto)]
+
+mod batch;
+mod chain;
+mod check;
+mod fault;
+mod laws;
+mod shared_value;
+mod signed_request;
+mod slot_value;
+
+pub use batch::Batch;
+pub use chain::Chain;
+pub use fault::ChainFault;
+pub use laws::proper_is_without_fault;
+pub use signed_request::SignedRequest;
+pub use slot_value::SlotValue;
+
+#[cfg(test)]
+mod tests;

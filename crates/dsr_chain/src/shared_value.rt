@@ -1,0 +1,93 @@
+ghost use Rattle.std.specs.Prelude.{◌≡◌, ◌≤◌, ◌↔◌, length, IsTrue, IfOk, IfErr};
+ghost use Rattle.dsr_chain.specs.Content.{content, signed_in};
+
+use crate::batch::Batch;
+use crate::signed_request::SignedRequest;
+use crate::slot_value::{SlotValue, requests_in};
+use dsr_history::Requests;
+use dsr_names::Refusal;
+use std::alloc::Global;
+use std::marker::Model;
+use std::sync::Arc;
+
+/// A slot's value that several chains share: its signed requests, none where it is idle.
+#[derive(Drop)]
+pub(crate) struct SharedValue {
+    signed: Arc<Vec<SignedRequest>, Global>,
+}
+
+impl Model for SharedValue {
+    ghost use Rattle.std.specs.Prelude.{length, ◌≤◌};
+    ghost use Rattle.std.specs.Arc.{arc_value};
+    ghost use Rattle.dsr_chain.specs.declared.slot_value.SlotValue.{SlotValue};
+    ghost use Rattle.dsr_chain.specs.SignedLists.{value_of};
+
+    ghost Value = { SlotValue };
+
+    ghost view = { λ v. value_of (arc_value v.signed).items };
+
+    ghost invariant = { λ v. length (arc_value v.signed).items ≤ 8 };
+}
+
+impl SharedValue {
+    /// The value, to be shared.
+    pub(crate) fn of(alloc: Global, value: SlotValue) -> Result<SharedValue, Refusal>
+        ensures made { IfOk result (λ shared. shared ≡ value) }
+        ensures refusal { IfErr result (λ e. e ≡ Refusal.NoMemory) }
+    {
+        let mut signed = Vec::new(alloc);
+        if let SlotValue::Act(batch) = value {
+            signed = batch
+                .as_slice()
+                .to_vec(alloc)
+                .map_err(|_| Refusal::NoMemory)?;
+        }
+        match Arc::new(alloc, signed) {
+            Ok(signed) => Ok(SharedValue { signed }),
+            Err(_) => Err(Refusal::NoMemory),
+        }
+    }
+
+    /// The same value once more.
+    pub(crate) fn try_share(&self) -> Result<SharedValue, Refusal>
+        ensures same { IfOk result (λ shared. shared ≡ self.now) }
+        ensures refusal { IfErr result (λ e. e ≡ Refusal.NoMemory) }
+    {
+        match Arc::try_clone(&self.signed) {
+            Ok(signed) => Ok(SharedValue { signed }),
+            Err(_) => Err(Refusal::NoMemory),
+        }
+    }
+
+    /// The value itself.
+    pub(crate) fn value(&self) -> SlotValue
+        ensures { result ≡ self.now }
+    {
+        match Batch::of(self.signed.as_slice()) {
+            Some(batch) => SlotValue::Act(batch),
+            None => SlotValue::Idle,
+        }
+    }
+
+    /// Its signed requests, none where it is idle.
+    pub(crate) fn signed(&self) -> &[SignedRequest]
+        ensures same { result.now ≡ signed_in self.now }
+        ensures few { length result.now ≤ 8 }
+    {
+        self.signed.as_slice()
+    }
+
+    /// Its requests without their signatures.
+    pub(crate) fn content(&self) -> Option<Requests>
+        ensures { result ≡ content self.now }
+    {
+        requests_in(self.signed.as_slice())
+    }
+
+    /// Whether two values are the same value.
+    pub(crate) fn same(&self, other: &SharedValue) -> bool
+        ensures { IsTrue result ↔ (self.now ≡ other.now) }
+    {
+        self.signed.as_slice() == other.signed.as_slice()
+    }
+}

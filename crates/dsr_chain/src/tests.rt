@@ -1,0 +1,229 @@
+use crate::{Batch, Chain, ChainFault, SignedRequest, SlotValue};
+use dsr_desk::{Key, Keys, Signature, Signers, Statement};
+use dsr_history::Request;
+use dsr_names::{Actor, ClientId, Refusal, ReplicaId, Shape};
+use dsr_register::{Name, Op};
+use std::alloc::Global;
+use std::process::Abort;
+use std::test::Fail;
+
+const R0: Actor = Actor::Replica(ReplicaId::FIRST);
+
+/// The shape of three replicas, one of which may be a traitor, and these clients.
+fn shape(clients: u8) -> Result<Shape, Refusal> {
+    Shape::new(3, 1, clients, 0)
+}
+
+fn replica(number: u8) -> Result<Actor, Refusal> {
+    Ok(Actor::Replica(ReplicaId::new(number)?))
+}
+
+fn client(number: u8) -> Result<Actor, Refusal> {
+    Ok(Actor::Client(ClientId::new(number)?))
+}
+
+/// The client's request number 1, to write 5 to `a`.
+fn request(number: u8) -> Result<Request, Refusal> {
+    let op = Op::Write {
+        name: Name::read(b"a")?,
+        value: 5,
+    };
+    Request::new(ClientId::new(number)?, 1, op)
+}
+
+/// The keys of two replicas and three clients.
+struct Desk {
+    r0: Key,
+    r1: Key,
+    c0: Key,
+    c1: Key,
+    c2: Key,
+}
+
+impl Drop for Desk {
+    fn drop(self) {
+        let Desk {
+            r0: _,
+            r1: _,
+            c0: _,
+            c1: _,
+            c2: _,
+        } = self;
+    }
+}
+
+fn key(rt: &impl Abort, keys: &mut Keys, actor: Actor) -> Key {
+    keys.take(actor).expect(rt, "the key is there")
+}
+
+fn open_desk(rt: &impl Abort, alloc: Global) -> Result<Desk, Refusal> {
+    let mut keys = Keys::new(alloc, shape(3)?)?;
+    Ok(Desk {
+        r0: key(rt, &mut keys, R0),
+        r1: key(rt, &mut keys, replica(1)?),
+        c0: key(rt, &mut keys, client(0)?),
+        c1: key(rt, &mut keys, client(1)?),
+        c2: key(rt, &mut keys, client(2)?),
+    })
+}
+
+/// The value of these signed requests.
+fn value(rt: &impl Abort, signed: &[SignedRequest]) -> SlotValue {
+    SlotValue::Act(Batch::of(signed).expect(rt, "1 to 8 requests"))
+}
+
+/// The chain that the key's holder signs next.
+fn extended(rt: &impl Abort, alloc: Global, chain: Chain, key: &Key) -> Result<Chain, Refusal> {
+    assert!(rt; chain.signatures().len() < 16);
+    match chain.extend(alloc, key) {
+        Ok(chain) => Ok(chain),
+        Err((_, refusal)) => Err(refusal),
+    }
+}
+
+/// The chain of slot 0 that the two sign in turn.
+fn chain_by(
+    rt: &impl Abort,
+    alloc: Global,
+    value: SlotValue,
+    first: &Key,
+    second: &Key,
+) -> Result<Chain, Refusal> {
+    let chain = Chain::start(alloc, 0, value, first)?;
+    extended(rt, alloc, chain, second)
+}
+
+/// What the check of the chain answers for slot 0 and round 2, in the shape of two clients.
+fn checked(rt: &impl Abort, chain: &Chain) -> Result<(), ChainFault> {
+    let shape = shape(2).expect(rt, "a shape");
+    assert!(rt; shape.f() == 1);
+    chain.check(&shape, 0, 2)
+}
+
+#[test]
+fn passes_a_proper_chain(rt: HostRuntime) -> Result<(), Fail> {
+    let desk = open_desk(&rt, rt.alloc())?;
+    let act = value(&rt, &[SignedRequest::by(request(0)?, &desk.c0)]);
+    let chain = chain_by(&rt, rt.alloc(), act, &desk.r0, &desk.r1)?;
+    assert_eq!(rt; checked(&rt, &chain), Ok(()));
+    assert_eq!(rt; checked(&rt, &chain.try_copy()?), Ok(()));
+    let idle = chain_by(&rt, rt.alloc(), SlotValue::Idle, &desk.r0, &desk.r1)?;
+    assert_eq!(rt; checked(&rt, &idle), Ok(()));
+    Ok(())
+}
+
+#[test]
+fn tells_faults_of_signers(rt: HostRuntime) -> Result<(), Fail> {
+    let desk = open_desk(&rt, rt.alloc())?;
+    let act = value(&rt, &[SignedRequest::by(request(0)?, &desk.c0)]);
+    let alone = Chain::start(rt.alloc(), 0, act, &desk.r0)?;
+    assert_eq!(rt; checked(&rt, &alone), Err(ChainFault::WrongCount));
+    let turned = chain_by(&rt, rt.alloc(), act, &desk.r1, &desk.r0)?;
+    assert_eq!(rt; checked(&rt, &turned), Err(ChainFault::WrongSender));
+    let by_client = chain_by(&rt, rt.alloc(), act, &desk.r0, &desk.c0)?;
+    assert_eq!(rt; checked(&rt, &by_client), Err(ChainFault::NoReplica));
+    let twice = chain_by(&rt, rt.alloc(), act, &desk.r0, &desk.r0)?;
+    assert_eq!(rt; checked(&rt, &twice), Err(ChainFault::SignedTwice));
+    Ok(())
+}
+
+#[test]
+fn tells_faults_of_slots(rt: HostRuntime) -> Result<(), Fail> {
+    let desk = open_desk(&rt, rt.alloc())?;
+    let act = value(&rt, &[SignedRequest::by(request(0)?, &desk.c0)]);
+    let other = Chain::start(rt.alloc(), 1, act, &desk.r0)?;
+    let other = extended(&rt, rt.alloc(), other, &desk.r1)?;
+    assert_eq!(rt; checked(&rt, &other), Err(ChainFault::OtherSlot));
+    let mut before = Signers::new();
+    before.push(R0);
+    let mut signatures: Vec<Signature> = Vec::new(rt.alloc());
+    signatures.push(
+        desk.r0.sign(Statement::Link {
+            slot: 0,
+            value: act.content(),
+            before: Signers::new(),
+        }),
+    )?;
+    signatures.push(
+        desk.r1.sign(Statement::Link {
+            slot: 1,
+            value: act.content(),
+            before,
+        }),
+    )?;
+    assert!(rt; signatures.len() == 2);
+    let moved = Chain::of(rt.alloc(), 0, act, signatures)?;
+    assert_eq!(rt; checked(&rt, &moved), Err(ChainFault::Misfit));
+    Ok(())
+}
+
+#[test]
+fn tells_bad_requests(rt: HostRuntime) -> Result<(), Fail> {
+    let desk = open_desk(&rt, rt.alloc())?;
+    let by_another = value(&rt, &[SignedRequest::by(request(0)?, &desk.c1)]);
+    let chain = chain_by(&rt, rt.alloc(), by_another, &desk.r0, &desk.r1)?;
+    assert_eq!(rt; checked(&rt, &chain), Err(ChainFault::BadRequest));
+    let second = value(
+        &rt,
+        &[
+            SignedRequest::by(request(0)?, &desk.c0),
+            SignedRequest::by(request(1)?, &desk.c0),
+        ],
+    );
+    let chain = chain_by(&rt, rt.alloc(), second, &desk.r0, &desk.r1)?;
+    assert_eq!(rt; checked(&rt, &chain), Err(ChainFault::BadRequest));
+    let outside = value(&rt, &[SignedRequest::by(request(2)?, &desk.c2)]);
+    let chain = chain_by(&rt, rt.alloc(), outside, &desk.r0, &desk.r1)?;
+    assert_eq!(rt; checked(&rt, &chain), Err(ChainFault::BadRequest));
+    Ok(())
+}
+
+#[test]
+fn holds_one_to_eight_requests(rt: HostRuntime) -> Result<(), Fail> {
+    let desk = open_desk(&rt, rt.alloc())?;
+    let signed = SignedRequest::by(request(0)?, &desk.c0);
+    assert!(rt; Batch::of(&[]).is_none());
+    assert!(rt; Batch::of(&[signed; 9]).is_none());
+    let batch = Batch::of(&[signed, SignedRequest::by(request(1)?, &desk.c1)]).ok_or("no list")?;
+    assert_eq!(rt; batch.len(), 2);
+    assert_eq!(rt; batch.as_slice().len(), 2);
+    assert!(rt; batch.get(0) == Some(signed));
+    assert!(rt; batch.get(2).is_none());
+    assert!(rt; batch.same(&batch));
+    assert!(rt; !SlotValue::Act(batch).same(&SlotValue::Idle));
+    assert!(rt; !signed.same(&SignedRequest::by(request(0)?, &desk.c1)));
+    Ok(())
+}
+
+#[test]
+fn tells_its_parts(rt: HostRuntime) -> Result<(), Fail> {
+    let desk = open_desk(&rt, rt.alloc())?;
+    let act = value(&rt, &[SignedRequest::by(request(0)?, &desk.c0)]);
+    let chain = Chain::start(rt.alloc(), 7, act, &desk.r0)?;
+    assert_eq!(rt; chain.slot(), 7);
+    assert!(rt; chain.value().same(&act));
+    assert!(rt; chain.content() == act.content());
+    assert_eq!(rt; chain.signatures().len(), 1);
+    assert!(rt; chain.same(&chain.try_copy()?));
+    assert!(rt; !chain.same(&Chain::start(rt.alloc(), 7, act, &desk.r1)?));
+    assert!(rt; chain.has_signer(R0));
+    assert!(rt; !chain.has_signer(client(0)?));
+    Ok(())
+}
+
+#[test]
+fn says_what_is_wrong(rt: HostRuntime) -> Result<(), Fail> {
+    let text = ChainFault::SignedTwice.to_string(rt.alloc())?;
+    assert_eq!(rt; text.as_str(), "a signer signed twice");
+    Ok(())
+}
+
+/// Chains may be handed from thread to thread.
+fn is_shared<T: Send + Sync>(_: &T) {}
+
+#[test]
+fn may_be_shared(rt: HostRuntime) -> Result<(), Fail> {
+    let desk = open_desk(&rt, rt.alloc())?;
+    is_shared(&Chain::start(rt.alloc(), 0, SlotValue::Idle, &desk.r0)?);
+    Ok(())
+}

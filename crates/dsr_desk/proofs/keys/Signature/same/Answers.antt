@@ -1,0 +1,5 @@
+use Rattle.dsr_desk.specs.SignatureEq.{signature_eq-Decides}
+use Rattle.dsr_desk.proofs.keys.Signature.same.Goals as goal
+
+pub returns : goal.returns
+returns c = rw c.eq.ensures (signature_eq-Decides c.args.self.now c.args.other.now)

@@ -1,0 +1,12 @@
+-- Signatures as contracts see them (Dolev and Strong 1983: nobody but the holder of a key makes its signature, and
+-- a signature holds only for the statement that was signed).
+use Rattle.dsr_names.specs.declared.actor.Actor.{Actor}
+use Rattle.dsr_desk.specs.declared.statement.Statement.{Statement}
+
+-- that an actor signed a statement
+pub record Signed : Type 0 where
+  pub signer : Actor
+  pub statement : Statement
+
+abbrev pub signed : Actor → Statement → Signed
+signed signer statement = record { signer = signer; statement = statement }

@@ -1,0 +1,196 @@
+ghost use Rattle.std.specs.Prelude.{◌≡◌, ◌≢◌, ◌↔◌, Some, true, false, replicate, slice_get, slice_set, All, IsTrue, IsSome, IfOk, IfErr, IfSome, OnSome, IfNone};
+ghost use Rattle.std.specs.Bool.{OnTrue, OnFalse};
+ghost use Rattle.dsr_names.specs.declared.actor.Actor.{Actor};
+
+use crate::statement::Statement;
+use dsr_names::{Actor, Refusal, Shape};
+use std::alloc::Global;
+use std::marker::Model;
+
+/// All keys of a shape: one for each of its actors, to be taken once.
+#[derive(Drop)]
+pub struct Keys {
+    shape: Shape,
+    replicas: Vec<bool>,
+    clients: Vec<bool>,
+}
+
+impl Model for Keys {
+    ghost use Rattle.std.specs.Prelude.{◌≡◌, length};
+    ghost use Rattle.dsr_desk.specs.KeyRing.{KeyRing};
+
+    ghost Value = { KeyRing };
+
+    ghost view = { λ k. record { shape = k.shape; replicas = k.replicas.items; clients = k.clients.items } };
+
+    ghost invariant = { λ k. (length k.replicas.items ≡ k.shape.n) × (length k.clients.items ≡ k.shape.m) };
+}
+
+/// What an actor signs with. There is one key for each actor of a shape, it is never copied, and it
+/// comes from `Keys::take` alone.
+#[derive(Drop)]
+pub struct Key {
+    holder: Actor,
+}
+
+impl Model for Key {
+    ghost use Rattle.dsr_names.specs.declared.actor.Actor.{Actor};
+
+    ghost Value = { Actor };
+
+    ghost view = { λ k. k.holder };
+}
+
+/// That an actor signed a statement. It comes from `Key::sign` alone, and is copied without taking
+/// memory.
+#[derive(Clone, Copy, Debug, PartialEq, Eq)]
+pub struct Signature {
+    signer: Actor,
+    statement: Statement,
+}
+
+impl Model for Signature {
+    ghost use Rattle.dsr_desk.specs.Signed.{Signed};
+
+    ghost Value = { Signed };
+
+    ghost view = { λ s. record { signer = s.signer; statement = s.statement } };
+
+    ghost inverse = { λ s. record { signer = s.signer; statement = s.statement } };
+}
+
+impl Keys {
+    ghost use Rattle.dsr_names.specs.Shape.{IsActor};
+    ghost use Rattle.dsr_desk.specs.KeyRing.{is_taken, IsWhole};
+
+    /// All keys of the shape, none of them taken. `NoMemory` where a growth is refused.
+    pub fn new(alloc: Global, shape: Shape) -> Result<Keys, Refusal>
+        ensures shape { IfOk result (λ keys. keys.shape ≡ shape) }
+        ensures whole { IfOk result IsWhole }
+        ensures refusal { IfErr result (λ e. e ≡ Refusal.NoMemory) }
+    {
+        let replicas = untaken(alloc, shape.n())?;
+        let clients = untaken(alloc, shape.m())?;
+        Ok(Keys {
+            shape,
+            replicas,
+            clients,
+        })
+    }
+
+    /// The actor's key, the first time that it is taken. `None` where the actor is not of the shape, or
+    /// its key was taken before.
+    pub fn take(&mut self, actor: Actor) -> Option<Key>
+        ensures key { IfSome result (λ key. key ≡ actor) }
+        ensures when { IsSome result ↔ (IsActor self.old.shape actor × (is_taken self.old actor ≡ false)) }
+        ensures taken { OnSome result (is_taken self.new actor ≡ true) }
+        ensures others { (other : Actor) → other ≢ actor → is_taken self.new other ≡ is_taken self.old other }
+        ensures shape { self.new.shape ≡ self.old.shape }
+        ensures none { IfNone result (self.new ≡ self.old) }
+    {
+        let first = match actor {
+            Actor::Replica(replica) => set_flag(&mut self.replicas, replica.number()),
+            Actor::Client(client) => set_flag(&mut self.clients, client.number()),
+        };
+        if first {
+            Some(Key { holder: actor })
+        } else {
+            None
+        }
+    }
+
+    /// The shape that the keys were made for.
+    pub fn shape(&self) -> Shape
+        ensures { result ≡ self.now.shape }
+    {
+        self.shape
+    }
+
+    /// Whether no key was taken yet.
+    pub fn whole(&self) -> bool
+        ensures { IsTrue result ↔ IsWhole self.now }
+    {
+        none_is_set(&self.replicas) && none_is_set(&self.clients)
+    }
+}
+
+impl Key {
+    ghost use Rattle.dsr_desk.specs.Signed.{signed};
+
+    /// Whose key it is.
+    pub fn signer(&self) -> Actor
+        ensures { result ≡ self.now }
+    {
+        self.holder
+    }
+
+    /// The signature of the key's holder on the statement.
+    pub fn sign(&self, statement: Statement) -> Signature
+        ensures { result ≡ signed self.now statement }
+    {
+        Signature {
+            signer: self.holder,
+            statement,
+        }
+    }
+}
+
+impl Signature {
+    /// Who signed.
+    pub fn signer(&self) -> Actor
+        ensures { result ≡ self.now.signer }
+    {
+        self.signer
+    }
+
+    /// What was signed.
+    pub fn statement(&self) -> &Statement
+        ensures { result.now ≡ self.now.statement }
+    {
+        &self.statement
+    }
+
+    /// The same signature once more.
+    pub fn copy(&self) -> Signature
+        ensures { result ≡ self.now }
+    {
+        *self
+    }
+
+    /// Whether two signatures are by the same signer on the same statement.
+    pub fn same(&self, other: &Signature) -> bool
+        ensures { IsTrue result ↔ (self.now ≡ other.now) }
+    {
+        self == other
+    }
+}
+
+/// One flag for each of `count` actors: no key is taken.
+fn untaken(alloc: Global, count: u8) -> Result<Vec<bool>, Refusal>
+    ensures unset { IfOk result (λ flags. flags.items ≡ replicate count false) }
+    ensures refusal { IfErr result (λ e. e ≡ Refusal.NoMemory) }
+{
+    vec![in alloc; false; count as usize].map_err(|_| Refusal::NoMemory)
+}
+
+/// Whether no flag is set.
+fn none_is_set(flags: &[bool]) -> bool
+    ensures { IsTrue result ↔ All (λ flag. flag ≡ false) flags.now }
+{
+    flags.iter().all(|flag| !*flag)
+}
+
+/// Sets the flag at this place, and tells whether it stood there and was not set.
+fn set_flag(flags: &mut Vec<bool>, place: u8) -> bool
+    ensures first { IsTrue result ↔ (slice_get flags.old.items place ≡ Some false) }
+    ensures set { OnTrue result (flags.new.items ≡ slice_set flags.old.items place true) }
+    ensures stays { OnFalse result (flags.new.items ≡ flags.old.items) }
+{
+    let place = place as usize;
+    if place < flags.len() && !flags[place] {
+        flags[place] = true;
+        true
+    } else {
+        false
+    }
+}

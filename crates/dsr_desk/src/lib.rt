@@ -1,0 +1,16 @@
+//! The desk: keys, and the signatures that only their holders make.
+//!
+//! A signature here is ideal. It is a value that says who signed which statement. Only `Key::sign` makes
+//! one, and a key is given out once: whoever holds a signature holds what that signer signed.
+#![tactic(auto)]
+
+mod keys;
+mod signers;
+mod statement;
+
+pub use keys::{Key, Keys, Signature};
+pub use signers::Signers;
+pub use statement::Statement;
+
+#[cfg(test)]
+mod tests;

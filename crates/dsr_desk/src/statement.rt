@@ -1,0 +1,26 @@
+ghost use Rattle.std.specs.Prelude.{◌≡◌, ◌↔◌, IsTrue};
+
+use crate::signers::Signers;
+use dsr_history::{Request, Requests};
+
+/// What a signature is made on. A statement is copied without taking memory.
+#[derive(Clone, Copy, Debug, PartialEq, Eq)]
+pub enum Statement {
+    /// A client asks for this request.
+    Ask(Request),
+    /// This slot's value has these requests, or none where it is idle, after these signed it.
+    Link {
+        slot: u64,
+        value: Option<Requests>,
+        before: Signers,
+    },
+}
+
+impl Statement {
+    /// Whether two statements are the same statement.
+    pub fn same(&self, other: &Statement) -> bool
+        ensures { IsTrue result ↔ (self.now ≡ other.now) }
+    {
+        self == other
+    }
+}

@@ -1,0 +1,116 @@
+use crate::{Key, Keys, Signers, Statement};
+use dsr_history::{Request, Requests};
+use dsr_names::{Actor, ClientId, Refusal, ReplicaId, Shape};
+use dsr_register::{Name, Op};
+use std::alloc::Global;
+use std::process::Abort;
+use std::test::Fail;
+
+const R0: Actor = Actor::Replica(ReplicaId::FIRST);
+
+const C0: Actor = Actor::Client(ClientId::FIRST);
+
+/// The request of client 0 under this number, to read `a`.
+fn read_a(number: u64) -> Result<Request, Refusal> {
+    Request::new(
+        ClientId::FIRST,
+        number,
+        Op::Read {
+            name: Name::read(b"a")?,
+        },
+    )
+}
+
+/// The keys of three replicas and two clients.
+fn keys(alloc: Global) -> Result<Keys, Refusal> {
+    Keys::new(alloc, Shape::new(3, 1, 2, 0)?)
+}
+
+/// The actor's key.
+fn key_of(rt: &impl Abort, keys: &mut Keys, actor: Actor) -> Key {
+    keys.take(actor).expect(rt, "the key is there")
+}
+
+#[test]
+fn gives_each_key_once(rt: HostRuntime) -> Result<(), Fail> {
+    let mut keys = keys(rt.alloc())?;
+    assert!(rt; keys.whole());
+    assert!(rt; keys.shape() == Shape::new(3, 1, 2, 0)?);
+    assert!(rt; key_of(&rt, &mut keys, R0).signer() == R0);
+    assert!(rt; !keys.whole());
+    assert!(rt; keys.take(R0).is_none());
+    assert!(rt; key_of(&rt, &mut keys, C0).signer() == C0);
+    assert!(rt; keys.take(C0).is_none());
+    assert!(rt;
+        key_of(&rt, &mut keys, Actor::Replica(ReplicaId::new(2)?)).signer()
+            == Actor::Replica(ReplicaId::new(2)?)
+    );
+    assert!(rt; keys.take(Actor::Replica(ReplicaId::new(3)?)).is_none());
+    assert!(rt; keys.take(Actor::Client(ClientId::new(2)?)).is_none());
+    assert!(rt;
+        key_of(&rt, &mut keys, Actor::Client(ClientId::new(1)?)).signer()
+            == Actor::Client(ClientId::new(1)?)
+    );
+    Ok(())
+}
+
+#[test]
+fn signs_a_request(rt: HostRuntime) -> Result<(), Fail> {
+    let mut keys = keys(rt.alloc())?;
+    let asked = Statement::Ask(read_a(1)?);
+    let by_client = key_of(&rt, &mut keys, C0).sign(asked);
+    assert!(rt; by_client.signer() == C0);
+    assert!(rt; by_client.statement().same(&asked));
+    assert!(rt; by_client.copy().same(&by_client));
+    let by_replica = key_of(&rt, &mut keys, R0).sign(asked);
+    assert!(rt; !by_replica.same(&by_client));
+    assert!(rt; !by_replica.statement().same(&Statement::Ask(read_a(2)?)));
+    Ok(())
+}
+
+#[test]
+fn signs_a_link(rt: HostRuntime) -> Result<(), Fail> {
+    let mut keys = keys(rt.alloc())?;
+    let key = key_of(&rt, &mut keys, R0);
+    let value = Requests::of(&[read_a(1)?]);
+    let mut before = Signers::new();
+    assert!(rt; before.is_empty());
+    let first = key.sign(Statement::Link {
+        slot: 3,
+        value,
+        before,
+    });
+    before.push(R0);
+    before.push(C0);
+    assert_eq!(rt; before.len(), 2);
+    assert!(rt; before.as_slice() == [R0, C0].as_slice());
+    assert!(rt; !before.same(&Signers::new()));
+    let second = key.sign(Statement::Link {
+        slot: 3,
+        value,
+        before,
+    });
+    assert!(rt; !second.same(&first));
+    assert!(rt;
+        second.statement().same(&Statement::Link {
+            slot: 3,
+            value,
+            before
+        })
+    );
+    assert!(rt;
+        !second.statement().same(&Statement::Link {
+            slot: 4,
+            value,
+            before
+        })
+    );
+    assert!(rt;
+        !second.statement().same(&Statement::Link {
+            slot: 3,
+            value: None,
+            before
+        })
+    );
+    Ok(())
+}
