@@ -1,0 +1,97 @@
+ghost use Rattle.std.specs.Prelude.{◌≡◌, ℕ, suc, ◌<◌, ◌≤◌, ◌%◌, ◌↔◌, Some, IsSome, IsNone};
+ghost use Rattle.dsr_rotation.specs.Calendar.{first_round, last_round, IsInFlight, IsRoundOf, ClosesWith, closed_slots};
+
+use dsr_names::{ReplicaId, Shape};
+use std::marker::Model;
+
+/// The slots from `first` to `last`, both included.
+#[derive(Clone, Copy, Debug, PartialEq, Eq)]
+pub struct Slots {
+    /// The least slot.
+    pub first: u64,
+    /// The greatest slot.
+    pub last: u64,
+}
+
+/// When each slot is broadcast: slot k begins in global round k, takes f+1 rounds, and closes with
+/// round k+f. Slots and rounds are counted from 0, the rounds of a slot from 1.
+#[derive(Clone, Copy, Debug, PartialEq, Eq)]
+pub struct Calendar {
+    shape: Shape,
+}
+
+impl Model for Calendar {
+    ghost use Rattle.dsr_names.specs.Shape.{Members};
+
+    ghost Value = { Members };
+
+    ghost view = { λ c. c.shape };
+
+    ghost inverse = { λ shape. record { shape = shape } };
+}
+
+impl Calendar {
+    /// The calendar of this shape.
+    pub fn new(shape: &Shape) -> Calendar
+        ensures { result ≡ shape.now }
+    {
+        Calendar { shape: *shape }
+    }
+
+    /// The shape whose calendar it is.
+    pub fn shape(&self) -> Shape
+        ensures { result ≡ self.now }
+    {
+        self.shape
+    }
+
+    /// The slots in flight in global round `t`. The last of them begins with that round. The first is the
+    /// next to close: as many slots as its number are closed before round `t`.
+    #[tactic(auto, using(crate::proofs::Closing::closed_slots_lem), unfolding(crate::specs::Calendar::first_round))]
+    pub fn slots_in(&self, t: u64) -> Slots
+        ensures in_flight { (slot : ℕ) → IsInFlight self.now slot t ↔ ((result.first ≤ slot) × (slot ≤ result.last)) }
+        ensures beginning { (slot : ℕ) → (result.last ≡ slot) ↔ (first_round self.now slot ≡ t) }
+        ensures next_to_close { result.first ≡ closed_slots self.now t }
+        ensures from_the_start { t < self.now.f → result.first ≡ 0 }
+        ensures some { result.first ≤ result.last }
+    {
+        let f = self.shape.f() as u64;
+        let first = if t < f { 0 } else { t - f };
+        Slots { first, last: t }
+    }
+
+    /// Which of its rounds, 1 to f+1, a slot has in global round `t`. `None` where it is not in flight.
+    #[tactic(auto, unfolding(crate::specs::Calendar::first_round))]
+    pub fn round_of(&self, slot: u64, t: u64) -> Option<u8>
+        ensures round { (r : ℕ) → (result ≡ Some r) ↔ IsRoundOf self.now slot t r }
+        ensures when { IsSome result ↔ IsInFlight self.now slot t }
+    {
+        let f = self.shape.f();
+        if t < slot || t - slot > f as u64 {
+            return None;
+        }
+        let earlier = (t - slot) as u8;
+        Some(earlier + 1)
+    }
+
+    /// The slot that closes with global round `t`, where one does. It is the next in the order of slots.
+    #[tactic(auto, using(crate::proofs::Closing::closed_slots_lem), unfolding(crate::specs::Calendar::first_round))]
+    pub fn closes(&self, t: u64) -> Option<u64>
+        ensures slot { (slot : ℕ) → (result ≡ Some slot) ↔ ClosesWith self.now slot t }
+        ensures next { (slot : ℕ) → (result ≡ Some slot)
+            ↔ ((closed_slots self.now t ≡ slot) × (closed_slots self.now (suc t) ≡ suc slot)) }
+        ensures none { IsNone result ↔ (closed_slots self.now (suc t) ≡ closed_slots self.now t) }
+        ensures before { (slot : ℕ) → (slot < closed_slots self.now t) ↔ (last_round self.now slot < t) }
+    {
+        let f = self.shape.f() as u64;
+        if t < f { None } else { Some(t - f) }
+    }
+
+    /// The replica that sends in this slot: the senders take turns.
+    pub fn sender(&self, slot: u64) -> ReplicaId
+        ensures same { result ≡ slot % self.now.n }
+        ensures inside { result < self.now.n }
+    {
+        self.shape.sender(slot)
+    }
+}
