@@ -1,4 +1,4 @@
-ghost use Rattle.std.specs.Prelude.{◌≡◌, ℕ, suc, ◌<◌, ◌≤◌, ◌%◌, ◌↔◌, Some, IsSome, IsNone};
+ghost use Rattle.std.specs.Prelude.{◌≡◌, ℕ, suc, ◌+◌, ◌<◌, ◌≤◌, ◌%◌, ◌↔◌, Some, IsSome, IsNone, IfSome};
 ghost use Rattle.dsr_rotation.specs.Calendar.{first_round, last_round, IsInFlight, IsRoundOf, ClosesWith, closed_slots};
 
 use dsr_names::{ReplicaId, Shape};
@@ -49,11 +49,14 @@ impl Calendar {
     /// next to close: as many slots as its number are closed before round `t`.
     #[tactic(auto, using(crate::proofs::Closing::closed_slots_lem), unfolding(crate::specs::Calendar::first_round))]
     pub fn slots_in(&self, t: u64) -> Slots
-        ensures in_flight { (slot : ℕ) → IsInFlight self.now slot t ↔ ((result.first ≤ slot) × (slot ≤ result.last)) }
+        ensures in_flight { (slot : ℕ) → IsInFlight self.now slot t
+            ↔ ((result.first ≤ slot) × (slot ≤ result.last)) }
         ensures beginning { (slot : ℕ) → (result.last ≡ slot) ↔ (first_round self.now slot ≡ t) }
         ensures next_to_close { result.first ≡ closed_slots self.now t }
         ensures from_the_start { t < self.now.f → result.first ≡ 0 }
         ensures some { result.first ≤ result.last }
+        ensures few { result.last ≤ result.first + self.now.f }
+        ensures no_later { result.last ≤ t }
     {
         let f = self.shape.f() as u64;
         let first = if t < f { 0 } else { t - f };
@@ -82,6 +85,7 @@ impl Calendar {
             ↔ ((closed_slots self.now t ≡ slot) × (closed_slots self.now (suc t) ≡ suc slot)) }
         ensures none { IsNone result ↔ (closed_slots self.now (suc t) ≡ closed_slots self.now t) }
         ensures before { (slot : ℕ) → (slot < closed_slots self.now t) ↔ (last_round self.now slot < t) }
+        ensures no_later { IfSome result (λ slot. slot ≤ t) }
     {
         let f = self.shape.f() as u64;
         if t < f { None } else { Some(t - f) }
