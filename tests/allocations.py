@@ -1,13 +1,20 @@
 #!/usr/bin/env python3
-"""Each allocation of the program refused in turn: tests/allocations.py, with no arguments.
+"""Each allocation refused in turn: tests/allocations.py, with no arguments. It needs what `rt ci` built.
 
 Runs the built program on some examples with its 1st, 2nd, 3rd .. allocation refused, until a run meets no refusal. A run
 that met one must end with status 3, write nothing on standard output, and say so on standard error; the last one must do
-what it does with ample memory. Needs a C compiler, `cc`, for the few lines that refuse. The last line is
-`N passed, M failed`, a count for each example.
+what it does with ample memory.
+
+Then it runs the tests of the crates whose calls can answer that memory was refused, one by one and in the same way. A test
+that meets a refusal must pass, or end with that error, or with an assertion that got that error (`WriteFailed` where what
+is written goes to memory). One that ends otherwise got a wrong answer in its place.
+
+Needs a C compiler, `cc`, for the few lines that refuse. The last line is `N passed, M failed`, a count for each example and
+for each of those crates.
 """
 
 import os
+import re
 import subprocess
 import sys
 import tempfile
@@ -15,7 +22,10 @@ import tempfile
 TOP = os.path.dirname(os.path.dirname(os.path.realpath(__file__)))
 PROGRAM = f"{TOP}/crates/dsr/out/dsr"
 EXAMPLES = ["first-lines", "swaps", "repeated-numbers", "full-table"]
-MOST_RUNS = 2_000
+# The crates whose calls answer that memory was refused; what the program's words and help take is in the examples' runs.
+CRATES = ["dsr_names", "dsr_register", "dsr_ledger", "dsr_history", "dsr_desk", "dsr_chain"]
+MOST_RUNS = 20_000
+WANT_OF_MEMORY = re.compile(rb"^(?:[Ee]rror:|  left:) .*(NoMemory|AllocError|AllocFailed|WriteFailed)", re.M)
 
 
 def read(path):
@@ -23,15 +33,21 @@ def read(path):
         return file.read()
 
 
+def refused_run(command, nth, refuser, note, text=b""):
+    """A run of the command with its nth allocation refused, and whether it came to that."""
+    if os.path.exists(note):
+        os.remove(note)
+    env = {**os.environ, "LD_PRELOAD": refuser, "REFUSE_NTH": str(nth), "REFUSE_NOTE": note}
+    run = subprocess.run(command, input=text, env=env, capture_output=True, timeout=60)
+    return run, os.path.exists(note)
+
+
 def fault_of(words, text, wanted, refuser, note):
     """What is wrong with the runs on this text, or None; how many allocations were refused, and how often that ended the run."""
     ended = 0
     for nth in range(1, MOST_RUNS):
-        if os.path.exists(note):
-            os.remove(note)
-        env = {**os.environ, "LD_PRELOAD": refuser, "REFUSE_NTH": str(nth), "REFUSE_NOTE": note}
-        run = subprocess.run([PROGRAM, *words], input=text, env=env, capture_output=True, timeout=60)
-        if not os.path.exists(note):
+        run, refused = refused_run([PROGRAM, *words], nth, refuser, note, text)
+        if not refused:
             if (run.returncode, run.stdout) != (0, wanted):
                 return f"with no refusal its status is {run.returncode}, or its output differs", nth - 1, ended
             return (None if ended else "no refusal ended it"), nth - 1, ended
@@ -40,6 +56,33 @@ def fault_of(words, text, wanted, refuser, note):
         elif (run.returncode, run.stdout, run.stderr) != (0, wanted, b""):
             return f"with allocation {nth} refused its status is {run.returncode}, and it wrote {run.stdout[:80]!r} and {run.stderr[:80]!r}", nth, ended
     return f"there is still a refusal after {MOST_RUNS} runs", MOST_RUNS, ended
+
+
+def fault_of_test(program, test, refuser, note):
+    """What is wrong with the runs of this test, or None; and how many allocations were refused."""
+    for nth in range(1, MOST_RUNS):
+        run, refused = refused_run([program, test], nth, refuser, note)
+        if not refused:
+            return (None if run.returncode == 0 else f"{test} fails with ample memory"), nth - 1
+        if run.returncode != 0 and not WANT_OF_MEMORY.search(run.stdout + run.stderr):
+            return f"{test} with allocation {nth} refused says {(run.stdout + run.stderr)[:200]!r}", nth
+    return f"{test} still meets a refusal after {MOST_RUNS} runs", MOST_RUNS
+
+
+def fault_of_crate(crate, refuser, note):
+    """What is wrong with the runs of this crate's tests, or None; how many tests there are, and how many allocations were refused."""
+    program = f"{TOP}/crates/{crate}/out/{crate}_tests"
+    if not os.path.exists(program):
+        return "its tests are not built", 0, 0
+    listed = subprocess.run([program, "--list"], capture_output=True, text=True, timeout=60).stdout
+    tests = re.findall(r"^(\S+): test$", listed, re.M)
+    count = 0
+    for test in tests:
+        fault, refused = fault_of_test(program, test, refuser, note)
+        count += refused
+        if fault:
+            return fault, len(tests), count
+    return (None if tests else "it lists no test"), len(tests), count
 
 
 def main():
@@ -53,6 +96,10 @@ def main():
             fault, count, ended = fault_of(["apply"], read(f"{stem}.apply"), read(f"{stem}.out"), refuser, f"{room}/refused")
             passed, failed = passed + (fault is None), failed + (fault is not None)
             print(f"{name}: {fault or f'ok, each of {count} allocations refused in turn, {ended} times with status 3'}", flush=True)
+        for crate in CRATES:
+            fault, tests, count = fault_of_crate(crate, refuser, f"{room}/refused")
+            passed, failed = passed + (fault is None), failed + (fault is not None)
+            print(f"{crate}: {fault or f'ok, each of {count} allocations of {tests} tests refused in turn'}", flush=True)
     print(f"{passed} passed, {failed} failed")
     return 1 if failed else 0
 
