@@ -1,5 +1,5 @@
 -- Values with the same signed requests are the same.
-use Rattle.std.proofs.Common.{◌≡◌, List, [], ◌∷◌, Bool, refl, ap, sym, ◌∙◌}
+use Rattle.std.proofs.Common.{◌≡◌, List, [], ◌∷◌, refl, ap, sym, ◌∙◌}
 use Rattle.std.specs.Bool.{Decides}
 use Rattle.std.proofs.lemmas.Bool.Decides.{Decides-like}
 use Rattle.dsr_chain.specs.BatchEq.{batch_eq, batch_eq-Decides}

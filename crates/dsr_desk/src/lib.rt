@@ -6,6 +6,7 @@
 
 mod keys;
 mod signers;
+mod signers_text;
 mod statement;
 
 pub use keys::{Key, Keys, Signature};

@@ -114,3 +114,28 @@ fn signs_a_link(rt: HostRuntime) -> Result<(), Fail> {
     );
     Ok(())
 }
+
+#[test]
+fn spells_signers(rt: HostRuntime) -> Result<(), Fail> {
+    let texts = ["-", "r0", "c31+r15", "r0+r0+c0"];
+    for text in texts {
+        let signers = Signers::read(text.as_bytes()).ok_or("not signers")?;
+        assert_eq!(rt; signers.to_string(rt.alloc())?.as_str(), text);
+    }
+    let most = "r0+r1+r2+r3+r4+r5+r6+r7+r8+r9+r10+r11+r12+r13+r14+r15";
+    assert!(rt; Signers::read(most.as_bytes()).is_some());
+    let others = [
+        "",
+        "r16",
+        "r0+",
+        "+r0",
+        "r0+-",
+        "r0,r1",
+        "r0 + r1",
+        "r0+r1+r2+r3+r4+r5+r6+r7+r8+r9+r10+r11+r12+r13+r14+r15+c0",
+    ];
+    for text in others {
+        assert!(rt; Signers::read(text.as_bytes()).is_none());
+    }
+    Ok(())
+}
