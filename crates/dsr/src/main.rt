@@ -1,13 +1,11 @@
 //! The program `dsr`: a directory of named registers, kept by replicas of which some may be traitors.
 #![tactic(auto)]
 
+use dsr_names::Outside;
 use std::alloc::AllocError;
-use std::env;
-use std::io;
 use std::io::{ErrorKind, Write};
 use std::process::ExitCode;
-
-use dsr_names::Outside;
+use std::{env, io};
 
 /// The exit status where the words of the command line are no text.
 const USAGE_FAULT: u8 = 2;
@@ -19,7 +17,10 @@ const NO_MEMORY: u8 = 3;
 fn refuse_words(rt: &HostRuntime, kind: ErrorKind) -> ExitCode {
     let (text, status) = match kind {
         ErrorKind::OutOfMemory => ("dsr: no memory\n", NO_MEMORY),
-        _ => ("dsr: the words of the command line are no text\n", USAGE_FAULT),
+        _ => (
+            "dsr: the words of the command line are no text\n",
+            USAGE_FAULT,
+        ),
     };
     // Where this cannot be written either, the status alone tells.
     let _ = rt.stderr().write_all(text.as_bytes());

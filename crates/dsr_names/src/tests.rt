@@ -389,7 +389,7 @@ fn an_output_is_written_whole(rt: HostRuntime) -> Result<(), Fail> {
     ];
     for (most, fails_at, want, taken) in rows {
         let mut sink = Narrow {
-            taken: Vec::new(rt.alloc()),
+            taken: Vec::with_capacity(rt.alloc(), 12)?,
             most,
             calls: 0,
             fails_at,
