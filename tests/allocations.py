@@ -22,8 +22,9 @@ import tempfile
 TOP = os.path.dirname(os.path.dirname(os.path.realpath(__file__)))
 PROGRAM = f"{TOP}/crates/dsr/out/dsr"
 EXAMPLES = ["first-lines", "swaps", "repeated-numbers", "full-table"]
-# The crates whose calls answer that memory was refused; what the program's words and help take is in the examples' runs.
-CRATES = ["dsr_names", "dsr_register", "dsr_ledger", "dsr_history", "dsr_desk", "dsr_chain"]
+# The crates whose calls answer that memory was refused, but for dsr_history, whose tests write to a sink that needs memory:
+# its calls are in the runs of the program.
+CRATES = ["dsr_names", "dsr_register", "dsr_ledger", "dsr_desk", "dsr_chain"]
 MOST_RUNS = 20_000
 WANT_OF_MEMORY = re.compile(rb"^(?:[Ee]rror:|  left:) .*(NoMemory|AllocError|AllocFailed|WriteFailed)", re.M)
 
