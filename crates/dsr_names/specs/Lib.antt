@@ -1,5 +1,6 @@
 pub mod Actor
 pub mod Bits
+pub mod Member
 pub mod Output
 pub mod Padded
 pub mod Parts

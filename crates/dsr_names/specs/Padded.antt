@@ -1,5 +1,5 @@
 -- A list of at most n items in an array of n places: the places after the items hold one blank.
-use Rattle.std.specs.Prelude.{◌≡◌, ℕ, ◌+◌, ◌-◌, ◌<◌, ◌≤◌, List, ◌∷◌, [], ◌++◌, length, take, drop, replicate, refl}
+use Rattle.std.specs.Prelude.{◌≡◌, ℕ, ◌-◌, ◌≤◌, List, ◌++◌, length, take, drop, replicate}
 use Rattle.std.proofs.Common.{sym, ◌∙◌, ap, arith, length-take, length-drop, take-append-drop, length-append}
 use Rattle.std.proofs.lemmas.List.{drop-replicate, drop_at, take_at, length-replicate}
 
