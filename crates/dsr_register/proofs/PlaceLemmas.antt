@@ -1,6 +1,5 @@
 -- Look-ups and edits of a table whose names rise, at a place.
-use Rattle.std.proofs.Common.{◌≡◌, ◌≢◌, ℕ, zero, suc, ◌+◌, ◌<◌, ◌≤◌, Bool, true, false, cond, not, ◌&&◌, is_none, nat_le, nat_lt, List, [], ◌∷◌, ◌++◌, length, take, drop, set, get_or, ◌⊎◌, inl, inr, eq-or-lt_of_le, Option, None, Some, refl, sym, ◌∙◌, ap, subst, arith, insert, remove, slice_get}
-use Rattle.std.specs.List.{AllByRecursion}
+use Rattle.std.proofs.Common.{◌≡◌, ℕ, zero, suc, ◌<◌, ◌≤◌, Bool, true, false, cond, not, ◌&&◌, is_none, nat_le, nat_lt, List, [], ◌∷◌, ◌++◌, length, take, drop, set, get_or, inl, inr, eq-or-lt_of_le, Option, None, Some, refl, sym, ◌∙◌, ap, subst, arith, insert, remove, slice_get}
 use Rattle.std.specs.Ordering.{is_lt}
 use Rattle.std.specs.declared.cmp.Ordering.{Ordering}
 use Rattle.std.specs.declared.cmp.Ordering.TheVariants.{Less, Equal, Greater}

@@ -1,7 +1,7 @@
 -- A table that stands for operations has as many entries as registers hold a number after them.
-use Rattle.std.proofs.Common.{◌≡◌, ◌≢◌, ℕ, zero, suc, ◌+◌, ◌<◌, ◌≤◌, Bool, true, false, cond, not, ◌&&◌, ◌||◌, List, [], ◌∷◌, length, map, filter, count_by, Option, None, Some, is_some, is_none, nat_le, refl, sym, ◌∙◌, ap, subst, arith, rules, IsSome, le_antisymm}
+use Rattle.std.proofs.Common.{◌≡◌, ℕ, suc, ◌≤◌, Bool, true, false, cond, ◌&&◌, ◌||◌, List, [], ◌∷◌, length, map, filter, is_some, nat_le, refl, sym, ◌∙◌, ap, subst, arith, IsSome, le_antisymm}
 use Rattle.std.specs.List.{AllByRecursion, IsDistinct, list_any}
-use Rattle.std.specs.Map.{keys_of, lookup}
+use Rattle.std.specs.Map.{keys_of}
 use Rattle.std.specs.Str.{bytes_eq}
 use Rattle.std.proofs.lemmas.Cmp.{nat_list_eq_equiv}
 use Rattle.std.proofs.lemmas.List.Sums.{length-filter}
@@ -12,8 +12,8 @@ use Rattle.std.proofs.lemmas.Map.Steps.{length-le_from_keys}
 use Rattle.std.proofs.lemmas.Map.Views.{any-filter_same}
 use Rattle.dsr_register.specs.declared.op.Op.{Op}
 use Rattle.dsr_register.specs.Values.{value, registers, register_of, count_held, is_full, left_by, answer_on, answer_after}
-use Rattle.dsr_register.specs.Table.{content, compare_names, IsBelowEach, IsAscending, StandsFor}
-use Rattle.dsr_register.proofs.TableLemmas.{Entries, same_name, name_itself, apart_below, bytes_eq-sym}
+use Rattle.dsr_register.specs.Table.{content, IsBelowEach, IsAscending, StandsFor}
+use Rattle.dsr_register.proofs.TableLemmas.{Entries, same_name, name_itself, apart_below}
 
 abbrev Names : Type 0
 Names = List (List ℕ)

@@ -1,4 +1,4 @@
-use Rattle.std.proofs.Common.{◌≡◌, ◌∙◌, sym, subst, ap, ◌∷◌}
+use Rattle.std.proofs.Common.{◌∙◌, sym, subst, ap, ◌∷◌}
 use Rattle.dsr_register.specs.Values.{answer_after}
 use Rattle.dsr_register.specs.Table.{StandsFor}
 use Rattle.dsr_register.specs.declared.op.Op.TheVariants.{Write, Swap}

@@ -1,4 +1,4 @@
-use Rattle.std.proofs.Common.{arith, ◌<◌, ◌≤◌, length, false, true, ◌≡◌}
+use Rattle.std.proofs.Common.{arith, false, true, ◌≡◌}
 use Rattle.dsr_register.proofs.PlaceLemmas.{entry_found, gap_here, gap_past}
 use Rattle.dsr_register.proofs.directory.Directory.find.Goals as goal
 use Rattle.dsr_register.proofs.directory.Directory.find.Goals.{else-place-len-via-then-place-len+else-same, else-place-len-via-else-place-len}

@@ -1,4 +1,4 @@
-use Rattle.std.proofs.Common.{sym, ◌∙◌, ◌≡◌, ap, subst, length, rules}
+use Rattle.std.proofs.Common.{◌∙◌, ◌≡◌, subst, length, rules}
 use Rattle.dsr_register.specs.Table.{IsAscending}
 use Rattle.dsr_register.proofs.ValueLemmas.{count_stands}
 use Rattle.dsr_register.proofs.directory.Directory.len.Goals as goal

@@ -1,4 +1,4 @@
-use Rattle.std.proofs.Common.{rules, arith, subst, sym, ◌∙◌, ℕ, List, true, false, ◌≡◌}
+use Rattle.std.proofs.Common.{rules, subst, sym, ◌∙◌, ℕ, List, true, false, ◌≡◌}
 use Rattle.std.specs.List.Sorted.{IsPartitionPoint, IsPartitionedBy}
 use Rattle.std.proofs.lemmas.List.Sorted.{IsPartitionPoint-from_clause}
 use Rattle.dsr_register.specs.Table.{is_before}

@@ -1,4 +1,4 @@
-use Rattle.std.proofs.Common.{◌≡◌, ℕ, ◌+◌, ◌<◌, ◌≤◌, ◌&&◌, Bool, true, false, not, is_none, is_ok, nat_le, Option, None, Some, sym, ◌∙◌, ap, length, arith, length-set, set, vec_len, if◌then◌else◌}
+use Rattle.std.proofs.Common.{◌≡◌, ◌+◌, ◌<◌, ◌&&◌, true, is_ok, nat_le, Some, sym, ◌∙◌, ap, length, arith, length-set, vec_len, if◌then◌else◌}
 use Rattle.std.specs.Str.{bytes_eq}
 use Rattle.dsr_register.specs.Table.{content}
 use Rattle.dsr_register.proofs.PlaceLemmas.{entry_set, entry_inserted, may_write, may_fill}

@@ -1,4 +1,4 @@
-use Rattle.std.proofs.Common.{sym, ◌∙◌, ap, length, arith}
+use Rattle.std.proofs.Common.{sym, arith}
 use Rattle.dsr_register.proofs.PlaceLemmas.{entry_read, entry_removed, none_removed, content_at_gap}
 use Rattle.dsr_register.proofs.directory.Directory.take.Goals as goal
 
