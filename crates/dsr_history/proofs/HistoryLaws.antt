@@ -1,13 +1,10 @@
 -- Laws over histories.
-use Rattle.std.proofs.Common.{◌≡◌, ◌≢◌, ℕ, zero, suc, ◌+◌, ◌<◌, ◌≤◌, Bool, true, false, cond, not, ◌&&◌, ◌||◌, nat_eq, nat_lt, List, [], ◌∷◌, ◌++◌, length, map, reverse, Option, None, Some, max, refl, sym, ◌∙◌, ap, subst, arith, append_assoc, length-append, eq-eqb}
+use Rattle.std.proofs.Common.{◌≡◌, ℕ, ◌<◌, Bool, true, false, cond, not, ◌&&◌, ◌||◌, nat_eq, nat_lt, List, [], ◌∷◌, ◌++◌, length, reverse, refl, sym, ◌∙◌, ap, arith, append_assoc, length-append, eq-eqb}
 use borrow.Author.Tests.{ltb-true}
 use Rattle.std.specs.List.{AllByRecursion}
-use Rattle.std.proofs.lemmas.Bool.Decides.{nat_tests}
-use Rattle.std.proofs.lemmas.Bool.{ne_eqb, eqb-false}
-use Rattle.dsr_register.specs.Values.{answer_after}
-use Rattle.dsr_ledger.specs.declared.reply.Reply.{Reply}
+use Rattle.std.proofs.lemmas.Bool.{ne_eqb}
 use Rattle.dsr_history.specs.Issued.{Issued}
-use Rattle.dsr_history.specs.History.{requests_of, rises_above, acting, acted, operations, answer_at, reply_in, IsLegal, GrewFrom}
+use Rattle.dsr_history.specs.History.{requests_of, rises_above, acting, acted, answer_at, IsLegal, GrewFrom}
 
 -- prefixes
 

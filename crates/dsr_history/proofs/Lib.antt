@@ -3,4 +3,5 @@ mod LineLemmas
 mod MachineLemmas
 mod RequestLists
 mod RequestTextLemmas
+pub mod RequestsTextLemmas
 mod RunLemmas

@@ -1,30 +1,17 @@
 -- A text begins with the line of a request in at most one way.
-use Rattle.std.proofs.Common.{◌≡◌, ◌≢◌, ◌⊎◌, inl, inr, ℕ, ◌+◌, ◌<◌, ◌≤◌, ◌^◌, ◌↔◌, List, [], ◌∷◌, ◌++◌, length, Option, None, Some, IfNone, refl, sym, ◌∙◌, ap, subst, arith, append_assoc, length-append}
-use Rattle.std.specs.Fmt.{decimal}
-use Rattle.std.proofs.lemmas.List.Elements.{All-cons, All-append}
+use Rattle.std.proofs.Common.{◌≡◌, ℕ, ◌↔◌, List, [], ◌∷◌, ◌++◌, Option, None, Some, IfNone, refl, sym, ◌∙◌, subst, arith, append_assoc}
 use Rattle.dsr_names.specs.Split.{IsAbsent}
-use Rattle.dsr_names.specs.Actor.{actor_text}
-use Rattle.dsr_names.specs.declared.actor.Actor.TheVariants.{Client}
-use Rattle.dsr_register.specs.OpText.{op_text}
 use Rattle.dsr_register.proofs.SplitLemmas.{one_cut, not_absent}
-use Rattle.dsr_register.proofs.TextLemmas.{decimal_without, op_without}
 use Rattle.dsr_history.specs.Issued.{Issued}
 use Rattle.dsr_history.specs.RequestText.{request_text, IsRequest}
 use Rattle.dsr_history.specs.Applied.{request_line, IsNoLine}
-
-joined_without : (byte : ℕ) (first second : List ℕ) (mark : ℕ) → (mark ≡ byte → ⊥) → IsAbsent byte first → IsAbsent byte second → IsAbsent byte (first ++ mark ∷ second)
-joined_without byte first second mark apart p q =
-    All-append (λ b. b ≡ byte → ⊥) first (mark ∷ second) p (All-cons (λ b. b ≡ byte → ⊥) mark second apart q)
+use Rattle.dsr_history.proofs.RequestTextLemmas.{text_without}
 
 -- no line feed stands in the text of a request
 request_without : (request : Issued) → IsRequest request → IsAbsent 10 (request_text 32 32 request)
 request_without request h =
     let apart : ◌≡◌ {A = ℕ} 32 10 → ⊥ = λ (e : ◌≡◌ {A = ℕ} 32 10). omega arith in
-    let letter : ◌≡◌ {A = ℕ} 99 10 → ⊥ = λ (e : ◌≡◌ {A = ℕ} 99 10). omega arith in
-    joined_without 10 (actor_text (Client request.client)) (decimal request.number ++ 32 ∷ op_text 32 request.op) 32 apart
-    (All-cons (λ b. b ≡ 10 → ⊥) 99 (decimal request.client) letter (decimal_without 10 request.client refl (omega (arith, h.client_exists))))
-    (joined_without 10 (decimal request.number) (op_text 32 request.op) 32 apart (decimal_without 10 request.number refl (omega (arith, h.small_number)))
-    (op_without 10 32 request.op refl apart h.is_op))
+    text_without 10 32 32 request refl apart apart h
 
 regrouped : (request : Issued) (after : List ℕ) → request_line request ++ after ≡ request_text 32 32 request ++ 10 ∷ after
 regrouped request after = append_assoc (request_text 32 32 request) (10 ∷ []) after

@@ -1,6 +1,6 @@
 -- Which requests act, and what each is answered. Values, requests and histories stand newest first: a place is the
 -- number of older requests. A value is the list of requests that one slot decides, oldest first; the empty one is idle.
-use Rattle.std.specs.Prelude.{◌≡◌, ℕ, ◌+◌, ◌<◌, Bool, true, not, ◌&&◌, ◌||◌, ◌==◌, nat_lt, if◌then◌else◌, List, [], ◌∷◌, ◌++◌, length, map, reverse, Option, None, Some}
+use Rattle.std.specs.Prelude.{◌≡◌, ℕ, ◌<◌, Bool, true, not, ◌&&◌, ◌||◌, ◌==◌, nat_lt, if◌then◌else◌, List, [], ◌∷◌, ◌++◌, length, map, reverse, Option, None, Some}
 use Rattle.std.specs.List.{AllByRecursion}
 use Rattle.dsr_register.specs.declared.op.Op.{Op}
 use Rattle.dsr_register.specs.declared.answer.Answer.{Answer}

@@ -4,6 +4,7 @@ pub mod Issued
 pub mod Machine
 pub mod MachineState
 pub mod RequestText
+pub mod RequestsText
 pub mod RequestsFields
 pub mod Equality
 pub mod RequestsEq

@@ -1,5 +1,5 @@
 -- A machine as contracts see it, and how its parts hold that.
-use Rattle.std.specs.Prelude.{◌≡◌, ℕ, ◌<◌, ◌-◌, min, List, [], ◌∷◌, length, map, reverse, vec_len, vec_capacity}
+use Rattle.std.specs.Prelude.{◌≡◌, ℕ, ◌-◌, min, List, [], ◌∷◌, length, reverse, vec_len, vec_capacity}
 use Rattle.dsr_register.specs.declared.answer.Answer.{Answer}
 use Rattle.dsr_register.specs.Values.{answer_after}
 use Rattle.dsr_register.specs.Table.{StandsFor}

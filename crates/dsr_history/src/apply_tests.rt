@@ -123,7 +123,7 @@ impl Sink for Narrow {
 }
 
 #[test]
-fn each_write_fails_in_turn(rt: HostRuntime) {
+fn each_write_fails_in_turn(rt: HostRuntime) -> Result<(), Fail> {
     let text = b"c0 1 write a 5\nc0 2 read a\nc0 3 read b\n";
     let answers = b"0 written\n1 held 5\n2 held none\n";
     let rows = [
@@ -136,7 +136,8 @@ fn each_write_fails_in_turn(rt: HostRuntime) {
     ];
     for (each, all, fails, out, end) in rows {
         let mut sink = Narrow {
-            taken: Vec::new(rt.alloc()),
+            // Its room is made ahead, so that it fails only where it is meant to.
+            taken: Vec::with_capacity(rt.alloc(), 31)?,
             each,
             all,
             fails,
@@ -146,4 +147,5 @@ fn each_write_fails_in_turn(rt: HostRuntime) {
         assert!(rt; out <= answers.len());
         assert_eq!(rt; sink.taken.as_slice(), &answers[..out], "at {each}, {all}");
     }
+    Ok(())
 }

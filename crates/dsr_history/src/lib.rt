@@ -9,6 +9,7 @@ mod machine;
 mod request;
 mod request_text;
 mod requests;
+mod requests_text;
 #[cfg(test)]
 mod tests;
 

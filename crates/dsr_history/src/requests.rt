@@ -1,10 +1,11 @@
-ghost use Rattle.std.specs.Prelude.{◌≡◌, ◌<◌, ◌≤◌, ◌↔◌, length, slice_get, IsSome, IfSome, IsTrue};
+ghost use Rattle.std.specs.Prelude.{◌≡◌, ◌<◌, ◌≤◌, ◌↔◌, ◌∷◌, length, slice_get, IsSome, IfSome, IsTrue};
+ghost use Rattle.std.specs.Option.{SomeIff};
 
 use crate::request::Request;
 use std::marker::Model;
 
 /// The most requests of one value.
-const MOST_REQUESTS: usize = 8;
+pub(crate) const MOST_REQUESTS: usize = 8;
 
 /// A list of 1 to 8 requests, of fixed size: it is copied without taking memory.
 #[derive(Clone, Copy, Debug)]
@@ -45,6 +46,23 @@ impl Requests {
         Some(Requests {
             items,
             len: len as u8,
+        })
+    }
+
+    /// The list of this request and then those of the list. `None` where they are more than 8.
+    pub(crate) fn after(&self, first: Request) -> Option<Requests>
+        ensures { SomeIff result (length self.now < 8) (first ∷ self.now) }
+    {
+        let len = self.len();
+        if len == MOST_REQUESTS {
+            return None;
+        }
+        let mut items = [first; MOST_REQUESTS];
+        let places = items.as_mut_slice();
+        places[1..len + 1].copy_from_slice(self.as_slice());
+        Some(Requests {
+            items,
+            len: len as u8 + 1,
         })
     }
 

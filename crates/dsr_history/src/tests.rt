@@ -50,6 +50,46 @@ fn a_list_has_1_to_8_requests(rt: HostRuntime) -> Result<(), Fail> {
     Ok(())
 }
 
+#[test]
+fn spells_lists_of_requests(rt: HostRuntime) -> Result<(), Fail> {
+    let eight =
+        "c0#1:read:a,c1#1:read:a,c2#1:read:a,c3#1:read:a,c4#1:read:a,c5#1:read:a,c6#1:read:a,c31#1099511627775:remove:a";
+    let texts = [
+        "c0#7:write:a:5",
+        "c0#7:write:a:5,c1#1:swap:none:none:1",
+        "c0#1:read:a,c0#1:read:a",
+        eight,
+    ];
+    for text in texts {
+        let requests = Requests::read(text.as_bytes()).ok_or("no requests")?;
+        assert_eq!(rt; requests.to_string(rt.alloc())?.as_str(), text);
+    }
+    let requests = Requests::read(eight.as_bytes()).ok_or("no requests")?;
+    assert_eq!(rt; requests.len(), 8);
+    assert_eq!(rt; requests.get(1), Request::read(b"c1#1:read:a"));
+    assert_eq!(rt;
+        requests.get(7),
+        Request::read(b"c31#1099511627775:remove:a")
+    );
+    let others = [
+        "",
+        "idle",
+        "c0#1:read:a,",
+        ",c0#1:read:a",
+        "c0#1:read:a,,c1#1:read:a",
+        "c0#1:read:a, c1#1:read:a",
+        "c0#1:read:a+c1#1:read:a",
+        "c0#1:read:a,idle",
+        "c0#1:read:a,c1#0:read:a",
+        "c32#1:read:a,c1#1:read:a",
+        "c0#1:read:a,c1#1:read:a,c2#1:read:a,c3#1:read:a,c4#1:read:a,c5#1:read:a,c6#1:read:a,c7#1:read:a,c8#1:read:a",
+    ];
+    for text in others {
+        assert!(rt; Requests::read(text.as_bytes()).is_none(), "{text}");
+    }
+    Ok(())
+}
+
 // The request of the client with this number for the operation that the text spells.
 fn request(client: ClientId, number: u64, text: &str) -> Result<Request, Fail>
     ensures { IfOk result (λ request. request.client ≡ client) }

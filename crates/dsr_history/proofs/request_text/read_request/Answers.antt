@@ -1,4 +1,3 @@
-use Rattle.std.proofs.Common.{◌≡◌}
 use Rattle.dsr_register.proofs.Words.{reads_nothing}
 use Rattle.dsr_history.proofs.RequestTextLemmas.{no_mark, no_separator, by_parts}
 use Rattle.dsr_history.proofs.request_text.read_request.Goals as goal

@@ -1,4 +1,4 @@
-use Rattle.std.proofs.Common.{◌≡◌, ◌<◌, ◌∙◌, length, arith}
+use Rattle.std.proofs.Common.{◌<◌, ◌∙◌, length, arith}
 use Rattle.dsr_history.proofs.RunLemmas.{one_more, shorter}
 use Rattle.dsr_history.proofs.apply.Run.answer_lines.Goals as goal
 

@@ -1,4 +1,4 @@
-use Rattle.std.proofs.Common.{◌≡◌, ℕ, ◌+◌, ◌≤◌, List, ◌++◌, length, take, reverse}
+use Rattle.std.proofs.Common.{◌≡◌, ◌+◌, ◌≤◌, List, ◌++◌, length, take, reverse}
 use Rattle.dsr_history.specs.Issued.{Issued}
 use Rattle.dsr_history.specs.History.{acting, requests_of}
 use Rattle.dsr_history.specs.MachineState.{Stands}

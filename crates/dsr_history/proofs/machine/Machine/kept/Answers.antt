@@ -1,6 +1,5 @@
 use Rattle.std.proofs.Common.{◌≡◌, ◌∙◌, Some, IfSome, sym, ap, subst}
 use Rattle.dsr_history.specs.History.{answer_at, reply_in}
-use Rattle.dsr_history.specs.Machine.{history_of}
 use Rattle.dsr_history.proofs.MachineLemmas.{true_replies, told}
 use Rattle.dsr_history.proofs.machine.Machine.kept.Goals as goal
 

@@ -1,8 +1,7 @@
-use Rattle.std.proofs.Common.{◌≡◌, ◌<◌, ◌+◌, ◌∙◌, ◌∷◌, ◌++◌, [], List, Bool, true, false, if◌then◌else◌, is_ok, length, reverse, vec_len, sym, ap, subst, arith, rules}
+use Rattle.std.proofs.Common.{◌≡◌, ◌<◌, ◌∙◌, ◌∷◌, ◌++◌, [], true, false, if◌then◌else◌, is_ok, length, sym, ap, subst, arith, rules}
 use Rattle.dsr_register.specs.Values.{answer_after}
 use Rattle.dsr_register.specs.Table.{StandsFor}
 use Rattle.dsr_ledger.specs.Kept.{kept_of, Acts}
-use Rattle.dsr_history.specs.Issued.{Issued}
 use Rattle.dsr_history.specs.History.{reply_in, acting}
 use Rattle.dsr_history.specs.Machine.{history_of}
 use Rattle.dsr_history.proofs.MachineLemmas.{rises_from_acts, falls_from_idle, acted_by, idle_by, machine_after, pushed}
