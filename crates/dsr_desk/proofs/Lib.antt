@@ -1,3 +1,4 @@
 mod Flags
 mod SignerLists
 mod Spelling
+mod StatementLemmas

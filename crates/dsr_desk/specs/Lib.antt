@@ -1,3 +1,4 @@
+pub mod ContentText
 pub mod KeyRing
 pub mod SignatureEq
 pub mod Signed
@@ -6,3 +7,4 @@ pub mod SignersFields
 pub mod SignersText
 pub mod SpellsAfter
 pub mod StatementEq
+pub mod StatementText

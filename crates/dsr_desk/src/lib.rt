@@ -4,11 +4,14 @@
 //! one, and a key is given out once: whoever holds a signature holds what that signer signed.
 #![tactic(auto)]
 
+mod content_text;
 mod keys;
 mod signers;
 mod signers_text;
 mod statement;
+mod statement_text;
 
+pub use content_text::{Content, read_content};
 pub use keys::{Key, Keys, Signature};
 pub use signers::Signers;
 pub use statement::Statement;

@@ -1,4 +1,4 @@
-use crate::{Key, Keys, Signers, Statement};
+use crate::{Content, Key, Keys, Signers, Statement, read_content};
 use dsr_history::{Request, Requests};
 use dsr_names::{Actor, ClientId, Refusal, ReplicaId, Shape};
 use dsr_register::{Name, Op};
@@ -136,6 +136,73 @@ fn spells_signers(rt: HostRuntime) -> Result<(), Fail> {
     ];
     for text in others {
         assert!(rt; Signers::read(text.as_bytes()).is_none());
+    }
+    Ok(())
+}
+
+#[test]
+fn spells_contents(rt: HostRuntime) -> Result<(), Fail> {
+    for text in ["idle", "c0#1:read:a", "c0#1:write:a:5,c31#1:read:a"] {
+        let content = read_content(text.as_bytes()).ok_or("no content")?;
+        assert_eq!(rt; Content(content).to_string(rt.alloc())?.as_str(), text);
+    }
+    assert!(rt; read_content(b"idle") == Some(None));
+    assert!(rt; read_content(b"c0#1:read:a") == Some(Requests::of(&[read_a(1)?])));
+    let others = [
+        "",
+        "-",
+        "Idle",
+        "idle,",
+        "idle,c0#1:read:a",
+        "c0#1:read:a,idle",
+        "c0#0:read:a",
+        "c0#1:read:a,c1#1:read:a,c2#1:read:a,c3#1:read:a,c4#1:read:a,c5#1:read:a,c6#1:read:a,c7#1:read:a,c8#1:read:a",
+    ];
+    for text in others {
+        assert!(rt; read_content(text.as_bytes()).is_none(), "{text}");
+    }
+    Ok(())
+}
+
+#[test]
+fn spells_statements(rt: HostRuntime) -> Result<(), Fail> {
+    let texts = [
+        "c0#7:write:a:5",
+        "0/c0#1:write:a:5/-",
+        "0/c0#1:write:a:5,c0#1:write:a:5/r1+r0+r0",
+        "1099511627775/idle/c31",
+    ];
+    for text in texts {
+        let statement = Statement::read(text.as_bytes()).ok_or("no statement")?;
+        assert_eq!(rt; statement.to_string(rt.alloc())?.as_str(), text);
+    }
+    assert!(rt; Statement::read(b"c0#1:read:a") == Some(Statement::Ask(read_a(1)?)));
+    let mut before = Signers::new();
+    before.push(R0);
+    let link = Statement::Link {
+        slot: 3,
+        value: Requests::of(&[read_a(1)?]),
+        before,
+    };
+    assert!(rt; Statement::read(b"3/c0#1:read:a/r0") == Some(link));
+    let others = [
+        "",
+        "idle",
+        "0/idle",
+        "0/idle/",
+        "/idle/-",
+        "0//-",
+        "00/idle/-",
+        "1099511627776/idle/-",
+        "0/idle/-/",
+        "0/idle/r16",
+        "0/idle/r0,r1",
+        "0/idle,c0#1:read:a/-",
+        "c0#1:read:a/idle/-",
+        "0/idle/r0+r1+r2+r3+r4+r5+r6+r7+r8+r9+r10+r11+r12+r13+r14+r15+c0",
+    ];
+    for text in others {
+        assert!(rt; Statement::read(text.as_bytes()).is_none(), "{text}");
     }
     Ok(())
 }

@@ -1,0 +1,35 @@
+ghost use Rattle.std.specs.Prelude.{◌≡◌, ◌↔◌, List, Option, Some};
+ghost use Rattle.dsr_history.specs.Issued.{Issued};
+ghost use Rattle.dsr_desk.specs.ContentText.{content_text, IsContent};
+
+use dsr_history::Requests;
+use std::fmt;
+
+/// The content whose token the bytes are: `idle`, or 1 to 8 requests joined by commas. The outer `None`
+/// comes exactly where they are no such token.
+pub fn read_content(bytes: &[u8]) -> Option<Option<Requests>>
+    ensures { (content : Option (List Issued)) → (result ≡ Some content) ↔ (IsContent content × (bytes.now ≡ content_text content)) }
+{
+    if bytes == b"idle".as_slice() {
+        return Some(None);
+    }
+    match Requests::read(bytes) {
+        Some(requests) => Some(Some(requests)),
+        None => None,
+    }
+}
+
+/// What a slot carries as texts spell it: `idle`, or its requests joined by commas.
+#[derive(Clone, Copy, Debug, PartialEq, Eq)]
+pub struct Content(pub Option<Requests>);
+
+impl fmt::Display for Content {
+    ghost output = { λ content. Some (content_text content.0) };
+
+    fn fmt<W: fmt::Write>(&self, f: &mut fmt::Formatter<W>) -> fmt::Result {
+        match &self.0 {
+            None => f.write_str("idle"),
+            Some(requests) => write!(f, "{requests}"),
+        }
+    }
+}

@@ -1,0 +1,61 @@
+ghost use Rattle.std.specs.Prelude.{◌≡◌, ◌↔◌, Some};
+ghost use Rattle.dsr_desk.specs.declared.statement.Statement.{Statement};
+ghost use Rattle.dsr_desk.specs.StatementText.{statement_text, IsStatement, HasParts};
+
+use crate::content_text::{Content, read_content};
+use crate::signers::Signers;
+use crate::statement::Statement;
+use dsr_history::Request;
+use dsr_names::{read_num, split_once};
+use std::fmt;
+
+impl Statement {
+    /// The statement that the bytes spell: a request, or slot, content and signers before with slashes
+    /// between them, as `0/c0#1:write:a:5/r1`. `None` exactly where they spell none.
+    pub fn read(bytes: &[u8]) -> Option<Statement>
+        ensures { (statement : Statement) → (result ≡ Some statement) ↔ (IsStatement statement × (bytes.now ≡ statement_text statement)) }
+    {
+        match split_once(bytes, b'/') {
+            None => {
+                let request = Request::read(bytes)?;
+                Some(Statement::Ask(request))
+            }
+            Some((slot, rest)) => {
+                let (content, before) = split_once(rest, b'/')?;
+                read_link(slot, content, before)
+            }
+        }
+    }
+}
+
+impl fmt::Display for Statement {
+    ghost output = { λ statement. Some (statement_text statement) };
+
+    fn fmt<W: fmt::Write>(&self, f: &mut fmt::Formatter<W>) -> fmt::Result {
+        match self {
+            Statement::Ask(request) => write!(f, "{request}"),
+            Statement::Link {
+                slot,
+                value,
+                before,
+            } => {
+                let content = Content(*value);
+                write!(f, "{slot}/{content}/{before}")
+            }
+        }
+    }
+}
+
+/// The link of the slot, the content and the signers before, each as bytes.
+fn read_link(slot: &[u8], content: &[u8], before: &[u8]) -> Option<Statement>
+    ensures { (statement : Statement) → (result ≡ Some statement) ↔ (IsStatement statement × HasParts slot.now content.now before.now statement) }
+{
+    let slot = read_num(slot)?;
+    let value = read_content(content)?;
+    let before = Signers::read(before)?;
+    Some(Statement::Link {
+        slot,
+        value,
+        before,
+    })
+}
