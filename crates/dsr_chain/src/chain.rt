@@ -92,7 +92,7 @@ impl Chain {
         )
     }
 
-    /// The same chain once more. It shares what this one holds.
+    /// The same chain once more. It shares what this one holds. `NoMemory` where one handle more is refused.
     pub fn try_copy(&self) -> Result<Chain, Refusal>
         ensures same { IfOk result (λ chain. chain ≡ self.now) }
         ensures refusal { IfErr result (λ e. e ≡ Refusal.NoMemory) }
@@ -146,6 +146,14 @@ impl Chain {
         self.signatures()
             .iter()
             .any(|signature| signature.signer() == actor)
+    }
+
+    /// Whether the values of two chains have the same content: the same requests in the same order, whatever
+    /// signatures stand beside them, or none.
+    pub fn same_content(&self, other: &Chain) -> bool
+        ensures { IsTrue result ↔ (content self.now.value ≡ content other.now.value) }
+    {
+        self.body.value.same_content(&other.body.value)
     }
 
     /// Whether two chains have the same slot, value and signatures.

@@ -1,4 +1,4 @@
-ghost use Rattle.std.specs.Prelude.{◌≡◌, ◌≤◌, ◌↔◌, length, IsTrue, IfOk, IfErr};
+ghost use Rattle.std.specs.Prelude.{◌≡◌, ◌≤◌, ◌↔◌, map, length, IsTrue, IfOk, IfErr};
 ghost use Rattle.dsr_chain.specs.Content.{content, signed_in};
 
 use crate::batch::Batch;
@@ -84,10 +84,30 @@ impl SharedValue {
         requests_in(self.signed.as_slice())
     }
 
+    /// Whether two values have the same requests in the same order, or both have none.
+    pub(crate) fn same_content(&self, other: &SharedValue) -> bool
+        ensures { IsTrue result ↔ (content self.now ≡ content other.now) }
+    {
+        have_same_requests(self.signed.as_slice(), other.signed.as_slice())
+    }
+
     /// Whether two values are the same value.
     pub(crate) fn same(&self, other: &SharedValue) -> bool
         ensures { IsTrue result ↔ (self.now ≡ other.now) }
     {
         self.signed.as_slice() == other.signed.as_slice()
+    }
+}
+
+/// Whether two lists have the same requests in the same order, whatever signatures stand beside them.
+fn have_same_requests(ours: &[SignedRequest], theirs: &[SignedRequest]) -> bool
+    ensures { IsTrue result ↔ (map (λ s. s.request) ours.now ≡ map (λ s. s.request) theirs.now) }
+{
+    match (ours, theirs) {
+        ([], []) => true,
+        ([our_first, our_rest @ ..], [their_first, their_rest @ ..]) => {
+            our_first.request == their_first.request && have_same_requests(our_rest, their_rest)
+        }
+        _ => false,
     }
 }

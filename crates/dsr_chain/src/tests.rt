@@ -211,6 +211,28 @@ fn tells_its_parts(rt: HostRuntime) -> Result<(), Fail> {
     Ok(())
 }
 
+/// A chain that is extended has one signature more. Where memory is refused, the same chain comes back.
+#[test]
+fn gives_the_chain_back(rt: HostRuntime) -> Result<(), Fail> {
+    let desk = open_desk(&rt, rt.alloc())?;
+    let act = value(&rt, &[SignedRequest::by(request(0)?, &desk.c0)]);
+    let chain = Chain::start(rt.alloc(), 7, act, &desk.r0)?;
+    let equal = Chain::start(rt.alloc(), 7, act, &desk.r0)?;
+    assert!(rt; chain.signatures().len() < 16);
+    match chain.extend(rt.alloc(), &desk.r1) {
+        Ok(longer) => {
+            assert_eq!(rt; longer.signatures().len(), 2);
+            assert!(rt; longer.has_signer(replica(1)?));
+            Ok(())
+        }
+        Err((back, refusal)) => {
+            assert!(rt; back.same(&equal));
+            assert_eq!(rt; refusal, Refusal::NoMemory);
+            Err(refusal.into())
+        }
+    }
+}
+
 #[test]
 fn says_what_is_wrong(rt: HostRuntime) -> Result<(), Fail> {
     let text = ChainFault::SignedTwice.to_string(rt.alloc())?;

@@ -1,0 +1,11 @@
+use Rattle.dsr_chain.proofs.ProperDecides.{is_proper-Decides, same_content-Decides, is_signer-Decides}
+use Rattle.dsr_chain.proofs.laws.tests_tell_the_facts.Goals as goal
+
+pub returns-clause-proper : goal.returns-clause-proper
+returns-clause-proper c shape slot round chain = is_proper-Decides shape slot round chain
+
+pub returns-clause-content : goal.returns-clause-content
+returns-clause-content c a b = same_content-Decides a b
+
+pub returns-clause-signer : goal.returns-clause-signer
+returns-clause-signer c actor chain = is_signer-Decides actor chain
