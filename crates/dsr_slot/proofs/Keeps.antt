@@ -1,0 +1,231 @@
+-- What is kept: it stays, it comes from a proper chain that was read, no two have one content, and the content of each
+-- proper chain that is read is heard.
+use Rattle.std.proofs.Common.{◌≡◌, ℕ, zero, suc, ◌<◌, ◌≤◌, List, [], ◌∷◌, ◌++◌, length, Option, ◌⊎◌, inl, inr, refl, ap, sym, ◌∙◌, subst, arith}
+use Rattle.std.specs.Prelude.{⊤, ◌&&◌, not, nat_lt}
+use Rattle.std.specs.Bool.{Decides}
+use Rattle.std.proofs.lemmas.Bool.{cases_lt}
+use Rattle.std.proofs.lemmas.Bool.Decides.{Decides-and, Decides-or, Decides-not, Decides-like, Decides-ltb}
+use Rattle.std.proofs.lemmas.List.{length_push}
+use Rattle.dsr_names.specs.Member.{In, here, there}
+use Rattle.dsr_names.specs.Shape.{Members}
+use Rattle.dsr_names.proofs.MemberLemmas.{In-append_left, In-append_right, In-append_cases}
+use Rattle.dsr_history.specs.Issued.{Issued}
+use Rattle.dsr_chain.specs.Content.{content}
+use Rattle.dsr_chain.specs.SignedValue.{SignedValue}
+use Rattle.dsr_chain.specs.Proper.{IsProper}
+use Rattle.dsr_chain.specs.ProperTest.{is_proper, same_content}
+use Rattle.dsr_chain.proofs.ProperDecides.{is_proper-Decides, same_content-Decides}
+use Rattle.dsr_slot.specs.declared.kept.Kept.{Kept}
+use Rattle.dsr_slot.specs.Keeping.{kept_in, content_of, is_kept, is_news, keep_one, keep, kept_after}
+use Rattle.dsr_slot.proofs.Lists.{holds_or_not, by_test}
+
+-- one of the kept chains has this content
+abbrev pub HasContent : Option (List Issued) → List Kept → Type 0
+HasContent wanted kept = (k : Kept) × In k kept × (content_of k ≡ wanted)
+
+-- the content is kept, or two others are
+abbrev pub Hears : List Kept → Option (List Issued) → Type 0
+Hears kept wanted = HasContent wanted kept ⊎ (2 ≤ length kept)
+
+-- no two kept chains have one content
+abbrev pub Apart : List Kept → Type 0
+Apart [] = ⊤
+Apart (k ∷ ks) = (¬ HasContent (content_of k) ks) × Apart ks
+
+-- a chain that is to be kept beside these
+pub record IsNews (shape : Members) (slot round : ℕ) (kept : List Kept) (chain : SignedValue) : Type 0 where
+  pub proper : IsProper shape slot round chain
+  pub fresh : ¬ HasContent (content chain.value) kept
+  pub room : length kept < 2
+
+-- ---- one chain
+
+at_first : (wanted : Option (List Issued)) (k : Kept) (ks : List Kept) → (content_of k ≡ wanted) ⊎ HasContent wanted ks → HasContent wanted (k ∷ ks)
+at_first wanted k ks (inl e) = (k, here refl, e)
+at_first wanted k ks (inr h) = (h.0, there h.1, h.2)
+
+first_or_later : (wanted : Option (List Issued)) (k : Kept) (ks : List Kept) (l : Kept) → In l (k ∷ ks) → content_of l ≡ wanted
+    → (content_of k ≡ wanted) ⊎ HasContent wanted ks
+first_or_later wanted k ks l (here e) same = inl (ap content_of e ∙ same)
+first_or_later wanted k ks l (there h) same = inr (l, h, same)
+
+pub is_kept-Decides : (wanted : Option (List Issued)) (kept : List Kept) → Decides (is_kept wanted kept) (HasContent wanted kept)
+is_kept-Decides wanted [] = (λ e. absurd cc, λ h. elim h.1 [ ])
+is_kept-Decides wanted (k ∷ ks) =
+    Decides-like (is_kept wanted (k ∷ ks)) (at_first wanted k ks) (λ h. first_or_later wanted k ks h.0 h.1 h.2)
+    (Decides-or (same_content (content_of k) wanted) (is_kept wanted ks) (same_content-Decides (content_of k) wanted) (is_kept-Decides wanted ks))
+
+pub is_news-Decides : (shape : Members) (slot round : ℕ) (kept : List Kept) (chain : SignedValue)
+    → Decides (is_news shape slot round kept chain) (IsNews shape slot round kept chain)
+is_news-Decides shape slot round kept chain =
+    Decides-like (is_news shape slot round kept chain) (λ h. record { proper = h.0; fresh = h.1.0; room = h.1.1 })
+    (λ h. (h.proper, (h.fresh, h.room)))
+    (Decides-and (is_proper shape slot round chain) (not (is_kept (content chain.value) kept) && nat_lt (length kept) 2)
+    (is_proper-Decides shape slot round chain)
+    (Decides-and (not (is_kept (content chain.value) kept)) (nat_lt (length kept) 2)
+    (Decides-not (is_kept (content chain.value) kept) (is_kept-Decides (content chain.value) kept)) (Decides-ltb (length kept) 2)))
+
+module _ (shape : Members) (slot round : ℕ) where
+  one_cases : (kept : List Kept) (chain : SignedValue)
+      → (IsNews shape slot round kept chain × (keep_one shape slot round kept chain ≡ kept ++ kept_in round chain ∷ []))
+      ⊎ ((¬ IsNews shape slot round kept chain) × (keep_one shape slot round kept chain ≡ kept))
+  one_cases kept chain =
+      by_test (is_news shape slot round kept chain) (is_news-Decides shape slot round kept chain) (kept ++ kept_in round chain ∷ []) kept
+
+  one_stays : (kept : List Kept) (chain : SignedValue) (k : Kept) → In k kept → In k (keep_one shape slot round kept chain)
+  one_stays kept chain k h = elim (one_cases kept chain) [
+    | inl news ↦ subst (In k) (sym news.1) (In-append_left k kept (kept_in round chain ∷ []) h)
+    | inr none ↦ subst (In k) (sym none.1) h
+  ]
+
+  one_more : (kept : List Kept) (chain : SignedValue) → length kept ≤ length (keep_one shape slot round kept chain)
+  one_more kept chain = elim (one_cases kept chain) [
+    | inl news ↦ omega (arith, ap length news.1, length_push kept (kept_in round chain))
+    | inr none ↦ omega (arith, ap length none.1)
+  ]
+
+  -- where a kept chain is from: a proper one among these
+  pub record WasRead (chains : List SignedValue) (k : Kept) : Type 0 where
+    pub round_is : k.round ≡ round
+    pub read : In k.chain chains
+    pub proper : IsProper shape slot round k.chain
+
+  only_one : (x y : Kept) → In x (y ∷ []) → y ≡ x
+  only_one x y (here e) = e
+  only_one x y (there later) = elim later [ ]
+
+  one_from : (kept : List Kept) (chain : SignedValue) (k : Kept) → In k (keep_one shape slot round kept chain)
+      → In k kept ⊎ ((kept_in round chain ≡ k) × IsProper shape slot round chain)
+  one_from kept chain k h = elim (one_cases kept chain) [
+    | inl news ↦ elim (In-append_cases k kept (kept_in round chain ∷ []) (subst (In k) news.1 h)) [
+      | inl before ↦ inl before
+      | inr last ↦ inr (only_one k (kept_in round chain) last, news.0.proper)
+    ]
+    | inr none ↦ inl (subst (In k) none.1 h)
+  ]
+
+  apart_push : (kept : List Kept) (k : Kept) → Apart kept → ¬ HasContent (content_of k) kept → Apart (kept ++ k ∷ [])
+  apart_push [] k apart fresh = (λ h. elim h.1 [ ], tt)
+  apart_push (l ∷ ls) k apart fresh = (
+    λ h. elim (In-append_cases h.0 ls (k ∷ []) h.1) [
+      | inl before ↦ apart.0 (h.0, before, h.2)
+      | inr last ↦ fresh (l, here refl, sym (ap content_of (only_one h.0 k last) ∙ h.2))
+    ],
+    apart_push ls k apart.1 (λ h. fresh (h.0, there h.1, h.2)),
+  )
+
+  one_apart : (kept : List Kept) (chain : SignedValue) → Apart kept → Apart (keep_one shape slot round kept chain)
+  one_apart kept chain apart = elim (one_cases kept chain) [
+    | inl news ↦ subst Apart (sym news.1) (apart_push kept (kept_in round chain) apart news.0.fresh)
+    | inr none ↦ subst Apart (sym none.1) apart
+  ]
+
+  one_hears_later : (kept : List Kept) (chain : SignedValue) (wanted : Option (List Issued)) → Hears kept wanted
+      → Hears (keep_one shape slot round kept chain) wanted
+  one_hears_later kept chain wanted (inl h) = inl (h.0, one_stays kept chain h.0 h.1, h.2)
+  one_hears_later kept chain wanted (inr full) = let more = one_more kept chain in inr (omega arith)
+
+  -- a proper chain that is not kept beside these is heard by them
+  heard_before : (kept : List Kept) (chain : SignedValue) → IsProper shape slot round chain → ¬ IsNews shape slot round kept chain
+      → Hears kept (content chain.value)
+  heard_before kept chain proper old = elim (holds_or_not (is_kept (content chain.value) kept) (is_kept-Decides (content chain.value) kept)) [
+    | inl same ↦ inl same
+    | inr fresh ↦ elim (cases_lt (length kept) 2) [
+      | inl room ↦ absurd (old (record { proper = proper; fresh = fresh; room = room }))
+      | inr full ↦ inr full
+    ]
+  ]
+
+  one_hears : (kept : List Kept) (chain : SignedValue) → IsProper shape slot round chain
+      → Hears (keep_one shape slot round kept chain) (content chain.value)
+  one_hears kept chain proper = elim (one_cases kept chain) [
+    | inl news ↦
+        inl (
+          kept_in round chain,
+          subst (In (kept_in round chain)) (sym news.1) (In-append_right (kept_in round chain) kept (kept_in round chain ∷ []) (here refl)),
+          refl,
+        )
+    | inr none ↦ subst (λ ks. Hears ks (content chain.value)) (sym none.1) (heard_before kept chain proper none.0)
+  ]
+
+  -- ---- the chains of one round
+
+  keep_stays : (chains : List SignedValue) (kept : List Kept) (k : Kept) → In k kept → In k (keep shape slot round kept chains)
+  keep_stays [] kept k h = h
+  keep_stays (c ∷ cs) kept k h = keep_stays cs (keep_one shape slot round kept c) k (one_stays kept c k h)
+
+  keep_hears_later : (chains : List SignedValue) (kept : List Kept) (wanted : Option (List Issued)) → Hears kept wanted
+      → Hears (keep shape slot round kept chains) wanted
+  keep_hears_later [] kept wanted h = h
+  keep_hears_later (c ∷ cs) kept wanted h = keep_hears_later cs (keep_one shape slot round kept c) wanted (one_hears_later kept c wanted h)
+
+  keep_apart : (chains : List SignedValue) (kept : List Kept) → Apart kept → Apart (keep shape slot round kept chains)
+  keep_apart [] kept h = h
+  keep_apart (c ∷ cs) kept h = keep_apart cs (keep_one shape slot round kept c) (one_apart kept c h)
+
+  read_later : (c : SignedValue) (cs : List SignedValue) (k : Kept) → WasRead cs k → WasRead (c ∷ cs) k
+  read_later c cs k h = record { round_is = h.round_is; read = there h.read; proper = h.proper }
+
+  read_first : (c : SignedValue) (cs : List SignedValue) (k : Kept) → kept_in round c ≡ k → IsProper shape slot round c → WasRead (c ∷ cs) k
+  read_first c cs k is proper = record {
+    round_is = ap (λ z. z.round) (sym is);
+    read = here (ap (λ z. z.chain) is);
+    proper = subst (IsProper shape slot round) (ap (λ z. z.chain) is) proper;
+  }
+
+  keep_from : (chains : List SignedValue) (kept : List Kept) (k : Kept) → In k (keep shape slot round kept chains) → In k kept ⊎ WasRead chains k
+  keep_from [] kept k h = inl h
+  keep_from (c ∷ cs) kept k h = elim (keep_from cs (keep_one shape slot round kept c) k h) [
+    | inl before ↦ elim (one_from kept c k before) [
+      | inl old ↦ inl old
+      | inr now ↦ inr (read_first c cs k now.0 now.1)
+    ]
+    | inr later ↦ inr (read_later c cs k later)
+  ]
+
+  keep_hears : (chains : List SignedValue) (kept : List Kept) (c : SignedValue) → In c chains → IsProper shape slot round c
+      → Hears (keep shape slot round kept chains) (content c.value)
+  keep_hears [] kept c h proper = elim h [ ]
+  keep_hears (d ∷ cs) kept c (here e) proper =
+      keep_hears_later cs (keep_one shape slot round kept d) (content c.value)
+      (subst (λ z. Hears (keep_one shape slot round kept d) (content z.value)) e (one_hears kept d (subst (IsProper shape slot round) (sym e) proper)))
+  keep_hears (d ∷ cs) kept c (there h) proper = keep_hears cs (keep_one shape slot round kept d) c h proper
+
+-- ---- the rounds of the slot
+
+module _ (shape : Members) (slot : ℕ) (read : ℕ → List SignedValue) where
+  -- where a kept chain is from: a proper one of an earlier round, kept since
+  pub record WasKept (rounds : ℕ) (k : Kept) : Type 0 where
+    pub before : ℕ
+    pub earlier : before < rounds
+    pub round_is : k.round ≡ suc before
+    pub read_then : In k.chain (read (suc before))
+    pub proper : IsProper shape slot (suc before) k.chain
+    pub kept_then : In k (kept_after shape slot read (suc before))
+
+  kept_before : (r : ℕ) (k : Kept) → WasKept r k → WasKept (suc r) k
+  kept_before r k h =
+      let earlier = h.earlier in
+      record { before = h.before; earlier = omega arith; round_is = h.round_is; read_then = h.read_then; proper = h.proper; kept_then = h.kept_then }
+
+  pub after_from : (r : ℕ) (k : Kept) → In k (kept_after shape slot read r) → WasKept r k
+  after_from zero k h = elim h [ ]
+  after_from (suc r) k h = elim (keep_from shape slot (suc r) (read (suc r)) (kept_after shape slot read r) k h) [
+    | inl old ↦ kept_before r k (after_from r k old)
+    | inr now ↦ record { before = r; earlier = omega arith; round_is = now.round_is; read_then = now.read; proper = now.proper; kept_then = h }
+  ]
+
+  pub after_apart : (r : ℕ) → Apart (kept_after shape slot read r)
+  after_apart zero = tt
+  after_apart (suc r) = keep_apart shape slot (suc r) (read (suc r)) (kept_after shape slot read r) (after_apart r)
+
+  pub after_hears : (before : ℕ) (c : SignedValue) → In c (read (suc before)) → IsProper shape slot (suc before) c → (rounds : ℕ) → before < rounds
+      → Hears (kept_after shape slot read rounds) (content c.value)
+  after_hears before c h proper zero earlier = absurd (omega arith)
+  after_hears before c h proper (suc r) earlier = elim (cases_lt before r) [
+    | inl lower ↦ keep_hears_later shape slot (suc r) (read (suc r)) (kept_after shape slot read r) (content c.value) (after_hears before c h proper r lower)
+    | inr upper ↦
+        let last : before ≡ r = omega arith in
+        keep_hears shape slot (suc r) (read (suc r)) (kept_after shape slot read r) c (subst (λ b. In c (read (suc b))) last h)
+        (subst (λ b. IsProper shape slot (suc b) c) last proper)
+  ]

@@ -1,0 +1,8 @@
+use Rattle.dsr_slot.proofs.Agreement.{agreement, validity}
+use Rattle.dsr_slot.proofs.laws.one_slot.Goals as goal
+
+pub returns-clause-agreement : goal.returns-clause-agreement
+returns-clause-agreement c shape slot value given few broadcast = agreement shape slot value given broadcast few
+
+pub returns-clause-validity : goal.returns-clause-validity
+returns-clause-validity c shape slot value given broadcast = validity shape slot value given broadcast

@@ -1,0 +1,19 @@
+-- What a replica decides of a slot after its round f+1 (Dolev and Strong 1983: the value where exactly one was extracted,
+-- else the default; that the default is idle is this project's).
+use Rattle.std.specs.Prelude.{ℕ, suc, List, [], ◌∷◌}
+use Rattle.dsr_names.specs.Shape.{Members}
+use Rattle.dsr_chain.specs.SignedValue.{SignedValue}
+use Rattle.dsr_chain.specs.declared.slot_value.SlotValue.{SlotValue}
+use Rattle.dsr_chain.specs.declared.slot_value.SlotValue.TheVariants.{Idle}
+use Rattle.dsr_slot.specs.declared.kept.Kept.{Kept}
+use Rattle.dsr_slot.specs.Keeping.{kept_after}
+
+-- the value of the one kept chain; idle where none or more are kept
+abbrev pub decision : List Kept → SlotValue
+decision [] = Idle
+decision (k ∷ []) = k.chain.value
+decision (k ∷ l ∷ more) = Idle
+
+-- the decision over what is kept after the rounds 1 to f+1
+abbrev pub decided : Members → ℕ → (ℕ → List SignedValue) → SlotValue
+decided shape slot read = decision (kept_after shape slot read (suc shape.f))

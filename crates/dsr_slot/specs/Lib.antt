@@ -1,0 +1,6 @@
+pub mod Conduct
+pub mod Decision
+pub mod Family
+pub mod Keeping
+pub mod SlotFields
+pub mod SlotView

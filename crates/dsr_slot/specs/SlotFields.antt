@@ -1,0 +1,28 @@
+-- What the fields of a slot's state hold (this project).
+use Rattle.std.specs.Prelude.{◌≡◌, ◌+◌, ◌≤◌, ◌++◌, None, IfSome, length}
+use Rattle.std.specs.Option.{option_to_list}
+use Rattle.dsr_slot.specs.declared.kept.Kept.{Kept}
+use Rattle.dsr_slot.specs.declared.slot_state.SlotState.TheInside.{Inside}
+use Rattle.dsr_slot.specs.SlotView.{SlotView}
+
+-- the kept chains are those of the two places, in their order
+abbrev pub slot_view : Inside → SlotView
+slot_view a = record {
+  shape = a.shape;
+  slot = a.slot;
+  closed = a.closed;
+  kept = option_to_list a.first ++ option_to_list a.second;
+}
+
+-- a kept chain is of some round of a slot and has one signature for each round up to it; no slot has more than 8 rounds
+pub record IsOfSomeRound (k : Kept) : Type 0 where
+  pub counted : length k.chain.signatures ≡ k.round
+  pub within : k.round ≤ 8
+
+-- the second place is empty where the first is, and no more rounds are closed than the slot has, at most 8
+pub record IsSlotFields (a : Inside) : Type 0 where
+  pub in_order : a.first ≡ None → a.second ≡ None
+  pub closed : a.closed ≤ a.shape.f + 1
+  pub few : a.shape.f ≤ 7
+  pub first : IfSome a.first IsOfSomeRound
+  pub second : IfSome a.second IsOfSomeRound

@@ -1,0 +1,189 @@
+ghost use Rattle.std.specs.Prelude.{◌≡◌, ℕ, ◌+◌, ◌<◌, ◌≤◌, ◌↔◌, ◌++◌, ◌∷◌, List, [], Some, IfOk, IfErr, IsSome};
+ghost use Rattle.dsr_chain.specs.SignedValue.{SignedValue};
+ghost use Rattle.dsr_chain.specs.ProperTest.{is_proper};
+ghost use Rattle.dsr_slot.specs.Keeping.{kept_after, keep_one, is_news};
+ghost use Rattle.dsr_slot.specs.Conduct.{relayed, is_relayed};
+ghost use Rattle.dsr_slot.specs.SlotFields.{IsOfSomeRound};
+ghost use Rattle.dsr_slot.specs.Decision.{decided};
+ghost use Rattle.dsr_slot.specs.SlotView.{opened, with_round, decision_of, StandsFor};
+
+use crate::kept::Kept;
+use dsr_chain::{Chain, SlotValue};
+use dsr_desk::Key;
+use dsr_names::{Actor, Refusal, Shape};
+use std::alloc::Global;
+use std::marker::Model;
+
+/// What a replica knows of one slot: the first two chains with distinct contents among the proper chains of
+/// the rounds that are closed. It is of fixed size but for those chains, which were moved in.
+#[derive(Drop)]
+pub struct SlotState {
+    shape: Shape,
+    slot: u64,
+    closed: u8,
+    first: Option<Kept>,
+    second: Option<Kept>,
+}
+
+impl Model for SlotState {
+    ghost use Rattle.dsr_slot.specs.SlotView.{SlotView};
+    ghost use Rattle.dsr_slot.specs.SlotFields.{IsSlotFields, slot_view};
+
+    ghost Value = { SlotView };
+
+    ghost view = { slot_view };
+
+    ghost invariant = { IsSlotFields };
+}
+
+impl SlotState {
+    /// The slot before any of its rounds is closed.
+    pub fn new(shape: &Shape, slot: u64) -> SlotState
+        ensures opened { result ≡ opened shape.now slot }
+        ensures stands { (read : ℕ → List SignedValue) → StandsFor result read }
+    {
+        // that f is at most 7 is known from here on
+        let _f = shape.f();
+        SlotState {
+            shape: *shape,
+            slot,
+            closed: 0,
+            first: None,
+            second: None,
+        }
+    }
+
+    /// How many of the slot's rounds are closed: at most f+1, and f is at most 7.
+    pub fn closed_rounds(&self) -> u8
+        ensures same { result ≡ self.now.closed }
+        ensures few { result ≤ self.now.shape.f + 1 }
+        ensures most { result ≤ 8 }
+    {
+        self.closed
+    }
+
+    /// Closes the slot's round, the next one, in which these chains were read, in this order. It takes them
+    /// out of the list, and keeps those that are proper and new as long as fewer than two are kept. A chain
+    /// whose content is kept is dropped before its signatures are looked at.
+    pub fn close_round(&mut self, round: u8, chains: &mut Vec<Chain>)
+        requires next { round ≡ self.old.closed + 1 }
+        requires within { round ≤ self.old.shape.f + 1 }
+        ensures read { self.new ≡ with_round self.old round chains.old.items }
+        ensures stands { (read : ℕ → List SignedValue) → read round ≡ chains.old.items
+            → StandsFor self.old read → StandsFor self.new read }
+        ensures emptied { chains.new.items ≡ [] }
+    {
+        for chain in chains.drain(..) {
+            self.keep(round, chain);
+        }
+        self.closed = round;
+    }
+
+    /// The chains that the key's holder relays in this round of the slot: those that were kept in the round
+    /// before and that it has not signed, with its signature put at their end, in the order in which they were
+    /// kept. `NoMemory` where a growth is refused.
+    pub fn relays(&self, alloc: Global, round: u8, key: &Key) -> Result<Vec<Chain>, Refusal>
+        ensures relayed { IfOk result (λ chains. chains.items ≡ relayed key.now round self.now.kept) }
+        ensures stands { (read : ℕ → List SignedValue) → StandsFor self.now read → IfOk result (λ chains.
+            chains.items ≡ relayed key.now round (kept_after self.now.shape self.now.slot read self.now.closed)) }
+        ensures refusal { IfErr result (λ e. e ≡ Refusal.NoMemory) }
+    {
+        let mut chains = Vec::new(alloc);
+        if let Some(kept) = &self.first {
+            relay(alloc, kept, round, key, &mut chains)?;
+        }
+        if let Some(kept) = &self.second {
+            relay(alloc, kept, round, key, &mut chains)?;
+        }
+        Ok(chains)
+    }
+
+    /// What is decided: the value of the one kept chain, idle where none or two are kept. `None` until round
+    /// f+1 is closed.
+    pub fn decide(&self) -> Option<SlotValue>
+        ensures decision { result ≡ decision_of self.now }
+        ensures when { IsSome result ↔ (self.now.closed ≡ self.now.shape.f + 1) }
+        ensures stands { (read : ℕ → List SignedValue) → StandsFor self.now read
+            → self.now.closed ≡ self.now.shape.f + 1 → result ≡ Some (decided self.now.shape self.now.slot read) }
+    {
+        if self.closed < self.shape.f() + 1 {
+            return None;
+        }
+        match (&self.first, &self.second) {
+            (Some(kept), None) => Some(kept.chain.value()),
+            _ => Some(SlotValue::Idle),
+        }
+    }
+
+    /// Keeps the chain where it is proper for this round and new, and fewer than two are kept.
+    fn keep(&mut self, round: u8, chain: Chain)
+        requires some { 0 < round }
+        requires within { round ≤ self.old.shape.f + 1 }
+        ensures { self.new ≡ record self.old { kept = keep_one self.old.shape self.old.slot round self.old.kept chain } }
+    {
+        if !self.is_news(round, &chain) {
+            return;
+        }
+        let kept = Some(Kept { round, chain });
+        if self.first.is_none() {
+            self.first = kept;
+        } else {
+            self.second = kept;
+        }
+    }
+
+    /// Whether the chain is to be kept. The test of its signatures, which is the dear one, comes last.
+    fn is_news(&self, round: u8, chain: &Chain) -> bool
+        requires some { 0 < round }
+        requires within { round ≤ self.now.shape.f + 1 }
+        ensures { result ≡ is_news self.now.shape self.now.slot round self.now.kept chain.now }
+    {
+        match (&self.first, &self.second) {
+            (None, _) => self.is_proper(round, chain),
+            (Some(kept), None) => {
+                !kept.chain.same_content(chain) && self.is_proper(round, chain)
+            }
+            (Some(_), Some(_)) => false,
+        }
+    }
+
+    /// Whether the chain is proper for this round of the slot.
+    fn is_proper(&self, round: u8, chain: &Chain) -> bool
+        requires some { 0 < round }
+        requires within { round ≤ self.now.shape.f + 1 }
+        ensures { result ≡ is_proper self.now.shape self.now.slot round chain.now }
+    {
+        chain.check(&self.shape, self.slot, round).is_ok()
+    }
+}
+
+/// Puts the kept chain with the key's signature at the end of the list, where its holder relays it in this
+/// round.
+fn relay(
+    alloc: Global,
+    kept: &Kept,
+    round: u8,
+    key: &Key,
+    chains: &mut Vec<Chain>,
+) -> Result<(), Refusal>
+    requires { IsOfSomeRound kept.now }
+    ensures relayed { IfOk result (λ _. chains.new.items ≡ chains.old.items ++ relayed key.now round (kept.now ∷ [])) }
+    ensures refusal { IfErr result (λ e. e ≡ Refusal.NoMemory) }
+{
+    if !is_relayed(kept, round, key.signer()) {
+        return Ok(());
+    }
+    let copy = kept.chain.try_copy()?;
+    let Ok(chain) = copy.extend(alloc, key) else {
+        return Err(Refusal::NoMemory);
+    };
+    chains.push(chain).map_err(|_| Refusal::NoMemory)
+}
+
+/// Whether this replica relays the kept chain in this round.
+fn is_relayed(kept: &Kept, round: u8, replica: Actor) -> bool
+    requires { IsOfSomeRound kept.now }
+    ensures { result ≡ is_relayed replica round kept.now }
+{
+    kept.round + 1 == round && !kept.chain.has_signer(replica)
+}

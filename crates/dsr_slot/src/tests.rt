@@ -1,0 +1,366 @@
+use crate::SlotState;
+use dsr_chain::{Batch, Chain, SignedRequest, SlotValue};
+use dsr_desk::{Key, Keys};
+use dsr_history::Request;
+use dsr_names::{Actor, ClientId, Refusal, ReplicaId, Shape};
+use dsr_register::{Name, Op};
+use std::alloc::Global;
+use std::process::Abort;
+use std::test::Fail;
+
+/// A shape with the keys of its replicas and of its clients, by their numbers.
+#[derive(Drop)]
+struct Desk {
+    shape: Shape,
+    replicas: Vec<Key>,
+    clients: Vec<Key>,
+}
+
+fn open_desk(alloc: Global, shape: Shape) -> Result<Desk, Fail> {
+    let mut keys = Keys::new(alloc, shape)?;
+    let mut replicas = Vec::new(alloc);
+    for number in 0..shape.n() {
+        let actor = Actor::Replica(ReplicaId::new(number)?);
+        replicas.push(keys.take(actor).ok_or("a replica without a key")?)?;
+    }
+    let mut clients = Vec::new(alloc);
+    for number in 0..shape.m() {
+        let actor = Actor::Client(ClientId::new(number)?);
+        clients.push(keys.take(actor).ok_or("a client without a key")?)?;
+    }
+    Ok(Desk {
+        shape,
+        replicas,
+        clients,
+    })
+}
+
+/// The value of one request: the client's number 1, to write its own number and one to `a`.
+fn value_of(desk: &Desk, client: u8) -> Result<SlotValue, Fail> {
+    let op = Op::Write {
+        name: Name::read(b"a")?,
+        value: u64::from(client) + 1,
+    };
+    let key = desk.clients.get(client as usize).ok_or("no such client")?;
+    let request = Request::new(ClientId::new(client)?, 1, op)?;
+    let batch = Batch::of(&[SignedRequest::by(request, key)]).ok_or("no list")?;
+    Ok(SlotValue::Act(batch))
+}
+
+/// The chain that the key's holder signs next.
+fn extended(alloc: Global, chain: Chain, key: &Key) -> Result<Chain, Fail> {
+    if chain.signatures().len() == 16 {
+        return Err("a long chain")?;
+    }
+    match chain.extend(alloc, key) {
+        Ok(chain) => Ok(chain),
+        Err((_, refusal)) => Err(refusal)?,
+    }
+}
+
+/// A chain of slot 0 to be made: on which client's value, and which replicas sign it in turn.
+#[derive(Clone, Copy)]
+struct Plan {
+    client: u8,
+    signers: &'static [usize],
+}
+
+fn chain_of(alloc: Global, desk: &Desk, plan: Plan) -> Result<Chain, Fail> {
+    let value = value_of(desk, plan.client)?;
+    let first = plan.signers.first().ok_or("nobody signs")?;
+    let key = desk.replicas.get(*first).ok_or("no such replica")?;
+    let mut chain = Chain::start(alloc, 0, value, key)?;
+    for signer in &plan.signers[1..] {
+        let key = desk.replicas.get(*signer).ok_or("no such replica")?;
+        chain = extended(alloc, chain, key)?;
+    }
+    Ok(chain)
+}
+
+fn chains_of(alloc: Global, desk: &Desk, plans: &[Plan]) -> Result<Vec<Chain>, Fail> {
+    let mut chains = Vec::new(alloc);
+    for plan in plans {
+        chains.push(chain_of(alloc, desk, *plan)?)?;
+    }
+    Ok(chains)
+}
+
+/// The value of this client, or the idle one.
+fn decided_by(desk: &Desk, client: Option<u8>) -> Result<SlotValue, Fail> {
+    match client {
+        Some(client) => value_of(desk, client),
+        None => Ok(SlotValue::Idle),
+    }
+}
+
+/// Closes the next round, in which these chains were read.
+fn close_next(rt: &impl Abort, state: &mut SlotState, chains: &mut Vec<Chain>) {
+    let closed = state.closed_rounds();
+    assert!(rt; state.decide().is_none());
+    state.close_round(closed + 1, chains);
+    assert!(rt; chains.is_empty());
+}
+
+/// What is read in the rounds 1 and 2, what is relayed between them with whose key, and whose value is
+/// decided after them.
+struct Row {
+    first: &'static [Plan],
+    second: &'static [Plan],
+    key: usize,
+    relayed: &'static [Plan],
+    decided: Option<u8>,
+}
+
+/// Whether slot 0 goes as the row says.
+fn holds(rt: &impl Abort, alloc: Global, desk: &Desk, row: &Row) -> Result<(), Fail> {
+    let key = desk.replicas.get(row.key).ok_or("no such replica")?;
+    let mut state = SlotState::new(&desk.shape, 0);
+    close_next(rt, &mut state, &mut chains_of(alloc, desk, row.first)?);
+    assert!(rt; state.decide().is_none());
+    let relayed = state.relays(alloc, 2, key)?;
+    assert_eq!(rt; relayed.len(), row.relayed.len());
+    for (chain, wanted) in relayed.iter().zip(row.relayed) {
+        assert!(rt; chain.same(&chain_of(alloc, desk, *wanted)?));
+    }
+    close_next(rt, &mut state, &mut chains_of(alloc, desk, row.second)?);
+    assert!(rt; state.decide() == Some(decided_by(desk, row.decided)?));
+    Ok(())
+}
+
+const A: Plan = Plan {
+    client: 0,
+    signers: &[0],
+};
+
+const B: Plan = Plan {
+    client: 1,
+    signers: &[0],
+};
+
+const C: Plan = Plan {
+    client: 2,
+    signers: &[0],
+};
+
+const A_BY_1: Plan = Plan {
+    client: 0,
+    signers: &[0, 1],
+};
+
+const B_BY_1: Plan = Plan {
+    client: 1,
+    signers: &[0, 1],
+};
+
+const A_BY_2: Plan = Plan {
+    client: 0,
+    signers: &[0, 2],
+};
+
+const ROWS: [Row; 4] = [
+    Row {
+        first: &[A, B, C],
+        second: &[],
+        key: 1,
+        relayed: &[A_BY_1, B_BY_1],
+        decided: None,
+    },
+    Row {
+        first: &[A, A],
+        second: &[],
+        key: 1,
+        relayed: &[A_BY_1],
+        decided: Some(0),
+    },
+    Row {
+        first: &[],
+        second: &[A_BY_2],
+        key: 1,
+        relayed: &[],
+        decided: Some(0),
+    },
+    Row {
+        first: &[A],
+        second: &[],
+        key: 0,
+        relayed: &[],
+        decided: Some(0),
+    },
+];
+
+#[test]
+fn keeps_relays_and_decides(rt: HostRuntime) -> Result<(), Fail> {
+    let desk = open_desk(rt.alloc(), Shape::new(3, 1, 3, 0)?)?;
+    for row in &ROWS {
+        holds(&rt, rt.alloc(), &desk, row)?;
+    }
+    Ok(())
+}
+
+/// A chain that a traitor gives one replica in one round.
+#[derive(Clone, Copy)]
+struct Gift {
+    round: u8,
+    taker: usize,
+    chain: Plan,
+}
+
+fn given(round: u8, taker: usize, client: u8, signers: &'static [usize]) -> Gift {
+    Gift {
+        round,
+        taker,
+        chain: Plan { client, signers },
+    }
+}
+
+/// One broadcast of slot 0: who takes part, what the traitors give, and whose value all loyal replicas
+/// decide. A loyal sender posts the first client's.
+#[derive(Clone, Copy)]
+struct Broadcast<'a> {
+    desk: &'a Desk,
+    gifts: &'a [Gift],
+    decided: Option<u8>,
+}
+
+impl Broadcast<'_> {
+    /// The key of this replica, if it is loyal.
+    fn loyal_key(&self, replica: usize) -> Option<&Key> {
+        let key = self.desk.replicas.get(replica)?;
+        if self.desk.shape.is_loyal(key.signer()) {
+            Some(key)
+        } else {
+            None
+        }
+    }
+
+    /// What each replica posts to everybody in this round, by its number: a traitor nothing.
+    fn posted(
+        &self,
+        alloc: Global,
+        round: u8,
+        states: &[SlotState],
+    ) -> Result<Vec<Vec<Chain>>, Fail> {
+        let mut posted = Vec::new(alloc);
+        for (replica, state) in states.iter().enumerate() {
+            let mut chains = Vec::new(alloc);
+            if let Some(key) = self.loyal_key(replica) {
+                chains = state.relays(alloc, round, key)?;
+                if round == 1 && replica == 0 {
+                    chains.push(chain_of(alloc, self.desk, A)?)?;
+                }
+            }
+            posted.push(chains)?;
+        }
+        Ok(posted)
+    }
+
+    /// What this replica reads in this round, by the poster's number: what that one posts to everybody, or, of
+    /// a traitor, what it gives to this replica. It gives the chains that it signed last.
+    fn read(
+        &self,
+        alloc: Global,
+        round: u8,
+        taker: usize,
+        posted: &[Vec<Chain>],
+    ) -> Result<Vec<Chain>, Fail> {
+        let mut read = Vec::new(alloc);
+        for (poster, chains) in posted.iter().enumerate() {
+            for chain in chains {
+                read.push(chain.try_copy()?)?;
+            }
+            for gift in self.gifts {
+                let giver = gift.chain.signers.last().copied();
+                if gift.round == round && gift.taker == taker && giver == Some(poster) {
+                    read.push(chain_of(alloc, self.desk, gift.chain)?)?;
+                }
+            }
+        }
+        Ok(read)
+    }
+
+    /// Whether the broadcast goes so.
+    fn holds(&self, rt: &impl Abort, alloc: Global) -> Result<(), Fail> {
+        let mut states = Vec::new(alloc);
+        for _ in &self.desk.replicas {
+            states.push(SlotState::new(&self.desk.shape, 0))?;
+        }
+        for round in 1..self.desk.shape.f() + 2 {
+            let posted = self.posted(alloc, round, &states)?;
+            for (taker, state) in states.iter_mut().enumerate() {
+                close_next(rt, state, &mut self.read(alloc, round, taker, &posted)?);
+            }
+        }
+        let wanted = Some(decided_by(self.desk, self.decided)?);
+        for (replica, state) in states.iter().enumerate() {
+            assert!(rt; self.loyal_key(replica).is_none() || state.decide() == wanted);
+        }
+        Ok(())
+    }
+}
+
+/// Runs the broadcast in which the traitors give these chains.
+fn agrees(
+    rt: &impl Abort,
+    alloc: Global,
+    desk: &Desk,
+    gifts: &[Gift],
+    decided: Option<u8>,
+) -> Result<(), Fail> {
+    let broadcast = Broadcast {
+        desk,
+        gifts,
+        decided,
+    };
+    broadcast.holds(rt, alloc)
+}
+
+#[test]
+fn agrees_with_one_traitor(rt: HostRuntime) -> Result<(), Fail> {
+    let alloc = rt.alloc();
+    let desk = open_desk(alloc, Shape::new(4, 1, 3, 0b0001)?)?;
+    agrees(&rt, alloc, &desk, &[], None)?;
+    agrees(&rt, alloc, &desk, &[given(1, 2, 1, &[0])], Some(1))?;
+    let three = [
+        given(1, 1, 0, &[0]),
+        given(1, 2, 1, &[0]),
+        given(1, 3, 2, &[0]),
+    ];
+    agrees(&rt, alloc, &desk, &three, None)?;
+    // a second value comes too late for its one signature
+    let late = [given(1, 1, 0, &[0]), given(2, 2, 1, &[0])];
+    agrees(&rt, alloc, &desk, &late, Some(0))
+}
+
+#[test]
+fn agrees_with_three_traitors(rt: HostRuntime) -> Result<(), Fail> {
+    let alloc = rt.alloc();
+    let desk = open_desk(alloc, Shape::new(7, 3, 2, 0b1100001)?)?;
+    // the traitors sign a second value among themselves before one loyal replica has it
+    let passed = [given(1, 1, 0, &[0]), given(3, 3, 1, &[0, 5, 6])];
+    agrees(&rt, alloc, &desk, &passed, None)?;
+    // three signatures, where the last round asks for four
+    let late = [given(1, 1, 0, &[0]), given(4, 3, 1, &[0, 5, 6])];
+    agrees(&rt, alloc, &desk, &late, Some(0))?;
+    // four signatures given to one replica alone: the others have the value from the replica 1, which signed it
+    let last = [given(2, 1, 1, &[0, 5]), given(4, 2, 1, &[0, 5, 1, 6])];
+    agrees(&rt, alloc, &desk, &last, Some(1))?;
+    let both = [
+        given(1, 4, 0, &[0]),
+        given(2, 1, 1, &[0, 5]),
+        given(4, 2, 1, &[0, 5, 1, 6]),
+    ];
+    agrees(&rt, alloc, &desk, &both, None)
+}
+
+#[test]
+fn decides_a_loyal_senders_value(rt: HostRuntime) -> Result<(), Fail> {
+    let alloc = rt.alloc();
+    let desk = open_desk(alloc, Shape::new(7, 3, 2, 0b1110000)?)?;
+    let gifts = [
+        given(1, 1, 1, &[4]),
+        given(2, 2, 1, &[4, 5]),
+        given(2, 3, 0, &[0, 4]),
+        given(4, 1, 1, &[4, 5, 6]),
+    ];
+    agrees(&rt, alloc, &desk, &gifts, Some(0))
+}
