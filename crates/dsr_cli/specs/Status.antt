@@ -1,5 +1,7 @@
 -- What the program's exit status tells (this project).
 use Rattle.std.specs.Prelude.{◌≡◌, ◌⊎◌, ℕ, ◌<◌, List, length, Option, IfSome}
+use Rattle.std.specs.Io.KnownBytes.{Appends}
+use Rattle.dsr_names.specs.Output.{SentFront}
 use Rattle.dsr_names.specs.declared.refusal.Refusal.{Refusal}
 use Rattle.dsr_names.specs.declared.refusal.Refusal.TheVariants.{NoMemory, ReadFailed}
 use Rattle.dsr_history.specs.Applied.{AppliedAll, StandsAfter}
@@ -20,13 +22,25 @@ WhatApplyLeft status in_memory left room old new =
     × (in_memory → refusal ≡ ReadFailed → IfSome left (λ bytes. 16777216 < length bytes))
     × StandsAfter refusal left room old new)
 
--- help was shown, or could not be
-abbrev pub IsHelpStatus : ℕ → Type 0
-IsHelpStatus status = (status ≡ 0) ⊎ (status ≡ 1)
+-- after 0 the whole text went out; after 1 a front of it did, and a known room was too small for all of it
+abbrev pub WhatShowingLeft : List ℕ → ℕ → Option ℕ → Option (List ℕ) → Option (List ℕ) → Type 0
+WhatShowingLeft text status room old new =
+    ((status ≡ 0) × Appends old new text) ⊎ ((status ≡ 1) × IfSome room (λ most. most < length text) × SentFront old new text)
+
+-- some text was shown, or could not be
+pub record ShowedHelp (status : ℕ) (room : Option ℕ) (old new : Option (List ℕ)) : Type 0 where
+  pub text : List ℕ
+  pub left : WhatShowingLeft text status room old new
 
 -- the status for what was asked: `apply` was done or refused, help was shown or could not be, or nothing was asked that
 -- the program knows; in each case memory may have run out before anything was written
 abbrev pub StatusFor : Asked → ℕ → Type 0 → Option (List ℕ) → Option ℕ → Option (List ℕ) → Option (List ℕ) → Type 0
 StatusFor (task Apply) status in_memory left room old new = WhatApplyLeft status in_memory left room old new ⊎ ((status ≡ 3) × (new ≡ old))
-StatusFor help status in_memory left room old new = IsHelpStatus status ⊎ ((status ≡ 3) × (new ≡ old))
+StatusFor help status in_memory left room old new = ShowedHelp status room old new ⊎ ((status ≡ 3) × (new ≡ old))
 StatusFor unknown status in_memory left room old new = ((status ≡ 2) ⊎ (status ≡ 3)) × (new ≡ old)
+
+-- P, where no task is asked for
+abbrev pub IfNoTask : Asked → Type 0 → Type 0
+IfNoTask (task t) P = Unit {0}
+IfNoTask help P = P
+IfNoTask unknown P = P

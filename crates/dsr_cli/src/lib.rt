@@ -6,7 +6,7 @@ mod tests;
 
 ghost use Rattle.std.specs.Prelude.{◌≡◌, map};
 ghost use Rattle.dsr_command.specs.Asked.{asked_of};
-ghost use Rattle.dsr_cli.specs.Status.{StatusFor, WhatApplyLeft, status_of, IsHelpStatus};
+ghost use Rattle.dsr_cli.specs.Status.{StatusFor, WhatApplyLeft, WhatShowingLeft, IfNoTask, status_of};
 
 use dsr_command::{Reading, Task, read_words};
 use dsr_history::run_apply;
@@ -24,7 +24,7 @@ const USAGE_FAULT: u8 = 2;
 /// Does what the words ask for and answers the program's exit status: 0 where it was done, 1 after a refusal other
 /// than want of memory, 2 after words that the program does not know, and 3 after want of memory. The words are those
 /// after the program's own name; none means `apply`. A refusal is told on `errors` as `dsr: ` and its text, a usage
-/// fault by its text; the help goes to `output`.
+/// fault by its text; the help goes to `output`. Only `apply` reads the input.
 pub fn run<S: AsStr, I: Source, O: Sink, E: Write>(
     alloc: Global,
     words: &[S],
@@ -32,7 +32,8 @@ pub fn run<S: AsStr, I: Source, O: Sink, E: Write>(
     output: &mut O,
     errors: &mut E,
 ) -> u8
-    ensures { StatusFor (asked_of (map S.text words.now)) result (I.is_in_memory input.old) (I.left input.old) (O.room output.old) (O.contents output.old) (O.contents output.new) }
+    ensures status { StatusFor (asked_of (map S.text words.now)) result (I.is_in_memory input.old) (I.left input.old) (O.room output.old) (O.contents output.old) (O.contents output.new) }
+    ensures unread { IfNoTask (asked_of (map S.text words.now)) (input.new ≡ input.old) }
 {
     match read_words(alloc, words) {
         Reading::Do(Task::Apply) => apply(alloc, input, output, errors),
@@ -60,9 +61,9 @@ fn apply<I: Source, O: Sink, E: Write>(
     }
 }
 
-/// Shows the help's text.
+/// Shows the help's text: 0 where all of it went out, and 1 where the sink failed, after a front of it.
 fn show_help<O: Sink, E: Write>(text: &str, output: &mut O, errors: &mut E) -> u8
-    ensures { IsHelpStatus result }
+    ensures { WhatShowingLeft text.now result (O.room output.old) (O.contents output.old) (O.contents output.new) }
 {
     match write_output(output, text.as_bytes()) {
         Ok(()) => DONE,
