@@ -5,9 +5,9 @@ Runs the built program on some examples with its 1st, 2nd, 3rd .. allocation ref
 that met one must end with status 3, write nothing on standard output, and say so on standard error; the last one must do
 what it does with ample memory.
 
-Then it runs the tests of the crates whose calls can answer that memory was refused, one by one and in the same way. A test
-that meets a refusal must pass, or end with that error, or with an assertion that got that error (`WriteFailed` where what
-is written goes to memory). One that ends otherwise got a wrong answer in its place.
+Then it runs the tests of the crates below the command line whose calls can answer that memory was refused, one by one and
+in the same way. A test that meets a refusal must pass, or end with that error, or with an assertion that got that error
+(`WriteFailed` where what is written goes to memory). One that ends otherwise got a wrong answer in its place.
 
 Needs a C compiler, `cc`, for the few lines that refuse. The last line is `N passed, M failed`, a count for each example and
 for each of those crates.
@@ -22,9 +22,9 @@ import tempfile
 TOP = os.path.dirname(os.path.dirname(os.path.realpath(__file__)))
 PROGRAM = f"{TOP}/crates/dsr/out/dsr"
 EXAMPLES = ["first-lines", "swaps", "repeated-numbers", "full-table"]
-# The crates whose calls answer that memory was refused, but for dsr_history, whose tests write to a sink that needs memory:
-# its calls are in the runs of the program.
-CRATES = ["dsr_names", "dsr_register", "dsr_ledger", "dsr_desk", "dsr_chain"]
+# The crates whose calls answer that memory was refused by an error. dsr_command and dsr_cli tell it otherwise: their calls
+# are in the runs of the program.
+CRATES = ["dsr_names", "dsr_register", "dsr_ledger", "dsr_history", "dsr_desk", "dsr_chain", "dsr_slot"]
 MOST_RUNS = 20_000
 WANT_OF_MEMORY = re.compile(rb"^(?:[Ee]rror:|  left:) .*(NoMemory|AllocError|AllocFailed|WriteFailed)", re.M)
 
