@@ -6,6 +6,7 @@ use Rattle.dsr_names.specs.declared.refusal.Refusal.{Refusal}
 use Rattle.dsr_names.specs.declared.refusal.Refusal.TheVariants.{NoMemory, ReadFailed}
 use Rattle.dsr_history.specs.Applied.{AppliedAll, StandsAfter}
 use Rattle.dsr_command.specs.Asked.{Asked, task, help, unknown}
+use Rattle.dsr_command.specs.HelpText.{IsHelp}
 use Rattle.dsr_command.specs.declared.Task.TheVariants.{Apply}
 
 -- the status of a refusal
@@ -27,9 +28,10 @@ abbrev pub WhatShowingLeft : List ℕ → ℕ → Option ℕ → Option (List �
 WhatShowingLeft text status room old new =
     ((status ≡ 0) × Appends old new text) ⊎ ((status ≡ 1) × IfSome room (λ most. most < length text) × SentFront old new text)
 
--- some text was shown, or could not be
+-- a help's text was shown, or could not be
 pub record ShowedHelp (status : ℕ) (room : Option ℕ) (old new : Option (List ℕ)) : Type 0 where
   pub text : List ℕ
+  pub is : IsHelp text
   pub left : WhatShowingLeft text status room old new
 
 -- the status for what was asked: `apply` was done or refused, help was shown or could not be, or nothing was asked that

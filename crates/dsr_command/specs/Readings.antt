@@ -1,4 +1,5 @@
 -- What a clause says of a reading of the command line.
+use Rattle.std.specs.Prelude.{List, ℕ, string_bytes}
 use Rattle.dsr_command.specs.declared.Reading.{Reading}
 use Rattle.dsr_command.specs.declared.Reading.TheVariants.{Do, Help, Usage}
 use Rattle.dsr_command.specs.declared.Task.{Task}
@@ -7,6 +8,11 @@ use Rattle.dsr_command.specs.declared.Task.{Task}
 abbrev pub IfDo : Reading → (Task → Type 0) → Type 0
 IfDo (Do task) P = P task
 IfDo _ P = Unit {0}
+
+-- P of the text, where the reading is the help
+abbrev pub IfHelp : Reading → (List ℕ → Type 0) → Type 0
+IfHelp (Help text) P = P (string_bytes text)
+IfHelp _ P = Unit {0}
 
 -- P, where the reading is the help
 abbrev pub OnHelp : Reading → Type 0 → Type 0

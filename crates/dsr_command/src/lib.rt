@@ -7,15 +7,18 @@ ghost use Rattle.clap.specs.declared.builder.command.Command.TheViews.{out-Comma
 ghost use Rattle.clap.specs.declared.error.kind.ErrorKind.TheVariants.{DisplayHelp, OutOfMemory, UnknownArgument};
 ghost use Rattle.dsr_command.specs.Asked.{asked_of, has_two_hyphens, help, task, unknown};
 ghost use Rattle.dsr_command.specs.CommandLine.{command_line, program};
-ghost use Rattle.dsr_command.specs.Readings.{IfDo, OnHelp, OnUsage};
+ghost use Rattle.dsr_command.specs.HelpText.{IsHelp};
+ghost use Rattle.dsr_command.specs.Readings.{IfDo, IfHelp, OnHelp, OnUsage};
 
 use clap::error::ErrorKind;
 use clap::{Command, Error};
 use std::alloc::{AllocError, Global};
 use std::convert::AsStr;
 
-const ABOUT: &str = "dsr keeps a directory of named registers, each free or holding a number.\n\
-Clients send it numbered requests, and it answers each of them.\n\
+/// The line that each help begins with.
+const TITLE: &str = "dsr keeps a directory of named registers, each free or holding a number.";
+
+const ABOUT: &str = "Clients send it numbered requests, and it answers each of them.\n\
 Without a command it does what `dsr apply` does.";
 
 const EXAMPLES: &str = "Examples:\n  \
@@ -68,6 +71,7 @@ pub fn read_words<S: AsStr>(alloc: Global, words: &[S]) -> Reading
     ensures task { IfDo result (λ done. asked_of (map S.text words.now) ≡ task done) }
     ensures help { OnHelp result (asked_of (map S.text words.now) ≡ help) }
     ensures usage { OnUsage result (asked_of (map S.text words.now) ≡ unknown) }
+    ensures shown { IfHelp result IsHelp }
 {
     match parse(alloc, words) {
         Ok(()) if has_separator(words) => separator_refused(alloc),
@@ -101,6 +105,7 @@ fn has_separator<S: AsStr>(words: &[S]) -> bool
 fn separator_refused(alloc: Global) -> Reading
     ensures task { IfDo result (λ _. ⊥) }
     ensures help { OnHelp result ⊥ }
+    ensures shown { IfHelp result IsHelp }
 {
     match separator_error(alloc) {
         Ok(error) => reading_of(alloc, &error),
@@ -121,14 +126,27 @@ fn reading_of(alloc: Global, error: &Error) -> Reading
     ensures help { OnHelp result (kind_of error.now ≡ DisplayHelp) }
     ensures usage { OnUsage result ((kind_of error.now ≢ DisplayHelp)
         × (kind_of error.now ≢ OutOfMemory)) }
+    ensures shown { IfHelp result IsHelp }
 {
     let Ok(text) = error.to_string(alloc) else {
         return Reading::NoMemory;
     };
     match error.kind() {
         ErrorKind::OutOfMemory => Reading::NoMemory,
-        ErrorKind::DisplayHelp => Reading::Help(text),
+        ErrorKind::DisplayHelp => titled(alloc, text.as_str()),
         _ => Reading::Usage(text),
+    }
+}
+
+/// The help that says this of the command, after the title.
+fn titled(alloc: Global, text: &str) -> Reading
+    ensures task { IfDo result (λ _. ⊥) }
+    ensures usage { OnUsage result ⊥ }
+    ensures shown { IfHelp result IsHelp }
+{
+    match format!(in alloc; "{TITLE}\n\n{text}") {
+        Ok(help) => Reading::Help(help),
+        Err(_) => Reading::NoMemory,
     }
 }
 

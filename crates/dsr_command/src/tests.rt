@@ -28,6 +28,7 @@ fn reads_calls_for_help(rt: HostRuntime) {
     for words in lines {
         let reading = read_words(rt.alloc(), words);
         assert!(rt; matches!(&reading, Reading::Help(_)));
+        assert!(rt; text_of(&reading).starts_with("dsr keeps a directory of named registers, "));
         assert!(rt; text_of(&reading).contains("Usage: dsr"));
     }
 }
