@@ -12,7 +12,7 @@ use Rattle.dsr_names.specs.Member.{In, here, there}
 use Rattle.dsr_names.specs.Shape.{Members, is_traitor}
 use Rattle.dsr_names.specs.declared.actor.Actor.{Actor}
 use Rattle.dsr_names.specs.declared.actor.Actor.TheVariants.{Replica, Client}
-use Rattle.dsr_names.proofs.MemberLemmas.{In-append_cases, In-place, In-from_place}
+use Rattle.dsr_names.proofs.MemberLemmas.{In-append_cases, In-one, In-place, In-from_place}
 use Rattle.dsr_names.proofs.Pigeonhole.{pigeonhole}
 use Rattle.dsr_history.specs.Issued.{Issued}
 use Rattle.dsr_desk.specs.Signed.{Signed, signed}
@@ -136,13 +136,9 @@ own_place shape slot r chain a s h fresh stands own =
     elim (In-append_cases s chain.signatures (signed a (link_after chain.slot chain.value (signers_of chain.signatures)) ∷ []) stands) [
       | inl before ↦ absurd (fresh (subst (λ b. Any (λ t. t.signer ≡ b) chain.signatures) own (signer_in s chain.signatures before)))
       | inr last ↦
-          only_one s (signed a (link_after chain.slot chain.value (signers_of chain.signatures))) last
+          sym (In-one s (signed a (link_after chain.slot chain.value (signers_of chain.signatures))) last)
           ∙ ap (λ k. signed a (link_after k chain.value (signers_of chain.signatures))) h.of_slot
     ]
-  where
-    only_one : (x y : Signed) → In x (y ∷ []) → x ≡ y
-    only_one x y (here e) = sym e
-    only_one x y (there later) = elim later [ ]
 
 -- a signature of an extended chain that isn't the new signer's stood in the chain before
 pub other_place : (chain : SignedValue) (a : Actor) (s : Signed) → In s (extended chain a).signatures → s.signer ≢ a → In s chain.signatures

@@ -1,8 +1,9 @@
 -- What the tests of a chain decide: each is true exactly where its fact holds.
-use Rattle.std.proofs.Common.{◌≡◌, ◌≢◌, ℕ, zero, suc, Bool, true, false, not, ◌&&◌, ◌||◌, ◌==◌, nat_lt, List, [], ◌∷◌, ◌++◌, Some, None, Option, length, take, get_or, ◌⊎◌, inl, inr, refl, ap, sym, ◌∙◌, subst, arith, append_assoc, append-nil}
+use Rattle.std.proofs.Common.{◌≡◌, ◌≢◌, ℕ, zero, suc, Bool, not, ◌&&◌, ◌||◌, ◌==◌, nat_lt, List, [], ◌∷◌, ◌++◌, Some, None, Option, length, take, get_or, ◌⊎◌, inl, inr, refl, ap, sym, ◌∙◌, subst, arith, append_assoc, append-nil}
 use Rattle.std.specs.Prelude.{All, AllPairs, Any, slice_get}
 use Rattle.std.specs.Bool.{Decides}
-use Rattle.std.proofs.lemmas.Bool.Decides.{Decides-and, Decides-or, Decides-not, Decides-like, Decides-at, Decides-eqb, Decides-ltb, Decides-by_and}
+use Rattle.std.specs.List.{list_all, list_any}
+use Rattle.std.proofs.lemmas.Bool.Decides.{Decides-and, Decides-or, Decides-not, Decides-like, Decides-eqb, Decides-ltb, Decides-by_and}
 use Rattle.std.proofs.lemmas.List.{get_or_default}
 use Rattle.std.proofs.lemmas.Option.{same_Some, none-some}
 use Rattle.dsr_names.specs.Shape.{Members}
@@ -18,7 +19,7 @@ use Rattle.dsr_desk.specs.declared.statement.Statement.TheVariants.{Ask}
 use Rattle.dsr_chain.specs.Content.{signed_in}
 use Rattle.dsr_chain.specs.SignedValue.{SignedValue, signers_of, link_after}
 use Rattle.dsr_chain.specs.Proper.{IsReplica, IsAsked, IsProper, sender_of}
-use Rattle.dsr_chain.specs.ProperTest.{same_content, has_signed, is_signer, begins_with, is_replica, are_replicas, is_among, are_distinct, links_fit, is_asked, are_asked, is_proper}
+use Rattle.dsr_chain.specs.ProperTest.{same_content, has_signed, is_signer, begins_with, is_replica, are_distinct, links_fit, is_asked, is_proper}
 use Rattle.dsr_chain.specs.declared.signed_request.SignedRequest.{SignedRequest}
 use Rattle.dsr_chain.specs.declared.slot_value.SlotValue.{SlotValue}
 
@@ -37,15 +38,12 @@ pub head_or_rest : {X : Type 0} (P : X → Type 0) (x : X) (xs : List X) → Any
 head_or_rest P x xs (zero, y, inside, is, p) = inl (subst P (sym is) p)
 head_or_rest P x xs (suc k, y, inside, is, p) = inr (k, y, omega (arith, inside), is, p)
 
--- f is a test by recursion over a list, with `||`
-any_decided : {X : Type 0} (p : X → Bool) (P : X → Type 0) (f : List X → Bool) → ((x : X) → Decides (p x) (P x)) → f [] ≡ false
-    → ((x : X) (xs : List X) → f (x ∷ xs) ≡ (p x || f xs)) → (xs : List X) → Decides (f xs) (Any P xs)
-any_decided p P f each none more [] = (λ e. let contrary : false ≡ true = sym none ∙ e in cc, λ h. absurd (none_in_nil P h))
-any_decided p P f each none more (x ∷ xs) =
-    let parts : Decides (p x || f xs) (P x ⊎ Any P xs) = Decides-or (p x) (f xs) (each x) (any_decided p P f each none more xs) in
-    let whole : Decides (p x || f xs) (Any P (x ∷ xs)) =
-    Decides-like (p x || f xs) (λ e. elim e [ inl h ↦ at_head P x xs h | inr t ↦ in_rest P x xs t ]) (head_or_rest P x xs) parts in
-    Decides-at (f (x ∷ xs)) (p x || f xs) (more x xs) whole
+-- a test of some item decides whether one has the property, where the test of an item decides that
+any-Decides : {X : Type 0} (p : X → Bool) (P : X → Type 0) → ((x : X) → Decides (p x) (P x)) → (xs : List X) → Decides (list_any p xs) (Any P xs)
+any-Decides p P each [] = (λ e. cc, λ h. absurd (none_in_nil P h))
+any-Decides p P each (x ∷ xs) =
+    Decides-like (p x || list_any p xs) (λ e. elim e [ inl h ↦ at_head P x xs h | inr t ↦ in_rest P x xs t ]) (head_or_rest P x xs)
+    (Decides-or (p x) (list_any p xs) (each x) (any-Decides p P each xs))
 
 -- ---- contents and signers
 
@@ -57,7 +55,7 @@ same_content-Decides (Some a) (Some b) = Decides-like (requests_eq a b) (λ e. c
 
 pub has_signed-Decides : (a : Actor) (signatures : List Signed) → Decides (has_signed a signatures) (Any (λ s. s.signer ≡ a) signatures)
 has_signed-Decides a signatures =
-    any_decided (λ s. actor_eq s.signer a) (λ s. s.signer ≡ a) (has_signed a) (λ s. actor_eq-Decides s.signer a) refl (λ _ _. refl) signatures
+    any-Decides (λ s. actor_eq s.signer a) (λ s. s.signer ≡ a) (λ s. actor_eq-Decides s.signer a) signatures
 
 pub is_signer-Decides : (a : Actor) (chain : SignedValue) → Decides (is_signer a chain) (Any (λ s. s.signer ≡ a) chain.signatures)
 is_signer-Decides a chain = has_signed-Decides a chain.signatures
@@ -70,14 +68,14 @@ replica-Decides : (shape : Members) (a : Actor) → Decides (is_replica shape a)
 replica-Decides shape (Replica r) = Decides-ltb r shape.n
 replica-Decides shape (Client c) = (λ e. cc, λ h. absurd h)
 
-replicas-Decides : (shape : Members) (signers : List Actor) → Decides (are_replicas shape signers) (All (IsReplica shape) signers)
+replicas-Decides : (shape : Members) (signers : List Actor) → Decides (list_all (is_replica shape) signers) (All (IsReplica shape) signers)
 replicas-Decides shape signers =
-    Decides-by_and (is_replica shape) (IsReplica shape) (are_replicas shape) (replica-Decides shape) refl (λ _ _. refl) signers
+    Decides-by_and (is_replica shape) (IsReplica shape) (list_all (is_replica shape)) (replica-Decides shape) refl (λ _ _. refl) signers
 
 -- ---- distinct signers
 
-among-Decides : (a : Actor) (signers : List Actor) → Decides (is_among a signers) (Any (λ b. b ≡ a) signers)
-among-Decides a signers = any_decided (λ b. actor_eq b a) (λ b. b ≡ a) (is_among a) (λ b. actor_eq-Decides b a) refl (λ _ _. refl) signers
+among-Decides : (a : Actor) (signers : List Actor) → Decides (list_any (λ b. actor_eq b a) signers) (Any (λ b. b ≡ a) signers)
+among-Decides a signers = any-Decides (λ b. actor_eq b a) (λ b. b ≡ a) (λ b. actor_eq-Decides b a) signers
 
 distinct_more : (a : Actor) (signers : List Actor) → ¬ Any (λ b. b ≡ a) signers → AllPairs (λ x y. x ≢ y) signers → AllPairs (λ x y. x ≢ y) (a ∷ signers)
 distinct_more a signers fresh rest zero zero d apart inside = absurd (omega (arith, apart))
@@ -96,9 +94,10 @@ distinct_rest a signers pairs i j d apart inside = pairs (suc i) (suc j) d (omeg
 distinct-Decides : (signers : List Actor) → Decides (are_distinct signers) (AllPairs (λ x y. x ≢ y) signers)
 distinct-Decides [] = (λ e i j d apart inside. absurd (omega (arith, inside)), λ h. refl)
 distinct-Decides (a ∷ rest) =
-    Decides-like (not (is_among a rest) && are_distinct rest) (λ e. distinct_more a rest e.0 e.1)
+    let among = list_any (λ b. actor_eq b a) rest in
+    Decides-like (not among && are_distinct rest) (λ e. distinct_more a rest e.0 e.1)
     (λ h. (distinct_first a rest h, distinct_rest a rest h))
-    (Decides-and (not (is_among a rest)) (are_distinct rest) (Decides-not (is_among a rest) (among-Decides a rest)) (distinct-Decides rest))
+    (Decides-and (not among) (are_distinct rest) (Decides-not among (among-Decides a rest)) (distinct-Decides rest))
 
 -- ---- fitting links
 
@@ -141,9 +140,9 @@ asked-Decides shape s =
     Decides-like (is_asked shape s) (λ e. record { client = e.0; signature = e.1 }) (λ h. (h.client, h.signature))
     (Decides-and (nat_lt s.request.client shape.m) (signature_eq s.signature own) (Decides-ltb s.request.client shape.m) (signature_eq-Decides s.signature own))
 
-all_asked-Decides : (shape : Members) (requests : List SignedRequest) → Decides (are_asked shape requests) (All (IsAsked shape) requests)
+all_asked-Decides : (shape : Members) (requests : List SignedRequest) → Decides (list_all (is_asked shape) requests) (All (IsAsked shape) requests)
 all_asked-Decides shape requests =
-    Decides-by_and (is_asked shape) (IsAsked shape) (are_asked shape) (asked-Decides shape) refl (λ _ _. refl) requests
+    Decides-by_and (is_asked shape) (IsAsked shape) (list_all (is_asked shape)) (asked-Decides shape) refl (λ _ _. refl) requests
 
 -- ---- the whole chain
 
@@ -170,8 +169,8 @@ is_proper-Decides shape slot round chain =
       asked = e.1.1.1.1.1.1;
     })
     (λ h. (h.of_slot, (h.count, (h.sender_first, (h.replicas, (h.distinct, (record { fits = h.fitting }, h.asked)))))))
-    (seven (chain.slot == slot) (length chain.signatures == round) (begins_with (sender_of shape slot) signers) (are_replicas shape signers)
-    (are_distinct signers) (links_fit chain.slot chain.value chain.signatures []) (are_asked shape (signed_in chain.value))
+    (seven (chain.slot == slot) (length chain.signatures == round) (begins_with (sender_of shape slot) signers) (list_all (is_replica shape) signers)
+    (are_distinct signers) (links_fit chain.slot chain.value chain.signatures []) (list_all (is_asked shape) (signed_in chain.value))
     (Decides-eqb chain.slot slot) (Decides-eqb (length chain.signatures) round) (begins-Decides (sender_of shape slot) signers)
     (replicas-Decides shape signers) (distinct-Decides signers) (links-Decides chain.slot chain.value chain.signatures [])
     (all_asked-Decides shape (signed_in chain.value)))

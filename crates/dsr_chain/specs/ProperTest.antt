@@ -1,6 +1,7 @@
 -- Tests of chains that definitions branch on: whether one is proper, fact by fact in the order of that definition,
 -- whether two contents are the same, and whether an actor signed (this project).
-use Rattle.std.specs.Prelude.{ℕ, Bool, true, false, not, ◌&&◌, ◌||◌, ◌==◌, nat_lt, List, [], ◌∷◌, ◌++◌, Option, length}
+use Rattle.std.specs.Prelude.{ℕ, Bool, true, false, not, ◌&&◌, ◌==◌, nat_lt, List, [], ◌∷◌, ◌++◌, Option, length}
+use Rattle.std.specs.List.{list_all, list_any}
 use Rattle.std.specs.Option.{option_eq}
 use Rattle.dsr_names.specs.Shape.{Members}
 use Rattle.dsr_names.specs.declared.actor.Actor.{Actor}
@@ -24,8 +25,7 @@ same_content = option_eq requests_eq
 
 -- whether one of the signatures is this actor's
 abbrev pub has_signed : Actor → List Signed → Bool
-has_signed a [] = false
-has_signed a (s ∷ rest) = actor_eq s.signer a || has_signed a rest
+has_signed a signatures = list_any (λ s. actor_eq s.signer a) signatures
 
 -- whether this actor signed the chain
 abbrev pub is_signer : Actor → SignedValue → Bool
@@ -41,20 +41,10 @@ abbrev pub is_replica : Members → Actor → Bool
 is_replica shape (Replica r) = nat_lt r shape.n
 is_replica shape (Client c) = false
 
--- whether all are replicas of the shape
-abbrev pub are_replicas : Members → List Actor → Bool
-are_replicas shape [] = true
-are_replicas shape (a ∷ rest) = is_replica shape a && are_replicas shape rest
-
--- whether this actor stands in the list
-abbrev pub is_among : Actor → List Actor → Bool
-is_among a [] = false
-is_among a (b ∷ rest) = actor_eq b a || is_among a rest
-
 -- whether no actor stands twice in the list
 abbrev pub are_distinct : List Actor → Bool
 are_distinct [] = true
-are_distinct (a ∷ rest) = not (is_among a rest) && are_distinct rest
+are_distinct (a ∷ rest) = not (list_any (λ b. actor_eq b a) rest) && are_distinct rest
 
 -- whether each signature is on the link after the signers before it, the first on the link after these
 abbrev pub links_fit : ℕ → SlotValue → List Signed → List Actor → Bool
@@ -66,18 +56,13 @@ links_fit slot value (s ∷ rest) before =
 abbrev pub is_asked : Members → SignedRequest → Bool
 is_asked shape s = nat_lt s.request.client shape.m && signature_eq s.signature (signed (Client s.request.client) (Ask s.request))
 
--- whether all are such requests
-abbrev pub are_asked : Members → List SignedRequest → Bool
-are_asked shape [] = true
-are_asked shape (s ∷ rest) = is_asked shape s && are_asked shape rest
-
 -- whether the chain is proper for this round of this slot
 abbrev pub is_proper : Members → ℕ → ℕ → SignedValue → Bool
 is_proper shape slot round chain =
     (chain.slot == slot)
     && ((length chain.signatures == round)
     && (begins_with (sender_of shape slot) (signers_of chain.signatures)
-    && (are_replicas shape (signers_of chain.signatures)
+    && (list_all (is_replica shape) (signers_of chain.signatures)
     && (are_distinct (signers_of chain.signatures)
     && (links_fit chain.slot chain.value chain.signatures []
-    && are_asked shape (signed_in chain.value))))))
+    && list_all (is_asked shape) (signed_in chain.value))))))

@@ -20,6 +20,11 @@ module _ {A : Type 0} where
   In-append_cases x (y ∷ xs) ys (here e) = inl (here e)
   In-append_cases x (y ∷ xs) ys (there h) = elim (In-append_cases x xs ys h) [ inl left ↦ inl (there left) | inr right ↦ inr right ]
 
+  -- what stands in a list of one item is that item
+  pub In-one : (x y : A) → In x (y ∷ []) → y ≡ x
+  In-one x y (here e) = e
+  In-one x y (there later) = elim later [ ]
+
   -- what stands in the list stands at a place
   pub In-place : (x : A) (xs : List A) → In x xs → (place : ℕ) × (slice_get xs place ≡ Some x)
   In-place x [] h = elim h [ ]

@@ -8,7 +8,7 @@ use Rattle.std.proofs.lemmas.Bool.Decides.{Decides-and, Decides-or, Decides-not,
 use Rattle.std.proofs.lemmas.List.{length_push}
 use Rattle.dsr_names.specs.Member.{In, here, there}
 use Rattle.dsr_names.specs.Shape.{Members}
-use Rattle.dsr_names.proofs.MemberLemmas.{In-append_left, In-append_right, In-append_cases}
+use Rattle.dsr_names.proofs.MemberLemmas.{In-append_left, In-append_right, In-append_cases, In-one}
 use Rattle.dsr_history.specs.Issued.{Issued}
 use Rattle.dsr_chain.specs.Content.{content}
 use Rattle.dsr_chain.specs.SignedValue.{SignedValue}
@@ -90,16 +90,12 @@ module _ (shape : Members) (slot round : ℕ) where
     pub read : In k.chain chains
     pub proper : IsProper shape slot round k.chain
 
-  only_one : (x y : Kept) → In x (y ∷ []) → y ≡ x
-  only_one x y (here e) = e
-  only_one x y (there later) = elim later [ ]
-
   one_from : (kept : List Kept) (chain : SignedValue) (k : Kept) → In k (keep_one shape slot round kept chain)
       → In k kept ⊎ ((kept_in round chain ≡ k) × IsProper shape slot round chain)
   one_from kept chain k h = elim (one_cases kept chain) [
     | inl news ↦ elim (In-append_cases k kept (kept_in round chain ∷ []) (subst (In k) news.1 h)) [
       | inl before ↦ inl before
-      | inr last ↦ inr (only_one k (kept_in round chain) last, news.0.proper)
+      | inr last ↦ inr (In-one k (kept_in round chain) last, news.0.proper)
     ]
     | inr none ↦ inl (subst (In k) none.1 h)
   ]
@@ -109,7 +105,7 @@ module _ (shape : Members) (slot round : ℕ) where
   apart_push (l ∷ ls) k apart fresh = (
     λ h. elim (In-append_cases h.0 ls (k ∷ []) h.1) [
       | inl before ↦ apart.0 (h.0, before, h.2)
-      | inr last ↦ fresh (l, here refl, sym (ap content_of (only_one h.0 k last) ∙ h.2))
+      | inr last ↦ fresh (l, here refl, sym (ap content_of (In-one h.0 k last) ∙ h.2))
     ],
     apart_push ls k apart.1 (λ h. fresh (h.0, there h.1, h.2)),
   )

@@ -4,10 +4,10 @@ use Rattle.std.proofs.Common.{◌≡◌, ◌≢◌, ℕ, zero, suc, ◌<◌, Lis
 use Rattle.std.specs.Prelude.{Any, All, filter, ◌&&◌, ◌==◌, not}
 use Rattle.std.specs.Bool.{Decides}
 use Rattle.std.proofs.lemmas.Bool.Decides.{Decides-and, Decides-not, Decides-like, Decides-eqb}
-use Rattle.dsr_names.specs.Member.{In, here, there}
+use Rattle.dsr_names.specs.Member.{In, here}
 use Rattle.dsr_names.specs.Shape.{Members}
 use Rattle.dsr_names.specs.declared.actor.Actor.{Actor}
-use Rattle.dsr_names.proofs.MemberLemmas.{In-append_left, In-append_right, In-append_cases}
+use Rattle.dsr_names.proofs.MemberLemmas.{In-append_left, In-append_right, In-append_cases, In-one}
 use Rattle.dsr_desk.specs.Signed.{Signed, signed}
 use Rattle.dsr_desk.specs.SignersEq.{actor_eq, actor_eq-Decides}
 use Rattle.dsr_chain.specs.Content.{content, signed_in}
@@ -89,15 +89,11 @@ relayed_from me round kept c h =
     let passed = from_filter (is_relayed me round) mapped.0 kept mapped.1 in
     record { from = mapped.0; kept_then = passed.0; relay = (is_relayed-Decides me round mapped.0).0 passed.1; is = mapped.2 }
 
-only_one : (x y : SignedValue) → In x (y ∷ []) → y ≡ x
-only_one x y (here e) = e
-only_one x y (there later) = elim later [ ]
-
 begun_from : (shape : Members) (slot : ℕ) (me : Actor) (value : SlotValue) (round : ℕ) (c : SignedValue) → In c (begun shape slot me value round)
     → IsStart shape slot me value round c
 begun_from shape slot me value round c h = elim (begun_cases shape slot me value round) [
   | inl begins ↦
-      record { first_round = begins.0.0; sender = begins.0.1; is = only_one c (started slot value me) (subst (In c) begins.1 h) }
+      record { first_round = begins.0.0; sender = begins.0.1; is = In-one c (started slot value me) (subst (In c) begins.1 h) }
   | inr not_begun ↦ none (subst (In c) not_begun.1 h)
 ]
   where
@@ -182,13 +178,9 @@ module _ (shape : Members) (slot : ℕ) (read : ℕ → List SignedValue) (me : 
       → In (signed me (link_after slot carried before)) c.signatures → IsOwn r c carried before
   start_own r c carried before start h =
       let own = signed me (link_after slot carried before) in
-      let e = the_one own (signed me (link_after slot value [])) (subst (λ d. In own d.signatures) (sym start.is) h) in
+      let e = In-one own (signed me (link_after slot value [])) (subst (λ d. In own d.signatures) (sym start.is) h) in
       let parts = link_parts slot slot carried value before [] (ap (λ s. s.statement) (sym e)) in
       record { same = parts.1 ∙ ap (λ d. content d.value) start.is; from_start = λ none. parts.1 }
-    where
-      the_one : (x y : Signed) → In x (y ∷ []) → y ≡ x
-      the_one x y (here e) = e
-      the_one x y (there later) = elim later [ ]
 
   pub post_own : (r : ℕ) (c : SignedValue) (carried : SlotValue) (before : List Actor) → In c (posted shape slot me value (suc r) (kept r))
       → In (signed me (link_after slot carried before)) c.signatures → IsOwn r c carried before
