@@ -1,4 +1,4 @@
-ghost use Rattle.std.specs.Prelude.{◌≡◌, ℕ, ◌<◌, ◌≤◌, List, length, min, Option, None, Some, IfOk, IfErr, IfSome, OnOk, IsOkAnd, IsErrOf, vec_len};
+ghost use Rattle.std.specs.Prelude.{◌≡◌, ℕ, ◌+◌, ◌++◌, ◌↔◌, ◌<◌, ◌≤◌, List, length, min, Option, None, Some, IfOk, IfErr, IfSome, OnOk, IsOkAnd, IsErrOf, vec_len};
 ghost use Rattle.std.specs.Io.{ReadsAtMost};
 ghost use Rattle.std.specs.Io.KnownBytes.{ReadConsumes, IsAtEnd};
 ghost use Rattle.dsr_names.specs.Refusal.{IsReadRefusal};
@@ -62,18 +62,43 @@ pub fn read_input<S: Source>(alloc: Global, source: &mut S) -> Result<Vec<u8>, R
     let mut text = Vec::new(alloc);
     let mut buffer = [0u8; 8192];
     for _ in 0..MOST_CALLS {
-        let Ok(count) = source.give(&mut buffer) else {
-            return Err(Refusal::ReadFailed);
-        };
+        let count = next_bytes(source, &mut buffer)?;
         if count == 0 {
             return Ok(text);
         }
-        if count > MOST_BYTES - text.len() {
-            return Err(Refusal::ReadFailed);
-        }
-        if text.extend_from_slice(&buffer[..count]).is_err() {
-            return Err(Refusal::NoMemory);
-        }
+        keep(&mut text, &buffer[..count])?;
     }
     Err(Refusal::ReadFailed)
+}
+
+/// Puts the bytes at the end of the text. `ReadFailed` exactly where it would then have more than `MOST_BYTES` bytes,
+/// else `NoMemory` where a growth is refused.
+fn keep(text: &mut Vec<u8>, bytes: &[u8]) -> Result<(), Refusal>
+    requires { vec_len text.old ≤ 16777216 }
+    ensures kept { OnOk result (text.new.items ≡ text.old.items ++ bytes.now) }
+    ensures fits { OnOk result (vec_len text.new ≤ 16777216) }
+    ensures too_long { IsErrOf result Refusal.ReadFailed ↔ (16777216 < vec_len text.old + length bytes.now) }
+    ensures refusals { IfErr result IsReadRefusal }
+{
+    if bytes.len() > MOST_BYTES - text.len() {
+        return Err(Refusal::ReadFailed);
+    }
+    if text.extend_from_slice(bytes).is_err() {
+        return Err(Refusal::NoMemory);
+    }
+    Ok(())
+}
+
+/// Puts the next bytes of the source into the buffer and says how many; 0 at the end. `ReadFailed` where it fails.
+fn next_bytes<S: Source>(source: &mut S, buffer: &mut [u8]) -> Result<usize, Refusal>
+    ensures bound { ReadsAtMost result buffer.new }
+    ensures bytes { ReadConsumes (S.left source.old) (S.left source.new) result buffer.new }
+    ensures stays { S.is_in_memory source.old → S.is_in_memory source.new }
+    ensures sure { S.is_in_memory source.old → IfSome (S.left source.old) (λ bytes. IsOkAnd result (λ n. n ≡ min (length bytes) (length buffer.new))) }
+    ensures refusal { IfErr result (λ e. e ≡ Refusal.ReadFailed) }
+{
+    match source.give(buffer) {
+        Ok(count) => Ok(count),
+        Err(_) => Err(Refusal::ReadFailed),
+    }
 }

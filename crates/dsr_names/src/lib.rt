@@ -22,4 +22,4 @@ pub use outside::Outside;
 pub use refusal::Refusal;
 pub use shape::Shape;
 pub use split::split_once;
-pub use token::{Old, read_num, read_old, read_val};
+pub use token::{NUMBER_END, Old, read_num, read_old, read_val};

@@ -1,4 +1,4 @@
-ghost use Rattle.std.specs.Prelude.{◌≡◌, ℕ, ◌-◌, ◌≤◌, List, length, Option, None, Some, Ok, IsOk, OnOk, IfErr, IfSome, vec_len, vec_capacity};
+ghost use Rattle.std.specs.Prelude.{◌≡◌, ℕ, ◌-◌, ◌≤◌, List, length, Option, None, Some, Ok, ◌<◌, IsOk, IsOkAnd, OnOk, IfErr, IfSome, vec_len, vec_capacity};
 ghost use Rattle.std.specs.Io.{WritesAtMost};
 ghost use Rattle.std.specs.Io.KnownBytes.{Appends, WriteAppends};
 ghost use Rattle.dsr_names.specs.Output.{SentFront};
@@ -17,11 +17,16 @@ pub trait Sink {
     // How many more bytes it takes without failing, where that is known.
     ghost room: { Self → Option ℕ } = { λ _. None };
 
+    // The sink never fails, and takes at least one byte where there is one.
+    ghost is_steady: { Self → Type 0 } = { λ _. ⊥ };
+
     /// Takes some bytes from the front and says how many.
     fn take(&mut self, bytes: &[u8]) -> io::Result<usize>
         ensures bound { WritesAtMost result bytes.now }
         ensures appends { WriteAppends (contents self.old) (contents self.new) result bytes.now }
-        ensures sure { IfSome (room self.old) (λ most. length bytes.now ≤ most → result ≡ Ok (length bytes.now)) };
+        ensures sure { IfSome (room self.old) (λ most. length bytes.now ≤ most → result ≡ Ok (length bytes.now)) }
+        ensures steady { is_steady self.old → IsOkAnd result (λ n. 0 < length bytes.now → 0 < n) }
+        ensures stays { is_steady self.old → is_steady self.new };
 }
 
 impl Sink for Vec<u8> {
@@ -51,6 +56,7 @@ pub fn write_output<S: Sink>(sink: &mut S, bytes: &[u8]) -> Result<(), Refusal>
     ensures front { SentFront (S.contents sink.old) (S.contents sink.new) bytes.now }
     ensures refusal { IfErr result (λ e. e ≡ Refusal.WriteFailed) }
     ensures in_room { IfSome (S.room sink.old) (λ most. length bytes.now ≤ most → IsOk result) }
+    ensures steady { S.is_steady sink.old → length bytes.now ≤ 33554432 → IsOk result }
 {
     let mut sent = 0;
     for _ in 0..MOST_CALLS {

@@ -371,6 +371,31 @@ impl Sink for Narrow {
     }
 }
 
+// A sink that takes one byte of each call, and never fails: it counts them.
+#[derive(Drop)]
+struct Dripping {
+    taken: u64,
+}
+
+impl Sink for Dripping {
+    ghost is_steady = { λ _. Unit {0} };
+
+    fn take(&mut self, bytes: &[u8]) -> io::Result<usize> {
+        let count = bytes.len().min(1);
+        self.taken = self.taken.saturating_add(count as u64);
+        Ok(count)
+    }
+}
+
+#[test]
+fn a_steady_sink_is_given_everything(rt: HostRuntime) {
+    let mut sink = Dripping { taken: 0 };
+    assert_eq!(rt; write_output(&mut sink, b"hello, world"), Ok(()));
+    assert_eq!(rt; sink.taken, 12);
+    assert_eq!(rt; write_output(&mut sink, b""), Ok(()));
+    assert_eq!(rt; sink.taken, 12);
+}
+
 #[test]
 fn an_output_is_written_whole(rt: HostRuntime) -> Result<(), Fail> {
     let mut roomy = Vec::with_capacity(rt.alloc(), 12)?;

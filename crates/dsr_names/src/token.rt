@@ -6,8 +6,8 @@ ghost use Rattle.dsr_names.specs.Token.{old_text, IsOld};
 
 use std::{fmt, str};
 
-/// One more than the greatest NUM: 2^40.
-const NUM_END: u64 = 1_099_511_627_776;
+/// One more than the greatest number of a request or a shape in a text: 2^40.
+pub const NUMBER_END: u64 = 1_099_511_627_776;
 
 /// The number that the bytes write in decimal, which may have leading zeros.
 fn digits(bytes: &[u8]) -> Option<u64>
@@ -37,7 +37,7 @@ pub fn read_val(bytes: &[u8]) -> Option<u64>
 pub fn read_num(bytes: &[u8]) -> Option<u64>
     ensures { (n : ℕ) → (result ≡ Some n) ↔ ((n < 2 ^ 40) × (bytes.now ≡ decimal n)) }
 {
-    read_val(bytes).filter(|n| *n < NUM_END)
+    read_val(bytes).filter(|n| *n < NUMBER_END)
 }
 
 /// The content of a register whose token the bytes are: `none`, or a number below 2^64. The outer

@@ -24,4 +24,5 @@ loop-preserved g c =
       (λ none. absurd (omega arith)),
       sends_all _ (g.S.Sink.room c.args.sink.now) (g.S.Sink.room c.loop.sink) sent count (length bytes) _
           c.loop.invariant.4 c.if-sent-bytes.false rest (λ none. ap g.S.Sink.room (c.loop.invariant.3 none)) c.in-Ok.ensures.sure,
+      (λ steady. c.in-Ok.ensures.stays (c.loop.invariant.5 steady)),
     )

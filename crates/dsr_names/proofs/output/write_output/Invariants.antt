@@ -8,3 +8,4 @@ invariant-loop g l =
     (l.sent ≤ length l.bytes) × Appends (g.S.Sink.contents l.initial.sink) (g.S.Sink.contents l.sink) (take l.sent l.bytes)
     × (l.counter ≤ l.sent) × (l.sent ≡ 0 → l.sink ≡ l.initial.sink)
     × IfSome (g.S.Sink.room l.initial.sink) (λ most. length l.bytes ≤ most → (l.sent ≡ 0) ⊎ (l.sent ≡ length l.bytes))
+    × (g.S.Sink.is_steady l.initial.sink → g.S.Sink.is_steady l.sink)
