@@ -1,4 +1,4 @@
-ghost use Rattle.std.specs.Prelude.{◌≡◌, ℕ, ◌+◌, ◌<◌, ◌≤◌, ◌↔◌, ◌++◌, ◌∷◌, List, [], Some, IfOk, IfErr, IsSome};
+ghost use Rattle.std.specs.Prelude.{◌≡◌, ℕ, ◌+◌, ◌<◌, ◌≤◌, ◌↔◌, ◌++◌, ◌∷◌, List, [], Some, IfOk, IfErr, IsOk, IsSome, false, vec_capacity};
 ghost use Rattle.dsr_chain.specs.SignedValue.{SignedValue};
 ghost use Rattle.dsr_chain.specs.ProperTest.{is_proper};
 ghost use Rattle.dsr_slot.specs.Keeping.{kept_after, keep_one, is_news};
@@ -72,6 +72,7 @@ impl SlotState {
         ensures stands { (read : ℕ → List SignedValue) → read round ≡ chains.old.items
             → StandsFor self.old read → StandsFor self.new read }
         ensures emptied { chains.new.items ≡ [] }
+        ensures room { vec_capacity chains.new ≡ vec_capacity chains.old }
     {
         for chain in chains.drain(..) {
             self.keep(round, chain);
@@ -87,6 +88,7 @@ impl SlotState {
         ensures stands { (read : ℕ → List SignedValue) → StandsFor self.now read → IfOk result (λ chains.
             chains.items ≡ relayed key.now round (kept_after self.now.shape self.now.slot read self.now.closed)) }
         ensures refusal { IfErr result (λ e. e ≡ Refusal.NoMemory) }
+        ensures nothing { relayed key.now round self.now.kept ≡ [] → IsOk result }
     {
         let mut chains = Vec::new(alloc);
         if let Some(kept) = &self.first {
@@ -169,6 +171,7 @@ fn relay(
     requires { IsOfSomeRound kept.now }
     ensures relayed { IfOk result (λ _. chains.new.items ≡ chains.old.items ++ relayed key.now round (kept.now ∷ [])) }
     ensures refusal { IfErr result (λ e. e ≡ Refusal.NoMemory) }
+    ensures nothing { is_relayed key.now round kept.now ≡ false → IsOk result }
 {
     if !is_relayed(kept, round, key.signer()) {
         return Ok(());
