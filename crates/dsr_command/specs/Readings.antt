@@ -1,7 +1,7 @@
 -- What a clause says of a reading of the command line.
 use Rattle.std.specs.Prelude.{List, ℕ, string_bytes}
 use Rattle.dsr_command.specs.declared.Reading.{Reading}
-use Rattle.dsr_command.specs.declared.Reading.TheVariants.{Do, Help, Usage}
+use Rattle.dsr_command.specs.declared.Reading.TheVariants.{Do, Help, NoMemory, Usage}
 use Rattle.dsr_command.specs.declared.Task.{Task}
 
 -- P of the task, where the reading is one
@@ -23,3 +23,13 @@ OnHelp _ P = Unit {0}
 abbrev pub OnUsage : Reading → Type 0 → Type 0
 OnUsage (Usage text) P = P
 OnUsage _ P = Unit {0}
+
+-- P, where memory ran out
+abbrev pub OnNoMemory : Reading → Type 0 → Type 0
+OnNoMemory NoMemory P = P
+OnNoMemory _ P = Unit {0}
+
+-- P, where the reading is no task
+abbrev pub OnNoTask : Reading → Type 0 → Type 0
+OnNoTask (Do task) P = Unit {0}
+OnNoTask _ P = P

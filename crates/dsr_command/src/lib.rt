@@ -1,13 +1,13 @@
 //! The command line of the program `dsr`, read by `clap`.
 #![tactic(auto)]
 
-ghost use Rattle.std.specs.Prelude.{◌≡◌, ◌≢◌, IfOk, codes, false, map};
+ghost use Rattle.std.specs.Prelude.{◌≡◌, ◌≢◌, ◌++◌, IfOk, codes, false, map};
 ghost use Rattle.clap.specs.Words.{FailsBy, app_of, fault_of, kind_of, new_app};
 ghost use Rattle.clap.specs.declared.builder.command.Command.TheViews.{out-Command as fields_of};
 ghost use Rattle.clap.specs.declared.error.kind.ErrorKind.TheVariants.{DisplayHelp, OutOfMemory, UnknownArgument};
 ghost use Rattle.dsr_command.specs.Asked.{asked_of, has_two_hyphens, help, task, unknown};
 ghost use Rattle.dsr_command.specs.CommandLine.{command_line, program};
-ghost use Rattle.dsr_command.specs.HelpText.{IsHelp};
+ghost use Rattle.dsr_command.specs.HelpText.{IsHelp, title};
 ghost use Rattle.dsr_command.specs.Readings.{IfDo, IfHelp, OnHelp, OnUsage};
 
 use clap::error::ErrorKind;
@@ -143,6 +143,7 @@ fn titled(alloc: Global, text: &str) -> Reading
     ensures task { IfDo result (λ _. ⊥) }
     ensures usage { OnUsage result ⊥ }
     ensures shown { IfHelp result IsHelp }
+    ensures whole { IfHelp result (λ shown. shown ≡ title ++ (codes "\n\n" ++ text.now)) }
 {
     match format!(in alloc; "{TITLE}\n\n{text}") {
         Ok(help) => Reading::Help(help),
