@@ -11,5 +11,6 @@ abbrev pub value_of : List SignedRequest → SlotValue
 value_of [] = Idle
 value_of (s ∷ ss) = Act (s ∷ ss)
 
-abbrev pub requests_in_lem : List SignedRequest → Option (List Issued)
-requests_in_lem signed = content (value_of signed)
+-- these requests without their signatures, none where there are none
+abbrev pub requests_in : List SignedRequest → Option (List Issued)
+requests_in signed = content (value_of signed)

@@ -1,10 +1,8 @@
 ghost use Rattle.std.specs.Prelude.{◌≡◌, ◌<◌, ◌≤◌, ◌↔◌, length, map, slice_get, IsSome, IfSome, IsTrue};
 
 use crate::signed_request::SignedRequest;
+use dsr_history::MOST_REQUESTS;
 use std::marker::Model;
-
-/// The most requests of one value.
-const MOST_REQUESTS: usize = 8;
 
 /// A list of 1 to 8 signed requests, of fixed size: it is copied without taking memory.
 #[derive(Clone, Copy, Debug)]

@@ -1,5 +1,5 @@
 ghost use Rattle.std.specs.Prelude.{◌≡◌, ◌<◌, ◌≤◌, ◌+◌, ◌↔◌, ◌++◌, ◌∷◌, [], Any, length, IfOk, IfErr, IsTrue};
-ghost use Rattle.dsr_chain.specs.SignedValue.{signers_of as signers_of_lem};
+ghost use Rattle.dsr_chain.specs.SignedValue.{signers_of as signers_in};
 
 use crate::shared_value::SharedValue;
 use crate::signed_request::SignedRequest;
@@ -204,7 +204,7 @@ impl Chain {
 /// Who signed, in their order.
 pub(crate) fn signers_of(signatures: &[Signature]) -> Signers
     requires { length signatures.now ≤ 16 }
-    ensures { result ≡ signers_of_lem signatures.now }
+    ensures { result ≡ signers_in signatures.now }
 {
     let mut signers = Signers::new();
     for signature in signatures {

@@ -86,10 +86,7 @@ fn is_on_link(signature: &Signature, slot: u64, value: &Option<Requests>, before
 fn is_replica(shape: &Shape, actor: Actor) -> bool
     ensures { IsTrue result ↔ IsReplica shape.now actor }
 {
-    match actor {
-        Actor::Replica(replica) => replica.number() < shape.n(),
-        Actor::Client(_) => false,
-    }
+    matches!(actor, Actor::Replica(_)) && shape.has(actor)
 }
 
 /// Whether the first of the signers is this replica.

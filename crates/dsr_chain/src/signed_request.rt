@@ -19,10 +19,9 @@ impl SignedRequest {
     pub fn by(request: Request, key: &Key) -> SignedRequest
         ensures { result ≡ signed_by request key.now }
     {
-        let asked = request;
         SignedRequest {
             request,
-            signature: key.sign(Statement::Ask(asked)),
+            signature: key.sign(Statement::Ask(request)),
         }
     }
 

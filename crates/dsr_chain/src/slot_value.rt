@@ -1,9 +1,9 @@
 ghost use Rattle.std.specs.Prelude.{◌≡◌, ◌≤◌, ◌↔◌, length, IsTrue};
-ghost use Rattle.dsr_chain.specs.SignedLists.{requests_in_lem};
+ghost use Rattle.dsr_chain.specs.SignedLists.{requests_in as requests_of};
 
 use crate::batch::Batch;
 use crate::signed_request::SignedRequest;
-use dsr_history::{Request, Requests};
+use dsr_history::{MOST_REQUESTS, Request, Requests};
 
 /// What a slot is given: nothing, or signed requests. It is copied without taking memory.
 #[derive(Clone, Copy, Debug, PartialEq, Eq)]
@@ -38,12 +38,12 @@ impl SlotValue {
 /// The requests without their signatures, or `None` where there are none.
 pub(crate) fn requests_in(signed: &[SignedRequest]) -> Option<Requests>
     requires { length signed.now ≤ 8 }
-    ensures { result ≡ requests_in_lem signed.now }
+    ensures { result ≡ requests_of signed.now }
 {
     if signed.is_empty() {
         return None;
     }
-    let mut requests: [Request; 8] = [signed[0].request; 8];
+    let mut requests: [Request; MOST_REQUESTS] = [signed[0].request; MOST_REQUESTS];
     for i in 0..signed.len() {
         requests[i] = signed[i].request;
     }

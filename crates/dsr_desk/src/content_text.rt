@@ -13,10 +13,7 @@ pub fn read_content(bytes: &[u8]) -> Option<Option<Requests>>
     if bytes == b"idle".as_slice() {
         return Some(None);
     }
-    match Requests::read(bytes) {
-        Some(requests) => Some(Some(requests)),
-        None => None,
-    }
+    Requests::read(bytes).map(Some)
 }
 
 /// What a slot carries as texts spell it: `idle`, or its requests joined by commas.

@@ -4,7 +4,7 @@ use dsr_names::{Actor, ReplicaId};
 use std::marker::Model;
 
 /// The most signers of one list.
-const MOST_SIGNERS: usize = 16;
+pub(crate) const MOST_SIGNERS: usize = 16;
 
 /// A list of at most 16 actors, of fixed size: it is copied without taking memory.
 #[derive(Clone, Copy, Debug)]

@@ -3,7 +3,7 @@ ghost use Rattle.dsr_names.specs.declared.actor.Actor.{Actor};
 ghost use Rattle.dsr_desk.specs.SignersText.{signers_text, IsSigners};
 ghost use Rattle.dsr_desk.specs.SpellsAfter.{SpellsAfter};
 
-use crate::signers::Signers;
+use crate::signers::{MOST_SIGNERS, Signers};
 use dsr_names::{Actor, split_once};
 use std::fmt;
 
@@ -42,7 +42,7 @@ fn read_joined(bytes: &[u8], before: Signers) -> Option<Signers>
     ensures spelled { IfSome result (SpellsAfter before bytes.now) }
     ensures read { (all : List Actor) → SpellsAfter before bytes.now all → result ≡ Some all }
 {
-    if before.len() == 16 {
+    if before.len() == MOST_SIGNERS {
         return None;
     }
     match split_once(bytes, b'+') {

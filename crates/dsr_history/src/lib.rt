@@ -17,4 +17,4 @@ pub use apply::run_apply;
 pub use laws::{history_is_legal, history_only_grows};
 pub use machine::Machine;
 pub use request::Request;
-pub use requests::Requests;
+pub use requests::{MOST_REQUESTS, Requests};

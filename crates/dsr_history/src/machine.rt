@@ -5,14 +5,12 @@ ghost use Rattle.dsr_history.specs.History.{acted, acting, rises_above, operatio
 ghost use Rattle.dsr_history.specs.MachineState.{Stands};
 
 use crate::request::Request;
+use crate::requests::MOST_REQUESTS;
 use dsr_ledger::{Ledger, Reply};
 use dsr_names::{ClientId, Refusal, Shape};
 use dsr_register::{Answer, Directory, Name};
 use std::alloc::Global;
 use std::marker::Model;
-
-/// The most requests of one value.
-const MOST_REQUESTS: usize = 8;
 
 /// The sequential directory that processes values one after another, and keeps the history of the requests
 /// that acted, their answers, and the last reply of each client. It replays nothing: the directory is kept
@@ -71,7 +69,8 @@ impl Machine {
     }
 
     /// Processes the requests of a value in the order of its list, and says how many of them acted; the empty
-    /// list is the idle value. `NoMemory` where there was no room and no memory for it: then nothing changed.
+    /// list is the idle value. Asks for at most 8 requests, all of clients of the shape, and a history shorter
+    /// than 2^39. `NoMemory` where there was no room and no memory for it: then nothing changed but the room.
     pub fn accept_value(&mut self, requests: &[Request]) -> Result<u8, Refusal>
         requires few { length requests.now ≤ 8 }
         requires clients { All (λ r. r.client < self.old.clients) requests.now }

@@ -1,12 +1,9 @@
 ghost use Rattle.std.specs.Prelude.{◌≡◌, ◌<◌, ◌^◌, ◌↔◌, IsOk, IfOk, IfErr, IsTrue};
 ghost use Rattle.dsr_history.specs.Issued.{issued};
 
-use dsr_names::{ClientId, Refusal};
+use dsr_names::{ClientId, NUMBER_END, Refusal};
 use dsr_register::Op;
 use std::marker::Model;
-
-/// One more than the greatest request number: 2^40.
-const NUMBER_END: u64 = 1_099_511_627_776;
 
 /// An operation that a client wants, under a number of its own from 1 to 2^40-1. A request is copied
 /// without taking memory.

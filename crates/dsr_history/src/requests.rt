@@ -5,7 +5,7 @@ use crate::request::Request;
 use std::marker::Model;
 
 /// The most requests of one value.
-pub(crate) const MOST_REQUESTS: usize = 8;
+pub const MOST_REQUESTS: usize = 8;
 
 /// A list of 1 to 8 requests, of fixed size: it is copied without taking memory.
 #[derive(Clone, Copy, Debug)]
@@ -84,7 +84,7 @@ impl Requests {
         self.len as usize
     }
 
-    /// The request at this place, counted from 0.
+    /// The request at this place, counted from 0; `None` past the end.
     pub fn get(&self, place: usize) -> Option<Request>
         ensures { result ≡ slice_get self.now place }
     {

@@ -6,7 +6,8 @@ ghost use Rattle.dsr_names.specs.Token.{old_text, IsOld};
 
 use std::{fmt, str};
 
-/// One more than the greatest number of a request or a shape in a text: 2^40.
+/// One more than the greatest number of a request, and the greatest that a text may have but for a register's
+/// value: 2^40.
 pub const NUMBER_END: u64 = 1_099_511_627_776;
 
 /// The number that the bytes write in decimal, which may have leading zeros.
@@ -48,10 +49,7 @@ pub fn read_old(bytes: &[u8]) -> Option<Option<u64>>
     if bytes == b"none".as_slice() {
         return Some(None);
     }
-    match read_val(bytes) {
-        Some(number) => Some(Some(number)),
-        None => None,
-    }
+    read_val(bytes).map(Some)
 }
 
 /// A register's content as texts spell it: `none`, or the number.

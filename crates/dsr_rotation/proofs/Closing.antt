@@ -9,7 +9,7 @@ next_count : (f c t : ℕ) → c ≡ t - f → (if c + f == t then suc c else c)
 next_count f c t is_now = grind (arith, nat_tests)
 
 -- all but the last f of the slots that began are closed
-pub closed_slots_lem : (shape : Members) (t : ℕ) → closed_slots shape t ≡ t - shape.f
+pub closed_slots_count : (shape : Members) (t : ℕ) → closed_slots shape t ≡ t - shape.f
 unfolding closed_slots first_round
-closed_slots_lem shape zero = omega arith
-closed_slots_lem shape (suc t) = next_count shape.f (closed_slots shape t) t (closed_slots_lem shape t)
+closed_slots_count shape zero = omega arith
+closed_slots_count shape (suc t) = next_count shape.f (closed_slots shape t) t (closed_slots_count shape t)

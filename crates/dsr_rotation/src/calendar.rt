@@ -47,7 +47,7 @@ impl Calendar {
 
     /// The slots in flight in global round `t`. The last of them begins with that round. The first is the
     /// next to close: as many slots as its number are closed before round `t`.
-    #[tactic(auto, using(crate::proofs::Closing::closed_slots_lem), unfolding(crate::specs::Calendar::first_round))]
+    #[tactic(auto, using(crate::proofs::Closing::closed_slots_count), unfolding(crate::specs::Calendar::first_round))]
     pub fn slots_in(&self, t: u64) -> Slots
         ensures in_flight { (slot : ℕ) → IsInFlight self.now slot t
             ↔ ((result.first ≤ slot) × (slot ≤ result.last)) }
@@ -78,7 +78,7 @@ impl Calendar {
     }
 
     /// The slot that closes with global round `t`, where one does. It is the next in the order of slots.
-    #[tactic(auto, using(crate::proofs::Closing::closed_slots_lem), unfolding(crate::specs::Calendar::first_round))]
+    #[tactic(auto, using(crate::proofs::Closing::closed_slots_count), unfolding(crate::specs::Calendar::first_round))]
     pub fn closes(&self, t: u64) -> Option<u64>
         ensures slot { (slot : ℕ) → (result ≡ Some slot) ↔ ClosesWith self.now slot t }
         ensures next { (slot : ℕ) → (result ≡ Some slot)
