@@ -64,7 +64,7 @@ impl Batch {
         self.len as usize
     }
 
-    /// The signed request at this place, counted from 0.
+    /// The signed request at this place, counted from 0; `None` past the end.
     pub fn get(&self, place: usize) -> Option<SignedRequest>
         ensures { result ≡ slice_get self.now place }
     {

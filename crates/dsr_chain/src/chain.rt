@@ -56,8 +56,8 @@ impl Chain {
         Chain::of(alloc, slot, value, signatures)
     }
 
-    /// The chain with the key's signature put at its end, on the link that fits there. The chain itself
-    /// comes back with `NoMemory`, where a growth is refused.
+    /// The chain with the key's signature put at its end, on the link that fits there. Asks that it has
+    /// fewer than 16. The chain itself comes back with `NoMemory`, where a growth is refused.
     pub fn extend(self, alloc: Global, key: &Key) -> Result<Chain, (Chain, Refusal)>
         requires { length self.signatures < 16 }
         ensures extended { IfOk result (λ chain. chain ≡ extended self key.now) }
@@ -70,7 +70,8 @@ impl Chain {
         }
     }
 
-    /// The chain of these parts, whatever they are. `NoMemory` where a growth is refused.
+    /// The chain of these parts, whatever they are, but that it has at most 16 signatures. `NoMemory` where a
+    /// growth is refused: then the list of signatures is gone.
     pub fn of(
         alloc: Global,
         slot: u64,

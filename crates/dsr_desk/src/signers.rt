@@ -41,7 +41,7 @@ impl Signers {
         }
     }
 
-    /// Puts the actor at the end of the list.
+    /// Puts the actor at the end of the list, which must have fewer than 16.
     pub fn push(&mut self, actor: Actor)
         requires { length self.old < 16 }
         ensures { self.new ≡ self.old ++ actor ∷ [] }

@@ -10,8 +10,11 @@ pub enum Statement {
     Ask(Request),
     /// This slot's value has these requests, or none where it is idle, after these signed it.
     Link {
+        /// The slot.
         slot: u64,
+        /// The content of the slot's value: its requests without their signatures, none where it is idle.
         value: Option<Requests>,
+        /// Those who signed before, the sender first.
         before: Signers,
     },
 }

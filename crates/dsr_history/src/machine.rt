@@ -161,7 +161,7 @@ impl Machine {
         }
     }
 
-    /// What the register holds after the whole history.
+    /// What the register holds after the whole history; `None` where it holds nothing.
     pub fn get(&self, name: &Name) -> Option<u64>
         ensures { result ≡ value (operations self.now.history) name.now }
     {

@@ -34,8 +34,8 @@ impl Ledger {
         }
     }
 
-    /// Whether a request of this client with this number would act: its number is above the one of the
-    /// kept reply, or at least 1 where none is kept.
+    /// Whether a request of this client, one of the ledger's, with this number would act: its number is above
+    /// the one of the kept reply, or at least 1 where none is kept.
     pub fn acts(&self, client: ClientId, number: u64) -> bool
         requires { client < length self.now }
         ensures { IsTrue result ↔ Acts (kept_of self.now client) number }
@@ -58,7 +58,8 @@ impl Ledger {
         }
     }
 
-    /// Keeps this reply as the client's last one; its number is one that acts.
+    /// Keeps this reply as the last one of the client. Asks that it is one of the ledger's, and that the reply's
+    /// number acts.
     pub fn note(&mut self, client: ClientId, reply: Reply)
         requires inside { client < length self.old }
         requires acts { Acts (kept_of self.old client) reply.number }

@@ -53,7 +53,7 @@ impl Directory {
         self.entries.clear();
     }
 
-    /// What the register holds.
+    /// What the register holds; `None` where it holds nothing.
     pub fn get(&self, name: &Name) -> Option<u64>
         ensures content { result ≡ content self.now name.now }
         ensures value { (ops : List Op) → StandsFor self.now ops → result ≡ value ops name.now }

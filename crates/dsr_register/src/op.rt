@@ -13,21 +13,28 @@ use std::fmt;
 pub enum Op {
     /// What the register holds.
     Read {
+        /// The register.
         name: Name,
     },
     /// Let it hold this value.
     Write {
+        /// The register.
         name: Name,
+        /// What it is to hold.
         value: u64,
     },
     /// Let it hold `to` where it holds `from`.
     Swap {
+        /// The register.
         name: Name,
+        /// What it must hold for that, none where it must hold nothing.
         from: Option<u64>,
+        /// What it is to hold then.
         to: u64,
     },
     /// Let it hold nothing.
     Remove {
+        /// The register.
         name: Name,
     },
 }

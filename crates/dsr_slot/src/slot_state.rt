@@ -62,9 +62,10 @@ impl SlotState {
         self.closed
     }
 
-    /// Closes the slot's round, the next one, in which these chains were read, in this order. It takes them
-    /// out of the list, and keeps those that are proper and new as long as fewer than two are kept. A chain
-    /// whose content is kept is dropped before its signatures are looked at.
+    /// Closes the slot's round, in which these chains were read, in this order. Asks that it is the next one,
+    /// `closed_rounds` and one, and at most f+1. It takes the chains out of the list, whose room stays, and keeps
+    /// those that are proper and new as long as fewer than two are kept. A chain whose content is kept is dropped
+    /// before its signatures are looked at.
     pub fn close_round(&mut self, round: u8, chains: &mut Vec<Chain>)
         requires next { round ≡ self.old.closed + 1 }
         requires within { round ≤ self.old.shape.f + 1 }
@@ -82,7 +83,7 @@ impl SlotState {
 
     /// The chains that the key's holder relays in this round of the slot: those that were kept in the round
     /// before and that it has not signed, with its signature put at their end, in the order in which they were
-    /// kept. `NoMemory` where a growth is refused.
+    /// kept. `NoMemory` where a growth is refused; relaying nothing takes no memory.
     pub fn relays(&self, alloc: Global, round: u8, key: &Key) -> Result<Vec<Chain>, Refusal>
         ensures relayed { IfOk result (λ chains. chains.items ≡ relayed key.now round self.now.kept) }
         ensures stands { (read : ℕ → List SignedValue) → StandsFor self.now read → IfOk result (λ chains.
