@@ -48,7 +48,8 @@ impl fmt::Display for Statement {
 
 /// The link of the slot, the content and the signers before, each as bytes.
 fn read_link(slot: &[u8], content: &[u8], before: &[u8]) -> Option<Statement>
-    ensures { (statement : Statement) → (result ≡ Some statement) ↔ (IsStatement statement × HasParts slot.now content.now before.now statement) }
+    ensures { (statement : Statement) → (result ≡ Some statement)
+        ↔ (IsStatement statement × HasParts slot.now content.now before.now statement) }
 {
     let slot = read_num(slot)?;
     let value = read_content(content)?;

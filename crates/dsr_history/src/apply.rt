@@ -23,7 +23,8 @@ impl Run {
     fn answer(&mut self, request: &Request) -> Result<(), Refusal>
         requires client { request.now.client < self.old.machine.clients }
         requires short { length self.old.machine.history < 2 ^ 39 }
-        ensures done { OnOk result ((older : List Issued) → Stands self.old.machine (values_of older) → self.old.answers.items ≡ applied older
+        ensures done { OnOk result ((older : List Issued) → Stands self.old.machine (values_of older)
+            → self.old.answers.items ≡ applied older
             → Stands self.new.machine (values_of (request.now ∷ older)) × (self.new.answers.items ≡ applied (request.now ∷ older))) }
         ensures refusal { IfErr result (λ e. e ≡ Refusal.NoMemory) }
         ensures clients { self.new.machine.clients ≡ self.old.machine.clients }
@@ -106,7 +107,8 @@ pub fn run_apply<S: Source, K: Sink>(
 ) -> Result<(), Refusal>
     ensures done { OnOk result (AppliedAll (S.left source.old) (K.contents sink.old) (K.contents sink.new)) }
     ensures refused { IfErr result (λ e. StandsAfter e (S.left source.old) (K.room sink.old) (K.contents sink.old) (K.contents sink.new)) }
-    ensures in_memory { S.is_in_memory source.old → IsErrOf result Refusal.ReadFailed → IfSome (S.left source.old) (λ bytes. 16777216 < length bytes) }
+    ensures in_memory { S.is_in_memory source.old → IsErrOf result Refusal.ReadFailed
+        → IfSome (S.left source.old) (λ bytes. 16777216 < length bytes) }
 {
     let text = read_input(alloc, source)?;
     let shape = Shape::new(1, 0, 32, 0)?;

@@ -46,7 +46,8 @@ pub(crate) fn read_request(bytes: &[u8], mark: u8, separator: u8) -> Option<Requ
 fn read_parts(client: &[u8], number: &[u8], op: &[u8], separator: u8) -> Option<Request>
     requires { (separator ≡ 32) ⊎ (separator ≡ 58) }
     ensures { (request : Issued) → (result ≡ Some request)
-        ↔ (IsRequest request × (client.now ≡ actor_text (Client request.client)) × (number.now ≡ decimal request.number) × (op.now ≡ op_text separator request.op)) }
+        ↔ (IsRequest request × (client.now ≡ actor_text (Client request.client)) × (number.now ≡ decimal request.number)
+        × (op.now ≡ op_text separator request.op)) }
 {
     let client = read_client(client)?;
     let number = read_num(number)?;

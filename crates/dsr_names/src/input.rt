@@ -28,7 +28,8 @@ pub trait Source {
         ensures bound { ReadsAtMost result buffer.new }
         ensures bytes { ReadConsumes (left self.old) (left self.new) result buffer.new }
         ensures stays { is_in_memory self.old → is_in_memory self.new }
-        ensures sure { is_in_memory self.old → IfSome (left self.old) (λ bytes. IsOkAnd result (λ n. n ≡ min (length bytes) (length buffer.new))) };
+        ensures sure { is_in_memory self.old → IfSome (left self.old) (λ bytes.
+            IsOkAnd result (λ n. n ≡ min (length bytes) (length buffer.new))) };
 }
 
 impl Source for &[u8] {
@@ -57,7 +58,8 @@ pub fn read_input<S: Source>(alloc: Global, source: &mut S) -> Result<Vec<u8>, R
     ensures end { OnOk result (IsAtEnd (S.left source.new)) }
     ensures fits { IfOk result (λ text. vec_len text ≤ 16777216) }
     ensures refusals { IfErr result IsReadRefusal }
-    ensures in_memory { S.is_in_memory source.old → IsErrOf result Refusal.ReadFailed → IfSome (S.left source.old) (λ bytes. 16777216 < length bytes) }
+    ensures in_memory { S.is_in_memory source.old → IsErrOf result Refusal.ReadFailed
+        → IfSome (S.left source.old) (λ bytes. 16777216 < length bytes) }
 {
     let mut text = Vec::new(alloc);
     let mut buffer = [0u8; 8192];
@@ -94,7 +96,8 @@ fn next_bytes<S: Source>(source: &mut S, buffer: &mut [u8]) -> Result<usize, Ref
     ensures bound { ReadsAtMost result buffer.new }
     ensures bytes { ReadConsumes (S.left source.old) (S.left source.new) result buffer.new }
     ensures stays { S.is_in_memory source.old → S.is_in_memory source.new }
-    ensures sure { S.is_in_memory source.old → IfSome (S.left source.old) (λ bytes. IsOkAnd result (λ n. n ≡ min (length bytes) (length buffer.new))) }
+    ensures sure { S.is_in_memory source.old → IfSome (S.left source.old) (λ bytes.
+        IsOkAnd result (λ n. n ≡ min (length bytes) (length buffer.new))) }
     ensures refusal { IfErr result (λ e. e ≡ Refusal.ReadFailed) }
 {
     match source.give(buffer) {

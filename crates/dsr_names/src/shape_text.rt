@@ -76,7 +76,8 @@ fn within_limits(n: u64, f: u64, m: u64, traitors: u16) -> Result<Shape, Refusal
 /// A number and the space after it at the front of the bytes, and what follows.
 fn read_field(bytes: &[u8]) -> Option<(u64, &[u8])>
     ensures spelled { IfSome result (λ field. (field.0 < 2 ^ 40) × (bytes.now ≡ decimal field.0 ++ (codes " " ++ field.1.now))) }
-    ensures read { (n : ℕ) (rest : List ℕ) → n < 2 ^ 40 → bytes.now ≡ decimal n ++ (codes " " ++ rest) → IsSomeAnd result (λ field. (field.0 ≡ n) × (field.1.now ≡ rest)) }
+    ensures read { (n : ℕ) (rest : List ℕ) → n < 2 ^ 40 → bytes.now ≡ decimal n ++ (codes " " ++ rest)
+        → IsSomeAnd result (λ field. (field.0 ≡ n) × (field.1.now ≡ rest)) }
 {
     let (front, rest) = split_once(bytes, b' ')?;
     let number = read_num(front)?;

@@ -105,7 +105,8 @@ impl Directory {
     /// Lets the register hold the value, if it holds one or not all 1,024 are taken.
     fn put(&mut self, name: Name, value: u64) -> bool
         ensures done { result ≡ not (is_blocked (content self.old name) (nat_le 1024 (length self.old))) }
-        ensures contents { (other : List ℕ) → content self.new other ≡ (if bytes_eq name other && result then Some value else content self.old other) }
+        ensures contents { (other : List ℕ) → content self.new other
+            ≡ (if bytes_eq name other && result then Some value else content self.old other) }
     {
         match self.find(&name) {
             Ok(place) => {
@@ -147,7 +148,9 @@ impl Directory {
     fn write(&mut self, name: Name, value: u64) -> Answer
         ensures rises { IsAscending self.old }
         ensures answer { result ≡ answer_on (Op.Write name value) (content self.old name) (nat_le 1024 (length self.old)) }
-        ensures contents { (other : List ℕ) → content self.new other ≡ (if bytes_eq name other then left_by (Op.Write name value) (content self.old other) (nat_le 1024 (length self.old)) else content self.old other) }
+        ensures contents { (other : List ℕ) → content self.new other ≡ (if bytes_eq name other
+            then left_by (Op.Write name value) (content self.old other) (nat_le 1024 (length self.old))
+            else content self.old other) }
     {
         // The contract speaks of the table's order, which is known where a field is used.
         let _ = &self.entries;
@@ -162,7 +165,9 @@ impl Directory {
     fn swap(&mut self, name: Name, from: Option<u64>, to: u64) -> Answer
         ensures rises { IsAscending self.old }
         ensures answer { result ≡ answer_on (Op.Swap name from to) (content self.old name) (nat_le 1024 (length self.old)) }
-        ensures contents { (other : List ℕ) → content self.new other ≡ (if bytes_eq name other then left_by (Op.Swap name from to) (content self.old other) (nat_le 1024 (length self.old)) else content self.old other) }
+        ensures contents { (other : List ℕ) → content self.new other ≡ (if bytes_eq name other
+            then left_by (Op.Swap name from to) (content self.old other) (nat_le 1024 (length self.old))
+            else content self.old other) }
     {
         // The contract speaks of the table's order, which is known where a field is used.
         let _ = &self.entries;
