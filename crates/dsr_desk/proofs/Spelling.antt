@@ -1,64 +1,23 @@
 -- Tokens of signers, cut at a plus.
-use Rattle.std.proofs.Common.{◌≡◌, ◌≢◌, ℕ, zero, suc, ◌+◌, ◌^◌, ◌<◌, ◌≤◌, List, [], ◌∷◌, ◌++◌, ◌↔◌, Option, None, Some, IfSome, codes, length, get_or, take, refl, sym, ap, ◌∙◌, subst, append_assoc, arith, lit<, length-append}
+use Rattle.std.proofs.Common.{◌≡◌, ℕ, suc, ◌+◌, ◌<◌, ◌≤◌, List, [], ◌∷◌, ◌++◌, ◌↔◌, Option, None, Some, IfSome, codes, length, get_or, take, refl, sym, ap, ◌∙◌, subst, append_assoc, arith, lit<, length-append}
 use Rattle.std.specs.Prelude.{All}
 use Rattle.std.specs.Fmt.{decimal}
-use Rattle.std.specs.Str.Parse.{AllDigits, digits_value}
-use Rattle.std.proofs.lemmas.Fmt.{digits_decimal}
-use Rattle.std.proofs.lemmas.List.{get_or_at, append-nil, take_more}
+use Rattle.std.proofs.lemmas.List.{append-nil, take_more}
 use Rattle.std.proofs.lemmas.List.Elements.{All-nil, All-cons, All-head, All-tail}
-use Rattle.std.proofs.lemmas.Str.Parse.{IsNumeralModel, numerals_by_value, tells_digits, digit_at}
 use Rattle.dsr_names.specs.Actor.{IsNumbered, actor_text}
-use Rattle.dsr_names.specs.Split.{IsAbsent}
 use Rattle.dsr_names.specs.declared.actor.Actor.{Actor}
 use Rattle.dsr_names.specs.declared.actor.Actor.TheVariants.{Replica, Client}
+use Rattle.dsr_names.proofs.Marks.{IsFree, not_free, cut_once, decimal_free, front_free}
+use Rattle.std.proofs.lemmas.Option.{none-some, same_Some}
 use Rattle.dsr_desk.specs.SignersText.{signers_text, more_signers_text, IsSigners}
 use Rattle.dsr_desk.specs.SpellsAfter.{SpellsAfter}
 
 -- ---- marks
 
--- the mark stands nowhere in the bytes
-abbrev pub IsFree : ℕ → List ℕ → Type 0
-IsFree mark bytes = (k : ℕ) → k < length bytes → get_or bytes k 0 ≢ mark
-
-pub free : (mark : ℕ) (bytes : List ℕ) → IsAbsent mark bytes → IsFree mark bytes
-free mark bytes h k lt = h k 0 lt
-
--- what holds a mark is not free of it
-not_free : (mark : ℕ) (a b bs : List ℕ) → bs ≡ a ++ mark ∷ b → IsFree mark bs → ⊥
-not_free mark a b bs e free =
-    let at : get_or (a ++ mark ∷ b) (length a) 0 ≡ mark = get_or_at a mark b 0 (length a) refl in
-    let here : get_or bs (length a) 0 ≡ mark = ap (λ xs. get_or xs (length a) 0) e ∙ at in
-    let whole : length bs ≡ length a + suc (length b) = ap length e ∙ length-append a (mark ∷ b) in
-    free (length a) (omega arith) here
-
--- the first mark cuts bytes in one way only
-cut_once : (mark : ℕ) (a b c d : List ℕ) → IsFree mark a → IsFree mark c → a ++ mark ∷ b ≡ c ++ mark ∷ d → (a ≡ c) × (b ≡ d)
-cut_once mark [] b [] d fa fc e = (refl, cc)
-cut_once mark [] b (y ∷ c) d fa fc e = let same : mark ≡ y = cc in absurd (fc 0 (omega arith) (sym same))
-cut_once mark (x ∷ a) b [] d fa fc e = let same : x ≡ mark = cc in absurd (fa 0 (omega arith) same)
-cut_once mark (x ∷ a) b (y ∷ c) d fa fc e =
-    let tails : a ++ mark ∷ b ≡ c ++ mark ∷ d = cc in
-    let rest : (a ≡ c) × (b ≡ d) = cut_once mark a b c d (λ k h. fa (suc k) (omega arith)) (λ k h. fc (suc k) (omega arith)) tails in
-    let heads : x ≡ y = cc in
-    let front : a ≡ c = rest.0 in
-    (cc, rest.1)
-
-own : IsNumeralModel (AllDigits 10) (digits_value 10)
-own = numerals_by_value (AllDigits 10) tells_digits
-
-decimal_free : (n : ℕ) → n < 2 ^ 64 → IsFree 43 (decimal n)
-decimal_free n small k h e =
-    let digit = digit_at (decimal n) k (digits_decimal own n small) h in
-    omega (arith, digit)
-
-letter_free : (letter : ℕ) (bs : List ℕ) → 43 < letter → IsFree 43 bs → IsFree 43 (letter ∷ bs)
-letter_free letter bs other free zero h = λ e. omega arith
-letter_free letter bs other free (suc k) h = free k (omega arith)
-
 -- no token of an actor holds a plus
 actor_free : (a : Actor) → IsNumbered a → IsFree 43 (actor_text a)
-actor_free (Replica r) small k h = letter_free 114 (decimal r) (lit< tt) (decimal_free r (omega (arith, small))) k h
-actor_free (Client c) small k h = letter_free 99 (decimal c) (lit< tt) (decimal_free c (omega (arith, small))) k h
+actor_free (Replica r) small k h = front_free 114 43 (decimal r) (lit< tt) (decimal_free 43 r (lit< tt) (omega (arith, small))) k h
+actor_free (Client c) small k h = front_free 99 43 (decimal c) (lit< tt) (decimal_free 43 c (lit< tt) (omega (arith, small))) k h
 
 -- ---- signers joined
 
@@ -147,12 +106,6 @@ pub spells_cut : (before all : List Actor) (bs front rest : List ℕ) → Spells
     → Cut before front rest all
 spells_cut before all bs front rest s free parts = cut before all bs front rest s.first s.more s.numbered s.text s.all_are s.few free parts
 
-pub none_is_some : {A : Type 0} (x : A) → ◌≡◌ {A = Option A} None (Some x) → ⊥
-none_is_some x e = cc
-
-pub same_some : {A : Type 0} (x y : A) → ◌≡◌ {A = Option A} (Some x) (Some y) → x ≡ y
-same_some x y e = cc
-
 -- what spells the signers after one more spells them after the signers before it
 pub spelled_more : (before after : List Actor) (bs front rest : List ℕ) (a : Actor) (r : Option (List Actor)) → bs ≡ front ++ 43 ∷ rest
     → IsNumbered a → front ≡ actor_text a → after ≡ before ++ a ∷ [] → IfSome r (SpellsAfter after rest) → IfSome r (SpellsAfter before bs)
@@ -176,9 +129,9 @@ whole_spelled bs (a ∷ rest) r some reads h =
 pub reads_whole : (bs : List ℕ) (r : Option (List Actor)) → (bs ≡ codes "-" → ⊥) → IfSome r (SpellsAfter [] bs)
     → ((all : List Actor) → SpellsAfter [] bs all → r ≡ Some all)
     → (signers : List Actor) → (r ≡ Some signers) ↔ (IsSigners signers × (bs ≡ signers_text signers))
-reads_whole bs None some spelled reads signers = (λ e. absurd (none_is_some signers e), whole_spelled bs signers None some reads)
+reads_whole bs None some spelled reads signers = (λ e. absurd (none-some signers e), whole_spelled bs signers None some reads)
 reads_whole bs (Some all) some spelled reads signers =
-    (λ e. spelled_whole bs signers (subst (SpellsAfter [] bs) (same_some all signers e) spelled), whole_spelled bs signers (Some all) some reads)
+    (λ e. spelled_whole bs signers (subst (SpellsAfter [] bs) (same_Some all signers e) spelled), whole_spelled bs signers (Some all) some reads)
 
 -- ---- writing
 

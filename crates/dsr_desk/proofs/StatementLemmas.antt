@@ -1,6 +1,7 @@
 -- Texts of statements, cut at the slashes.
 use Rattle.std.proofs.Common.{rules, ◌≡◌, ℕ, ◌^◌, ◌<◌, ◌↔◌, List, ◌∷◌, ◌++◌, Option, None, Some, refl, sym, ap, ◌∙◌, subst, arith}
 use Rattle.std.specs.Fmt.{decimal}
+use Rattle.std.proofs.lemmas.Option.{none-some, same_Some}
 use Rattle.dsr_names.specs.Split.{IsAbsent}
 use Rattle.dsr_names.specs.declared.actor.Actor.{Actor}
 use Rattle.dsr_register.proofs.SplitLemmas.{one_cut, not_absent}
@@ -33,12 +34,6 @@ ReadsSigners bytes before = (signers : List Actor) → (Some before ≡ Some sig
 
 abbrev ReadsLink : List ℕ → List ℕ → List ℕ → Option Statement → Type 0
 ReadsLink slot content before answer = (statement : Statement) → (answer ≡ Some statement) ↔ (IsStatement statement × HasParts slot content before statement)
-
-none_is_some : {A : Type 0} (x : A) → ◌≡◌ {A = Option A} None (Some x) → ⊥
-none_is_some x e = cc
-
-same_some : {A : Type 0} (x y : A) → ◌≡◌ {A = Option A} (Some x) (Some y) → x ≡ y
-same_some x y e = cc
 
 -- ---- slashes
 
@@ -73,20 +68,20 @@ spelled_asked bytes r free reads (Link slot value before) h e =
 
 pub no_request : (bytes : List ℕ) → IsAbsent 47 bytes → ReadsRequest bytes None → Reads bytes None
 no_request bytes free reads statement = (
-  λ e. absurd (none_is_some statement e),
+  λ e. absurd (none-some statement e),
   λ h.
       let asked = spelled_asked bytes None free reads statement h.0 h.1 in
-      absurd (none_is_some asked.0 asked.1),
+      absurd (none-some asked.0 asked.1),
 )
 
 pub one_request : (bytes : List ℕ) (request : Issued) → IsAbsent 47 bytes → ReadsRequest bytes (Some request) → Reads bytes (Some (Ask request))
 one_request bytes request free reads statement = (
   λ e.
       let read = (reads request).0 refl in
-      ask_text bytes request statement (same_some (Ask request) statement e) read.0 read.1,
+      ask_text bytes request statement (same_Some (Ask request) statement e) read.0 read.1,
   λ h.
       let asked = spelled_asked bytes (Some request) free reads statement h.0 h.1 in
-      ap Some (ap Ask (same_some request asked.0 asked.1) ∙ sym asked.2),
+      ap Some (ap Ask (same_Some request asked.0 asked.1) ∙ sym asked.2),
 )
 
 -- ---- slashes: a link
@@ -102,7 +97,7 @@ one_slash bytes front rest parts free_front free_rest (Link slot value before) h
 
 pub no_link : (bytes front rest : List ℕ) → bytes ≡ front ++ 47 ∷ rest → IsAbsent 47 front → IsAbsent 47 rest → Reads bytes None
 no_link bytes front rest parts free_front free_rest statement =
-    (λ e. absurd (none_is_some statement e), λ h. absurd (one_slash bytes front rest parts free_front free_rest statement h.0 h.1))
+    (λ e. absurd (none-some statement e), λ h. absurd (one_slash bytes front rest parts free_front free_rest statement h.0 h.1))
 
 -- two cuts give the parts
 parts_of : (bytes front rest content before : List ℕ) → bytes ≡ front ++ 47 ∷ rest → IsAbsent 47 front → rest ≡ content ++ 47 ∷ before
@@ -143,16 +138,16 @@ parts_link : (slot_bytes content_bytes before_bytes : List ℕ) (slot : ℕ) (va
     → HasParts slot_bytes content_bytes before_bytes statement → Link slot value before ≡ statement
 parts_link slot_bytes content_bytes before_bytes slot value before s v b (Ask request) h parts = absurd parts
 parts_link slot_bytes content_bytes before_bytes slot value before s v b (Link slot' value' before') h parts =
-    let same_slot = same_some slot slot' ((s slot').1 (h.0, parts.0)) in
-    let same_value = same_some value value' ((v value').1 (h.1, parts.1)) in
-    let same_before = same_some before before' ((b before').1 (h.2, parts.2)) in
+    let same_slot = same_Some slot slot' ((s slot').1 (h.0, parts.0)) in
+    let same_value = same_Some value value' ((v value').1 (h.1, parts.1)) in
+    let same_before = same_Some before before' ((b before').1 (h.2, parts.2)) in
     ap (λ n. Link n value before) same_slot ∙ ap (λ content. Link slot' content before) same_value ∙ ap (Link slot' value') same_before
 
 pub reads_link : (slot_bytes content_bytes before_bytes : List ℕ) (slot : ℕ) (value : Option (List Issued)) (before : List Actor) → ReadsSlot slot_bytes slot
     → ReadsContent content_bytes value → ReadsSigners before_bytes before → ReadsLink slot_bytes content_bytes before_bytes (Some (Link slot value before))
 reads_link slot_bytes content_bytes before_bytes slot value before s v b statement = (
   λ e.
-      link_parts slot_bytes content_bytes before_bytes statement slot value before (same_some (Link slot value before) statement e)
+      link_parts slot_bytes content_bytes before_bytes statement slot value before (same_Some (Link slot value before) statement e)
       ((s slot).0 refl) ((v value).0 refl) ((b before).0 refl),
   λ h. ap Some (parts_link slot_bytes content_bytes before_bytes slot value before s v b statement h.0 h.1),
 )

@@ -4,6 +4,7 @@ use Rattle.std.specs.Prelude.{All, IsSome}
 use Rattle.std.specs.Option.{SomeIff}
 use Rattle.std.proofs.lemmas.List.{append-nil, take_more}
 use Rattle.std.proofs.lemmas.List.Elements.{All-nil, All-cons, All-head, All-tail, All-append}
+use Rattle.std.proofs.lemmas.Option.{none-some, same_Some}
 use Rattle.dsr_names.specs.Split.{IsAbsent}
 use Rattle.dsr_register.specs.NameText.{is_name_byte}
 use Rattle.dsr_register.proofs.SplitLemmas.{one_cut, not_absent}
@@ -70,12 +71,6 @@ pub one_alone : (most : ℕ) (request : Issued) → 0 < most → IsRequest reque
 one_alone most request room h =
     record { some = omega arith; few = omega (arith, room); each = All-cons IsRequest request [] h (All-nil IsRequest) }
 
-none_is_some : {A : Type 0} (x : A) → ◌≡◌ {A = Option A} None (Some x) → ⊥
-none_is_some x e = cc
-
-same_some : {A : Type 0} (x y : A) → ◌≡◌ {A = Option A} (Some x) (Some y) → x ≡ y
-same_some x y e = cc
-
 pub some_read : {A : Type 0} (r : Option A) (x : A) → IfSome r (λ y. y ≡ x) → IsSome r → r ≡ Some x
 some_read None x same some = cc
 some_read (Some y) x same some = ap Some same
@@ -86,10 +81,10 @@ some_only (Some y) P x h p = ap Some h.1
 
 pub no_request_alone : (most : ℕ) (bytes : List ℕ) → IsAbsent 44 bytes → ReadsOne bytes None → ReadsUpTo most bytes None
 no_request_alone most bytes free reads requests = (
-  λ e. absurd (none_is_some requests e),
+  λ e. absurd (none-some requests e),
   λ h.
       let one = alone most bytes requests free h.0 h.1 in
-      absurd (none_is_some one.only ((reads one.only).1 (one.is_request, one.text))),
+      absurd (none-some one.only ((reads one.only).1 (one.is_request, one.text))),
 )
 
 pub request_alone : (most : ℕ) (bytes : List ℕ) (request : Issued) → 0 < most → IsAbsent 44 bytes → ReadsOne bytes (Some request)
@@ -97,12 +92,12 @@ pub request_alone : (most : ℕ) (bytes : List ℕ) (request : Issued) → 0 < m
 request_alone most bytes request room free reads requests = (
   λ e.
       let read = (reads request).0 refl in
-      let same = same_some (request ∷ []) requests e in
+      let same = same_Some (request ∷ []) requests e in
       subst (λ all. IsRequests most all × (bytes ≡ requests_text all)) same
       (one_alone most request room read.0, read.1 ∙ sym (append-nil (request_text 35 58 request))),
   λ h.
       let one = alone most bytes requests free h.0 h.1 in
-      let same = same_some request one.only ((reads one.only).1 (one.is_request, one.text)) in
+      let same = same_Some request one.only ((reads one.only).1 (one.is_request, one.text)) in
       ap Some (ap (λ r. r ∷ []) same ∙ sym one.all_are),
 )
 
@@ -139,19 +134,19 @@ cut most bytes front rest (r ∷ s ∷ others) parts free h e =
 pub no_first : (most : ℕ) (bytes front rest : List ℕ) → bytes ≡ front ++ 44 ∷ rest → IsAbsent 44 front → ReadsOne front None
     → ReadsUpTo most bytes None
 no_first most bytes front rest parts free reads requests = (
-  λ e. absurd (none_is_some requests e),
+  λ e. absurd (none-some requests e),
   λ h.
       let c = cut most bytes front rest requests parts free h.0 h.1 in
-      absurd (none_is_some c.first ((reads c.first).1 (c.is_request, c.text))),
+      absurd (none-some c.first ((reads c.first).1 (c.is_request, c.text))),
 )
 
 pub no_others : (most : ℕ) (bytes front rest : List ℕ) → bytes ≡ front ++ 44 ∷ rest → IsAbsent 44 front → ReadsUpTo (most - 1) rest None
     → ReadsUpTo most bytes None
 no_others most bytes front rest parts free reads requests = (
-  λ e. absurd (none_is_some requests e),
+  λ e. absurd (none-some requests e),
   λ h.
       let c = cut most bytes front rest requests parts free h.0 h.1 in
-      absurd (none_is_some c.others ((reads c.others).1 (c.are_requests, c.others_text))),
+      absurd (none-some c.others ((reads c.others).1 (c.are_requests, c.others_text))),
 )
 
 led_text : (bytes front rest : List ℕ) (first : Issued) (others : List Issued) → bytes ≡ front ++ 44 ∷ rest → front ≡ request_text 35 58 first
@@ -171,12 +166,12 @@ first_and_others most bytes front rest first others room parts free reads reads_
   λ e.
       let one = (reads first).0 refl in
       let more = (reads_others others).0 refl in
-      subst (λ all. IsRequests most all × (bytes ≡ requests_text all)) (same_some (first ∷ others) requests e)
+      subst (λ all. IsRequests most all × (bytes ≡ requests_text all)) (same_Some (first ∷ others) requests e)
       (led_requests most first others room one.0 more.0, led_text bytes front rest first others parts one.1 more.0.some more.1),
   λ h.
       let c = cut most bytes front rest requests parts free h.0 h.1 in
-      let one = same_some first c.first ((reads c.first).1 (c.is_request, c.text)) in
-      let more = same_some others c.others ((reads_others c.others).1 (c.are_requests, c.others_text)) in
+      let one = same_Some first c.first ((reads c.first).1 (c.is_request, c.text)) in
+      let more = same_Some others c.others ((reads_others c.others).1 (c.are_requests, c.others_text)) in
       ap Some (ap (λ r. r ∷ others) one ∙ ap (λ rest. c.first ∷ rest) more ∙ sym c.all_are),
 )
 

@@ -1,4 +1,5 @@
 pub mod BitLemmas
+pub mod Marks
 pub mod MemberLemmas
 pub mod Numerals
 pub mod Pigeonhole

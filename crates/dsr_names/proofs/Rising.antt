@@ -1,10 +1,8 @@
 -- Lists of replicas in rising order, the bits that stand for them, and the texts that spell them.
-use Rattle.std.proofs.Common.{◌≡◌, ◌≢◌, ◌⊎◌, ℕ, zero, suc, ◌+◌, ◌-◌, ◌*◌, ◌%◌, ◌/◌, ◌^◌, ◌<◌, ◌≤◌, Bool, true, false, cond, eqb, List, [], ◌∷◌, ◌++◌, length, get_or, subst, sym, ◌∙◌, ap, refl, Option, IfSome, None, Some, add-one, append_assoc, codes, arith, lit<, lit≤, inl, inr, length-append, bit_and, eq-eqb}
+use Rattle.std.proofs.Common.{◌≡◌, ◌≢◌, ◌⊎◌, ℕ, zero, suc, ◌+◌, ◌-◌, ◌*◌, ◌%◌, ◌/◌, ◌^◌, ◌<◌, ◌≤◌, Bool, true, false, cond, eqb, List, [], ◌∷◌, ◌++◌, get_or, subst, sym, ◌∙◌, ap, refl, Option, IfSome, None, Some, add-one, append_assoc, codes, arith, lit<, lit≤, inl, inr, bit_and, eq-eqb}
 use Rattle.std.specs.Int.{bit_at}
 use Rattle.std.specs.Fmt.{decimal}
-use Rattle.std.proofs.lemmas.Fmt.{digits_decimal}
-use Rattle.std.proofs.lemmas.Str.Parse.{digit_at}
-use Rattle.std.proofs.lemmas.List.{get_or_at, append-nil}
+use Rattle.std.proofs.lemmas.List.{append-nil}
 use Rattle.std.proofs.lemmas.Bool.{cases_order, cases_lt, ne_eqb}
 use Rattle.std.proofs.lemmas.Nat.{pow_pos, mod-pow-add, pow-add, mul-le}
 use Rattle.std.proofs.Math.Nat.{pow-le-pow_right, mod-eq_of_lt}
@@ -14,60 +12,16 @@ use Rattle.dsr_names.specs.Actor.{actor_text}
 use Rattle.dsr_names.specs.Bits.{is_bit_set}
 use Rattle.dsr_names.specs.Shape.{shape_of}
 use Rattle.dsr_names.specs.ShapeText.{numbers_below, replicas_of, replicas_text, more_replicas_text, shape_text}
-use Rattle.dsr_names.specs.Split.{IsAbsent}
-use Rattle.dsr_names.specs.Parts.{IsFree, IsRising, bits_of, SpellsRising}
-use Rattle.dsr_names.proofs.Numerals.{own}
+use Rattle.dsr_names.specs.Parts.{IsRising, bits_of, SpellsRising}
+use Rattle.dsr_names.proofs.Marks.{IsFree, free, not_free, cut_once, decimal_free, front_free}
 
--- ---- options
-
-pub none_is_some : (A : Type 0) (x : A) → ◌≡◌ {A = Option A} None (Some x) → ⊥
-none_is_some A x e = cc
-
-pub same_some : (A : Type 0) (x y : A) → ◌≡◌ {A = Option A} (Some x) (Some y) → x ≡ y
-same_some A x y e = cc
+-- ---- actors
 
 pub same_replica : (r s : ℕ) → Replica r ≡ Replica s → r ≡ s
 same_replica r s e = cc
 
 pub client_is_replica : (r s : ℕ) → Client r ≡ Replica s → ⊥
 client_is_replica r s e = cc
-
--- ---- marks
-
--- a mark that is absent, by places
-pub free : (mark : ℕ) (bytes : List ℕ) → IsAbsent mark bytes → IsFree mark bytes
-free mark bytes h k lt = h k 0 lt
-
--- what holds a mark is not free of it
-pub not_free : (mark : ℕ) (a b bs : List ℕ) → bs ≡ a ++ mark ∷ b → IsFree mark bs → ⊥
-not_free mark a b bs e free =
-    let at : get_or (a ++ mark ∷ b) (length a) 0 ≡ mark = get_or_at a mark b 0 (length a) refl in
-    let here : get_or bs (length a) 0 ≡ mark = ap (λ xs. get_or xs (length a) 0) e ∙ at in
-    let whole : length bs ≡ length a + suc (length b) = ap length e ∙ length-append a (mark ∷ b) in
-    free (length a) (omega arith) here
-
--- the first mark cuts bytes in one way only
-pub cut_once : (mark : ℕ) (a b c d : List ℕ) → IsFree mark a → IsFree mark c → a ++ mark ∷ b ≡ c ++ mark ∷ d → (a ≡ c) × (b ≡ d)
-cut_once mark [] b [] d fa fc e = (refl, cc)
-cut_once mark [] b (y ∷ c) d fa fc e = let same : mark ≡ y = cc in absurd (fc 0 (omega arith) (sym same))
-cut_once mark (x ∷ a) b [] d fa fc e = let same : x ≡ mark = cc in absurd (fa 0 (omega arith) same)
-cut_once mark (x ∷ a) b (y ∷ c) d fa fc e =
-    let tails : a ++ mark ∷ b ≡ c ++ mark ∷ d = cc in
-    let rest : (a ≡ c) × (b ≡ d) = cut_once mark a b c d (λ k h. fa (suc k) (omega arith)) (λ k h. fc (suc k) (omega arith)) tails in
-    let heads : x ≡ y = cc in
-    let front : a ≡ c = rest.0 in
-    (cc, rest.1)
-
--- no decimal holds a byte below its digits
-pub decimal_free : (mark n : ℕ) → mark < 48 → n < 2 ^ 64 → IsFree mark (decimal n)
-decimal_free mark n low small k h e =
-    let digit = digit_at (decimal n) k (digits_decimal own n small) h in
-    omega (arith, digit)
-
--- nor do those bytes after a letter
-front_free : (letter mark : ℕ) (bs : List ℕ) → mark < letter → IsFree mark bs → IsFree mark (letter ∷ bs)
-front_free letter mark bs other free zero h = λ e. omega arith
-front_free letter mark bs other free (suc k) h = free k (omega arith)
 
 -- nor does the token of a replica hold a plus
 pub replica_free : (r : ℕ) → r < 2 ^ 64 → IsFree 43 (actor_text (Replica r))

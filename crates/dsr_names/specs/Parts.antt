@@ -1,10 +1,6 @@
--- The parts of a shape's token (this project): what stands before a mark, and replicas in rising order.
-use Rattle.std.specs.Prelude.{◌≡◌, ◌≢◌, ℕ, ◌+◌, ◌^◌, ◌<◌, ◌≤◌, List, [], ◌∷◌, length, slice_index}
+-- The parts of a shape's token (this project): replicas in rising order.
+use Rattle.std.specs.Prelude.{◌≡◌, ℕ, ◌+◌, ◌^◌, ◌<◌, ◌≤◌, List, [], ◌∷◌}
 use Rattle.dsr_names.specs.ShapeText.{replicas_text}
-
--- the mark stands nowhere in the bytes
-abbrev pub IsFree : ℕ → List ℕ → Type 0
-IsFree mark bytes = (k : ℕ) → k < length bytes → slice_index bytes k ≢ mark
 
 -- numbers from `least` on and below `end`, each greater than the one before
 abbrev pub IsRising : ℕ → ℕ → List ℕ → Type 0

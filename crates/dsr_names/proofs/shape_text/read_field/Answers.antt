@@ -1,6 +1,8 @@
-use Rattle.std.proofs.Common.{ℕ, ◌∷◌, ◌++◌, ◌∙◌, ap, refl}
+use Rattle.std.proofs.Common.{◌∷◌, ◌++◌, ◌∙◌, ap, refl}
 use Rattle.std.specs.Fmt.{decimal}
-use Rattle.dsr_names.proofs.Rising.{free, none_is_some, same_some, not_free, field_cut}
+use Rattle.std.proofs.lemmas.Option.{none-some, same_Some}
+use Rattle.dsr_names.proofs.Marks.{free, not_free}
+use Rattle.dsr_names.proofs.Rising.{field_cut}
 use Rattle.dsr_names.proofs.shape_text.read_field.Goals as goal
 
 -- with no space there is no field
@@ -11,7 +13,7 @@ returns-in_err-front-clause-read c n rest small e = absurd (not_free 32 (decimal
 pub returns-in_err-number-clause-read : goal.returns-in_err-number-clause-read
 returns-in_err-number-clause-read c n rest small e =
     let same = field_cut c.args.bytes.now c.in_ok-front.front.now c.in_ok-front.rest.now n rest c.in_ok-front.ensures.found (free _ _ c.in_ok-front.ensures.first) small e in
-    absurd (none_is_some ℕ n ((c.in_err-number.ensures n).1 (small, same.0)))
+    absurd (none-some n ((c.in_err-number.ensures n).1 (small, same.0)))
 
 pub returns-clause-spelled : goal.returns-clause-spelled
 returns-clause-spelled c =
@@ -21,4 +23,4 @@ returns-clause-spelled c =
 pub returns-clause-read : goal.returns-clause-read
 returns-clause-read c n rest small e =
     let same = field_cut c.args.bytes.now c.in_ok-front.front.now c.in_ok-front.rest.now n rest c.in_ok-front.ensures.found (free _ _ c.in_ok-front.ensures.first) small e in
-    (same_some ℕ c.in_ok-number.number n ((c.in_ok-number.ensures n).1 (small, same.0)), same.1)
+    (same_Some c.in_ok-number.number n ((c.in_ok-number.ensures n).1 (small, same.0)), same.1)
