@@ -54,6 +54,24 @@ fn gives_each_key_once(rt: HostRuntime) -> Result<(), Fail> {
     Ok(())
 }
 
+/// The 48 actors of the greatest shape: asked twice, each gets its key the first time.
+#[test]
+fn gives_the_keys_of_the_greatest_shape(rt: HostRuntime) -> Result<(), Fail> {
+    let mut keys = Keys::new(rt.alloc(), Shape::new(16, 7, 32, 0)?)?;
+    assert!(rt; keys.whole());
+    for first_time in [true, false] {
+        for number in 0..16 {
+            let actor = Actor::Replica(ReplicaId::new(number)?);
+            assert!(rt; keys.take(actor).is_some() == first_time);
+        }
+        for number in 0..32 {
+            let actor = Actor::Client(ClientId::new(number)?);
+            assert!(rt; keys.take(actor).is_some() == first_time);
+        }
+    }
+    Ok(())
+}
+
 #[test]
 fn signs_a_request(rt: HostRuntime) -> Result<(), Fail> {
     let mut keys = keys(rt.alloc())?;
@@ -117,13 +135,17 @@ fn signs_a_link(rt: HostRuntime) -> Result<(), Fail> {
 
 #[test]
 fn spells_signers(rt: HostRuntime) -> Result<(), Fail> {
-    let texts = ["-", "r0", "c31+r15", "r0+r0+c0"];
+    let texts = [
+        "-",
+        "r0",
+        "c31+r15",
+        "r0+r0+c0",
+        "r0+r1+r2+r3+r4+r5+r6+r7+r8+r9+r10+r11+r12+r13+r14+r15",
+    ];
     for text in texts {
         let signers = Signers::read(text.as_bytes()).ok_or("not signers")?;
         assert_eq!(rt; signers.to_string(rt.alloc())?.as_str(), text);
     }
-    let most = "r0+r1+r2+r3+r4+r5+r6+r7+r8+r9+r10+r11+r12+r13+r14+r15";
-    assert!(rt; Signers::read(most.as_bytes()).is_some());
     let others = [
         "",
         "r16",
@@ -142,7 +164,13 @@ fn spells_signers(rt: HostRuntime) -> Result<(), Fail> {
 
 #[test]
 fn spells_contents(rt: HostRuntime) -> Result<(), Fail> {
-    for text in ["idle", "c0#1:read:a", "c0#1:write:a:5,c31#1:read:a"] {
+    let texts = [
+        "idle",
+        "c0#1:read:a",
+        "c0#1:write:a:5,c31#1:read:a",
+        "c0#1:read:a,c1#1:read:a,c2#1:read:a,c3#1:read:a,c4#1:read:a,c5#1:read:a,c6#1:read:a,c7#1:read:a",
+    ];
+    for text in texts {
         let content = read_content(text.as_bytes()).ok_or("no content")?;
         assert_eq!(rt; Content(content).to_string(rt.alloc())?.as_str(), text);
     }
@@ -171,6 +199,7 @@ fn spells_statements(rt: HostRuntime) -> Result<(), Fail> {
         "0/c0#1:write:a:5/-",
         "0/c0#1:write:a:5,c0#1:write:a:5/r1+r0+r0",
         "1099511627775/idle/c31",
+        "0/c0#1:read:a,c0#2:read:a,c0#3:read:a,c0#4:read:a,c0#5:read:a,c0#6:read:a,c0#7:read:a,c0#8:read:a/r0+r1+r2+r3+r4+r5+r6+r7+r8+r9+r10+r11+r12+r13+r14+r15",
     ];
     for text in texts {
         let statement = Statement::read(text.as_bytes()).ok_or("no statement")?;
