@@ -233,10 +233,98 @@ fn gives_the_chain_back(rt: HostRuntime) -> Result<(), Fail> {
     }
 }
 
+/// The text of each fault.
+const TEXTS: [(ChainFault, &str); 7] = [
+    (ChainFault::OtherSlot, "the chain is of another slot"),
+    (
+        ChainFault::WrongCount,
+        "the chain does not have one signature for each round",
+    ),
+    (
+        ChainFault::WrongSender,
+        "the first signer is not the sender of the slot",
+    ),
+    (ChainFault::NoReplica, "a signer is no replica of the shape"),
+    (ChainFault::SignedTwice, "a signer signed twice"),
+    (
+        ChainFault::Misfit,
+        "a signature is on a statement that does not fit its place",
+    ),
+    (
+        ChainFault::BadRequest,
+        "a request is not signed by its client, a client of the shape",
+    ),
+];
+
 #[test]
 fn says_what_is_wrong(rt: HostRuntime) -> Result<(), Fail> {
-    let text = ChainFault::SignedTwice.to_string(rt.alloc())?;
-    assert_eq!(rt; text.as_str(), "a signer signed twice");
+    for (fault, text) in TEXTS {
+        assert_eq!(rt; fault.to_string(rt.alloc())?.as_str(), text);
+    }
+    Ok(())
+}
+
+/// The value of a request of each of the clients 0 to 7, signed by that client.
+fn eight_requests(rt: &impl Abort, keys: &mut Keys) -> Result<SlotValue, Refusal> {
+    let first = SignedRequest::by(request(0)?, &key(rt, keys, client(0)?));
+    let mut signed = [first; 8];
+    for number in 1..8u8 {
+        let own = key(rt, keys, client(number)?);
+        signed[number as usize] = SignedRequest::by(request(number)?, &own);
+    }
+    Ok(value(rt, &signed))
+}
+
+/// The most requests, and the most signatures: those of all 16 replicas.
+#[test]
+fn grows_to_sixteen_signatures(rt: HostRuntime) -> Result<(), Fail> {
+    let mut keys = Keys::new(rt.alloc(), Shape::new(16, 7, 8, 0)?)?;
+    let act = eight_requests(&rt, &mut keys)?;
+    let mut chain = Chain::start(rt.alloc(), 0, act, &key(&rt, &mut keys, R0))?;
+    for number in 1..16u8 {
+        assert_eq!(rt; chain.signatures().len(), number as usize);
+        assert!(rt; chain.try_copy()?.same(&chain));
+        let next = key(&rt, &mut keys, replica(number)?);
+        chain = extended(&rt, rt.alloc(), chain, &next)?;
+        assert!(rt; chain.has_signer(replica(number)?));
+    }
+    assert_eq!(rt; chain.signatures().len(), 16);
+    assert!(rt; chain.try_copy()?.same(&chain));
+    assert!(rt; chain.value().same(&act));
+    Ok(())
+}
+
+#[test]
+fn is_made_of_none_and_of_sixteen(rt: HostRuntime) -> Result<(), Fail> {
+    let desk = open_desk(&rt, rt.alloc())?;
+    let none = Chain::of(rt.alloc(), 0, SlotValue::Idle, Vec::new(rt.alloc()))?;
+    assert!(rt; none.signatures().is_empty());
+    let signature = desk.c0.sign(Statement::Ask(request(0)?));
+    let signatures = [signature; 16].as_slice().to_vec(rt.alloc())?;
+    assert!(rt; signatures.len() == 16);
+    let most = Chain::of(rt.alloc(), 0, SlotValue::Idle, signatures)?;
+    assert!(rt; most.signatures() == [signature; 16].as_slice());
+    Ok(())
+}
+
+/// The slots up to 2^40-1 have a token; a chain may be of any slot.
+#[test]
+fn starts_in_every_slot(rt: HostRuntime) -> Result<(), Fail> {
+    let desk = open_desk(&rt, rt.alloc())?;
+    for slot in [1_099_511_627_775, 1_099_511_627_776, u64::MAX] {
+        let chain = Chain::start(rt.alloc(), slot, SlotValue::Idle, &desk.r0)?;
+        assert_eq!(rt; chain.slot(), slot);
+    }
+    Ok(())
+}
+
+/// It is the check that refuses a signer who signed before.
+#[test]
+fn is_extended_by_one_who_signed(rt: HostRuntime) -> Result<(), Fail> {
+    let desk = open_desk(&rt, rt.alloc())?;
+    let twice = chain_by(&rt, rt.alloc(), SlotValue::Idle, &desk.r1, &desk.r1)?;
+    assert_eq!(rt; twice.signatures().len(), 2);
+    assert!(rt; !twice.has_signer(R0));
     Ok(())
 }
 
