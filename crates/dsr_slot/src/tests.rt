@@ -58,18 +58,24 @@ fn extended(alloc: Global, chain: Chain, key: &Key) -> Result<Chain, Fail> {
     }
 }
 
-/// A chain of slot 0 to be made: on which client's value, and which replicas sign it in turn.
+/// A chain to be made: on which client's value, and which replicas sign it in turn.
 #[derive(Clone, Copy)]
 struct Plan {
     client: u8,
     signers: &'static [usize],
 }
 
+/// The chain of slot 0.
 fn chain_of(alloc: Global, desk: &Desk, plan: Plan) -> Result<Chain, Fail> {
+    chain_in(alloc, desk, 0, plan)
+}
+
+/// The chain of this slot.
+fn chain_in(alloc: Global, desk: &Desk, slot: u64, plan: Plan) -> Result<Chain, Fail> {
     let value = value_of(desk, plan.client)?;
     let first = plan.signers.first().ok_or("nobody signs")?;
     let key = desk.replicas.get(*first).ok_or("no such replica")?;
-    let mut chain = Chain::start(alloc, 0, value, key)?;
+    let mut chain = Chain::start(alloc, slot, value, key)?;
     for signer in &plan.signers[1..] {
         let key = desk.replicas.get(*signer).ok_or("no such replica")?;
         chain = extended(alloc, chain, key)?;
@@ -194,6 +200,67 @@ fn keeps_relays_and_decides(rt: HostRuntime) -> Result<(), Fail> {
     for row in &ROWS {
         holds(&rt, rt.alloc(), &desk, row)?;
     }
+    Ok(())
+}
+
+/// Replica 0 is the sender of both slots: 3 divides 2^64-1 too.
+#[test]
+fn relays_in_later_slots(rt: HostRuntime) -> Result<(), Fail> {
+    let alloc = rt.alloc();
+    let desk = open_desk(alloc, Shape::new(3, 1, 2, 0)?)?;
+    let key = desk.replicas.get(1).ok_or("no such replica")?;
+    for slot in [3, u64::MAX] {
+        let mut state = SlotState::new(&desk.shape, slot);
+        let mut chains = Vec::with_capacity(alloc, 2)?;
+        chains.push(chain_in(alloc, &desk, slot, A)?)?;
+        chains.push(chain_in(alloc, &desk, slot, B)?)?;
+        close_next(&rt, &mut state, &mut chains);
+        let relayed = state.relays(alloc, 2, key)?;
+        assert_eq!(rt; relayed.len(), 2);
+        for (chain, wanted) in relayed.iter().zip([A_BY_1, B_BY_1]) {
+            assert!(rt; chain.same(&chain_in(alloc, &desk, slot, wanted)?));
+        }
+    }
+    Ok(())
+}
+
+/// What is kept in round 1 is relayed in round 2 alone.
+#[test]
+fn relays_in_the_round_after(rt: HostRuntime) -> Result<(), Fail> {
+    let alloc = rt.alloc();
+    let desk = open_desk(alloc, Shape::new(3, 1, 2, 0)?)?;
+    let key = desk.replicas.get(1).ok_or("no such replica")?;
+    let mut state = SlotState::new(&desk.shape, 0);
+    close_next(&rt, &mut state, &mut chains_of(alloc, &desk, &[A, B])?);
+    for (round, count) in [(0, 0), (1, 0), (2, 2), (3, 0), (255, 0)] {
+        assert_eq!(rt; state.relays(alloc, round, key)?.len(), count);
+    }
+    Ok(())
+}
+
+const A_BY_2_AND_1: Plan = Plan {
+    client: 0,
+    signers: &[0, 2, 1],
+};
+
+/// A round in which nothing was read is closed as any other. What is kept in the last round, f+1, is relayed by
+/// whoever asks for the round past it.
+#[test]
+fn relays_nothing_where_nothing_is_kept(rt: HostRuntime) -> Result<(), Fail> {
+    let alloc = rt.alloc();
+    let desk = open_desk(alloc, Shape::new(3, 1, 2, 0)?)?;
+    let key = desk.replicas.get(1).ok_or("no such replica")?;
+    let mut state = SlotState::new(&desk.shape, 0);
+    assert!(rt; state.relays(alloc, 1, key)?.is_empty());
+    close_next(&rt, &mut state, &mut Vec::new(alloc));
+    assert_eq!(rt; state.closed_rounds(), 1);
+    assert!(rt; state.relays(alloc, 2, key)?.is_empty());
+    close_next(&rt, &mut state, &mut chains_of(alloc, &desk, &[A_BY_2])?);
+    assert_eq!(rt; state.closed_rounds(), 2);
+    assert!(rt; state.relays(alloc, 2, key)?.is_empty());
+    let relayed = state.relays(alloc, 3, key)?;
+    assert_eq!(rt; relayed.len(), 1);
+    assert!(rt; relayed[0].same(&chain_of(alloc, &desk, A_BY_2_AND_1)?));
     Ok(())
 }
 
