@@ -23,7 +23,8 @@ use Rattle.dsr_slot.specs.Conduct.{posted}
 use Rattle.dsr_slot.specs.Decision.{decision}
 use Rattle.dsr_slot.specs.Family.{Exchange, IsLinkOf, IsBroadcast, WasPosted, HasFewTraitors, read_by, decided_by}
 use Rattle.dsr_slot.proofs.Lists.{holds_or_not, in_each, from_one}
-use Rattle.dsr_slot.proofs.Keeps.{Hears, Apart, after_from, after_apart, after_hears}
+use Rattle.dsr_slot.specs.Kept.{Hears}
+use Rattle.dsr_slot.proofs.Keeps.{Apart, after_from, after_apart, after_hears}
 use Rattle.dsr_slot.proofs.Posting.{relay_posted, start_posted, post_proper, post_own, post_other}
 
 -- ---- two kept lists that hear of one another

@@ -1,11 +1,13 @@
 -- What is kept: it stays, it comes from a proper chain that was read, no two have one content, and the content of each
 -- proper chain that is read is heard.
 use Rattle.std.proofs.Common.{◌≡◌, ℕ, zero, suc, ◌<◌, ◌≤◌, List, [], ◌∷◌, ◌++◌, length, Option, ◌⊎◌, inl, inr, refl, ap, sym, ◌∙◌, subst, arith}
-use Rattle.std.specs.Prelude.{⊤, ◌&&◌, not, nat_lt}
+use Rattle.std.specs.Prelude.{◌≢◌, ⊤, ◌&&◌, not, nat_lt, All, AllPairs}
 use Rattle.std.specs.Bool.{Decides}
 use Rattle.std.proofs.lemmas.Bool.{cases_lt}
 use Rattle.std.proofs.lemmas.Bool.Decides.{Decides-and, Decides-or, Decides-not, Decides-like, Decides-ltb}
 use Rattle.std.proofs.lemmas.List.{length_push}
+use Rattle.std.proofs.lemmas.List.Elements.{All-nil, All-cons}
+use Rattle.std.proofs.lemmas.List.Kept.{AllPairs-cons}
 use Rattle.dsr_names.specs.Member.{In, here, there}
 use Rattle.dsr_names.specs.Shape.{Members}
 use Rattle.dsr_names.proofs.MemberLemmas.{In-append_left, In-append_right, In-append_cases, In-one}
@@ -16,21 +18,23 @@ use Rattle.dsr_chain.specs.Proper.{IsProper}
 use Rattle.dsr_chain.specs.ProperTest.{is_proper, same_content}
 use Rattle.dsr_chain.proofs.ProperDecides.{is_proper-Decides, same_content-Decides}
 use Rattle.dsr_slot.specs.declared.kept.Kept.{Kept}
+use Rattle.dsr_slot.specs.Kept.{HasContent, Hears, CameFrom}
 use Rattle.dsr_slot.specs.Keeping.{kept_in, content_of, is_kept, is_news, keep_one, keep, kept_after}
 use Rattle.dsr_slot.proofs.Lists.{holds_or_not, by_test}
-
--- one of the kept chains has this content
-abbrev pub HasContent : Option (List Issued) → List Kept → Type 0
-HasContent wanted kept = (k : Kept) × In k kept × (content_of k ≡ wanted)
-
--- the content is kept, or two others are
-abbrev pub Hears : List Kept → Option (List Issued) → Type 0
-Hears kept wanted = HasContent wanted kept ⊎ (2 ≤ length kept)
 
 -- no two kept chains have one content
 abbrev pub Apart : List Kept → Type 0
 Apart [] = ⊤
 Apart (k ∷ ks) = (¬ HasContent (content_of k) ks) × Apart ks
+
+none_later : (k : Kept) (ks : List Kept) → ¬ HasContent (content_of k) ks → All (λ l. content_of k ≢ content_of l) ks
+none_later k [] none = All-nil (λ l. content_of k ≢ content_of l)
+none_later k (l ∷ ls) none =
+    All-cons (λ l. content_of k ≢ content_of l) l ls (λ e. none (l, here refl, sym e)) (none_later k ls (λ h. none (h.0, there h.1, h.2)))
+
+pairs_apart : (kept : List Kept) → Apart kept → AllPairs (λ k l. content_of k ≢ content_of l) kept
+pairs_apart [] apart = λ i j d before inside. absurd (omega (arith, inside))
+pairs_apart (k ∷ ks) apart = AllPairs-cons (λ k l. content_of k ≢ content_of l) k ks (none_later k ks apart.0) (pairs_apart ks apart.1)
 
 -- a chain that is to be kept beside these
 pub record IsNews (shape : Members) (slot round : ℕ) (kept : List Kept) (chain : SignedValue) : Type 0 where
@@ -81,6 +85,12 @@ module _ (shape : Members) (slot round : ℕ) where
   one_more : (kept : List Kept) (chain : SignedValue) → length kept ≤ length (keep_one shape slot round kept chain)
   one_more kept chain = elim (one_cases kept chain) [
     | inl news ↦ omega (arith, ap length news.1, length_push kept (kept_in round chain))
+    | inr none ↦ omega (arith, ap length none.1)
+  ]
+
+  one_few : (kept : List Kept) (chain : SignedValue) → length kept ≤ 2 → length (keep_one shape slot round kept chain) ≤ 2
+  one_few kept chain few = elim (one_cases kept chain) [
+    | inl news ↦ let room = news.0.room in omega (arith, ap length news.1, length_push kept (kept_in round chain))
     | inr none ↦ omega (arith, ap length none.1)
   ]
 
@@ -159,6 +169,10 @@ module _ (shape : Members) (slot round : ℕ) where
   keep_apart [] kept h = h
   keep_apart (c ∷ cs) kept h = keep_apart cs (keep_one shape slot round kept c) (one_apart kept c h)
 
+  keep_few : (chains : List SignedValue) (kept : List Kept) → length kept ≤ 2 → length (keep shape slot round kept chains) ≤ 2
+  keep_few [] kept h = h
+  keep_few (c ∷ cs) kept h = keep_few cs (keep_one shape slot round kept c) (one_few kept c h)
+
   read_later : (c : SignedValue) (cs : List SignedValue) (k : Kept) → WasRead cs k → WasRead (c ∷ cs) k
   read_later c cs k h = record { round_is = h.round_is; read = there h.read; proper = h.proper }
 
@@ -225,3 +239,29 @@ module _ (shape : Members) (slot : ℕ) (read : ℕ → List SignedValue) where
         keep_hears shape slot (suc r) (read (suc r)) (kept_after shape slot read r) c (subst (λ b. In c (read (suc b))) last h)
         (subst (λ b. IsProper shape slot (suc b) c) last proper)
   ]
+
+  -- ---- what a reader may take from it
+
+  pub after_few : (r : ℕ) → length (kept_after shape slot read r) ≤ 2
+  after_few zero = omega arith
+  after_few (suc r) = keep_few shape slot (suc r) (read (suc r)) (kept_after shape slot read r) (after_few r)
+
+  pub after_came : (r : ℕ) (k : Kept) → In k (kept_after shape slot read r) → CameFrom shape slot read r k
+  after_came r k h =
+      let from = after_from r k h in
+      let earlier = from.earlier in
+      let at = from.round_is in
+      record {
+        counted = omega arith;
+        within = omega arith;
+        was_read = subst (λ z. In k.chain (read z)) (sym at) from.read_then;
+        proper = subst (λ z. IsProper shape slot z k.chain) (sym at) from.proper;
+      }
+
+  pub after_heard : (rounds round : ℕ) (c : SignedValue) → 0 < round → round ≤ rounds → In c (read round) → IsProper shape slot round c
+      → Hears (kept_after shape slot read rounds) (content c.value)
+  after_heard rounds zero c counted within h proper = absurd (omega arith)
+  after_heard rounds (suc before) c counted within h proper = after_hears before c h proper rounds (omega arith)
+
+  pub after_distinct : (r : ℕ) → AllPairs (λ k l. content_of k ≢ content_of l) (kept_after shape slot read r)
+  after_distinct r = pairs_apart (kept_after shape slot read r) (after_apart r)

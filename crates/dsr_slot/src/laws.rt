@@ -1,11 +1,17 @@
-//! The law of one slot, as the contract of a function that does nothing.
+//! The laws of one slot, as the contracts of functions that do nothing.
 
-ghost use Rattle.std.specs.Prelude.{◌≡◌, ℕ};
+ghost use Rattle.std.specs.Prelude.{◌≡◌, ◌≢◌, ℕ, ◌<◌, ◌≤◌, List, AllPairs, length};
+ghost use Rattle.dsr_names.specs.Member.{In};
 ghost use Rattle.dsr_names.specs.Shape.{Members, IsLoyal};
 ghost use Rattle.dsr_names.specs.declared.actor.Actor.TheVariants.{Replica};
-ghost use Rattle.dsr_chain.specs.Proper.{sender_of};
+ghost use Rattle.dsr_chain.specs.Content.{content};
+ghost use Rattle.dsr_chain.specs.Proper.{IsProper, sender_of};
+ghost use Rattle.dsr_chain.specs.SignedValue.{SignedValue};
 ghost use Rattle.dsr_chain.specs.declared.slot_value.SlotValue.{SlotValue};
+ghost use Rattle.dsr_slot.specs.declared.kept.Kept.{Kept};
 ghost use Rattle.dsr_slot.specs.Family.{Exchange, IsBroadcast, HasFewTraitors, decided_by};
+ghost use Rattle.dsr_slot.specs.Keeping.{content_of, kept_after};
+ghost use Rattle.dsr_slot.specs.Kept.{CameFrom, Hears};
 
 /// Agreement and validity of the broadcast (Dolev and Strong 1983). Whatever at most f traitors give to whom
 /// in the f+1 rounds of a slot, as long as they forge no loyal replica's signature, and clients of the shape
@@ -20,4 +26,19 @@ pub fn one_slot()
         → IsBroadcast shape slot value given
         → IsLoyal shape (sender_of shape slot) → (p : ℕ) → IsLoyal shape (Replica p)
         → decided_by shape slot given p ≡ value }
+{}
+
+/// What a replica keeps in the first rounds of a slot, whatever it reads: at most two chains; no two of one
+/// content; each read in the round that stands with it, and proper for that round. And of each proper chain that
+/// it read, it keeps the content or two others.
+pub fn what_is_kept()
+    ensures few { (shape : Members) (slot : ℕ) (read : ℕ → List SignedValue) (rounds : ℕ)
+        → length (kept_after shape slot read rounds) ≤ 2 }
+    ensures distinct { (shape : Members) (slot : ℕ) (read : ℕ → List SignedValue) (rounds : ℕ)
+        → AllPairs (λ k l. content_of k ≢ content_of l) (kept_after shape slot read rounds) }
+    ensures came { (shape : Members) (slot : ℕ) (read : ℕ → List SignedValue) (rounds : ℕ) (k : Kept)
+        → In k (kept_after shape slot read rounds) → CameFrom shape slot read rounds k }
+    ensures heard { (shape : Members) (slot : ℕ) (read : ℕ → List SignedValue) (rounds round : ℕ) (chain : SignedValue)
+        → 0 < round → round ≤ rounds → In chain (read round) → IsProper shape slot round chain
+        → Hears (kept_after shape slot read rounds) (content chain.value) }
 {}

@@ -1,0 +1,14 @@
+use Rattle.dsr_slot.proofs.Keeps.{after_few, after_distinct, after_came, after_heard}
+use Rattle.dsr_slot.proofs.laws.what_is_kept.Goals as goal
+
+pub returns-clause-few : goal.returns-clause-few
+returns-clause-few c shape slot read rounds = after_few shape slot read rounds
+
+pub returns-clause-distinct : goal.returns-clause-distinct
+returns-clause-distinct c shape slot read rounds = after_distinct shape slot read rounds
+
+pub returns-clause-came : goal.returns-clause-came
+returns-clause-came c shape slot read rounds = after_came shape slot read rounds
+
+pub returns-clause-heard : goal.returns-clause-heard
+returns-clause-heard c shape slot read rounds round chain = after_heard shape slot read rounds round chain
