@@ -9,7 +9,8 @@ use crate::refusal::Refusal;
 use std::io;
 use std::io::Write;
 
-/// What an output is written to. A sink may have room that is known, and takes what fits there whole.
+/// What an output is written to. A sink may have room that is known: it takes what fits there whole. Or it may be
+/// steady: it never fails, and takes at least one byte where there is one.
 pub trait Sink {
     // The bytes that were taken, where they are known.
     ghost contents: { Self → Option (List ℕ) } = { λ _. None };
@@ -17,7 +18,7 @@ pub trait Sink {
     // How many more bytes it takes without failing, where that is known.
     ghost room: { Self → Option ℕ } = { λ _. None };
 
-    // The sink never fails, and takes at least one byte where there is one.
+    // The sink is steady.
     ghost is_steady: { Self → Type 0 } = { λ _. ⊥ };
 
     /// Takes some bytes from the front and says how many.
@@ -50,7 +51,7 @@ impl<W: Write> Sink for Outside<W> {
 
 /// Writes all of the bytes, in at most `MOST_CALLS` calls. `WriteFailed` where the sink fails, takes none of a
 /// rest that is not empty, or the calls run out: then a front of the bytes went out. A sink with known room for
-/// all of them never fails.
+/// all of them never fails, and neither does a steady one where they are at most `MOST_CALLS`.
 pub fn write_output<S: Sink>(sink: &mut S, bytes: &[u8]) -> Result<(), Refusal>
     ensures all { OnOk result (Appends (S.contents sink.old) (S.contents sink.new) bytes.now) }
     ensures front { SentFront (S.contents sink.old) (S.contents sink.new) bytes.now }
