@@ -57,7 +57,7 @@ impl Chain {
     }
 
     /// The chain with the key's signature put at its end, on the link that fits there. Asks that it has
-    /// fewer than 16. The chain itself comes back with `NoMemory`, where a growth is refused.
+    /// fewer than 16 signatures. The chain itself comes back with `NoMemory`, where a growth is refused.
     pub fn extend(self, alloc: Global, key: &Key) -> Result<Chain, (Chain, Refusal)>
         requires { length self.signatures < 16 }
         ensures extended { IfOk result (λ chain. chain ≡ extended self key.now) }

@@ -309,7 +309,7 @@ fn is_made_of_none_and_of_sixteen(rt: HostRuntime) -> Result<(), Fail> {
 
 /// The slots up to 2^40-1 have a token; a chain may be of any slot.
 #[test]
-fn starts_in_every_slot(rt: HostRuntime) -> Result<(), Fail> {
+fn starts_in_late_slots(rt: HostRuntime) -> Result<(), Fail> {
     let desk = open_desk(&rt, rt.alloc())?;
     for slot in [1_099_511_627_775, 1_099_511_627_776, u64::MAX] {
         let chain = Chain::start(rt.alloc(), slot, SlotValue::Idle, &desk.r0)?;
@@ -318,13 +318,18 @@ fn starts_in_every_slot(rt: HostRuntime) -> Result<(), Fail> {
     Ok(())
 }
 
-/// It is the check that refuses a signer who signed before.
+/// A replica may extend a chain that it signed: extending asks for no proper chain.
 #[test]
 fn is_extended_by_one_who_signed(rt: HostRuntime) -> Result<(), Fail> {
     let desk = open_desk(&rt, rt.alloc())?;
     let twice = chain_by(&rt, rt.alloc(), SlotValue::Idle, &desk.r1, &desk.r1)?;
     assert_eq!(rt; twice.signatures().len(), 2);
-    assert!(rt; !twice.has_signer(R0));
+    assert!(rt;
+        twice
+            .signatures()
+            .iter()
+            .all(|s| s.signer() == desk.r1.signer())
+    );
     Ok(())
 }
 

@@ -34,7 +34,8 @@ const NO_MEMORY: u8 = 3;
 /// Does what the words ask for and answers the program's exit status: 0 where it was done, 1 after a refusal other
 /// than want of memory, 2 after words that the program does not know, and 3 after want of memory. The words are those
 /// after the program's own name; none means `apply`. A refusal is told on `errors` as `dsr: ` and its text, a usage
-/// fault by its text; the help goes to `output`. Only `apply` reads the input.
+/// fault by its text; the help goes to `output`. With 0 nothing is written on `errors`. Only `apply`
+/// reads the input.
 pub fn run<S: AsStr, I: Source, O: Sink, E: Write>(
     alloc: Global,
     words: &[S],

@@ -5,7 +5,7 @@ use std::io;
 use std::process::Abort;
 use std::test::Fail;
 
-// Runs the program on these words and this text, and compares its status, its output and the begin of what it
+// Runs the program on these words and this text, and compares its status, its output and the beginning of what it
 // wrote on standard error.
 fn runs<R: Abort>(
     rt: &R,

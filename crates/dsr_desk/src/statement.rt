@@ -14,7 +14,7 @@ pub enum Statement {
         slot: u64,
         /// The content of the slot's value: its requests without their signatures, none where it is idle.
         value: Option<Requests>,
-        /// Those who signed before, the sender first.
+        /// Those who signed before, in their order.
         before: Signers,
     },
 }

@@ -160,7 +160,7 @@ fn accepts(
     Ok(())
 }
 
-// Numbers of the first client, given to a machine that accepted nothing.
+// Numbers of the first client, given to a machine with an empty history.
 fn accepts_rising_numbers(rt: &impl Abort, machine: &mut Machine) -> Result<(), Fail>
     requires { machine.old.clients ≡ 1 }
 {

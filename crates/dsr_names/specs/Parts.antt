@@ -1,4 +1,4 @@
--- The parts of a shape's token (this project): replicas in rising order.
+-- The last part of a shape's token (this project): replicas in rising order, and their bits.
 use Rattle.std.specs.Prelude.{◌≡◌, ℕ, ◌+◌, ◌^◌, ◌<◌, ◌≤◌, List, [], ◌∷◌}
 use Rattle.dsr_names.specs.ShapeText.{replicas_text}
 

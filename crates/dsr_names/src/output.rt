@@ -18,7 +18,7 @@ pub trait Sink {
     // How many more bytes it takes without failing, where that is known.
     ghost room: { Self → Option ℕ } = { λ _. None };
 
-    // The sink is steady.
+    // The sink never fails, and takes at least one byte where there is one.
     ghost is_steady: { Self → Type 0 } = { λ _. ⊥ };
 
     /// Takes some bytes from the front and says how many.
@@ -50,8 +50,8 @@ impl<W: Write> Sink for Outside<W> {
 }
 
 /// Writes all of the bytes, in at most `MOST_CALLS` calls. `WriteFailed` where the sink fails, takes none of a
-/// rest that is not empty, or the calls run out: then a front of the bytes went out. A sink with known room for
-/// all of them never fails, and neither does a steady one where they are at most `MOST_CALLS`.
+/// rest that is not empty, or the calls run out: then a front of the bytes went out. It never fails on a sink
+/// with known room for all of them, nor on a steady one where the bytes are at most `MOST_CALLS`.
 pub fn write_output<S: Sink>(sink: &mut S, bytes: &[u8]) -> Result<(), Refusal>
     ensures all { OnOk result (Appends (S.contents sink.old) (S.contents sink.new) bytes.now) }
     ensures front { SentFront (S.contents sink.old) (S.contents sink.new) bytes.now }

@@ -6,8 +6,7 @@ ghost use Rattle.dsr_names.specs.Token.{old_text, IsOld};
 
 use std::{fmt, str};
 
-/// One more than the greatest number of a request, and the greatest that a text may have but for a register's
-/// value: 2^40.
+/// 2^40: one more than the greatest number of a request, or of any text but for a register's value.
 pub const NUMBER_END: u64 = 1_099_511_627_776;
 
 /// The number that the bytes write in decimal, which may have leading zeros.

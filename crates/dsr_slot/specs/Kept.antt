@@ -12,7 +12,7 @@ use Rattle.dsr_slot.specs.Keeping.{content_of}
 abbrev pub HasContent : Option (List Issued) → List Kept → Type 0
 HasContent wanted kept = (k : Kept) × In k kept × (content_of k ≡ wanted)
 
--- the content is kept, or two others are
+-- the content is kept, or two chains are: where it is not among them, two others
 abbrev pub Hears : List Kept → Option (List Issued) → Type 0
 Hears kept wanted = HasContent wanted kept ⊎ (2 ≤ length kept)
 

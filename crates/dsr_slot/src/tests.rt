@@ -246,7 +246,7 @@ const A_BY_2_AND_1: Plan = Plan {
 /// A round in which nothing was read is closed as any other. What is kept in the last round, f+1, is relayed by
 /// whoever asks for the round past it.
 #[test]
-fn relays_nothing_where_nothing_is_kept(rt: HostRuntime) -> Result<(), Fail> {
+fn relays_what_the_last_round_brought(rt: HostRuntime) -> Result<(), Fail> {
     let alloc = rt.alloc();
     let desk = open_desk(alloc, Shape::new(3, 1, 2, 0)?)?;
     let key = desk.replicas.get(1).ok_or("no such replica")?;
