@@ -15,7 +15,7 @@ use clap::{Command, Error};
 use std::alloc::{AllocError, Global};
 use std::convert::AsStr;
 
-/// The line that each help begins with.
+/// The sentence that each help begins with.
 const TITLE: &str = "dsr keeps a directory of named registers, each free or holding a number.";
 
 const ABOUT: &str = "Clients send it numbered requests, and it answers each of them.\n\
