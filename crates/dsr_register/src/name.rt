@@ -3,7 +3,6 @@ ghost use Rattle.dsr_register.specs.NameText.{IsName, is_name_byte};
 
 use dsr_names::Refusal;
 use std::cmp::Ordering;
-use std::hash::{Hash, Hasher};
 use std::marker::Model;
 use std::{fmt, str};
 
@@ -128,19 +127,6 @@ impl Eq for Name {
     ghost use Rattle.std.specs.Cmp.Rules.{comparing};
 
     ghost laws = { Prim.search (comparing, rules) };
-}
-
-impl Hash for Name {
-    ghost use Rattle.std.specs.Prelude.{◌∷◌, []};
-    ghost use Rattle.dsr_register.specs.NameFields.{same_writes};
-
-    ghost hash_input = { λ name. name ∷ [] };
-
-    ghost respects_eq = { same_writes };
-
-    fn hash<H: Hasher>(&self, state: &mut H) {
-        state.write(self.as_bytes());
-    }
 }
 
 impl fmt::Display for Name {
