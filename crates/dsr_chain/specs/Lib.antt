@@ -7,4 +7,3 @@ pub mod ProperTest
 pub mod SignedLists
 pub mod SignedRequestEq
 pub mod SignedValue
-pub mod SlotValueEq

@@ -7,7 +7,8 @@ use Rattle.std.proofs.lemmas.List.Elements.{All-nil, All-cons, All-head, All-tai
 use Rattle.dsr_names.specs.Actor.{IsNumbered, actor_text}
 use Rattle.dsr_names.specs.declared.actor.Actor.{Actor}
 use Rattle.dsr_names.specs.declared.actor.Actor.TheVariants.{Replica, Client}
-use Rattle.dsr_names.proofs.Marks.{IsFree, not_free, cut_once, decimal_free, front_free}
+use Rattle.dsr_names.specs.Split.{IsAbsent}
+use Rattle.dsr_names.proofs.Marks.{not_absent, one_cut, decimal_without_low, letter_then_without}
 use Rattle.std.proofs.lemmas.Option.{none-some, same_Some}
 use Rattle.dsr_desk.specs.SignersText.{signers_text, more_signers_text, IsSigners}
 use Rattle.dsr_desk.specs.SpellsAfter.{SpellsAfter}
@@ -15,9 +16,9 @@ use Rattle.dsr_desk.specs.SpellsAfter.{SpellsAfter}
 -- ---- marks
 
 -- no token of an actor holds a plus
-actor_free : (a : Actor) → IsNumbered a → IsFree 43 (actor_text a)
-actor_free (Replica r) small k h = front_free 114 43 (decimal r) (lit< tt) (decimal_free 43 r (lit< tt) (omega (arith, small))) k h
-actor_free (Client c) small k h = front_free 99 43 (decimal c) (lit< tt) (decimal_free 43 c (lit< tt) (omega (arith, small))) k h
+actor_without_plus : (a : Actor) → IsNumbered a → IsAbsent 43 (actor_text a)
+actor_without_plus (Replica r) small = letter_then_without 114 43 (decimal r) (lit< tt) (decimal_without_low 43 r (lit< tt) (omega (arith, small)))
+actor_without_plus (Client c) small = letter_then_without 99 43 (decimal c) (lit< tt) (decimal_without_low 43 c (lit< tt) (omega (arith, small)))
 
 -- ---- signers joined
 
@@ -61,15 +62,15 @@ pub record Alone (before : List Actor) (bs : List ℕ) (all : List Actor) : Type
   pub all_are : all ≡ before ++ last ∷ []
 
 alone : (before all : List Actor) (bs : List ℕ) (first : Actor) (more : List Actor) → All IsNumbered (first ∷ more)
-    → bs ≡ signers_text (first ∷ more) → all ≡ before ++ first ∷ more → IsFree 43 bs → Alone before bs all
-alone before all bs first [] numbered text all_are free =
+    → bs ≡ signers_text (first ∷ more) → all ≡ before ++ first ∷ more → IsAbsent 43 bs → Alone before bs all
+alone before all bs first [] numbered text all_are absent =
     record { last = first; numbered = All-head IsNumbered first [] numbered; text = text ∙ append-nil (actor_text first); all_are = all_are }
-alone before all bs first (a ∷ others) numbered text all_are free =
-    absurd (not_free 43 (actor_text first) (signers_text (a ∷ others)) bs text free)
+alone before all bs first (a ∷ others) numbered text all_are absent =
+    absurd (not_absent 43 (actor_text first) (signers_text (a ∷ others)) (subst (IsAbsent 43) text absent))
 
 -- with no plus there is one actor
-pub spells_alone : (before all : List Actor) (bs : List ℕ) → SpellsAfter before bs all → IsFree 43 bs → Alone before bs all
-spells_alone before all bs s free = alone before all bs s.first s.more s.numbered s.text s.all_are free
+pub spells_alone : (before all : List Actor) (bs : List ℕ) → SpellsAfter before bs all → IsAbsent 43 bs → Alone before bs all
+spells_alone before all bs s absent = alone before all bs s.first s.more s.numbered s.text s.all_are absent
 
 -- what stands before and after the first plus
 pub record Cut (before : List Actor) (front rest : List ℕ) (all : List Actor) : Type 0 where
@@ -79,14 +80,14 @@ pub record Cut (before : List Actor) (front rest : List ℕ) (all : List Actor) 
   pub more : SpellsAfter (before ++ first ∷ []) rest all
 
 cut : (before all : List Actor) (bs front rest : List ℕ) (first : Actor) (more : List Actor) → All IsNumbered (first ∷ more)
-    → bs ≡ signers_text (first ∷ more) → all ≡ before ++ first ∷ more → length all ≤ 16 → IsFree 43 front → bs ≡ front ++ 43 ∷ rest → Cut before front rest all
-cut before all bs front rest first [] numbered text all_are few free parts =
+    → bs ≡ signers_text (first ∷ more) → all ≡ before ++ first ∷ more → length all ≤ 16 → IsAbsent 43 front → bs ≡ front ++ 43 ∷ rest → Cut before front rest all
+cut before all bs front rest first [] numbered text all_are few absent parts =
     let one : actor_text first ≡ front ++ 43 ∷ rest = sym (text ∙ append-nil (actor_text first)) ∙ parts in
-    absurd (not_free 43 front rest (actor_text first) one (actor_free first (All-head IsNumbered first [] numbered)))
-cut before all bs front rest first (a ∷ others) numbered text all_are few free parts =
+    absurd (not_absent 43 front rest (subst (IsAbsent 43) one (actor_without_plus first (All-head IsNumbered first [] numbered))))
+cut before all bs front rest first (a ∷ others) numbered text all_are few absent parts =
     let same : (front ≡ actor_text first) × (rest ≡ signers_text (a ∷ others)) =
-    cut_once 43 front rest (actor_text first) (signers_text (a ∷ others)) free
-    (actor_free first (All-head IsNumbered first (a ∷ others) numbered)) (sym parts ∙ text) in
+    one_cut 43 front rest (actor_text first) (signers_text (a ∷ others)) absent
+    (actor_without_plus first (All-head IsNumbered first (a ∷ others) numbered)) (sym parts ∙ text) in
     record {
       first = first;
       numbered = All-head IsNumbered first (a ∷ others) numbered;
@@ -102,9 +103,9 @@ cut before all bs front rest first (a ∷ others) numbered text all_are few free
           };
     }
 
-pub spells_cut : (before all : List Actor) (bs front rest : List ℕ) → SpellsAfter before bs all → IsFree 43 front → bs ≡ front ++ 43 ∷ rest
+pub spells_cut : (before all : List Actor) (bs front rest : List ℕ) → SpellsAfter before bs all → IsAbsent 43 front → bs ≡ front ++ 43 ∷ rest
     → Cut before front rest all
-spells_cut before all bs front rest s free parts = cut before all bs front rest s.first s.more s.numbered s.text s.all_are s.few free parts
+spells_cut before all bs front rest s absent parts = cut before all bs front rest s.first s.more s.numbered s.text s.all_are s.few absent parts
 
 -- what spells the signers after one more spells them after the signers before it
 pub spelled_more : (before after : List Actor) (bs front rest : List ℕ) (a : Actor) (r : Option (List Actor)) → bs ≡ front ++ 43 ∷ rest

@@ -4,10 +4,10 @@ use Rattle.std.specs.Fmt.{decimal}
 use Rattle.std.proofs.lemmas.Option.{none-some, same_Some}
 use Rattle.dsr_names.specs.Split.{IsAbsent}
 use Rattle.dsr_names.specs.declared.actor.Actor.{Actor}
-use Rattle.dsr_register.proofs.SplitLemmas.{one_cut, not_absent}
+use Rattle.dsr_names.proofs.Marks.{one_cut, not_absent}
 use Rattle.dsr_register.proofs.TextLemmas.{decimal_without}
 use Rattle.dsr_history.specs.Issued.{Issued}
-use Rattle.dsr_history.specs.RequestText.{request_text, IsRequest}
+use Rattle.dsr_history.specs.RequestText.{request_token, IsRequest}
 use Rattle.dsr_history.proofs.RequestsTextLemmas.{token_without, requests_without}
 use Rattle.dsr_desk.specs.ContentText.{content_text, IsContent}
 use Rattle.dsr_desk.specs.SignersText.{signers_text, IsSigners}
@@ -21,7 +21,7 @@ Reads bytes answer = (statement : Statement) → (answer ≡ Some statement) ↔
 
 -- the same of a request, a content and a link's parts
 abbrev ReadsRequest : List ℕ → Option Issued → Type 0
-ReadsRequest bytes answer = (request : Issued) → (answer ≡ Some request) ↔ (IsRequest request × (bytes ≡ request_text 35 58 request))
+ReadsRequest bytes answer = (request : Issued) → (answer ≡ Some request) ↔ (IsRequest request × (bytes ≡ request_token request))
 
 abbrev ReadsSlot : List ℕ → ℕ → Type 0
 ReadsSlot bytes slot = (n : ℕ) → (Some slot ≡ Some n) ↔ ((n < 2 ^ 40) × (bytes ≡ decimal n))
@@ -37,7 +37,7 @@ ReadsLink slot content before answer = (statement : Statement) → (answer ≡ S
 
 -- ---- slashes
 
-no_slash_in_request : (request : Issued) → IsRequest request → IsAbsent 47 (request_text 35 58 request)
+no_slash_in_request : (request : Issued) → IsRequest request → IsAbsent 47 (request_token request)
 no_slash_in_request request h =
     let no_mark : ◌≡◌ {A = ℕ} 35 47 → ⊥ = λ (e : ◌≡◌ {A = ℕ} 35 47). omega arith in
     let no_colon : ◌≡◌ {A = ℕ} 58 47 → ⊥ = λ (e : ◌≡◌ {A = ℕ} 58 47). omega arith in
@@ -57,7 +57,7 @@ no_slash_in_slot slot small = decimal_without 47 slot refl (omega (arith, small)
 -- ---- no slash: a request
 
 ask_text : (bytes : List ℕ) (request : Issued) (statement : Statement) → Ask request ≡ statement → IsRequest request
-    → bytes ≡ request_text 35 58 request → IsStatement statement × (bytes ≡ statement_text statement)
+    → bytes ≡ request_token request → IsStatement statement × (bytes ≡ statement_text statement)
 ask_text bytes request statement same h e = subst (λ s. IsStatement s × (bytes ≡ statement_text s)) same (h, e)
 
 spelled_asked : (bytes : List ℕ) (r : Option Issued) → IsAbsent 47 bytes → ReadsRequest bytes r → (statement : Statement) → IsStatement statement

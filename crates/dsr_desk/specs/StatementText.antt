@@ -1,7 +1,7 @@
 -- How texts spell a statement (this project): a request, or slot, content and signers before as in `0/c0#1:write:a:5/r1`.
-use Rattle.std.specs.Prelude.{◌≡◌, ℕ, ◌^◌, ◌<◌, List, ◌∷◌, ◌++◌}
+use Rattle.std.specs.Prelude.{◌≡◌, ℕ, ◌^◌, ◌<◌, List, ◌++◌, codes}
 use Rattle.std.specs.Fmt.{decimal}
-use Rattle.dsr_history.specs.RequestText.{request_text, IsRequest}
+use Rattle.dsr_history.specs.RequestText.{request_token, IsRequest}
 use Rattle.dsr_desk.specs.ContentText.{content_text, IsContent}
 use Rattle.dsr_desk.specs.SignersText.{signers_text, IsSigners}
 use Rattle.dsr_desk.specs.declared.statement.Statement.{Statement}
@@ -9,8 +9,8 @@ use Rattle.dsr_desk.specs.declared.statement.Statement.TheVariants.{Ask, Link}
 
 -- the text of a statement: the request, or slot, content and signers before, with a slash between them
 abbrev pub statement_text : Statement → List ℕ
-statement_text (Ask request) = request_text 35 58 request
-statement_text (Link slot value before) = decimal slot ++ 47 ∷ (content_text value ++ 47 ∷ signers_text before)
+statement_text (Ask request) = request_token request
+statement_text (Link slot value before) = decimal slot ++ (codes "/" ++ (content_text value ++ (codes "/" ++ signers_text before)))
 
 -- a statement that a text can spell
 abbrev pub IsStatement : Statement → Type 0

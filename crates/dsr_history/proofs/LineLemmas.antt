@@ -1,7 +1,7 @@
 -- A text begins with the line of a request in at most one way.
 use Rattle.std.proofs.Common.{◌≡◌, ℕ, ◌↔◌, List, [], ◌∷◌, ◌++◌, Option, None, Some, IfNone, refl, sym, ◌∙◌, subst, arith, append_assoc}
 use Rattle.dsr_names.specs.Split.{IsAbsent}
-use Rattle.dsr_register.proofs.SplitLemmas.{one_cut, not_absent}
+use Rattle.dsr_names.proofs.Marks.{one_cut, not_absent}
 use Rattle.dsr_history.specs.Issued.{Issued}
 use Rattle.dsr_history.specs.RequestText.{request_text, IsRequest}
 use Rattle.dsr_history.specs.Applied.{request_line, IsNoLine}

@@ -2,7 +2,8 @@
 use Rattle.std.proofs.Common.{◌≡◌, ℕ, ◌+◌, ◌-◌, ◌<◌, ◌≤◌, List, [], ◌∷◌, ◌++◌, length, take, drop, replicate, get_or, ap, ap₂, sym, ◌∙◌, subst, refl, arith, lt_irrefl}
 use Rattle.std.proofs.lemmas.List.{drop-drop, take_at}
 use borrow.Rule.Slice.PartMut.{post_of}
-use Rattle.dsr_names.specs.Padded.{IsPadded, items_over_blanks}
+use Rattle.dsr_names.specs.Padded.{IsPadded}
+use Rattle.dsr_names.proofs.Padding.{items_over_blanks}
 use Rattle.dsr_history.specs.Issued.{Issued}
 use Rattle.dsr_history.specs.RequestsFields.{IsRequestsFields, first_request}
 use Rattle.dsr_history.specs.declared.requests.Requests.TheInside.{Inside}

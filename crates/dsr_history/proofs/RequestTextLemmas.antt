@@ -7,7 +7,7 @@ use Rattle.dsr_names.specs.declared.actor.Actor.{Actor}
 use Rattle.dsr_names.specs.declared.actor.Actor.TheVariants.{Replica, Client}
 use Rattle.dsr_register.specs.NameText.{is_name_byte}
 use Rattle.dsr_register.specs.OpText.{op_text}
-use Rattle.dsr_register.proofs.SplitLemmas.{one_cut, not_absent}
+use Rattle.dsr_names.proofs.Marks.{one_cut, not_absent}
 use Rattle.dsr_register.proofs.TextLemmas.{decimal_without, op_without}
 use Rattle.std.proofs.lemmas.Bool.{false≢true}
 use Rattle.std.proofs.lemmas.List.Elements.{All-cons, All-append}

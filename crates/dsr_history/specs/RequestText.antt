@@ -17,3 +17,7 @@ pub record IsRequest (request : Issued) : Type 0 where
 abbrev pub request_text : ℕ → ℕ → Issued → List ℕ
 request_text mark separator request =
     actor_text (Client request.client) ++ mark ∷ (decimal request.number ++ separator ∷ op_text separator request.op)
+
+-- the token of a request: `#` after the client, and colons
+abbrev pub request_token : Issued → List ℕ
+request_token request = request_text 35 58 request

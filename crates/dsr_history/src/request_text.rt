@@ -4,7 +4,7 @@ ghost use Rattle.dsr_names.specs.Actor.{actor_text};
 ghost use Rattle.dsr_names.specs.declared.actor.Actor.TheVariants.{Client};
 ghost use Rattle.dsr_register.specs.OpText.{op_text};
 ghost use Rattle.dsr_history.specs.Issued.{Issued};
-ghost use Rattle.dsr_history.specs.RequestText.{request_text, IsRequest};
+ghost use Rattle.dsr_history.specs.RequestText.{request_text, request_token, IsRequest};
 
 use crate::request::Request;
 use dsr_names::{Actor, ClientId, read_num, split_once};
@@ -14,14 +14,14 @@ use std::fmt;
 impl Request {
     /// The request whose token the bytes are, as `c0#7:write:a:5`. `None` exactly where they are no such token.
     pub fn read(bytes: &[u8]) -> Option<Request>
-        ensures { (request : Issued) → (result ≡ Some request) ↔ (IsRequest request × (bytes.now ≡ request_text 35 58 request)) }
+        ensures { (request : Issued) → (result ≡ Some request) ↔ (IsRequest request × (bytes.now ≡ request_token request)) }
     {
         read_request(bytes, b'#', b':')
     }
 }
 
 impl fmt::Display for Request {
-    ghost output = { λ request. Some (request_text 35 58 request) };
+    ghost output = { λ request. Some (request_token request) };
 
     fn fmt<W: fmt::Write>(&self, f: &mut fmt::Formatter<W>) -> fmt::Result {
         let client = Actor::Client(self.client());

@@ -2,6 +2,7 @@ pub mod BitLemmas
 pub mod Marks
 pub mod MemberLemmas
 pub mod Numerals
+pub mod Padding
 pub mod Pigeonhole
 pub mod Rising
 mod Sending

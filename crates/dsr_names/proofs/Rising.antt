@@ -13,7 +13,8 @@ use Rattle.dsr_names.specs.Bits.{is_bit_set}
 use Rattle.dsr_names.specs.Shape.{shape_of}
 use Rattle.dsr_names.specs.ShapeText.{numbers_below, replicas_of, replicas_text, more_replicas_text, shape_text}
 use Rattle.dsr_names.specs.Parts.{IsRising, bits_of, SpellsRising}
-use Rattle.dsr_names.proofs.Marks.{IsFree, free, not_free, cut_once, decimal_free, front_free}
+use Rattle.dsr_names.specs.Split.{IsAbsent}
+use Rattle.dsr_names.proofs.Marks.{not_absent, one_cut, decimal_without_low, letter_then_without}
 
 -- ---- actors
 
@@ -24,8 +25,8 @@ pub client_is_replica : (r s : ℕ) → Client r ≡ Replica s → ⊥
 client_is_replica r s e = cc
 
 -- nor does the token of a replica hold a plus
-pub replica_free : (r : ℕ) → r < 2 ^ 64 → IsFree 43 (actor_text (Replica r))
-replica_free r small k h = front_free 114 43 (decimal r) (lit< tt) (decimal_free 43 r (lit< tt) small) k h
+pub replica_without_plus : (r : ℕ) → r < 2 ^ 64 → IsAbsent 43 (actor_text (Replica r))
+replica_without_plus r small = letter_then_without 114 43 (decimal r) (lit< tt) (decimal_without_low 43 r (lit< tt) small)
 
 -- ---- rising lists and their bits
 
@@ -162,15 +163,15 @@ spells_more least bs front rest r others e low high f s = record {
 }
 
 alone : (least : ℕ) (bs : List ℕ) (bits first : ℕ) (more : List ℕ) → IsRising least 16 (first ∷ more) → bs ≡ replicas_text (first ∷ more) → bits ≡ bits_of (first ∷ more)
-    → IsFree 43 bs → (r : ℕ) × (least ≤ r) × (r < 16) × (bs ≡ actor_text (Replica r)) × (bits ≡ 2 ^ r)
-alone least bs bits first [] rising text e free = (first, rising.0, rising.1, text ∙ append-nil (actor_text (Replica first)), omega arith)
-alone least bs bits first (r ∷ rs) rising text e free =
-    absurd (not_free 43 (actor_text (Replica first)) (replicas_text (r ∷ rs)) bs text free)
+    → IsAbsent 43 bs → (r : ℕ) × (least ≤ r) × (r < 16) × (bs ≡ actor_text (Replica r)) × (bits ≡ 2 ^ r)
+alone least bs bits first [] rising text e absent = (first, rising.0, rising.1, text ∙ append-nil (actor_text (Replica first)), omega arith)
+alone least bs bits first (r ∷ rs) rising text e absent =
+    absurd (not_absent 43 (actor_text (Replica first)) (replicas_text (r ∷ rs)) (subst (IsAbsent 43) text absent))
 
 -- with no plus there is one replica
-pub spells_alone : (least : ℕ) (bs : List ℕ) (bits : ℕ) → SpellsRising least bs bits → IsFree 43 bs
+pub spells_alone : (least : ℕ) (bs : List ℕ) (bits : ℕ) → SpellsRising least bs bits → IsAbsent 43 bs
     → (r : ℕ) × (least ≤ r) × (r < 16) × (bs ≡ actor_text (Replica r)) × (bits ≡ 2 ^ r)
-spells_alone least bs bits s free = alone least bs bits s.first s.more s.rising s.text s.bits_are free
+spells_alone least bs bits s absent = alone least bs bits s.first s.more s.rising s.text s.bits_are absent
 
 -- what stands before and after the first plus
 pub record Cut (least : ℕ) (front rest : List ℕ) (bits : ℕ) : Type 0 where
@@ -183,13 +184,13 @@ pub record Cut (least : ℕ) (front rest : List ℕ) (bits : ℕ) : Type 0 where
   pub bits_are : bits ≡ 2 ^ first + others
 
 cut : (least : ℕ) (bs front rest : List ℕ) (bits first : ℕ) (more : List ℕ) → IsRising least 16 (first ∷ more) → bs ≡ replicas_text (first ∷ more) → bits ≡ bits_of (first ∷ more)
-    → IsFree 43 front → bs ≡ front ++ 43 ∷ rest → Cut least front rest bits
-cut least bs front rest bits first [] rising text e free parts =
+    → IsAbsent 43 front → bs ≡ front ++ 43 ∷ rest → Cut least front rest bits
+cut least bs front rest bits first [] rising text e absent parts =
     let one : actor_text (Replica first) ≡ front ++ 43 ∷ rest = sym (text ∙ append-nil (actor_text (Replica first))) ∙ parts in
-    absurd (not_free 43 front rest (actor_text (Replica first)) one (replica_free first (omega (arith, rising.1))))
-cut least bs front rest bits first (r ∷ rs) rising text e free parts =
+    absurd (not_absent 43 front rest (subst (IsAbsent 43) one (replica_without_plus first (omega (arith, rising.1)))))
+cut least bs front rest bits first (r ∷ rs) rising text e absent parts =
     let same : (front ≡ actor_text (Replica first)) × (rest ≡ replicas_text (r ∷ rs)) =
-    cut_once 43 front rest (actor_text (Replica first)) (replicas_text (r ∷ rs)) free (replica_free first (omega (arith, rising.1))) (sym parts ∙ text) in
+    one_cut 43 front rest (actor_text (Replica first)) (replicas_text (r ∷ rs)) absent (replica_without_plus first (omega (arith, rising.1))) (sym parts ∙ text) in
     record {
       first = first;
       others = bits_of (r ∷ rs);
@@ -200,8 +201,8 @@ cut least bs front rest bits first (r ∷ rs) rising text e free parts =
       bits_are = e;
     }
 
-pub spells_cut : (least : ℕ) (bs front rest : List ℕ) (bits : ℕ) → SpellsRising least bs bits → IsFree 43 front → bs ≡ front ++ 43 ∷ rest → Cut least front rest bits
-spells_cut least bs front rest bits s free parts = cut least bs front rest bits s.first s.more s.rising s.text s.bits_are free parts
+pub spells_cut : (least : ℕ) (bs front rest : List ℕ) (bits : ℕ) → SpellsRising least bs bits → IsAbsent 43 front → bs ≡ front ++ 43 ∷ rest → Cut least front rest bits
+spells_cut least bs front rest bits s absent parts = cut least bs front rest bits s.first s.more s.rising s.text s.bits_are absent parts
 
 -- rising replicas leave room for those before them
 pub spelled_fit : (least : ℕ) (bs : List ℕ) (bits : ℕ) → least ≤ 16 → SpellsRising least bs bits → bits + 2 ^ least ≤ 2 ^ 16
@@ -236,9 +237,9 @@ dash_is_none bs bits dash s =
     differ 45 114 (lit< tt) (ap (λ xs. get_or xs 0 0) same)
 
 -- the bytes before the first mark are the token of the number in front of it
-pub field_cut : (bs front rest : List ℕ) (n : ℕ) (after : List ℕ) → bs ≡ front ++ 32 ∷ rest → IsFree 32 front → n < 2 ^ 40 → bs ≡ decimal n ++ 32 ∷ after → (front ≡ decimal n) × (rest ≡ after)
-field_cut bs front rest n after parts free small text =
-    cut_once 32 front rest (decimal n) after free (decimal_free 32 n (lit< tt) (omega arith)) (sym parts ∙ text)
+pub field_cut : (bs front rest : List ℕ) (n : ℕ) (after : List ℕ) → bs ≡ front ++ 32 ∷ rest → IsAbsent 32 front → n < 2 ^ 40 → bs ≡ decimal n ++ 32 ∷ after → (front ≡ decimal n) × (rest ≡ after)
+field_cut bs front rest n after parts absent small text =
+    one_cut 32 front rest (decimal n) after absent (decimal_without_low 32 n (lit< tt) (omega arith)) (sym parts ∙ text)
 
 -- no replica is spelled as a dash
 pub none_text : (bits : ℕ) → bits ≡ 0 → replicas_text (replicas_of bits) ≡ codes "-"

@@ -1,7 +1,6 @@
 -- A list of at most n items in an array of n places: the places after the items hold one blank.
 use Rattle.std.specs.Prelude.{◌≡◌, ℕ, ◌-◌, ◌≤◌, List, ◌++◌, length, take, drop, replicate}
-use Rattle.std.proofs.Common.{sym, ◌∙◌, ap, arith, length-take, length-drop, take-append-drop, length-append}
-use Rattle.std.proofs.lemmas.List.{drop-replicate, drop_at, take_at, length-replicate}
+use Rattle.std.proofs.Common.{sym, ◌∙◌, ap, arith, length-take, take-append-drop}
 
 -- the first k places hold the items, and the others the blank
 pub record IsPadded {X : Type 0} (n : ℕ) (blank : X) (places : List X) (k : ℕ) : Type 0 where
@@ -13,6 +12,7 @@ pub record IsPadded {X : Type 0} (n : ℕ) (blank : X) (places : List X) (k : �
 abbrev pub padded : {X : Type 0} → ℕ → X → List X → List X
 padded n blank items = items ++ replicate (n - length items) blank
 
+-- there are k items
 pub length_items : {X : Type 0} (n k : ℕ) (blank : X) (places : List X) → IsPadded n blank places k → length (take k places) ≡ k
 length_items n k blank places h = simp length-take (omega (arith, h.size, h.within))
 
@@ -21,16 +21,3 @@ pub padded_items : {X : Type 0} (n k : ℕ) (blank : X) (places : List X) → Is
 padded_items n k blank places h =
     ap (λ l. take k places ++ replicate (n - l) blank) (length_items n k blank places h)
     ∙ ap (λ l. take k places ++ l) (sym h.rest) ∙ take-append-drop k places
-
--- items written over blanks
-pub items_over_blanks : {X : Type 0} (n k : ℕ) (blank : X) (items : List X) → length items ≡ k → k ≤ n
-    → IsPadded n blank (items ++ drop k (replicate n blank)) k
-items_over_blanks n k blank items e fits =
-    record {
-      size = simp (length-append, length-drop, length-replicate) (omega arith);
-      within = fits;
-      rest = drop_at items (drop k (replicate n blank)) k e ∙ drop-replicate k n blank;
-    }
-
-pub take_items : {X : Type 0} (k : ℕ) (items others : List X) → length items ≡ k → take k (items ++ others) ≡ items
-take_items k items others e = take_at items others k e

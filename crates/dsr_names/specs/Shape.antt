@@ -12,12 +12,17 @@ pub record Members : Type 0 where
   pub m : ℕ
   pub traitors : ℕ
 
+-- the shape of these four
 abbrev pub shape_of : ℕ → ℕ → ℕ → ℕ → Members
 shape_of n f m traitors = record { n = n; f = f; m = m; traitors = traitors }
 
 -- whether the bits of a shape call this replica a traitor
 abbrev pub is_traitor : Members → ℕ → Bool
 is_traitor shape p = is_bit_set shape.traitors p
+
+-- at most f of the replicas are traitors
+abbrev pub HasFewTraitors : Members → Type 0
+HasFewTraitors shape = count_below (is_traitor shape) shape.n ≤ shape.f
 
 -- a shape within the limits: 1 to 16 replicas, more than twice as many as traitors are allowed; 1 to 32 clients;
 -- only replicas are traitors, and at most f of them
@@ -28,7 +33,7 @@ pub record IsAllowed (shape : Members) : Type 0 where
   pub some_client : 0 < shape.m
   pub few_clients : shape.m ≤ 32
   pub replicas_alone : shape.traitors < 2 ^ shape.n
-  pub few_traitors : count_below (is_traitor shape) shape.n ≤ shape.f
+  pub few_traitors : HasFewTraitors shape
 
 -- an actor of the shape: a replica below n, or a client below m
 abbrev pub IsActor : Members → Actor → Type 0

@@ -34,7 +34,7 @@ pub enum Refusal {
     BadText { line: u64 },
     /// The lines before are a run, and this one, counted from 1, does not continue it.
     NotARun { line: u64 },
-    /// Not an actor of the shape.
+    /// No actor has this number: replicas are below 16, clients below 32; or it is not of the shape.
     NoActor,
     /// The actor may not take this part.
     WrongRole,

@@ -2,7 +2,6 @@ mod AnswerLemmas
 mod Names
 mod OpLemmas
 mod PlaceLemmas
-pub mod SplitLemmas
 mod TableLemmas
 pub mod TextLemmas
 mod ValueLemmas

@@ -3,8 +3,9 @@ use Rattle.std.proofs.Common.{◌≡◌, ℕ, List, ◌++◌, length, drop, repl
 use Rattle.std.proofs.lemmas.Bool.Decides.{nat_tests}
 use Rattle.std.proofs.lemmas.Str.{IsUtf8-from_ascii}
 use Rattle.std.proofs.lemmas.Str.Ascii.{IsAscii-from_all}
+use Rattle.std.proofs.lemmas.List.{take_at}
 use Rattle.std.proofs.lemmas.List.Elements.{All-weaker}
-use Rattle.dsr_names.specs.Padded.{items_over_blanks, take_items}
+use Rattle.dsr_names.proofs.Padding.{items_over_blanks}
 use Rattle.dsr_register.specs.NameText.{IsName, is_name_byte}
 use Rattle.dsr_register.specs.NameFields.{IsNameFields}
 
@@ -12,7 +13,7 @@ pub written_name : (bytes written : List ℕ) → IsName bytes → written ≡ b
     → IsNameFields (record { bytes = written ++ drop (length bytes) (replicate 32 0); len = length bytes })
 written_name bytes written h e =
     record {
-      name = subst IsName (sym (take_items (length bytes) written (drop (length bytes) (replicate 32 0)) (ap length e) ∙ e)) h;
+      name = subst IsName (sym (take_at written (drop (length bytes) (replicate 32 0)) (length bytes) (ap length e) ∙ e)) h;
       places = items_over_blanks 32 (length bytes) 0 written (ap length e) h.few;
     }
 

@@ -10,7 +10,7 @@ use Rattle.dsr_register.specs.declared.op.Op.{Op}
 use Rattle.dsr_register.specs.declared.op.Op.TheVariants.{Read, Write, Swap, Remove}
 use Rattle.dsr_register.proofs.TextLemmas.{name_without, old_without, verb_without}
 use Rattle.dsr_register.proofs.Words.{other_word}
-use Rattle.dsr_register.proofs.SplitLemmas.{one_cut, not_absent}
+use Rattle.dsr_names.proofs.Marks.{one_cut, not_absent}
 
 -- the two separators
 abbrev IsSeparator : ℕ → Type 0

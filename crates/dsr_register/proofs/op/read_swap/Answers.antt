@@ -4,7 +4,7 @@ use Rattle.dsr_names.specs.Token.{old_text}
 use Rattle.std.specs.Fmt.{decimal}
 use Rattle.dsr_register.proofs.Words.{reads_nothing, reads_something}
 use Rattle.dsr_register.proofs.OpLemmas.{no_swap, swap_of, values_of, swap_by_parts}
-use Rattle.dsr_register.proofs.SplitLemmas.{not_absent}
+use Rattle.dsr_names.proofs.Marks.{not_absent}
 use Rattle.dsr_register.proofs.op.read_swap.Goals as goal
 
 pub returns-in_err-name : goal.returns-in_err-name

@@ -1,4 +1,4 @@
-use Rattle.dsr_chain.specs.SlotValueEq.{slot_value_eq-Decides}
+use Rattle.dsr_chain.proofs.Sameness.{slot_value_eq-Decides}
 use Rattle.dsr_chain.proofs.slot_value.SlotValue.same.Goals as goal
 
 pub returns : goal.returns
