@@ -53,9 +53,11 @@ impl Machine {
         })
     }
 
-    /// Makes room for the next value: `accept_value` then takes no memory. `NoMemory` where it is refused.
+    /// Makes room for the next value: `accept_value` then takes no memory. `NoMemory` where it is refused: then
+    /// nothing changed, but that there may be more room.
     pub fn room(&mut self) -> Result<(), Refusal>
         ensures ok { OnOk result (8 ≤ self.new.room) }
+        ensures no_less { self.old.room ≤ self.new.room }
         ensures refusal { IfErr result (λ e. e ≡ Refusal.NoMemory) }
         ensures history { self.new.history ≡ self.old.history }
         ensures clients { self.new.clients ≡ self.old.clients }
@@ -70,7 +72,8 @@ impl Machine {
 
     /// Processes the requests of a value in the order of its list, and says how many of them acted; the empty
     /// list is the idle value. Asks for at most 8 requests, all of clients of the shape, and a history shorter
-    /// than 2^39. `NoMemory` where there was no room and no memory for it: then nothing changed but the room.
+    /// than 2^39. `NoMemory` where there was no room and no memory for it: then nothing changed, but that
+    /// there may be more room. No room goes but that of the requests.
     pub fn accept_value(&mut self, requests: &[Request]) -> Result<u8, Refusal>
         requires few { length requests.now ≤ 8 }
         requires clients { All (λ r. r.client < self.old.clients) requests.now }
@@ -82,6 +85,7 @@ impl Machine {
         ensures unchanged { OnErr result (self.new.history ≡ self.old.history) }
         ensures clients { self.new.clients ≡ self.old.clients }
         ensures in_room { 8 ≤ self.old.room → IsOk result }
+        ensures left { self.old.room ≤ self.new.room + length requests.now }
     {
         if self.spare() < MOST_REQUESTS {
             self.room()?;
@@ -128,8 +132,8 @@ impl Machine {
                 answer,
             },
         );
-        let _ = self.history.push(*request);
-        let _ = self.answers.push(answer);
+        self.history.push_reserved(*request);
+        self.answers.push_reserved(answer);
         true
     }
 

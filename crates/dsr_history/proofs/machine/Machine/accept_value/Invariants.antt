@@ -4,7 +4,7 @@ use Rattle.dsr_history.specs.History.{acting, requests_of}
 use Rattle.dsr_history.specs.MachineState.{Stands}
 use Rattle.dsr_history.proofs.machine.Machine.accept_value.Given as goal
 
--- the requests so far are processed, those that acted are counted, and the room is enough for the rest
+-- the requests so far are processed, those that acted are counted, and no room went but theirs, so it is enough for the rest
 abbrev pub invariant-loop-request : goal.invariant-loop-request
 invariant-loop-request l =
     ((values : List (List Issued)) → Stands l.initial.self values → l.self.history ≡ acting (reverse (take l.request-index l.requests) ++ requests_of values))
@@ -12,3 +12,4 @@ invariant-loop-request l =
     × (l.count ≤ l.request-index)
     × (l.self.clients ≡ l.initial.self.clients)
     × (8 ≤ l.self.room + l.request-index)
+    × (l.initial.self.room ≤ l.self.room + l.request-index)

@@ -1,4 +1,4 @@
-use Rattle.std.proofs.Common.{◌≡◌, ◌<◌, ◌∙◌, ◌∷◌, ◌++◌, [], true, false, if◌then◌else◌, is_ok, length, sym, ap, subst, arith, rules}
+use Rattle.std.proofs.Common.{◌≡◌, ◌<◌, ◌∙◌, ◌∷◌, true, false, length, sym, ap, subst, arith, rules}
 use Rattle.dsr_register.specs.Values.{answer_after}
 use Rattle.dsr_register.specs.Table.{StandsFor}
 use Rattle.dsr_ledger.specs.Kept.{kept_of, Acts}
@@ -25,30 +25,24 @@ returns-then-not-acts-clause-acted c older e =
 
 pub invariant_of-self : goal.invariant_of-self
 invariant_of-self c =
-    let room = ap (λ m. m.room) c.self.view_is in
-    let first : is_ok c.push.result ≡ true = c.push.ensures.succeeds (omega (arith, room, c.requires.room)) in
-    let second : is_ok c.push-2.result ≡ true = c.push-2.ensures.succeeds (omega (arith, room, c.requires.room)) in
     let place : c.len-place.result ≡ length c.self.inside.history.items = search rules in
     machine_after c.self.inside _ c.args.request.now c.apply-answer.result c.number-number.result c.len-place.result c.client-client.result
     c.self.invariant c.number-number.ensures.same c.client-client.ensures (omega (arith, c.requires.client, ap (λ m. m.clients) c.self.view_is)) place
     (λ ops stands. c.apply-answer.ensures.answer ops stands ∙ ap (answer_after ops) c.op.ensures)
     (λ ops stands. subst (λ op. StandsFor c.apply-answer.new.self (op ∷ ops)) c.op.ensures (c.apply-answer.ensures.change ops stands))
     c.note.ensures
-    (c.push.ensures.items ∙ ap (λ b. if b then c.self.inside.history.items ++ c.args.request.now ∷ [] else c.self.inside.history.items) first)
-    (c.push-2.ensures.items ∙ ap (λ b. if b then c.self.inside.answers.items ++ c.apply-answer.result ∷ [] else c.self.inside.answers.items) second)
+    c.push_reserved.ensures.items
+    c.push_reserved-2.ensures.items
 
 pub returns-clause-acted : goal.returns-clause-acted
 returns-clause-acted c older e =
     let here : history_of c.self.inside ≡ acting older = ap (λ m. m.history) c.self.view_is ∙ e in
-    let room = ap (λ m. m.room) c.self.view_is in
     let clients : length c.self.inside.ledger ≡ c.args.self.now.clients = ap (λ m. m.clients) c.self.view_is in
-    let first : is_ok c.push.result ≡ true = c.push.ensures.succeeds (omega (arith, room, c.requires.room)) in
     let kept : kept_of c.self.inside.ledger c.client-client.result ≡ reply_in (acting older) c.args.request.now.client =
     c.self.invariant.replies c.client-client.result
     ∙ (ap (λ h. reply_in h c.client-client.result) here ∙ ap (reply_in (acting older)) c.client-client.ensures) in
     let acts : Acts (kept_of c.self.inside.ledger c.client-client.result) c.args.request.now.number =
     subst (Acts (kept_of c.self.inside.ledger c.client-client.result)) c.number-number.ensures.same (c.acts.ensures.0 c.if-not-acts.false) in
-    pushed c.self.inside.history.items c.push.new.self.items c.args.request.now
-    (c.push.ensures.items ∙ ap (λ b. if b then c.self.inside.history.items ++ c.args.request.now ∷ [] else c.self.inside.history.items) first)
+    pushed c.self.inside.history.items c.push_reserved.new.self.items c.args.request.now c.push_reserved.ensures.items
     ∙ acted_by c.args.request.now (history_of c.self.inside) older here
     (rises_from_acts c.args.request.now older (kept_of c.self.inside.ledger c.client-client.result) kept acts)
