@@ -53,13 +53,13 @@ impl Calendar {
             ↔ ((result.first ≤ slot) × (slot ≤ result.last)) }
         ensures beginning { (slot : ℕ) → (result.last ≡ slot) ↔ (first_round self.now slot ≡ t) }
         ensures next_to_close { result.first ≡ closed_slots self.now t }
+        ensures closed { (slot : ℕ) → (slot < result.first) ↔ (last_round self.now slot < t) }
         ensures from_the_start { t < self.now.f → result.first ≡ 0 }
         ensures some { result.first ≤ result.last }
         ensures few { result.last ≤ result.first + self.now.f }
         ensures no_later { result.last ≤ t }
     {
-        let f = self.shape.f() as u64;
-        let first = if t < f { 0 } else { t - f };
+        let first = t.saturating_sub(self.shape.f() as u64);
         Slots { first, last: t }
     }
 
@@ -69,26 +69,26 @@ impl Calendar {
         ensures round { (r : ℕ) → (result ≡ Some r) ↔ IsRoundOf self.now slot t r }
         ensures when { IsSome result ↔ IsInFlight self.now slot t }
     {
-        let f = self.shape.f();
-        if t < slot || t - slot > f as u64 {
+        let earlier = t.checked_sub(slot)?;
+        if earlier > self.shape.f() as u64 {
             return None;
         }
-        let earlier = (t - slot) as u8;
-        Some(earlier + 1)
+        Some(earlier as u8 + 1)
     }
 
-    /// The slot that closes with global round `t`, where one does. It is the next in the order of slots.
+    /// The slot that closes with global round `t`; `None` exactly in the rounds 0 to f-1. It is the next in the
+    /// order of slots.
     #[tactic(auto, using(crate::proofs::Closing::closed_slots_count), unfolding(crate::specs::Calendar::first_round))]
     pub fn closes(&self, t: u64) -> Option<u64>
         ensures slot { (slot : ℕ) → (result ≡ Some slot) ↔ ClosesWith self.now slot t }
+        ensures when { IsSome result ↔ (self.now.f ≤ t) }
         ensures next { (slot : ℕ) → (result ≡ Some slot)
             ↔ ((closed_slots self.now t ≡ slot) × (closed_slots self.now (suc t) ≡ suc slot)) }
         ensures none { IsNone result ↔ (closed_slots self.now (suc t) ≡ closed_slots self.now t) }
         ensures before { (slot : ℕ) → (slot < closed_slots self.now t) ↔ (last_round self.now slot < t) }
         ensures no_later { IfSome result (λ slot. slot ≤ t) }
     {
-        let f = self.shape.f() as u64;
-        if t < f { None } else { Some(t - f) }
+        t.checked_sub(self.shape.f() as u64)
     }
 
     /// The replica that sends in this slot: the senders take turns.
