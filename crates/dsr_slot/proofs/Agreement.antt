@@ -4,7 +4,7 @@ use Rattle.std.specs.Prelude.{◌==◌, ◌%◌}
 use Rattle.std.proofs.lemmas.Bool.{cases_lt}
 use Rattle.std.proofs.lemmas.Bool.Decides.{Decides-eqb}
 use Rattle.dsr_names.specs.Member.{In, here, there}
-use Rattle.dsr_names.specs.Shape.{Members, is_traitor, IsLoyal}
+use Rattle.dsr_names.specs.Shape.{Members, HasFewTraitors, is_traitor, IsLoyal}
 use Rattle.dsr_names.specs.declared.actor.Actor.{Actor}
 use Rattle.dsr_names.specs.declared.actor.Actor.TheVariants.{Replica}
 use Rattle.dsr_history.specs.Issued.{Issued}
@@ -21,7 +21,7 @@ use Rattle.dsr_slot.specs.declared.kept.Kept.{Kept}
 use Rattle.dsr_slot.specs.Keeping.{kept_after, content_of}
 use Rattle.dsr_slot.specs.Conduct.{posted}
 use Rattle.dsr_slot.specs.Decision.{decision}
-use Rattle.dsr_slot.specs.Family.{Exchange, IsLinkOf, IsBroadcast, WasPosted, HasFewTraitors, read_by, decided_by}
+use Rattle.dsr_slot.specs.Broadcast.{Exchange, IsLinkOf, IsBroadcast, WasPosted, read_by, decided_by}
 use Rattle.dsr_slot.proofs.Lists.{holds_or_not, in_each, from_one}
 use Rattle.dsr_slot.specs.Kept.{Hears}
 use Rattle.dsr_slot.proofs.Keeps.{Apart, after_from, after_apart, after_hears}

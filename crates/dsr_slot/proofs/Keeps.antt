@@ -1,11 +1,11 @@
 -- What is kept: it stays, it comes from a proper chain that was read, no two have one content, and the content of each
 -- proper chain that is read is heard.
-use Rattle.std.proofs.Common.{◌≡◌, ℕ, zero, suc, ◌<◌, ◌≤◌, List, [], ◌∷◌, ◌++◌, length, Option, ◌⊎◌, inl, inr, refl, ap, sym, ◌∙◌, subst, arith}
+use Rattle.std.proofs.Common.{◌≡◌, ℕ, zero, suc, ◌<◌, ◌≤◌, List, [], ◌∷◌, ◌++◌, length, Option, ◌⊎◌, inl, inr, refl, ap, sym, ◌∙◌, subst, append_assoc, arith}
 use Rattle.std.specs.Prelude.{◌≢◌, ⊤, ◌&&◌, not, nat_lt, All, AllPairs}
 use Rattle.std.specs.Bool.{Decides}
 use Rattle.std.proofs.lemmas.Bool.{cases_lt}
 use Rattle.std.proofs.lemmas.Bool.Decides.{Decides-and, Decides-or, Decides-not, Decides-like, Decides-ltb}
-use Rattle.std.proofs.lemmas.List.{length_push}
+use Rattle.std.proofs.lemmas.List.{append-nil, length_push}
 use Rattle.std.proofs.lemmas.List.Elements.{All-nil, All-cons}
 use Rattle.std.proofs.lemmas.List.Kept.{AllPairs-cons}
 use Rattle.dsr_names.specs.Member.{In, here, there}
@@ -18,7 +18,7 @@ use Rattle.dsr_chain.specs.Proper.{IsProper}
 use Rattle.dsr_chain.specs.ProperTest.{is_proper, same_content}
 use Rattle.dsr_chain.proofs.ProperDecides.{is_proper-Decides, same_content-Decides}
 use Rattle.dsr_slot.specs.declared.kept.Kept.{Kept}
-use Rattle.dsr_slot.specs.Kept.{HasContent, Hears, CameFrom}
+use Rattle.dsr_slot.specs.Kept.{HasContent, Hears, GrewTo, CameFrom}
 use Rattle.dsr_slot.specs.Keeping.{kept_in, content_of, is_kept, is_news, keep_one, keep, kept_after}
 use Rattle.dsr_slot.proofs.Lists.{holds_or_not, by_test}
 
@@ -41,6 +41,14 @@ pub record IsNews (shape : Members) (slot round : ℕ) (kept : List Kept) (chain
   pub proper : IsProper shape slot round chain
   pub fresh : ¬ HasContent (content chain.value) kept
   pub room : length kept < 2
+
+-- ---- what is kept stays
+
+grew_not : (kept : List Kept) → GrewTo kept kept
+grew_not kept = ([], sym (append-nil kept))
+
+grew_on : (before kept later : List Kept) → GrewTo before kept → GrewTo kept later → GrewTo before later
+grew_on before kept later g h = (g.0 ++ h.0, h.1 ∙ (ap (λ ks. ks ++ h.0) g.1 ∙ append_assoc before g.0 h.0))
 
 -- ---- one chain
 
@@ -80,6 +88,12 @@ module _ (shape : Members) (slot round : ℕ) where
   one_stays kept chain k h = elim (one_cases kept chain) [
     | inl news ↦ subst (In k) (sym news.1) (In-append_left k kept (kept_in round chain ∷ []) h)
     | inr none ↦ subst (In k) (sym none.1) h
+  ]
+
+  one_grew : (kept : List Kept) (chain : SignedValue) → GrewTo kept (keep_one shape slot round kept chain)
+  one_grew kept chain = elim (one_cases kept chain) [
+    | inl news ↦ (kept_in round chain ∷ [], news.1)
+    | inr none ↦ ([], none.1 ∙ sym (append-nil kept))
   ]
 
   one_more : (kept : List Kept) (chain : SignedValue) → length kept ≤ length (keep_one shape slot round kept chain)
@@ -159,6 +173,11 @@ module _ (shape : Members) (slot round : ℕ) where
   keep_stays : (chains : List SignedValue) (kept : List Kept) (k : Kept) → In k kept → In k (keep shape slot round kept chains)
   keep_stays [] kept k h = h
   keep_stays (c ∷ cs) kept k h = keep_stays cs (keep_one shape slot round kept c) k (one_stays kept c k h)
+
+  keep_grew : (chains : List SignedValue) (kept : List Kept) → GrewTo kept (keep shape slot round kept chains)
+  keep_grew [] kept = grew_not kept
+  keep_grew (c ∷ cs) kept =
+      grew_on kept (keep_one shape slot round kept c) (keep shape slot round kept (c ∷ cs)) (one_grew kept c) (keep_grew cs (keep_one shape slot round kept c))
 
   keep_hears_later : (chains : List SignedValue) (kept : List Kept) (wanted : Option (List Issued)) → Hears kept wanted
       → Hears (keep shape slot round kept chains) wanted
@@ -257,6 +276,19 @@ module _ (shape : Members) (slot : ℕ) (read : ℕ → List SignedValue) where
         was_read = subst (λ z. In k.chain (read z)) (sym at) from.read_then;
         proper = subst (λ z. IsProper shape slot z k.chain) (sym at) from.proper;
       }
+
+  pub after_stays : (rounds later : ℕ) → rounds ≤ later → GrewTo (kept_after shape slot read rounds) (kept_after shape slot read later)
+  after_stays rounds zero few =
+      let none : rounds ≡ 0 = omega arith in
+      subst (λ r. GrewTo (kept_after shape slot read r) []) (sym none) (grew_not [])
+  after_stays rounds (suc r) few = elim (cases_lt r rounds) [
+    | inl all ↦
+        let last : rounds ≡ suc r = omega arith in
+        subst (λ z. GrewTo (kept_after shape slot read z) (kept_after shape slot read (suc r))) (sym last) (grew_not (kept_after shape slot read (suc r)))
+    | inr before ↦
+        grew_on (kept_after shape slot read rounds) (kept_after shape slot read r) (kept_after shape slot read (suc r))
+        (after_stays rounds r (omega arith)) (keep_grew shape slot (suc r) (read (suc r)) (kept_after shape slot read r))
+  ]
 
   pub after_heard : (rounds round : ℕ) (c : SignedValue) → 0 < round → round ≤ rounds → In c (read round) → IsProper shape slot round c
       → Hears (kept_after shape slot read rounds) (content c.value)

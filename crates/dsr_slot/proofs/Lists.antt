@@ -6,7 +6,7 @@ use Rattle.std.proofs.lemmas.Bool.{cases_lt}
 use Rattle.dsr_names.specs.Member.{In, here, there}
 use Rattle.dsr_names.proofs.MemberLemmas.{In-append_left, In-append_right, In-append_cases}
 use Rattle.dsr_chain.specs.SignedValue.{SignedValue}
-use Rattle.dsr_slot.specs.Family.{from_each}
+use Rattle.dsr_slot.specs.Broadcast.{from_each}
 
 -- what a test decides holds or not
 pub holds_or_not : {P : Type 0} (b : Bool) → Decides b P → P ⊎ (¬ P)

@@ -1,5 +1,5 @@
 -- What may be said of the chains that are kept (this project's words for what Dolev and Strong 1983 use).
-use Rattle.std.specs.Prelude.{◌≡◌, ◌⊎◌, ℕ, ◌<◌, ◌≤◌, List, Option, length}
+use Rattle.std.specs.Prelude.{◌≡◌, ◌⊎◌, ℕ, ◌<◌, ◌≤◌, List, ◌++◌, Option, length}
 use Rattle.dsr_names.specs.Member.{In}
 use Rattle.dsr_names.specs.Shape.{Members}
 use Rattle.dsr_history.specs.Issued.{Issued}
@@ -15,6 +15,10 @@ HasContent wanted kept = (k : Kept) × In k kept × (content_of k ≡ wanted)
 -- the content is kept, or two chains are: where it is not among them, two others
 abbrev pub Hears : List Kept → Option (List Issued) → Type 0
 Hears kept wanted = HasContent wanted kept ⊎ (2 ≤ length kept)
+
+-- the later list begins with the earlier one
+abbrev pub GrewTo : List Kept → List Kept → Type 0
+GrewTo earlier later = (more : List Kept) × (later ≡ earlier ++ more)
 
 -- the chain was read in the round that stands with it, one of the slot's first rounds, and is proper for that round
 pub record CameFrom (shape : Members) (slot : ℕ) (read : ℕ → List SignedValue) (rounds : ℕ) (k : Kept) : Type 0 where

@@ -1,6 +1,6 @@
+pub mod Broadcast
 pub mod Conduct
 pub mod Decision
-pub mod Family
 pub mod Keeping
 pub mod Kept
 pub mod SlotFields

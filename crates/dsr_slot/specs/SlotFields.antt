@@ -14,7 +14,7 @@ slot_view a = record {
   kept = option_to_list a.first ++ option_to_list a.second;
 }
 
--- a kept chain is of some round of a slot and has one signature for each round up to it; no slot has more than 8 rounds
+-- a kept chain is of some round of a slot and has as many signatures as the round's number; no slot has more than 8 rounds
 pub record IsOfSomeRound (k : Kept) : Type 0 where
   pub counted : length k.chain.signatures ≡ k.round
   pub within : k.round ≤ 8

@@ -2,21 +2,22 @@
 
 ghost use Rattle.std.specs.Prelude.{◌≡◌, ◌≢◌, ℕ, ◌<◌, ◌≤◌, List, AllPairs, length};
 ghost use Rattle.dsr_names.specs.Member.{In};
-ghost use Rattle.dsr_names.specs.Shape.{Members, IsLoyal};
+ghost use Rattle.dsr_names.specs.Shape.{Members, IsLoyal, HasFewTraitors};
 ghost use Rattle.dsr_names.specs.declared.actor.Actor.TheVariants.{Replica};
 ghost use Rattle.dsr_chain.specs.Content.{content};
 ghost use Rattle.dsr_chain.specs.Proper.{IsProper, sender_of};
 ghost use Rattle.dsr_chain.specs.SignedValue.{SignedValue};
 ghost use Rattle.dsr_chain.specs.declared.slot_value.SlotValue.{SlotValue};
 ghost use Rattle.dsr_slot.specs.declared.kept.Kept.{Kept};
-ghost use Rattle.dsr_slot.specs.Family.{Exchange, IsBroadcast, HasFewTraitors, decided_by};
+ghost use Rattle.dsr_slot.specs.Broadcast.{Exchange, IsBroadcast, decided_by};
 ghost use Rattle.dsr_slot.specs.Keeping.{content_of, kept_after};
-ghost use Rattle.dsr_slot.specs.Kept.{CameFrom, Hears};
+ghost use Rattle.dsr_slot.specs.Kept.{CameFrom, GrewTo, Hears};
 
 /// Agreement and validity of the broadcast (Dolev and Strong 1983). Whatever at most f traitors give to whom
-/// in the f+1 rounds of a slot, as long as they forge no loyal replica's signature, and clients of the shape
-/// signed the requests of the value: all loyal replicas decide the same, and where the sender is loyal they
-/// decide the value that it posted. The second holds however many are traitors.
+/// in the f+1 rounds of a slot, as long as each loyal replica gives every replica what its conduct asks for, no
+/// traitor gives a loyal replica's signature on a link of the slot that this replica did not post, and clients of
+/// the shape signed the requests of the value: all loyal replicas decide the same. And where the sender is loyal
+/// they decide the value, however many are traitors.
 pub fn one_slot()
     ensures agreement { (shape : Members) (slot : ℕ) (value : SlotValue) (given : Exchange)
         → HasFewTraitors shape → IsBroadcast shape slot value given
@@ -29,8 +30,8 @@ pub fn one_slot()
 {}
 
 /// What a replica keeps in the first rounds of a slot, whatever it reads: at most two chains; no two of one
-/// content; each read in the round that stands with it, and proper for that round. And of each proper chain that
-/// it read, it keeps the content or two others.
+/// content; each read in the round that stands with it, and proper for that round. What is kept stays, and what
+/// comes later stands behind it. And of each proper chain that it read, it keeps the content or two others.
 pub fn what_is_kept()
     ensures few { (shape : Members) (slot : ℕ) (read : ℕ → List SignedValue) (rounds : ℕ)
         → length (kept_after shape slot read rounds) ≤ 2 }
@@ -38,6 +39,8 @@ pub fn what_is_kept()
         → AllPairs (λ k l. content_of k ≢ content_of l) (kept_after shape slot read rounds) }
     ensures came { (shape : Members) (slot : ℕ) (read : ℕ → List SignedValue) (rounds : ℕ) (k : Kept)
         → In k (kept_after shape slot read rounds) → CameFrom shape slot read rounds k }
+    ensures stays { (shape : Members) (slot : ℕ) (read : ℕ → List SignedValue) (rounds later : ℕ) → rounds ≤ later
+        → GrewTo (kept_after shape slot read rounds) (kept_after shape slot read later) }
     ensures heard { (shape : Members) (slot : ℕ) (read : ℕ → List SignedValue) (rounds round : ℕ) (chain : SignedValue)
         → 0 < round → round ≤ rounds → In chain (read round) → IsProper shape slot round chain
         → Hears (kept_after shape slot read rounds) (content chain.value) }

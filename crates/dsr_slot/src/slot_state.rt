@@ -1,4 +1,4 @@
-ghost use Rattle.std.specs.Prelude.{◌≡◌, ℕ, ◌+◌, ◌<◌, ◌≤◌, ◌↔◌, ◌++◌, ◌∷◌, List, [], Some, IfOk, IfErr, IsOk, IsSome, false, vec_capacity};
+ghost use Rattle.std.specs.Prelude.{◌≡◌, ℕ, ◌+◌, ◌<◌, ◌≤◌, ◌↔◌, ◌++◌, ◌∷◌, List, [], Some, IfOk, IfErr, IsOk, IsSome, false, length, vec_capacity};
 ghost use Rattle.dsr_chain.specs.SignedValue.{SignedValue};
 ghost use Rattle.dsr_chain.specs.ProperTest.{is_proper};
 ghost use Rattle.dsr_slot.specs.Keeping.{kept_after, keep_one, is_news};
@@ -83,11 +83,14 @@ impl SlotState {
 
     /// The chains that the key's holder relays in this round of the slot: those that were kept in the round
     /// before and that it has not signed, with its signature put at their end, in the order in which they were
-    /// kept. `NoMemory` where a growth is refused; relaying nothing takes no memory.
+    /// kept. So they are at most two. Any round may be asked for; but past round f+1, where what was kept in the
+    /// round before is still given, a loyal replica posts nothing of the slot. `NoMemory` where a growth is refused;
+    /// relaying nothing takes no memory.
     pub fn relays(&self, alloc: Global, round: u8, key: &Key) -> Result<Vec<Chain>, Refusal>
         ensures relayed { IfOk result (λ chains. chains.items ≡ relayed key.now round self.now.kept) }
         ensures stands { (read : ℕ → List SignedValue) → StandsFor self.now read → IfOk result (λ chains.
             chains.items ≡ relayed key.now round (kept_after self.now.shape self.now.slot read self.now.closed)) }
+        ensures few { IfOk result (λ chains. length chains.items ≤ 2) }
         ensures refusal { IfErr result (λ e. e ≡ Refusal.NoMemory) }
         ensures nothing { relayed key.now round self.now.kept ≡ [] → IsOk result }
     {

@@ -1,7 +1,6 @@
 -- One slot's broadcast among all replicas, the loyal ones and the traitors (Dolev and Strong 1983).
 use Rattle.std.specs.Prelude.{◌≡◌, ℕ, zero, suc, ◌<◌, ◌≤◌, List, [], ◌++◌, All, true}
 use Rattle.dsr_names.specs.Shape.{Members, is_traitor, IsLoyal}
-use Rattle.dsr_names.specs.Bits.{count_below}
 use Rattle.dsr_names.specs.Member.{In}
 use Rattle.dsr_names.specs.declared.actor.Actor.TheVariants.{Replica}
 use Rattle.dsr_desk.specs.Signed.{Signed}
@@ -33,7 +32,7 @@ abbrev pub IsLinkOf : ℕ → Statement → Type 0
 IsLinkOf slot (Ask request) = ⊥
 IsLinkOf slot (Link k covered before) = k ≡ slot
 
--- a signature stands in a chain that this replica gave some replica, in whatever round
+-- a signature stands in a chain that this replica gave some replica, in whichever of the slot's rounds
 pub record WasPosted (shape : Members) (given : Exchange) (l : ℕ) (s : Signed) : Type 0 where
   pub round : ℕ
   pub taker : ℕ
@@ -54,10 +53,6 @@ pub record IsBroadcast (shape : Members) (slot : ℕ) (value : SlotValue) (given
   pub unforged : (r poster taker l : ℕ) (chain : SignedValue) (s : Signed) → r ≤ shape.f → poster < shape.n
       → is_traitor shape poster ≡ true → taker < shape.n → In chain (given (suc r) poster taker) → In s chain.signatures
       → IsLoyal shape (Replica l) → s.signer ≡ Replica l → IsLinkOf slot s.statement → WasPosted shape given l s
-
--- at most f of the replicas are traitors
-abbrev pub HasFewTraitors : Members → Type 0
-HasFewTraitors shape = count_below (is_traitor shape) shape.n ≤ shape.f
 
 -- what a replica decides of the slot
 abbrev pub decided_by : Members → ℕ → Exchange → ℕ → SlotValue
