@@ -59,8 +59,8 @@ def main():
     paths = sorted(glob.glob(f"{CASES}/*.rs"))
     if not paths:
         say("there are no programs that must not compile: tests/compile-fail has no case")
-        say("0 passed, 0 failed")
-        return 0
+        say("0 passed, 1 failed")
+        return 1
     passed = failed = 0
     with open(f"{TOP}/crates.txt") as file:
         crates = file.read()

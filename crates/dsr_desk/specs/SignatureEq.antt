@@ -8,9 +8,11 @@ use Rattle.dsr_desk.specs.SignersEq.{actor_eq, actor_eq-Decides}
 use Rattle.dsr_desk.specs.StatementEq.{statement_eq, statement_eq-Decides}
 use Rattle.dsr_desk.specs.contracts.keys.SignaturePartialEq.TheImpl.{ghosts}
 
+-- whether `==` holds of two signatures
 abbrev pub signature_eq : Signed → Signed → Bool
 signature_eq = ghosts.eq
 
+-- it holds exactly of equal ones
 pub signature_eq-Decides : (a b : Signed) → Decides (signature_eq a b) (a ≡ b)
 signature_eq-Decides a b =
     Decides-like (actor_eq a.signer b.signer && statement_eq a.statement b.statement) (λ e. ap₂ signed e.0 e.1)

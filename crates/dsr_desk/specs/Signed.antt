@@ -8,5 +8,6 @@ pub record Signed : Type 0 where
   pub signer : Actor
   pub statement : Statement
 
+-- the signature of this actor on this statement
 abbrev pub signed : Actor → Statement → Signed
 signed signer statement = record { signer = signer; statement = statement }

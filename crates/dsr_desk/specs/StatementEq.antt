@@ -11,6 +11,7 @@ use Rattle.dsr_desk.specs.declared.statement.Statement.{Statement}
 use Rattle.dsr_desk.specs.declared.statement.Statement.TheVariants.{Ask, Link}
 use Rattle.dsr_desk.specs.contracts.statement.StatementPartialEq.TheImpl.{ghosts}
 
+-- whether `==` holds of two statements
 abbrev pub statement_eq : Statement → Statement → Bool
 statement_eq = ghosts.eq
 
@@ -20,6 +21,7 @@ content_eq-Decides None (Some b) = (λ e. cc, λ e. cc)
 content_eq-Decides (Some a) None = (λ e. cc, λ e. cc)
 content_eq-Decides (Some a) (Some b) = Decides-like (requests_eq a b) (λ e. cc) (λ e. cc) (requests_eq-Decides a b)
 
+-- it holds exactly of equal ones
 pub statement_eq-Decides : (a b : Statement) → Decides (statement_eq a b) (a ≡ b)
 statement_eq-Decides (Ask a) (Ask b) = Decides-like (request_eq a b) (λ e. cc) (λ e. cc) (request_eq-Decides a b)
 statement_eq-Decides (Ask a) (Link slot value before) = (λ e. cc, λ e. cc)

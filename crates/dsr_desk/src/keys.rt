@@ -7,7 +7,8 @@ use dsr_names::{Actor, Refusal, Shape};
 use std::alloc::Global;
 use std::marker::Model;
 
-/// All keys of a shape: one for each of its actors, to be taken once.
+/// The keys of a shape: one for each of its actors, to be taken once. A run is to make one `Keys` alone: a second
+/// one of the shape gives second keys.
 #[derive(Drop)]
 pub struct Keys {
     shape: Shape,
@@ -26,7 +27,7 @@ impl Model for Keys {
     ghost invariant = { λ k. (length k.replicas.items ≡ k.shape.n) × (length k.clients.items ≡ k.shape.m) };
 }
 
-/// What an actor signs with. There is one key for each actor of a shape, it is never copied, and it
+/// What an actor signs with. One `Keys` has one key for each actor of its shape; a key is never copied, and it
 /// comes from `Keys::take` alone.
 #[derive(Drop)]
 pub struct Key {

@@ -1,7 +1,8 @@
 //! The desk: keys, and the signatures that only their holders make.
 //!
 //! A signature here is ideal. It is a value that says who signed which statement. Only `Key::sign` makes
-//! one, and a key is given out once: whoever holds a signature holds what that signer signed.
+//! one, and one `Keys` gives a key once. So in a run that makes one `Keys`, whoever holds a signature holds
+//! what that signer signed. No type keeps code from making a second `Keys`.
 #![tactic(auto)]
 
 mod content_text;

@@ -10,7 +10,7 @@ pub enum Statement {
     Ask(Request),
     /// This slot's value has these requests, or none where it is idle, after these signed it.
     Link {
-        /// The slot.
+        /// The slot. One from 2^40 on is written too, but read by no reader.
         slot: u64,
         /// The content of the slot's value: its requests without their signatures, none where it is idle.
         value: Option<Requests>,

@@ -10,8 +10,8 @@ use dsr_names::{read_num, split_once};
 use std::fmt;
 
 impl Statement {
-    /// The statement that the bytes spell: a request, or slot, content and signers before with slashes
-    /// between them, as `0/c0#1:write:a:5/r1`. `None` exactly where they spell none.
+    /// The statement that the bytes spell: a request, or slot (below 2^40), content and signers before with
+    /// slashes between them, as `0/c0#1:write:a:5/r1`. `None` exactly where they spell none.
     pub fn read(bytes: &[u8]) -> Option<Statement>
         ensures { (statement : Statement) → (result ≡ Some statement) ↔ (IsStatement statement × (bytes.now ≡ statement_text statement)) }
     {
