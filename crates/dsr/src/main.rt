@@ -1,17 +1,12 @@
 //! The program `dsr`: a directory of named registers, kept by replicas of which some may be traitors.
 #![tactic(auto)]
 
+use dsr_cli::{NO_MEMORY, USAGE_FAULT};
 use dsr_names::Outside;
 use std::alloc::AllocError;
 use std::io::{ErrorKind, Write};
 use std::process::ExitCode;
 use std::{env, io};
-
-/// The exit status where the words of the command line are no text.
-const USAGE_FAULT: u8 = 2;
-
-/// The exit status after want of memory.
-const NO_MEMORY: u8 = 3;
 
 /// Says on standard error why the words could not be read, and gives the status for it.
 fn refuse_words(rt: &HostRuntime, kind: ErrorKind) -> ExitCode {

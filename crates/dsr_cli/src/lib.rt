@@ -26,10 +26,10 @@ const DONE: u8 = 0;
 const REFUSED: u8 = 1;
 
 /// The exit status after words that the program does not know.
-const USAGE_FAULT: u8 = 2;
+pub const USAGE_FAULT: u8 = 2;
 
 /// The exit status after want of memory.
-const NO_MEMORY: u8 = 3;
+pub const NO_MEMORY: u8 = 3;
 
 /// Does what the words ask for and answers the program's exit status: 0 where it was done, 1 after a refusal other
 /// than want of memory, 2 after words that the program does not know, and 3 after want of memory. The words are those
