@@ -14,6 +14,7 @@ abbrev pub first_signed : List SignedRequest → SignedRequest
 first_signed [] = signed_by (issued 0 1 (Read [])) (Client 0)
 first_signed (s ∷ ss) = s
 
+-- there is an item, and the places after the items hold the first one again
 pub record IsBatchFields (a : Inside) : Type 0 where
   pub some : 0 < a.len
   pub places : IsPadded 8 (first_signed a.items) a.items a.len
@@ -21,6 +22,7 @@ pub record IsBatchFields (a : Inside) : Type 0 where
 abbrev fields_of : List SignedRequest → ℕ → Inside
 fields_of items len = record { items = items; len = len }
 
+-- the fields that hold this list
 abbrev pub batch_fields : List SignedRequest → Inside
 batch_fields signed = fields_of (padded 8 (first_signed signed) signed) (length signed)
 
@@ -29,6 +31,7 @@ first_taken zero items h = absurd (lt_irrefl 0 h)
 first_taken (suc k) [] h = refl
 first_taken (suc k) (s ∷ ss) h = refl
 
+-- the list that the fields hold gives them back
 pub fields_back : (a : Inside) → IsBatchFields a → batch_fields (take a.len a.items) ≡ a
 fields_back a h =
     ap (λ first. fields_of (padded 8 first (take a.len a.items)) (length (take a.len a.items))) (first_taken a.len a.items h.some)

@@ -13,7 +13,7 @@ use Rattle.dsr_chain.specs.declared.fault.ChainFault.TheVariants.{OtherSlot, Wro
 abbrev pub IsOfOtherSlot : ℕ → SignedValue → Type 0
 IsOfOtherSlot slot chain = chain.slot ≢ slot
 
--- the signatures are not one for each round
+-- the signatures are not as many as the round's number
 abbrev pub HasWrongCount : ℕ → SignedValue → Type 0
 HasWrongCount round chain = length chain.signatures ≢ round
 

@@ -29,8 +29,8 @@ pub record IsAsked (shape : Members) (s : SignedRequest) : Type 0 where
   pub client : s.request.client < shape.m
   pub signature : s.signature ≡ signed (Client s.request.client) (Ask s.request)
 
--- a proper chain for a round of a slot: it is of that slot and has one signature for each round, by distinct
--- replicas of the shape, the sender first, each on the statement that fits its place; and each request was asked
+-- a proper chain for a round of a slot: it is of that slot and has as many signatures as the round's number, by
+-- distinct replicas of the shape, the sender first, each on the statement that fits its place; and each request was asked
 pub record IsProper (shape : Members) (slot round : ℕ) (chain : SignedValue) : Type 0 where
   pub of_slot : chain.slot ≡ slot
   pub count : length chain.signatures ≡ round

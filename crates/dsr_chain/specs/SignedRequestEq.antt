@@ -10,12 +10,14 @@ use Rattle.dsr_desk.specs.SignatureEq.{signature_eq, signature_eq-Decides}
 use Rattle.dsr_chain.specs.declared.signed_request.SignedRequest.{SignedRequest}
 use Rattle.dsr_chain.specs.contracts.signed_request.SignedRequestPartialEq.TheImpl.{ghosts}
 
+-- whether `==` holds of two signed requests
 abbrev pub signed_request_eq : SignedRequest → SignedRequest → Bool
 signed_request_eq = ghosts.eq
 
 abbrev make : Issued → Signed → SignedRequest
 make request signature = record { request = request; signature = signature }
 
+-- it holds exactly of equal ones
 pub signed_request_eq-Decides : (a b : SignedRequest) → Decides (signed_request_eq a b) (a ≡ b)
 signed_request_eq-Decides a b =
     Decides-like (request_eq a.request b.request && signature_eq a.signature b.signature) (λ e. ap₂ make e.0 e.1)

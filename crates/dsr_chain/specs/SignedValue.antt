@@ -13,6 +13,7 @@ pub record SignedValue : Type 0 where
   pub value : SlotValue
   pub signatures : List Signed
 
+-- the chain of these three
 abbrev pub signed_value : ℕ → SlotValue → List Signed → SignedValue
 signed_value slot value signatures = record { slot = slot; value = value; signatures = signatures }
 

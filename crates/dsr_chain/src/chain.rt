@@ -70,7 +70,7 @@ impl Chain {
         }
     }
 
-    /// The chain of these parts, whatever they are, but that it has at most 16 signatures. `NoMemory` where a
+    /// The chain of these parts, whatever they are. Asks that there are at most 16 signatures. `NoMemory` where a
     /// growth is refused: then the list of signatures is gone.
     pub fn of(
         alloc: Global,

@@ -6,8 +6,8 @@ pub enum ChainFault {
     /// The chain is of another slot.
     #[error("the chain is of another slot")]
     OtherSlot,
-    /// The chain has not as many signatures as the round asks for.
-    #[error("the chain does not have one signature for each round")]
+    /// The chain does not have as many signatures as the round's number.
+    #[error("the chain does not have as many signatures as the round's number")]
     WrongCount,
     /// The first signer is not the sender of the slot.
     #[error("the first signer is not the sender of the slot")]

@@ -238,7 +238,7 @@ const TEXTS: [(ChainFault, &str); 7] = [
     (ChainFault::OtherSlot, "the chain is of another slot"),
     (
         ChainFault::WrongCount,
-        "the chain does not have one signature for each round",
+        "the chain does not have as many signatures as the round's number",
     ),
     (
         ChainFault::WrongSender,

@@ -64,8 +64,8 @@ pub enum Reading {
     NoMemory,
 }
 
-/// Reads the words that follow the program's own name on its command line. Only `NoMemory` may
-/// come whatever the words are.
+/// Reads the words that follow the program's own name on its command line. `NoMemory` may come whatever the
+/// words are, and nothing else may.
 #[tactic(auto, using(crate::proofs::ReadingLemmas::readings))]
 pub fn read_words<S: AsStr>(alloc: Global, words: &[S]) -> Reading
     ensures task { IfDo result (λ done. asked_of (map S.text words.now) ≡ task done) }

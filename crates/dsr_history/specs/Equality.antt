@@ -5,6 +5,7 @@ use Rattle.std.specs.Cmp.{IsEquivalence}
 use Rattle.std.proofs.lemmas.Bool.Decides.{same_from_decides, Decides-like}
 use Rattle.std.proofs.Common.{ap, sym}
 
+-- what holds exactly of equal values is an equivalence
 pub equivalence_from_decides : {X : Type 0} (E : X → X → Bool) → ((a b : X) → Decides (E a b) (a ≡ b)) → IsEquivalence E
 equivalence_from_decides E decides =
     record {

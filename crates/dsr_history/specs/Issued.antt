@@ -8,5 +8,6 @@ pub record Issued : Type 0 where
   pub number : ℕ
   pub op : Op
 
+-- the request of these three
 abbrev pub issued : ℕ → ℕ → Op → Issued
 issued client number op = record { client = client; number = number; op = op }

@@ -18,6 +18,7 @@ answers_of (r ∷ older) = answer_after (operations older) r.op ∷ answers_of o
 abbrev pub history_of : Inside → List Issued
 history_of a = reverse a.history.items
 
+-- the state that the fields stand for: there is room where both lists have it
 abbrev pub state_of : Inside → MachineState
 state_of a =
     record {

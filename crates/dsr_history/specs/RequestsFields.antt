@@ -11,6 +11,7 @@ abbrev pub first_request : List Issued → Issued
 first_request [] = issued 0 1 (Read [])
 first_request (r ∷ rs) = r
 
+-- there is an item, and the places after the items hold the first one again
 pub record IsRequestsFields (a : Inside) : Type 0 where
   pub some : 0 < a.len
   pub places : IsPadded 8 (first_request a.items) a.items a.len
@@ -18,6 +19,7 @@ pub record IsRequestsFields (a : Inside) : Type 0 where
 abbrev fields_of : List Issued → ℕ → Inside
 fields_of items len = record { items = items; len = len }
 
+-- the fields that hold this list
 abbrev pub requests_fields : List Issued → Inside
 requests_fields requests = fields_of (padded 8 (first_request requests) requests) (length requests)
 
@@ -26,6 +28,7 @@ first_taken zero items h = absurd (lt_irrefl 0 h)
 first_taken (suc k) [] h = refl
 first_taken (suc k) (r ∷ rs) h = refl
 
+-- the list that the fields hold gives them back
 pub fields_back : (a : Inside) → IsRequestsFields a → requests_fields (take a.len a.items) ≡ a
 fields_back a h =
     ap (λ first. fields_of (padded 8 first (take a.len a.items)) (length (take a.len a.items))) (first_taken a.len a.items h.some)
