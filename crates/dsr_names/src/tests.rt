@@ -1,273 +1,393 @@
 use crate::{
     Actor, ClientId, MOST_BYTES, Old, Outside, Refusal, ReplicaId, Shape, Sink, Source, read_input,
-    read_num, read_old, read_val, write_output,
+    read_num, read_old, read_val, split_once, write_output,
 };
+use std::alloc::{AllocError, Global};
 use std::io;
+use std::process::Abort;
 use std::test::Fail;
 
+// Each refusal with its number, the name of its variant and its text.
+const REFUSALS: [(Refusal, u8, &str, &str); 19] = [
+    (Refusal::BadShape, 1, "BadShape", "the shape is not allowed"),
+    (Refusal::BadName, 2, "BadName", "not a register name"),
+    (Refusal::BadNumber, 3, "BadNumber", "number out of range"),
+    (Refusal::Busy, 4, "Busy", "a request is outstanding"),
+    (Refusal::NotDue, 5, "NotDue", "not due"),
+    (Refusal::BoxFull, 6, "BoxFull", "the box is full"),
+    (Refusal::BoxEmpty, 7, "BoxEmpty", "the box is empty"),
+    (Refusal::Forged, 8, "Forged", "a signature is forged"),
+    (Refusal::Exhausted, 9, "Exhausted", "a counter is exhausted"),
+    (Refusal::Stopped, 10, "Stopped", "stopped by the gate"),
+    (
+        Refusal::Unanswered,
+        11,
+        "Unanswered",
+        "no answer within the turns",
+    ),
+    (Refusal::NoMemory, 12, "NoMemory", "no memory"),
+    (
+        Refusal::BadText { line: 2 },
+        13,
+        "BadText",
+        "bad text in line 2",
+    ),
+    (
+        Refusal::NotARun { line: 1999 },
+        14,
+        "NotARun",
+        "not a run at line 1999",
+    ),
+    (Refusal::NoActor, 15, "NoActor", "no such actor"),
+    (Refusal::WrongRole, 16, "WrongRole", "not that actor's part"),
+    (Refusal::ReadFailed, 17, "ReadFailed", "reading failed"),
+    (Refusal::WriteFailed, 18, "WriteFailed", "writing failed"),
+    (Refusal::NoThread, 19, "NoThread", "no thread"),
+];
+
+// The refusal has this number.
+fn is_numbered(rt: &impl Abort, refusal: Refusal, code: u8) {
+    assert!(rt; refusal.code() == code, "{code}");
+}
+
+// The refusal has this name.
+fn is_named(rt: &impl Abort, refusal: Refusal, word: &str) {
+    assert!(rt; refusal.word().as_bytes() == word.as_bytes());
+}
+
+// The refusal prints this text.
+fn says(rt: &impl Abort, alloc: Global, refusal: Refusal, text: &str) -> Result<(), AllocError> {
+    assert!(rt; refusal.to_string(alloc)?.as_str() == text);
+    Ok(())
+}
+
 #[test]
-fn refusals_are_numbered_named_and_printed(rt: HostRuntime) -> Result<(), Fail> {
-    let rows = [
-        (Refusal::BadShape, 1, "BadShape", "the shape is not allowed"),
-        (Refusal::BadName, 2, "BadName", "not a register name"),
-        (Refusal::BadNumber, 3, "BadNumber", "number out of range"),
-        (Refusal::Busy, 4, "Busy", "a request is outstanding"),
-        (Refusal::NotDue, 5, "NotDue", "not due"),
-        (Refusal::BoxFull, 6, "BoxFull", "the box is full"),
-        (Refusal::BoxEmpty, 7, "BoxEmpty", "the box is empty"),
-        (Refusal::Forged, 8, "Forged", "a signature is forged"),
-        (Refusal::Exhausted, 9, "Exhausted", "a counter is exhausted"),
-        (Refusal::Stopped, 10, "Stopped", "stopped by the gate"),
-        (
-            Refusal::Unanswered,
-            11,
-            "Unanswered",
-            "no answer within the turns",
-        ),
-        (Refusal::NoMemory, 12, "NoMemory", "no memory"),
-        (
-            Refusal::BadText { line: 2 },
-            13,
-            "BadText",
-            "bad text in line 2",
-        ),
-        (
-            Refusal::NotARun { line: 1999 },
-            14,
-            "NotARun",
-            "not a run at line 1999",
-        ),
-        (Refusal::NoActor, 15, "NoActor", "no such actor"),
-        (Refusal::WrongRole, 16, "WrongRole", "not that actor's part"),
-        (Refusal::ReadFailed, 17, "ReadFailed", "reading failed"),
-        (Refusal::WriteFailed, 18, "WriteFailed", "writing failed"),
-        (Refusal::NoThread, 19, "NoThread", "no thread"),
-    ];
-    for (refusal, code, word, text) in rows {
-        assert_eq!(rt; refusal.code(), code, "{word}");
-        assert_eq!(rt; refusal.word().as_bytes(), word.as_bytes(), "{code}");
-        assert_eq!(rt; format!(in rt.alloc(); "{refusal}")?.as_str(), text);
+fn refusals_are_numbered_named_and_printed(rt: HostRuntime) -> Result<(), AllocError> {
+    for (refusal, code, word, text) in REFUSALS {
+        is_numbered(&rt, refusal, code);
+        is_named(&rt, refusal, word);
+        says(&rt, rt.alloc(), refusal, text)?;
     }
     Ok(())
+}
+
+// The bytes are split at their first equals sign into these two parts.
+fn splits(rt: &impl Abort, bytes: &[u8], front: &[u8], rest: &[u8]) {
+    assert!(rt; split_once(bytes, b'=') == Some((front, rest)));
+}
+
+#[test]
+fn bytes_are_split_at_the_first(rt: HostRuntime) {
+    splits(&rt, b"ab=cd", b"ab", b"cd");
+    splits(&rt, b"=a==b=", b"", b"a==b=");
+    splits(&rt, b"ab=", b"ab", b"");
+    for text in ["", "ab cd"] {
+        assert!(rt; split_once(text.as_bytes(), b'=').is_none(), "{text}");
+    }
+}
+
+// Texts, and what each is read as: the number of a request, and the value of a register.
+const NUMBERS: [(&str, Option<u64>, Option<u64>); 15] = [
+    ("0", Some(0), Some(0)),
+    ("7", Some(7), Some(7)),
+    ("00", None, None),
+    ("01", None, None),
+    ("+1", None, None),
+    ("-1", None, None),
+    ("", None, None),
+    (" 1", None, None),
+    ("1 ", None, None),
+    ("1a", None, None),
+    ("none", None, None),
+    (
+        "1099511627775",
+        Some(1_099_511_627_775),
+        Some(1_099_511_627_775),
+    ),
+    ("1099511627776", None, Some(1_099_511_627_776)),
+    (
+        "18446744073709551615",
+        None,
+        Some(18_446_744_073_709_551_615),
+    ),
+    ("18446744073709551616", None, None),
+];
+
+// The text is read as this number of a request, and as this value of a register.
+fn is_number(rt: &impl Abort, text: &str, number: Option<u64>, value: Option<u64>) {
+    assert!(rt; read_num(text.as_bytes()) == number, "{text}");
+    assert!(rt; read_val(text.as_bytes()) == value, "{text}");
 }
 
 #[test]
 fn numbers_are_read(rt: HostRuntime) {
-    let rows = [
-        ("0", Some(0), Some(0)),
-        ("7", Some(7), Some(7)),
-        ("00", None, None),
-        ("01", None, None),
-        ("+1", None, None),
-        ("-1", None, None),
-        ("", None, None),
-        (" 1", None, None),
-        ("1 ", None, None),
-        ("1a", None, None),
-        ("none", None, None),
-        (
-            "1099511627775",
-            Some(1_099_511_627_775),
-            Some(1_099_511_627_775),
-        ),
-        ("1099511627776", None, Some(1_099_511_627_776)),
-        (
-            "18446744073709551615",
-            None,
-            Some(18_446_744_073_709_551_615),
-        ),
-        ("18446744073709551616", None, None),
-    ];
-    for (text, number, value) in rows {
-        assert_eq!(rt; read_num(text.as_bytes()), number, "{text}");
-        assert_eq!(rt; read_val(text.as_bytes()), value, "{text}");
-    }
-    let contents = [
-        ("none", Some(None)),
-        ("0", Some(Some(0))),
-        (
-            "18446744073709551615",
-            Some(Some(18_446_744_073_709_551_615)),
-        ),
-        ("18446744073709551616", None),
-        ("01", None),
-        ("None", None),
-        ("", None),
-    ];
-    for (text, content) in contents {
-        assert_eq!(rt; read_old(text.as_bytes()), content, "{text}");
+    for (text, number, value) in NUMBERS {
+        is_number(&rt, text, number, value);
     }
 }
 
+// The content is read from the text, and prints it.
+fn spells_content(
+    rt: &impl Abort,
+    alloc: Global,
+    content: Option<u64>,
+    text: &str,
+) -> Result<(), AllocError> {
+    assert!(rt; read_old(text.as_bytes()) == Some(content));
+    assert!(rt; Old(content).to_string(alloc)?.as_str() == text);
+    Ok(())
+}
+
+// Contents with the text of each.
+const CONTENTS: [(Option<u64>, &str); 3] = [
+    (None, "none"),
+    (Some(0), "0"),
+    (Some(18_446_744_073_709_551_615), "18446744073709551615"),
+];
+
 #[test]
-fn contents_are_printed(rt: HostRuntime) -> Result<(), Fail> {
-    let rows = [
-        (None, "none"),
-        (Some(0), "0"),
-        (Some(18_446_744_073_709_551_615), "18446744073709551615"),
-    ];
-    for (content, text) in rows {
-        let old = Old(content);
-        assert_eq!(rt; format!(in rt.alloc(); "{old}")?.as_str(), text);
+fn contents_are_read_and_printed(rt: HostRuntime) -> Result<(), AllocError> {
+    for (content, text) in CONTENTS {
+        spells_content(&rt, rt.alloc(), content, text)?;
     }
     Ok(())
 }
 
 #[test]
-fn actors_are_made_read_and_printed(rt: HostRuntime) -> Result<(), Fail> {
-    assert_eq!(rt; ReplicaId::new(0)?, ReplicaId::FIRST);
+fn reads_no_other_content(rt: HostRuntime) {
+    for text in ["18446744073709551616", "01", "None", ""] {
+        assert!(rt; read_old(text.as_bytes()).is_none(), "{text}");
+    }
+}
+
+#[test]
+fn actors_are_numbered(rt: HostRuntime) -> Result<(), Refusal> {
+    assert_eq!(rt; ReplicaId::new(0), Ok(ReplicaId::FIRST));
     assert_eq!(rt; ReplicaId::new(15)?.number(), 15);
     assert_eq!(rt; ReplicaId::new(16), Err(Refusal::NoActor));
-    assert_eq!(rt; ClientId::new(0)?, ClientId::FIRST);
+    assert_eq!(rt; ClientId::new(0), Ok(ClientId::FIRST));
     assert_eq!(rt; ClientId::new(31)?.number(), 31);
     assert_eq!(rt; ClientId::new(32), Err(Refusal::NoActor));
-    let rows = [
-        ("r0", Actor::Replica(ReplicaId::FIRST)),
-        ("r15", Actor::Replica(ReplicaId::new(15)?)),
-        ("c0", Actor::Client(ClientId::FIRST)),
-        ("c31", Actor::Client(ClientId::new(31)?)),
-    ];
-    for (text, actor) in rows {
-        assert_eq!(rt; Actor::read(text.as_bytes()), Some(actor), "{text}");
-        assert_eq!(rt; format!(in rt.alloc(); "{actor}")?.as_str(), text);
-    }
-    for text in [
-        "",
-        "r",
-        "c",
-        "0",
-        "r16",
-        "c32",
-        "R0",
-        "r00",
-        "r01",
-        "r+1",
-        "r1 ",
-        "x1",
-        "r256",
-        "c4294967296",
-    ] {
-        assert_eq!(rt; Actor::read(text.as_bytes()), None, "{text}");
-    }
     Ok(())
 }
+
+// The actor of this number, a replica or a client.
+fn actor(letter: u8, number: u8) -> Result<Actor, Refusal> {
+    if letter == b'r' {
+        Ok(Actor::Replica(ReplicaId::new(number)?))
+    } else {
+        Ok(Actor::Client(ClientId::new(number)?))
+    }
+}
+
+// The actor is read from the text, and prints it.
+fn spells_actor(
+    rt: &impl Abort,
+    alloc: Global,
+    actor: Actor,
+    text: &str,
+) -> Result<(), AllocError> {
+    assert!(rt; Actor::read(text.as_bytes()) == Some(actor));
+    assert!(rt; actor.to_string(alloc)?.as_str() == text);
+    Ok(())
+}
+
+#[test]
+fn actors_are_read_and_printed(rt: HostRuntime) -> Result<(), Fail> {
+    let alloc = rt.alloc();
+    spells_actor(&rt, alloc, Actor::Replica(ReplicaId::FIRST), "r0")?;
+    spells_actor(&rt, alloc, actor(b'r', 15)?, "r15")?;
+    spells_actor(&rt, alloc, Actor::Client(ClientId::FIRST), "c0")?;
+    spells_actor(&rt, alloc, actor(b'c', 31)?, "c31")?;
+    Ok(())
+}
+
+const NO_ACTORS: [&str; 14] = [
+    "",
+    "r",
+    "c",
+    "0",
+    "r16",
+    "c32",
+    "R0",
+    "r00",
+    "r01",
+    "r+1",
+    "r1 ",
+    "x1",
+    "r256",
+    "c4294967296",
+];
+
+#[test]
+fn reads_no_other_actor(rt: HostRuntime) {
+    for text in NO_ACTORS {
+        assert!(rt; Actor::read(text.as_bytes()).is_none(), "{text}");
+    }
+}
+
+const BAD_SHAPE: Option<Refusal> = Some(Refusal::BadShape);
+
+// Replicas, the most traitors, clients and traitors, and how the shape of these is refused.
+const SHAPES: [(u8, u8, u8, u16, Option<Refusal>); 16] = [
+    (1, 0, 1, 0, None),
+    (3, 1, 1, 0, None),
+    (3, 1, 1, 4, None),
+    (15, 7, 1, 0, None),
+    (16, 7, 32, 127, None),
+    (0, 0, 1, 0, BAD_SHAPE),
+    (2, 1, 1, 0, BAD_SHAPE),
+    (3, 0, 1, 1, BAD_SHAPE),
+    (3, 1, 1, 3, BAD_SHAPE),
+    (3, 1, 1, 8, BAD_SHAPE),
+    (16, 7, 32, 255, BAD_SHAPE),
+    (16, 8, 1, 0, BAD_SHAPE),
+    (17, 0, 1, 0, BAD_SHAPE),
+    (1, 0, 0, 0, BAD_SHAPE),
+    (1, 0, 33, 0, BAD_SHAPE),
+    (255, 255, 255, 65535, BAD_SHAPE),
+];
 
 #[test]
 fn shapes_keep_their_limits(rt: HostRuntime) {
-    let rows = [
-        (1, 0, 1, 0, true),
-        (3, 1, 1, 0, true),
-        (3, 1, 1, 4, true),
-        (15, 7, 1, 0, true),
-        (16, 7, 32, 127, true),
-        (0, 0, 1, 0, false),
-        (2, 1, 1, 0, false),
-        (3, 0, 1, 1, false),
-        (3, 1, 1, 3, false),
-        (3, 1, 1, 8, false),
-        (16, 7, 32, 255, false),
-        (16, 8, 1, 0, false),
-        (17, 0, 1, 0, false),
-        (1, 0, 0, 0, false),
-        (1, 0, 33, 0, false),
-        (255, 255, 255, 65535, false),
-    ];
-    for (n, f, m, traitors, allowed) in rows {
+    for (n, f, m, traitors, refusal) in SHAPES {
         let made = Shape::new(n, f, m, traitors);
-        assert_eq!(rt; made.is_ok(), allowed, "{n} {f} {m} {traitors}");
-        assert_eq!(rt;
-            made == Err(Refusal::BadShape),
-            !allowed,
-            "{n} {f} {m} {traitors}"
-        );
+        assert!(rt; made.err() == refusal, "{n} {f} {m} {traitors}");
     }
 }
 
+// The shape of three replicas, of which replica 1 is a traitor, and of two clients.
+fn three_replicas() -> Result<Shape, Refusal> {
+    Shape::new(3, 1, 2, 2)
+}
+
 #[test]
-fn a_shape_tells_its_parts(rt: HostRuntime) -> Result<(), Fail> {
-    let shape = Shape::new(3, 1, 2, 2)?;
-    assert_eq!(rt; (shape.n(), shape.f(), shape.m()), (3, 1, 2));
-    for (number, here, loyal) in [
-        (0, true, true),
-        (1, true, false),
-        (2, true, true),
-        (3, false, false),
-        (15, false, false),
-    ] {
-        let replica = Actor::Replica(ReplicaId::new(number)?);
-        assert_eq!(rt; shape.has(replica), here, "{replica}");
-        assert_eq!(rt; shape.is_loyal(replica), loyal, "{replica}");
-    }
-    for (number, here) in [(0, true), (1, true), (2, false), (31, false)] {
-        let client = Actor::Client(ClientId::new(number)?);
-        assert_eq!(rt; shape.has(client), here, "{client}");
-        assert_eq!(rt; shape.is_loyal(client), here, "{client}");
-    }
-    for (slot, sender) in [
-        (0, 0),
-        (1, 1),
-        (5, 2),
-        (1_099_511_627_775, 0),
-        (18_446_744_073_709_551_614, 2),
-    ] {
-        assert_eq!(rt; shape.sender(slot).number(), sender, "slot {slot}");
+fn a_shape_tells_its_parts(rt: HostRuntime) -> Result<(), Refusal> {
+    let shape = three_replicas()?;
+    assert_eq!(rt; shape.n(), 3);
+    assert_eq!(rt; shape.f(), 1);
+    assert_eq!(rt; shape.m(), 2);
+    Ok(())
+}
+
+// Actors, and whether each is one of the shape, and loyal.
+const PLACES: [(u8, u8, bool, bool); 9] = [
+    (b'r', 0, true, true),
+    (b'r', 1, true, false),
+    (b'r', 2, true, true),
+    (b'r', 3, false, false),
+    (b'r', 15, false, false),
+    (b'c', 0, true, true),
+    (b'c', 1, true, true),
+    (b'c', 2, false, false),
+    (b'c', 31, false, false),
+];
+
+// The actor is one of the shape, or not, and it is loyal, or not.
+fn is_placed(rt: &impl Abort, shape: &Shape, actor: Actor, here: bool, loyal: bool) {
+    assert!(rt; shape.has(actor) == here, "{actor}");
+    assert!(rt; shape.is_loyal(actor) == loyal, "{actor}");
+}
+
+#[test]
+fn a_shape_tells_its_actors(rt: HostRuntime) -> Result<(), Refusal> {
+    let shape = three_replicas()?;
+    for (letter, number, here, loyal) in PLACES {
+        is_placed(&rt, &shape, actor(letter, number)?, here, loyal);
     }
     Ok(())
 }
+
+// Slots, and the number of the sender of each.
+const SENDERS: [(u64, u8); 5] = [
+    (0, 0),
+    (1, 1),
+    (5, 2),
+    (1_099_511_627_775, 0),
+    (18_446_744_073_709_551_614, 2),
+];
+
+#[test]
+fn senders_take_turns(rt: HostRuntime) -> Result<(), Refusal> {
+    let shape = three_replicas()?;
+    for (slot, sender) in SENDERS {
+        assert!(rt; shape.sender(slot).number() == sender, "slot {slot}");
+    }
+    Ok(())
+}
+
+// The shape is read from the text, and prints it.
+fn spells_shape(
+    rt: &impl Abort,
+    alloc: Global,
+    shape: Shape,
+    text: &str,
+) -> Result<(), AllocError> {
+    assert!(rt; Shape::read(text.as_bytes()) == Some(Ok(shape)));
+    assert!(rt; shape.to_string(alloc)?.as_str() == text);
+    Ok(())
+}
+
+// Texts, each with the replicas, the most traitors, the clients and the traitors of its shape.
+const SHAPE_TEXTS: [(&str, u8, u8, u8, u16); 4] = [
+    ("3 1 1 -", 3, 1, 1, 0),
+    ("3 1 1 r0", 3, 1, 1, 1),
+    ("5 2 1 r0+r1", 5, 2, 1, 3),
+    ("16 7 32 r0+r2+r9+r15", 16, 7, 32, 33285),
+];
 
 #[test]
 fn shapes_are_read_and_printed(rt: HostRuntime) -> Result<(), Fail> {
-    let rows = [
-        ("3 1 1 -", 3, 1, 1, 0),
-        ("3 1 1 r0", 3, 1, 1, 1),
-        ("5 2 1 r0+r1", 5, 2, 1, 3),
-        ("16 7 32 r0+r2+r9+r15", 16, 7, 32, 33285),
-    ];
-    for (text, n, f, m, traitors) in rows {
-        let shape = Shape::new(n, f, m, traitors)?;
-        assert_eq!(rt; Shape::read(text.as_bytes()), Some(Ok(shape)), "{text}");
-        assert_eq!(rt; format!(in rt.alloc(); "{shape}")?.as_str(), text);
-    }
-    let refused = [
-        "2 1 1 -",
-        "3 0 1 r0",
-        "3 1 1 r0+r1",
-        "3 1 1 r15",
-        "256 0 1 -",
-        "259 1 1 -",
-        "3 257 1 -",
-        "3 1 257 -",
-        "1099511627775 1 1 -",
-    ];
-    for text in refused {
-        assert_eq!(rt;
-            Shape::read(text.as_bytes()),
-            Some(Err(Refusal::BadShape)),
-            "{text}"
-        );
-    }
-    let no_shapes = [
-        "",
-        "3 1 1",
-        "3 1 1 ",
-        "3 1 1 - ",
-        " 3 1 1 -",
-        "3  1 1 -",
-        "3 01 1 -",
-        "3 1 1 r16",
-        "3 1 1 r00",
-        "3 1 1 c0",
-        "3 1 1 r0+",
-        "3 1 1 +r0",
-        "3 1 1 -+r0",
-        "5 2 1 r1+r0",
-        "5 2 1 r1+r1",
-        "1099511627776 1 1 -",
-    ];
-    for text in no_shapes {
-        assert_eq!(rt; Shape::read(text.as_bytes()), None, "{text}");
+    for (text, n, f, m, traitors) in SHAPE_TEXTS {
+        spells_shape(&rt, rt.alloc(), Shape::new(n, f, m, traitors)?, text)?;
     }
     Ok(())
+}
+
+const BAD_SHAPES: [&str; 9] = [
+    "2 1 1 -",
+    "3 0 1 r0",
+    "3 1 1 r0+r1",
+    "3 1 1 r15",
+    "256 0 1 -",
+    "259 1 1 -",
+    "3 257 1 -",
+    "3 1 257 -",
+    "1099511627775 1 1 -",
+];
+
+#[test]
+fn shapes_outside_the_limits_are_told(rt: HostRuntime) {
+    for text in BAD_SHAPES {
+        let read = Shape::read(text.as_bytes());
+        assert!(rt; read == Some(Err(Refusal::BadShape)), "{text}");
+    }
+}
+
+const NO_SHAPES: [&str; 16] = [
+    "",
+    "3 1 1",
+    "3 1 1 ",
+    "3 1 1 - ",
+    " 3 1 1 -",
+    "3  1 1 -",
+    "3 01 1 -",
+    "3 1 1 r16",
+    "3 1 1 r00",
+    "3 1 1 c0",
+    "3 1 1 r0+",
+    "3 1 1 +r0",
+    "3 1 1 -+r0",
+    "5 2 1 r1+r0",
+    "5 2 1 r1+r1",
+    "1099511627776 1 1 -",
+];
+
+#[test]
+fn reads_no_other_shape(rt: HostRuntime) {
+    for text in NO_SHAPES {
+        assert!(rt; Shape::read(text.as_bytes()).is_none(), "{text}");
+    }
 }
 
 // A source of so many letters x, whose call of this number fails, counted from 1.
@@ -291,62 +411,63 @@ impl Source for Letters {
     }
 }
 
+// A source of so many letters, whose call of this number fails; none where it is 0.
+fn source_of(left: usize, fails_at: usize) -> Letters {
+    Letters {
+        left,
+        calls: 0,
+        fails_at,
+    }
+}
+
+// All that the source gives is this text.
+fn reads<S: Source>(
+    rt: &impl Abort,
+    alloc: Global,
+    source: &mut S,
+    text: &[u8],
+) -> Result<(), Refusal> {
+    assert!(rt; read_input(alloc, source)?.as_slice() == text);
+    Ok(())
+}
+
 #[test]
-fn an_input_is_read_whole(rt: HostRuntime) -> Result<(), Fail> {
+fn an_input_is_read_whole(rt: HostRuntime) -> Result<(), Refusal> {
     let alloc = rt.alloc();
-    let mut memory = b"c0 1 read a\n".as_slice();
-    assert_eq!(rt;
-        read_input(alloc, &mut memory)?.as_slice(),
-        b"c0 1 read a\n".as_slice()
-    );
+    let line = b"c0 1 read a\n".as_slice();
+    let mut memory = line;
+    reads(&rt, alloc, &mut memory, line)?;
     assert!(rt; memory.is_empty());
-    let mut reader = Outside(b"c0 1 read a\n".as_slice());
-    assert_eq!(rt;
-        read_input(alloc, &mut reader)?.as_slice(),
-        b"c0 1 read a\n".as_slice()
-    );
-    let mut nothing = b"".as_slice();
-    assert!(rt; read_input(alloc, &mut nothing)?.is_empty());
-    // 8,192, 8,192, 3,616 and no bytes: four calls, of which each fails in turn.
-    for fails_at in 1..6 {
-        let mut source = Letters {
-            left: 20_000,
-            calls: 0,
-            fails_at,
-        };
-        match read_input(alloc, &mut source) {
-            Ok(text) => {
-                assert_eq!(rt; fails_at, 5);
-                assert_eq!(rt; text.len(), 20_000);
-                assert!(rt; text.iter().all(|byte| *byte == b'x'));
-            }
-            Err(refusal) => {
-                assert_eq!(rt; refusal, Refusal::ReadFailed, "call {fails_at}");
-                assert!(rt; fails_at < 5);
-            }
-        }
+    reads(&rt, alloc, &mut Outside(line), line)?;
+    reads(&rt, alloc, &mut b"".as_slice(), b"")
+}
+
+// 8,192, 8,192, 3,616 and no bytes: four calls, of which each fails in turn.
+#[test]
+fn each_read_fails_in_turn(rt: HostRuntime) {
+    for fails_at in 1..5 {
+        let result = read_input(rt.alloc(), &mut source_of(20_000, fails_at));
+        assert_eq!(rt; result.err(), Some(Refusal::ReadFailed), "call {fails_at}");
+    }
+}
+
+#[test]
+fn a_long_input_is_read_in_four_calls(rt: HostRuntime) -> Result<(), Refusal> {
+    let text = read_input(rt.alloc(), &mut source_of(20_000, 5))?;
+    assert_eq!(rt; text.len(), 20_000);
+    for byte in text {
+        assert_eq!(rt; byte, b'x');
     }
     Ok(())
 }
 
 #[test]
-fn an_input_has_a_limit(rt: HostRuntime) -> Result<(), Fail> {
+fn an_input_has_a_limit(rt: HostRuntime) -> Result<(), Refusal> {
     assert_eq!(rt; MOST_BYTES, 16_777_216);
-    let mut most = Letters {
-        left: 16_777_216,
-        calls: 0,
-        fails_at: 0,
-    };
-    assert_eq!(rt; read_input(rt.alloc(), &mut most)?.len(), 16_777_216);
-    let mut more = Letters {
-        left: 16_777_217,
-        calls: 0,
-        fails_at: 0,
-    };
-    assert_eq!(rt;
-        read_input(rt.alloc(), &mut more).err(),
-        Some(Refusal::ReadFailed)
-    );
+    let most = read_input(rt.alloc(), &mut source_of(16_777_216, 0))?;
+    assert_eq!(rt; most.len(), 16_777_216);
+    let more = read_input(rt.alloc(), &mut source_of(16_777_217, 0));
+    assert_eq!(rt; more.err(), Some(Refusal::ReadFailed));
     Ok(())
 }
 
@@ -398,35 +519,41 @@ fn a_steady_sink_is_given_everything(rt: HostRuntime) {
 
 #[test]
 fn an_output_is_written_whole(rt: HostRuntime) -> Result<(), Fail> {
+    let text = b"hello, world".as_slice();
     let mut roomy = Vec::with_capacity(rt.alloc(), 12)?;
-    assert_eq!(rt; write_output(&mut roomy, b"hello, world"), Ok(()));
-    assert_eq!(rt; roomy.as_slice(), b"hello, world".as_slice());
+    write_output(&mut roomy, text)?;
+    assert!(rt; roomy.as_slice() == text);
     let mut writer = Outside(Vec::new(rt.alloc()));
-    assert_eq!(rt; write_output(&mut writer, b"hello, world"), Ok(()));
-    assert_eq!(rt; writer.0.as_slice(), b"hello, world".as_slice());
-    let rows = [
-        (5, 0, Ok(()), "hello, world"),
-        (5, 1, Err(Refusal::WriteFailed), ""),
-        (5, 2, Err(Refusal::WriteFailed), "hello"),
-        (5, 3, Err(Refusal::WriteFailed), "hello, wor"),
-        (5, 4, Ok(()), "hello, world"),
-        (0, 0, Err(Refusal::WriteFailed), ""),
-    ];
-    for (most, fails_at, want, taken) in rows {
+    write_output(&mut writer, text)?;
+    assert!(rt; writer.0.as_slice() == text);
+    Ok(())
+}
+
+const WRITE_FAILED: Result<(), Refusal> = Err(Refusal::WriteFailed);
+
+// The most bytes of a call, the call that fails or 0, how the writing ends, and what was taken.
+const WRITES: [(usize, usize, Result<(), Refusal>, &str); 6] = [
+    (5, 0, Ok(()), "hello, world"),
+    (5, 1, WRITE_FAILED, ""),
+    (5, 2, WRITE_FAILED, "hello"),
+    (5, 3, WRITE_FAILED, "hello, wor"),
+    (5, 4, Ok(()), "hello, world"),
+    (0, 0, WRITE_FAILED, ""),
+];
+
+#[test]
+fn each_write_fails_in_turn(rt: HostRuntime) -> Result<(), AllocError> {
+    for (most, fails_at, end, taken) in WRITES {
         let mut sink = Narrow {
             taken: Vec::with_capacity(rt.alloc(), 12)?,
             most,
             calls: 0,
             fails_at,
         };
-        assert_eq!(rt;
-            write_output(&mut sink, b"hello, world"),
-            want,
-            "{most} {fails_at}"
-        );
-        assert_eq!(rt;
-            sink.taken.as_slice(),
-            taken.as_bytes(),
+        let result = write_output(&mut sink, b"hello, world");
+        assert!(rt; result == end, "{most} {fails_at}");
+        assert!(rt;
+            sink.taken.as_slice() == taken.as_bytes(),
             "{most} {fails_at}"
         );
     }
