@@ -1,6 +1,6 @@
 use crate::{Batch, Chain, ChainFault, SignedRequest, SlotValue};
 use dsr_desk::{Key, Keys, Signature, Signers, Statement};
-use dsr_history::Request;
+use dsr_history::{Request, Requests};
 use dsr_names::{Actor, ClientId, Refusal, ReplicaId, Shape};
 use dsr_register::{Name, Op};
 use std::alloc::Global;
@@ -32,6 +32,7 @@ fn request(number: u8) -> Result<Request, Refusal> {
 }
 
 /// The keys of two replicas and three clients.
+#[derive(Drop)]
 struct Desk {
     r0: Key,
     r1: Key,
@@ -40,30 +41,18 @@ struct Desk {
     c2: Key,
 }
 
-impl Drop for Desk {
-    fn drop(self) {
-        let Desk {
-            r0: _,
-            r1: _,
-            c0: _,
-            c1: _,
-            c2: _,
-        } = self;
-    }
+fn key(keys: &mut Keys, actor: Actor) -> Result<Key, Fail> {
+    Ok(keys.take(actor).ok_or("no key")?)
 }
 
-fn key(rt: &impl Abort, keys: &mut Keys, actor: Actor) -> Key {
-    keys.take(actor).expect(rt, "the key is there")
-}
-
-fn open_desk(rt: &impl Abort, alloc: Global) -> Result<Desk, Refusal> {
+fn open_desk(alloc: Global) -> Result<Desk, Fail> {
     let mut keys = Keys::new(alloc, shape(3)?)?;
     Ok(Desk {
-        r0: key(rt, &mut keys, R0),
-        r1: key(rt, &mut keys, replica(1)?),
-        c0: key(rt, &mut keys, client(0)?),
-        c1: key(rt, &mut keys, client(1)?),
-        c2: key(rt, &mut keys, client(2)?),
+        r0: key(&mut keys, R0)?,
+        r1: key(&mut keys, replica(1)?)?,
+        c0: key(&mut keys, client(0)?)?,
+        c1: key(&mut keys, client(1)?)?,
+        c2: key(&mut keys, client(2)?)?,
     })
 }
 
@@ -73,24 +62,20 @@ fn value(rt: &impl Abort, signed: &[SignedRequest]) -> SlotValue {
 }
 
 /// The chain that the key's holder signs next.
-fn extended(rt: &impl Abort, alloc: Global, chain: Chain, key: &Key) -> Result<Chain, Refusal> {
-    assert!(rt; chain.signatures().len() < 16);
+fn extended(alloc: Global, chain: Chain, key: &Key) -> Result<Chain, Fail> {
+    if chain.signatures().len() == 16 {
+        return Err("a long chain")?;
+    }
     match chain.extend(alloc, key) {
         Ok(chain) => Ok(chain),
-        Err((_, refusal)) => Err(refusal),
+        Err((_, refusal)) => Err(refusal)?,
     }
 }
 
 /// The chain of slot 0 that the two sign in turn.
-fn chain_by(
-    rt: &impl Abort,
-    alloc: Global,
-    value: SlotValue,
-    first: &Key,
-    second: &Key,
-) -> Result<Chain, Refusal> {
+fn chain_by(alloc: Global, value: SlotValue, first: &Key, second: &Key) -> Result<Chain, Fail> {
     let chain = Chain::start(alloc, 0, value, first)?;
-    extended(rt, alloc, chain, second)
+    extended(alloc, chain, second)
 }
 
 /// What the check of the chain answers for slot 0 and round 2, in the shape of two clients.
@@ -102,37 +87,37 @@ fn checked(rt: &impl Abort, chain: &Chain) -> Result<(), ChainFault> {
 
 #[test]
 fn passes_a_proper_chain(rt: HostRuntime) -> Result<(), Fail> {
-    let desk = open_desk(&rt, rt.alloc())?;
+    let desk = open_desk(rt.alloc())?;
     let act = value(&rt, &[SignedRequest::by(request(0)?, &desk.c0)]);
-    let chain = chain_by(&rt, rt.alloc(), act, &desk.r0, &desk.r1)?;
+    let chain = chain_by(rt.alloc(), act, &desk.r0, &desk.r1)?;
     assert_eq!(rt; checked(&rt, &chain), Ok(()));
     assert_eq!(rt; checked(&rt, &chain.try_copy()?), Ok(()));
-    let idle = chain_by(&rt, rt.alloc(), SlotValue::Idle, &desk.r0, &desk.r1)?;
+    let idle = chain_by(rt.alloc(), SlotValue::Idle, &desk.r0, &desk.r1)?;
     assert_eq!(rt; checked(&rt, &idle), Ok(()));
     Ok(())
 }
 
 #[test]
 fn tells_faults_of_signers(rt: HostRuntime) -> Result<(), Fail> {
-    let desk = open_desk(&rt, rt.alloc())?;
+    let desk = open_desk(rt.alloc())?;
     let act = value(&rt, &[SignedRequest::by(request(0)?, &desk.c0)]);
     let alone = Chain::start(rt.alloc(), 0, act, &desk.r0)?;
     assert_eq!(rt; checked(&rt, &alone), Err(ChainFault::WrongCount));
-    let turned = chain_by(&rt, rt.alloc(), act, &desk.r1, &desk.r0)?;
+    let turned = chain_by(rt.alloc(), act, &desk.r1, &desk.r0)?;
     assert_eq!(rt; checked(&rt, &turned), Err(ChainFault::WrongSender));
-    let by_client = chain_by(&rt, rt.alloc(), act, &desk.r0, &desk.c0)?;
+    let by_client = chain_by(rt.alloc(), act, &desk.r0, &desk.c0)?;
     assert_eq!(rt; checked(&rt, &by_client), Err(ChainFault::NoReplica));
-    let twice = chain_by(&rt, rt.alloc(), act, &desk.r0, &desk.r0)?;
+    let twice = chain_by(rt.alloc(), act, &desk.r0, &desk.r0)?;
     assert_eq!(rt; checked(&rt, &twice), Err(ChainFault::SignedTwice));
     Ok(())
 }
 
 #[test]
 fn tells_faults_of_slots(rt: HostRuntime) -> Result<(), Fail> {
-    let desk = open_desk(&rt, rt.alloc())?;
+    let desk = open_desk(rt.alloc())?;
     let act = value(&rt, &[SignedRequest::by(request(0)?, &desk.c0)]);
     let other = Chain::start(rt.alloc(), 1, act, &desk.r0)?;
-    let other = extended(&rt, rt.alloc(), other, &desk.r1)?;
+    let other = extended(rt.alloc(), other, &desk.r1)?;
     assert_eq!(rt; checked(&rt, &other), Err(ChainFault::OtherSlot));
     let mut before = Signers::new();
     before.push(R0);
@@ -159,9 +144,9 @@ fn tells_faults_of_slots(rt: HostRuntime) -> Result<(), Fail> {
 
 #[test]
 fn tells_bad_requests(rt: HostRuntime) -> Result<(), Fail> {
-    let desk = open_desk(&rt, rt.alloc())?;
+    let desk = open_desk(rt.alloc())?;
     let by_another = value(&rt, &[SignedRequest::by(request(0)?, &desk.c1)]);
-    let chain = chain_by(&rt, rt.alloc(), by_another, &desk.r0, &desk.r1)?;
+    let chain = chain_by(rt.alloc(), by_another, &desk.r0, &desk.r1)?;
     assert_eq!(rt; checked(&rt, &chain), Err(ChainFault::BadRequest));
     let second = value(
         &rt,
@@ -170,39 +155,51 @@ fn tells_bad_requests(rt: HostRuntime) -> Result<(), Fail> {
             SignedRequest::by(request(1)?, &desk.c0),
         ],
     );
-    let chain = chain_by(&rt, rt.alloc(), second, &desk.r0, &desk.r1)?;
+    let chain = chain_by(rt.alloc(), second, &desk.r0, &desk.r1)?;
     assert_eq!(rt; checked(&rt, &chain), Err(ChainFault::BadRequest));
     let outside = value(&rt, &[SignedRequest::by(request(2)?, &desk.c2)]);
-    let chain = chain_by(&rt, rt.alloc(), outside, &desk.r0, &desk.r1)?;
+    let chain = chain_by(rt.alloc(), outside, &desk.r0, &desk.r1)?;
     assert_eq!(rt; checked(&rt, &chain), Err(ChainFault::BadRequest));
     Ok(())
 }
 
 #[test]
 fn holds_one_to_eight_requests(rt: HostRuntime) -> Result<(), Fail> {
-    let desk = open_desk(&rt, rt.alloc())?;
+    let desk = open_desk(rt.alloc())?;
     let signed = SignedRequest::by(request(0)?, &desk.c0);
     assert!(rt; Batch::of(&[]).is_none());
     assert!(rt; Batch::of(&[signed; 9]).is_none());
-    let batch = Batch::of(&[signed, SignedRequest::by(request(1)?, &desk.c1)]).ok_or("no list")?;
+    let other = SignedRequest::by(request(1)?, &desk.c1);
+    let batch = Batch::of(&[signed, other]).ok_or("no list")?;
     assert_eq!(rt; batch.len(), 2);
-    assert_eq!(rt; batch.as_slice().len(), 2);
+    assert!(rt; batch.as_slice() == [signed, other].as_slice());
     assert!(rt; batch.get(0) == Some(signed));
     assert!(rt; batch.get(2).is_none());
-    assert!(rt; batch.same(&batch));
+    Ok(())
+}
+
+#[test]
+fn compares_signed_requests(rt: HostRuntime) -> Result<(), Fail> {
+    let desk = open_desk(rt.alloc())?;
+    let signed = SignedRequest::by(request(0)?, &desk.c0);
+    let by_another = SignedRequest::by(request(0)?, &desk.c1);
+    assert!(rt; signed.same(&SignedRequest::by(request(0)?, &desk.c0)));
+    assert!(rt; !signed.same(&by_another));
+    let batch = Batch::of(&[signed]).ok_or("no list")?;
+    assert!(rt; batch.same(&Batch::of(&[signed]).ok_or("no list")?));
+    assert!(rt; !batch.same(&Batch::of(&[by_another]).ok_or("no list")?));
     assert!(rt; !SlotValue::Act(batch).same(&SlotValue::Idle));
-    assert!(rt; !signed.same(&SignedRequest::by(request(0)?, &desk.c1)));
     Ok(())
 }
 
 #[test]
 fn tells_its_parts(rt: HostRuntime) -> Result<(), Fail> {
-    let desk = open_desk(&rt, rt.alloc())?;
+    let desk = open_desk(rt.alloc())?;
     let act = value(&rt, &[SignedRequest::by(request(0)?, &desk.c0)]);
     let chain = Chain::start(rt.alloc(), 7, act, &desk.r0)?;
     assert_eq!(rt; chain.slot(), 7);
     assert!(rt; chain.value().same(&act));
-    assert!(rt; chain.content() == act.content());
+    assert!(rt; chain.content() == Requests::of(&[request(0)?]));
     assert_eq!(rt; chain.signatures().len(), 1);
     assert!(rt; chain.same(&chain.try_copy()?));
     assert!(rt; !chain.same(&Chain::start(rt.alloc(), 7, act, &desk.r1)?));
@@ -211,10 +208,23 @@ fn tells_its_parts(rt: HostRuntime) -> Result<(), Fail> {
     Ok(())
 }
 
+/// The content of a chain is its requests alone: neither its slot nor a signature beside a request is of it.
+#[test]
+fn compares_contents(rt: HostRuntime) -> Result<(), Fail> {
+    let desk = open_desk(rt.alloc())?;
+    let act = value(&rt, &[SignedRequest::by(request(0)?, &desk.c0)]);
+    let by_another = value(&rt, &[SignedRequest::by(request(0)?, &desk.c1)]);
+    let chain = Chain::start(rt.alloc(), 7, act, &desk.r0)?;
+    assert!(rt; chain.same_content(&Chain::start(rt.alloc(), 7, by_another, &desk.r0)?));
+    assert!(rt; chain.same_content(&Chain::start(rt.alloc(), 8, act, &desk.r0)?));
+    assert!(rt; !chain.same_content(&Chain::start(rt.alloc(), 7, SlotValue::Idle, &desk.r0)?));
+    Ok(())
+}
+
 /// A chain that is extended has one signature more. Where memory is refused, the same chain comes back.
 #[test]
 fn gives_the_chain_back(rt: HostRuntime) -> Result<(), Fail> {
-    let desk = open_desk(&rt, rt.alloc())?;
+    let desk = open_desk(rt.alloc())?;
     let act = value(&rt, &[SignedRequest::by(request(0)?, &desk.c0)]);
     let chain = Chain::start(rt.alloc(), 7, act, &desk.r0)?;
     let equal = Chain::start(rt.alloc(), 7, act, &desk.r0)?;
@@ -265,14 +275,30 @@ fn says_what_is_wrong(rt: HostRuntime) -> Result<(), Fail> {
 }
 
 /// The value of a request of each of the clients 0 to 7, signed by that client.
-fn eight_requests(rt: &impl Abort, keys: &mut Keys) -> Result<SlotValue, Refusal> {
-    let first = SignedRequest::by(request(0)?, &key(rt, keys, client(0)?));
+fn eight_requests(rt: &impl Abort, keys: &mut Keys) -> Result<SlotValue, Fail> {
+    let first = SignedRequest::by(request(0)?, &key(keys, client(0)?)?);
     let mut signed = [first; 8];
     for number in 1..8u8 {
-        let own = key(rt, keys, client(number)?);
+        let own = key(keys, client(number)?)?;
         signed[number as usize] = SignedRequest::by(request(number)?, &own);
     }
     Ok(value(rt, &signed))
+}
+
+/// The chain longer by the signature of this replica, the one of this number, after those of all before it.
+fn grown(
+    rt: &impl Abort,
+    alloc: Global,
+    chain: Chain,
+    keys: &mut Keys,
+    number: u8,
+) -> Result<Chain, Fail> {
+    let signer = replica(number)?;
+    let chain = extended(alloc, chain, &key(keys, signer)?)?;
+    assert_eq!(rt; chain.signatures().len(), number as usize + 1);
+    assert!(rt; chain.has_signer(signer));
+    assert!(rt; chain.try_copy()?.same(&chain));
+    Ok(chain)
 }
 
 /// The most requests, and the most signatures: those of all 16 replicas.
@@ -280,23 +306,18 @@ fn eight_requests(rt: &impl Abort, keys: &mut Keys) -> Result<SlotValue, Refusal
 fn grows_to_sixteen_signatures(rt: HostRuntime) -> Result<(), Fail> {
     let mut keys = Keys::new(rt.alloc(), Shape::new(16, 7, 8, 0)?)?;
     let act = eight_requests(&rt, &mut keys)?;
-    let mut chain = Chain::start(rt.alloc(), 0, act, &key(&rt, &mut keys, R0))?;
+    let mut chain = Chain::start(rt.alloc(), 0, act, &key(&mut keys, R0)?)?;
     for number in 1..16u8 {
-        assert_eq!(rt; chain.signatures().len(), number as usize);
-        assert!(rt; chain.try_copy()?.same(&chain));
-        let next = key(&rt, &mut keys, replica(number)?);
-        chain = extended(&rt, rt.alloc(), chain, &next)?;
-        assert!(rt; chain.has_signer(replica(number)?));
+        chain = grown(&rt, rt.alloc(), chain, &mut keys, number)?;
     }
     assert_eq!(rt; chain.signatures().len(), 16);
-    assert!(rt; chain.try_copy()?.same(&chain));
     assert!(rt; chain.value().same(&act));
     Ok(())
 }
 
 #[test]
 fn is_made_of_none_and_of_sixteen(rt: HostRuntime) -> Result<(), Fail> {
-    let desk = open_desk(&rt, rt.alloc())?;
+    let desk = open_desk(rt.alloc())?;
     let none = Chain::of(rt.alloc(), 0, SlotValue::Idle, Vec::new(rt.alloc()))?;
     assert!(rt; none.signatures().is_empty());
     let signature = desk.c0.sign(Statement::Ask(request(0)?));
@@ -310,26 +331,11 @@ fn is_made_of_none_and_of_sixteen(rt: HostRuntime) -> Result<(), Fail> {
 /// The slots up to 2^40-1 have a token; a chain may be of any slot.
 #[test]
 fn starts_in_late_slots(rt: HostRuntime) -> Result<(), Fail> {
-    let desk = open_desk(&rt, rt.alloc())?;
+    let desk = open_desk(rt.alloc())?;
     for slot in [1_099_511_627_775, 1_099_511_627_776, u64::MAX] {
         let chain = Chain::start(rt.alloc(), slot, SlotValue::Idle, &desk.r0)?;
         assert_eq!(rt; chain.slot(), slot);
     }
-    Ok(())
-}
-
-/// A replica may extend a chain that it signed: extending asks for no proper chain.
-#[test]
-fn is_extended_by_one_who_signed(rt: HostRuntime) -> Result<(), Fail> {
-    let desk = open_desk(&rt, rt.alloc())?;
-    let twice = chain_by(&rt, rt.alloc(), SlotValue::Idle, &desk.r1, &desk.r1)?;
-    assert_eq!(rt; twice.signatures().len(), 2);
-    assert!(rt;
-        twice
-            .signatures()
-            .iter()
-            .all(|s| s.signer() == desk.r1.signer())
-    );
     Ok(())
 }
 
@@ -338,7 +344,7 @@ fn is_shared<T: Send + Sync>(_: &T) {}
 
 #[test]
 fn may_be_shared(rt: HostRuntime) -> Result<(), Fail> {
-    let desk = open_desk(&rt, rt.alloc())?;
+    let desk = open_desk(rt.alloc())?;
     is_shared(&Chain::start(rt.alloc(), 0, SlotValue::Idle, &desk.r0)?);
     Ok(())
 }

@@ -1,4 +1,5 @@
 use crate::run;
+use dsr_command::{Reading, read_words};
 use dsr_names::{Outside, Sink, Source};
 use std::alloc::Global;
 use std::io;
@@ -55,24 +56,17 @@ fn each_list_of_words_does_its_task(rt: HostRuntime) {
         "dsr: bad text in line 1\n",
     );
     runs(&rt, alloc, &["fly"], text, 2, "", "error: ");
-    runs(
-        &rt,
-        alloc,
-        &["apply", "--transcript"],
-        text,
-        2,
-        "",
-        "error: ",
-    );
-    runs(&rt, alloc, &["play"], text, 2, "", "error: ");
 }
 
 #[test]
-fn help_goes_to_the_output(rt: HostRuntime) {
+fn help_goes_to_the_output(rt: HostRuntime) -> Result<(), Fail> {
     let alloc = rt.alloc();
+    let words: [&str; 1] = ["--help"];
+    let Reading::Help(help) = read_words(alloc, words.as_slice()) else {
+        return Err("no help")?;
+    };
     let mut out = Outside(Vec::new(alloc));
     let mut err = Vec::new(alloc);
-    let words: [&str; 1] = ["--help"];
     assert_eq!(rt;
         run(
             alloc,
@@ -83,8 +77,14 @@ fn help_goes_to_the_output(rt: HostRuntime) {
         ),
         0
     );
-    assert!(rt; !out.0.is_empty());
+    assert_eq!(rt; out.0.as_slice(), help.as_bytes());
+    assert!(rt;
+        out.0
+            .as_slice()
+            .starts_with(b"dsr keeps a directory of named registers, ")
+    );
     assert!(rt; err.is_empty());
+    Ok(())
 }
 
 // A reader and a writer that always fail.

@@ -86,50 +86,48 @@ fn signs_a_request(rt: HostRuntime) -> Result<(), Fail> {
     Ok(())
 }
 
+/// The statement that this slot's value is this after these signed it.
+fn link(slot: u64, value: Option<Requests>, before: Signers) -> Statement {
+    Statement::Link {
+        slot,
+        value,
+        before,
+    }
+}
+
+/// Replica 0 and then client 0.
+fn two_signers() -> Signers {
+    let mut signers = Signers::new();
+    signers.push(R0);
+    signers.push(C0);
+    signers
+}
+
+#[test]
+fn lists_signers(rt: HostRuntime) {
+    let none = Signers::new();
+    assert!(rt; none.is_empty());
+    let signers = two_signers();
+    assert!(rt; !signers.is_empty());
+    assert_eq!(rt; signers.len(), 2);
+    assert!(rt; signers.as_slice() == [R0, C0].as_slice());
+    assert!(rt; signers.same(&two_signers()));
+    assert!(rt; !signers.same(&none));
+}
+
 #[test]
 fn signs_a_link(rt: HostRuntime) -> Result<(), Fail> {
     let mut keys = keys(rt.alloc())?;
     let key = key_of(&rt, &mut keys, R0);
     let value = Requests::of(&[read_a(1)?]);
-    let mut before = Signers::new();
-    assert!(rt; before.is_empty());
-    let first = key.sign(Statement::Link {
-        slot: 3,
-        value,
-        before,
-    });
-    before.push(R0);
-    before.push(C0);
-    assert_eq!(rt; before.len(), 2);
-    assert!(rt; before.as_slice() == [R0, C0].as_slice());
-    assert!(rt; !before.same(&Signers::new()));
-    let second = key.sign(Statement::Link {
-        slot: 3,
-        value,
-        before,
-    });
+    let before = two_signers();
+    let first = key.sign(link(3, value, Signers::new()));
+    let second = key.sign(link(3, value, before));
     assert!(rt; !second.same(&first));
-    assert!(rt;
-        second.statement().same(&Statement::Link {
-            slot: 3,
-            value,
-            before
-        })
-    );
-    assert!(rt;
-        !second.statement().same(&Statement::Link {
-            slot: 4,
-            value,
-            before
-        })
-    );
-    assert!(rt;
-        !second.statement().same(&Statement::Link {
-            slot: 3,
-            value: None,
-            before
-        })
-    );
+    let signed = second.statement();
+    assert!(rt; signed.same(&link(3, value, before)));
+    assert!(rt; !signed.same(&link(4, value, before)));
+    assert!(rt; !signed.same(&link(3, None, before)));
     Ok(())
 }
 
@@ -146,6 +144,12 @@ fn spells_signers(rt: HostRuntime) -> Result<(), Fail> {
         let signers = Signers::read(text.as_bytes()).ok_or("not signers")?;
         assert_eq!(rt; signers.to_string(rt.alloc())?.as_str(), text);
     }
+    assert!(rt; Signers::read(b"r0+c0") == Some(two_signers()));
+    Ok(())
+}
+
+#[test]
+fn reads_no_other_signers(rt: HostRuntime) {
     let others = [
         "",
         "r16",
@@ -157,9 +161,8 @@ fn spells_signers(rt: HostRuntime) -> Result<(), Fail> {
         "r0+r1+r2+r3+r4+r5+r6+r7+r8+r9+r10+r11+r12+r13+r14+r15+c0",
     ];
     for text in others {
-        assert!(rt; Signers::read(text.as_bytes()).is_none());
+        assert!(rt; Signers::read(text.as_bytes()).is_none(), "{text}");
     }
-    Ok(())
 }
 
 #[test]
@@ -208,12 +211,13 @@ fn spells_statements(rt: HostRuntime) -> Result<(), Fail> {
     assert!(rt; Statement::read(b"c0#1:read:a") == Some(Statement::Ask(read_a(1)?)));
     let mut before = Signers::new();
     before.push(R0);
-    let link = Statement::Link {
-        slot: 3,
-        value: Requests::of(&[read_a(1)?]),
-        before,
-    };
+    let link = link(3, Requests::of(&[read_a(1)?]), before);
     assert!(rt; Statement::read(b"3/c0#1:read:a/r0") == Some(link));
+    Ok(())
+}
+
+#[test]
+fn reads_no_other_statement(rt: HostRuntime) {
     let others = [
         "",
         "idle",
@@ -233,5 +237,4 @@ fn spells_statements(rt: HostRuntime) -> Result<(), Fail> {
     for text in others {
         assert!(rt; Statement::read(text.as_bytes()).is_none(), "{text}");
     }
-    Ok(())
 }

@@ -1,6 +1,6 @@
 ghost use Rattle.std.specs.Prelude.{◌≡◌, ◌<◌, IfOk};
 
-use crate::{Machine, Request, Requests, history_is_legal, history_only_grows};
+use crate::{Machine, Request, Requests};
 use dsr_ledger::Reply;
 use dsr_names::{ClientId, Refusal, Shape};
 use dsr_register::{Answer, Name, Op};
@@ -63,6 +63,17 @@ fn a_list_has_1_to_8_requests(rt: HostRuntime) -> Result<(), Fail> {
     }
     requests.push(Request::new(ClientId::FIRST, 9, op)?)?;
     assert!(rt; Requests::of(requests.as_slice()).is_none());
+    Ok(())
+}
+
+#[test]
+fn lists_are_the_same_by_their_requests(rt: HostRuntime) -> Result<(), Fail> {
+    let list = Requests::read(b"c0#1:read:a,c1#1:read:a").ok_or("no list")?;
+    let turned = Requests::read(b"c1#1:read:a,c0#1:read:a").ok_or("no list")?;
+    let front = Requests::read(b"c0#1:read:a").ok_or("no list")?;
+    assert!(rt; list.same(&list));
+    assert!(rt; !list.same(&turned));
+    assert!(rt; !list.same(&front));
     Ok(())
 }
 
@@ -192,10 +203,7 @@ fn accepts_idle(rt: &impl Abort, machine: &mut Machine) -> Result<(), Fail>
 fn a_number_acts_once_and_none_below_it(rt: HostRuntime) -> Result<(), Fail> {
     let mut machine = machine_of(rt.alloc(), 1)?;
     accepts_idle(&rt, &mut machine)?;
-    accepts_rising_numbers(&rt, &mut machine)?;
-    history_only_grows();
-    history_is_legal();
-    Ok(())
+    accepts_rising_numbers(&rt, &mut machine)
 }
 
 // Requests of two clients, given to a machine that accepted nothing; some come twice.

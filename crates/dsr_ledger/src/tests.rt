@@ -40,3 +40,12 @@ fn a_ledger_keeps_the_last_replies(rt: HostRuntime) -> Result<(), Fail> {
     assert!(rt; !ledger.acts(first, 4));
     Ok(())
 }
+
+#[test]
+fn a_client_outside_the_shape_has_no_reply(rt: HostRuntime) -> Result<(), Fail> {
+    let ledger = Ledger::new(rt.alloc(), 1)?;
+    for number in [1, 31] {
+        assert_eq!(rt; ledger.kept(ClientId::new(number)?), None, "{number}");
+    }
+    Ok(())
+}

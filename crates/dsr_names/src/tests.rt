@@ -52,12 +52,12 @@ fn is_numbered(rt: &impl Abort, refusal: Refusal, code: u8) {
 
 // The refusal has this name.
 fn is_named(rt: &impl Abort, refusal: Refusal, word: &str) {
-    assert!(rt; refusal.word().as_bytes() == word.as_bytes());
+    assert!(rt; refusal.word().as_bytes() == word.as_bytes(), "{word}");
 }
 
 // The refusal prints this text.
 fn says(rt: &impl Abort, alloc: Global, refusal: Refusal, text: &str) -> Result<(), AllocError> {
-    assert!(rt; refusal.to_string(alloc)?.as_str() == text);
+    assert!(rt; refusal.to_string(alloc)?.as_str() == text, "{text}");
     Ok(())
 }
 
@@ -71,16 +71,17 @@ fn refusals_are_numbered_named_and_printed(rt: HostRuntime) -> Result<(), AllocE
     Ok(())
 }
 
-// The bytes are split at their first equals sign into these two parts.
-fn splits(rt: &impl Abort, bytes: &[u8], front: &[u8], rest: &[u8]) {
-    assert!(rt; split_once(bytes, b'=') == Some((front, rest)));
+// The text is split at its first equals sign into these two parts.
+fn splits(rt: &impl Abort, text: &str, front: &str, rest: &str) {
+    let parts = Some((front.as_bytes(), rest.as_bytes()));
+    assert!(rt; split_once(text.as_bytes(), b'=') == parts, "{text}");
 }
 
 #[test]
 fn bytes_are_split_at_the_first(rt: HostRuntime) {
-    splits(&rt, b"ab=cd", b"ab", b"cd");
-    splits(&rt, b"=a==b=", b"", b"a==b=");
-    splits(&rt, b"ab=", b"ab", b"");
+    splits(&rt, "ab=cd", "ab", "cd");
+    splits(&rt, "=a==b=", "", "a==b=");
+    splits(&rt, "ab=", "ab", "");
     for text in ["", "ab cd"] {
         assert!(rt; split_once(text.as_bytes(), b'=').is_none(), "{text}");
     }
@@ -133,8 +134,8 @@ fn spells_content(
     content: Option<u64>,
     text: &str,
 ) -> Result<(), AllocError> {
-    assert!(rt; read_old(text.as_bytes()) == Some(content));
-    assert!(rt; Old(content).to_string(alloc)?.as_str() == text);
+    assert!(rt; read_old(text.as_bytes()) == Some(content), "{text}");
+    assert!(rt; Old(content).to_string(alloc)?.as_str() == text, "{text}");
     Ok(())
 }
 
@@ -161,13 +162,18 @@ fn reads_no_other_content(rt: HostRuntime) {
 }
 
 #[test]
-fn actors_are_numbered(rt: HostRuntime) -> Result<(), Refusal> {
-    assert_eq!(rt; ReplicaId::new(0), Ok(ReplicaId::FIRST));
-    assert_eq!(rt; ReplicaId::new(15)?.number(), 15);
-    assert_eq!(rt; ReplicaId::new(16), Err(Refusal::NoActor));
-    assert_eq!(rt; ClientId::new(0), Ok(ClientId::FIRST));
-    assert_eq!(rt; ClientId::new(31)?.number(), 31);
-    assert_eq!(rt; ClientId::new(32), Err(Refusal::NoActor));
+fn replicas_are_numbered(rt: HostRuntime) -> Result<(), Refusal> {
+    assert!(rt; ReplicaId::new(0)? == ReplicaId::FIRST);
+    assert!(rt; ReplicaId::new(15)?.number() == 15);
+    assert!(rt; ReplicaId::new(16) == Err(Refusal::NoActor));
+    Ok(())
+}
+
+#[test]
+fn clients_are_numbered(rt: HostRuntime) -> Result<(), Refusal> {
+    assert!(rt; ClientId::new(0)? == ClientId::FIRST);
+    assert!(rt; ClientId::new(31)?.number() == 31);
+    assert!(rt; ClientId::new(32) == Err(Refusal::NoActor));
     Ok(())
 }
 
@@ -187,8 +193,8 @@ fn spells_actor(
     actor: Actor,
     text: &str,
 ) -> Result<(), AllocError> {
-    assert!(rt; Actor::read(text.as_bytes()) == Some(actor));
-    assert!(rt; actor.to_string(alloc)?.as_str() == text);
+    assert!(rt; Actor::read(text.as_bytes()) == Some(actor), "{text}");
+    assert!(rt; actor.to_string(alloc)?.as_str() == text, "{text}");
     Ok(())
 }
 
@@ -323,8 +329,8 @@ fn spells_shape(
     shape: Shape,
     text: &str,
 ) -> Result<(), AllocError> {
-    assert!(rt; Shape::read(text.as_bytes()) == Some(Ok(shape)));
-    assert!(rt; shape.to_string(alloc)?.as_str() == text);
+    assert!(rt; Shape::read(text.as_bytes()) == Some(Ok(shape)), "{text}");
+    assert!(rt; shape.to_string(alloc)?.as_str() == text, "{text}");
     Ok(())
 }
 

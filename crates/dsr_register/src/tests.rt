@@ -1,4 +1,5 @@
 use crate::{Answer, Directory, Joined, Name, Op};
+use dsr_names::Refusal;
 use std::alloc::{AllocError, Global};
 use std::process::Abort;
 use std::test::Fail;
@@ -11,49 +12,69 @@ fn spells(
     joined: &str,
     op: Op,
 ) -> Result<(), AllocError> {
-    assert_eq!(rt; Op::read(spaced.as_bytes(), b' '), Some(op));
-    assert_eq!(rt; Op::read(joined.as_bytes(), b':'), Some(op));
-    assert_eq!(rt; Op::read(spaced.as_bytes(), b':'), None);
-    assert_eq!(rt; Op::read(joined.as_bytes(), b' '), None);
-    let printed = format!(in alloc; "{op}")?;
-    assert_eq!(rt; printed.as_str(), spaced);
-    let printed = format!(in alloc; "{}", Joined(op))?;
-    assert_eq!(rt; printed.as_str(), joined);
+    assert!(rt; Op::read(spaced.as_bytes(), b' ') == Some(op), "{spaced}");
+    assert!(rt; Op::read(joined.as_bytes(), b':') == Some(op), "{joined}");
+    assert!(rt; Op::read(spaced.as_bytes(), b':').is_none(), "{spaced}");
+    assert!(rt; Op::read(joined.as_bytes(), b' ').is_none(), "{joined}");
+    assert!(rt; op.to_string(alloc)?.as_str() == spaced, "{spaced}");
+    assert!(rt; Joined(op).to_string(alloc)?.as_str() == joined, "{joined}");
+    Ok(())
+}
+
+// The longest name.
+const LONGEST: &str = "abcdefghijklmnopqrstuvwxyz.0-9_z";
+
+// The name is read from the text, and shown as it.
+fn shows(rt: &impl Abort, alloc: Global, text: &str) -> Result<(), Fail> {
+    let name = Name::read(text.as_bytes())?;
+    assert!(rt; name.as_bytes() == text.as_bytes(), "{text}");
+    assert!(rt; name.as_str() == text, "{text}");
+    assert!(rt; name.to_string(alloc)?.as_str() == text, "{text}");
+    Ok(())
+}
+
+#[test]
+fn names_are_read_and_printed(rt: HostRuntime) -> Result<(), Fail> {
+    shows(&rt, rt.alloc(), "a")?;
+    shows(&rt, rt.alloc(), LONGEST)?;
+    for text in ["", "aabcdefghijklmnopqrstuvwxyz.0-9_z", "A"] {
+        let read = Name::read(text.as_bytes());
+        assert_eq!(rt; read, Err(Refusal::BadName), "{text}");
+    }
+    Ok(())
+}
+
+#[test]
+fn names_are_the_same_by_their_bytes(rt: HostRuntime) -> Result<(), Refusal> {
+    let a = Name::read(b"a")?;
+    assert!(rt; a.same(&Name::read(b"a")?));
+    assert!(rt; !a.same(&Name::read(b"b")?));
+    assert!(rt; !a.same(&Name::read(b"aa")?));
     Ok(())
 }
 
 #[test]
 fn operations_are_read_and_printed(rt: HostRuntime) -> Result<(), Fail> {
-    let a = Name::read(b"a")?;
-    let none = Name::read(b"none")?;
-    let longest = Name::read(b"abcdefghijklmnopqrstuvwxyz.0-9_z")?;
     let alloc = rt.alloc();
+    let a = Name::read(b"a")?;
     let read = Op::Read { name: a };
-    let remove = Op::Remove { name: longest };
+    spells(&rt, alloc, "read a", "read:a", read)?;
     let write = Op::Write {
-        name: none,
+        name: Name::read(b"none")?,
         value: 5,
     };
+    spells(&rt, alloc, "write none 5", "write:none:5", write)?;
     let first = Op::Swap {
         name: a,
         from: None,
         to: 1,
     };
+    spells(&rt, alloc, "swap a none 1", "swap:a:none:1", first)?;
     let next = Op::Swap {
         name: a,
         from: Some(0),
         to: 18_446_744_073_709_551_615,
     };
-    spells(&rt, alloc, "read a", "read:a", read)?;
-    spells(
-        &rt,
-        alloc,
-        "remove abcdefghijklmnopqrstuvwxyz.0-9_z",
-        "remove:abcdefghijklmnopqrstuvwxyz.0-9_z",
-        remove,
-    )?;
-    spells(&rt, alloc, "write none 5", "write:none:5", write)?;
-    spells(&rt, alloc, "swap a none 1", "swap:a:none:1", first)?;
     spells(
         &rt,
         alloc,
@@ -61,32 +82,62 @@ fn operations_are_read_and_printed(rt: HostRuntime) -> Result<(), Fail> {
         "swap:a:0:18446744073709551615",
         next,
     )?;
-    let bad = [
-        "",
-        "read",
-        "read ",
-        "read  a",
-        "read a ",
-        " read a",
-        "READ a",
-        "read A",
-        "read a b",
-        "read aabcdefghijklmnopqrstuvwxyz.0-9_z",
-        "reads a",
-        "write a",
-        "write a 01",
-        "write a none",
-        "write a 18446744073709551616",
-        "swap a 1",
-        "swap a none",
-        "swap a none 1 ",
-        "swap a  1",
-        "remove a b",
-    ];
-    for text in bad {
-        assert_eq!(rt; Op::read(text.as_bytes(), b' '), None, "{text}");
+    Ok(())
+}
+
+#[test]
+fn an_operation_on_the_longest_name_is_read_and_printed(rt: HostRuntime) -> Result<(), Fail> {
+    let remove = Op::Remove {
+        name: Name::read(LONGEST.as_bytes())?,
+    };
+    spells(
+        &rt,
+        rt.alloc(),
+        "remove abcdefghijklmnopqrstuvwxyz.0-9_z",
+        "remove:abcdefghijklmnopqrstuvwxyz.0-9_z",
+        remove,
+    )?;
+    Ok(())
+}
+
+#[test]
+fn an_operation_tells_its_register(rt: HostRuntime) -> Result<(), Fail> {
+    let b = Name::read(b"b")?;
+    for text in ["read b", "write b 5", "swap b none 1", "remove b"] {
+        let op = Op::read(text.as_bytes(), b' ').ok_or("no operation")?;
+        assert_eq!(rt; op.name(), b, "{text}");
     }
     Ok(())
+}
+
+const NO_OPERATIONS: [&str; 20] = [
+    "",
+    "read",
+    "read ",
+    "read  a",
+    "read a ",
+    " read a",
+    "READ a",
+    "read A",
+    "read a b",
+    "read aabcdefghijklmnopqrstuvwxyz.0-9_z",
+    "reads a",
+    "write a",
+    "write a 01",
+    "write a none",
+    "write a 18446744073709551616",
+    "swap a 1",
+    "swap a none",
+    "swap a none 1 ",
+    "swap a  1",
+    "remove a b",
+];
+
+#[test]
+fn reads_no_other_operation(rt: HostRuntime) {
+    for text in NO_OPERATIONS {
+        assert!(rt; Op::read(text.as_bytes(), b' ').is_none(), "{text}");
+    }
 }
 
 #[test]
@@ -129,12 +180,23 @@ fn answers_are_read_and_printed(rt: HostRuntime) -> Result<(), AllocError> {
     Ok(())
 }
 
+// The directory answers the operation of the first text by the second.
+fn responds(
+    rt: &impl Abort,
+    directory: &mut Directory,
+    text: &str,
+    answer: &str,
+) -> Result<(), Fail> {
+    let op = Op::read(text.as_bytes(), b' ').ok_or("no operation")?;
+    let answer = Answer::read(answer.as_bytes()).ok_or("no answer")?;
+    assert_eq!(rt; directory.apply(op), answer, "{text}");
+    Ok(())
+}
+
 // The directory answers each operation as its row says, one after another.
 fn answers(rt: &impl Abort, directory: &mut Directory, rows: &[(&str, &str)]) -> Result<(), Fail> {
     for (text, answer) in rows {
-        let op = Op::read(text.as_bytes(), b' ').ok_or("no operation")?;
-        let answer = Answer::read(answer.as_bytes()).ok_or("no answer")?;
-        assert_eq!(rt; directory.apply(op), answer, "{text}");
+        responds(rt, directory, text, answer)?;
     }
     Ok(())
 }
@@ -170,17 +232,18 @@ fn a_directory_answers(rt: HostRuntime) -> Result<(), Fail> {
     answers(&rt, &mut directory, &removes)
 }
 
+// The name k and this number.
+fn numbered(alloc: Global, number: u16) -> Result<Name, Fail> {
+    Ok(Name::read(format!(in alloc; "k{number}")?.as_bytes())?)
+}
+
 // The registers k0 to k1023 are empty, and then each holds 0.
 fn fill(rt: &impl Abort, alloc: Global, directory: &mut Directory) -> Result<(), Fail> {
     for number in 0..1024 {
-        let text = format!(in alloc; "k{number}")?;
-        let name = Name::read(text.as_bytes())?;
+        let name = numbered(alloc, number)?;
         assert_eq!(rt; directory.get(&name), None, "{name}");
-        assert_eq!(rt;
-            directory.apply(Op::Write { name, value: 0 }),
-            Answer::Written,
-            "{name}"
-        );
+        let answered = directory.apply(Op::Write { name, value: 0 });
+        assert_eq!(rt; answered, Answer::Written, "{name}");
     }
     assert_eq!(rt; directory.len(), 1024);
     Ok(())

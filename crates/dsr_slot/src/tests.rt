@@ -2,7 +2,7 @@ use crate::SlotState;
 use dsr_chain::{Batch, Chain, SignedRequest, SlotValue};
 use dsr_desk::{Key, Keys};
 use dsr_history::Request;
-use dsr_names::{Actor, ClientId, Refusal, ReplicaId, Shape};
+use dsr_names::{Actor, ClientId, ReplicaId, Shape};
 use dsr_register::{Name, Op};
 use std::alloc::Global;
 use std::process::Abort;
@@ -35,6 +35,11 @@ fn open_desk(alloc: Global, shape: Shape) -> Result<Desk, Fail> {
     })
 }
 
+/// The key of this replica.
+fn key_of(desk: &Desk, replica: usize) -> Result<&Key, Fail> {
+    Ok(desk.replicas.get(replica).ok_or("no such replica")?)
+}
+
 /// The value of one request: the client's number 1, to write its own number and one to `a`.
 fn value_of(desk: &Desk, client: u8) -> Result<SlotValue, Fail> {
     let op = Op::Write {
@@ -65,28 +70,21 @@ struct Plan {
     signers: &'static [usize],
 }
 
-/// The chain of slot 0.
-fn chain_of(alloc: Global, desk: &Desk, plan: Plan) -> Result<Chain, Fail> {
-    chain_in(alloc, desk, 0, plan)
-}
-
 /// The chain of this slot.
-fn chain_in(alloc: Global, desk: &Desk, slot: u64, plan: Plan) -> Result<Chain, Fail> {
+fn chain_of(alloc: Global, desk: &Desk, slot: u64, plan: Plan) -> Result<Chain, Fail> {
     let value = value_of(desk, plan.client)?;
     let first = plan.signers.first().ok_or("nobody signs")?;
-    let key = desk.replicas.get(*first).ok_or("no such replica")?;
-    let mut chain = Chain::start(alloc, slot, value, key)?;
+    let mut chain = Chain::start(alloc, slot, value, key_of(desk, *first)?)?;
     for signer in &plan.signers[1..] {
-        let key = desk.replicas.get(*signer).ok_or("no such replica")?;
-        chain = extended(alloc, chain, key)?;
+        chain = extended(alloc, chain, key_of(desk, *signer)?)?;
     }
     Ok(chain)
 }
 
-fn chains_of(alloc: Global, desk: &Desk, plans: &[Plan]) -> Result<Vec<Chain>, Fail> {
+fn chains_of(alloc: Global, desk: &Desk, slot: u64, plans: &[Plan]) -> Result<Vec<Chain>, Fail> {
     let mut chains = Vec::new(alloc);
     for plan in plans {
-        chains.push(chain_of(alloc, desk, *plan)?)?;
+        chains.push(chain_of(alloc, desk, slot, *plan)?)?;
     }
     Ok(chains)
 }
@@ -107,6 +105,50 @@ fn close_next(rt: &impl Abort, state: &mut SlotState, chains: &mut Vec<Chain>) {
     assert!(rt; chains.is_empty());
 }
 
+/// A slot as the replica with this key sees it.
+#[derive(Drop)]
+struct View<'a> {
+    alloc: Global,
+    desk: &'a Desk,
+    slot: u64,
+    key: &'a Key,
+    state: SlotState,
+}
+
+fn view_of(alloc: Global, desk: &Desk, slot: u64, replica: usize) -> Result<View<'_>, Fail> {
+    Ok(View {
+        alloc,
+        desk,
+        slot,
+        key: key_of(desk, replica)?,
+        state: SlotState::new(&desk.shape, slot),
+    })
+}
+
+impl View<'_> {
+    /// Closes the next round, in which these chains were read.
+    fn reads(&mut self, rt: &impl Abort, plans: &[Plan]) -> Result<(), Fail> {
+        let mut chains = chains_of(self.alloc, self.desk, self.slot, plans)?;
+        close_next(rt, &mut self.state, &mut chains);
+        Ok(())
+    }
+
+    /// Whether the replica relays these chains in this round.
+    fn relays(&self, rt: &impl Abort, round: u8, plans: &[Plan]) -> Result<(), Fail> {
+        let wanted = chains_of(self.alloc, self.desk, self.slot, plans)?;
+        let relayed = self.state.relays(self.alloc, round, self.key)?;
+        are_same(rt, &relayed, &wanted);
+        Ok(())
+    }
+}
+
+fn are_same(rt: &impl Abort, chains: &[Chain], wanted: &[Chain]) {
+    assert_eq!(rt; chains.len(), wanted.len());
+    for (chain, wanted) in chains.iter().zip(wanted) {
+        assert!(rt; chain.same(wanted));
+    }
+}
+
 /// What is read in the rounds 1 and 2, what is relayed between them with whose key, and whose value is
 /// decided after them.
 struct Row {
@@ -119,17 +161,12 @@ struct Row {
 
 /// Whether slot 0 goes as the row says.
 fn holds(rt: &impl Abort, alloc: Global, desk: &Desk, row: &Row) -> Result<(), Fail> {
-    let key = desk.replicas.get(row.key).ok_or("no such replica")?;
-    let mut state = SlotState::new(&desk.shape, 0);
-    close_next(rt, &mut state, &mut chains_of(alloc, desk, row.first)?);
-    assert!(rt; state.decide().is_none());
-    let relayed = state.relays(alloc, 2, key)?;
-    assert_eq!(rt; relayed.len(), row.relayed.len());
-    for (chain, wanted) in relayed.iter().zip(row.relayed) {
-        assert!(rt; chain.same(&chain_of(alloc, desk, *wanted)?));
-    }
-    close_next(rt, &mut state, &mut chains_of(alloc, desk, row.second)?);
-    assert!(rt; state.decide() == Some(decided_by(desk, row.decided)?));
+    let decided = decided_by(desk, row.decided)?;
+    let mut slot = view_of(alloc, desk, 0, row.key)?;
+    slot.reads(rt, row.first)?;
+    slot.relays(rt, 2, row.relayed)?;
+    slot.reads(rt, row.second)?;
+    assert!(rt; slot.state.decide() == Some(decided));
     Ok(())
 }
 
@@ -206,20 +243,11 @@ fn keeps_relays_and_decides(rt: HostRuntime) -> Result<(), Fail> {
 /// Replica 0 is the sender of both slots: 3 divides 2^64-1 too.
 #[test]
 fn relays_in_later_slots(rt: HostRuntime) -> Result<(), Fail> {
-    let alloc = rt.alloc();
-    let desk = open_desk(alloc, Shape::new(3, 1, 2, 0)?)?;
-    let key = desk.replicas.get(1).ok_or("no such replica")?;
-    for slot in [3, u64::MAX] {
-        let mut state = SlotState::new(&desk.shape, slot);
-        let mut chains = Vec::with_capacity(alloc, 2)?;
-        chains.push(chain_in(alloc, &desk, slot, A)?)?;
-        chains.push(chain_in(alloc, &desk, slot, B)?)?;
-        close_next(&rt, &mut state, &mut chains);
-        let relayed = state.relays(alloc, 2, key)?;
-        assert_eq!(rt; relayed.len(), 2);
-        for (chain, wanted) in relayed.iter().zip([A_BY_1, B_BY_1]) {
-            assert!(rt; chain.same(&chain_in(alloc, &desk, slot, wanted)?));
-        }
+    let desk = open_desk(rt.alloc(), Shape::new(3, 1, 2, 0)?)?;
+    for number in [3, u64::MAX] {
+        let mut slot = view_of(rt.alloc(), &desk, number, 1)?;
+        slot.reads(&rt, &[A, B])?;
+        slot.relays(&rt, 2, &[A_BY_1, B_BY_1])?;
     }
     Ok(())
 }
@@ -227,15 +255,13 @@ fn relays_in_later_slots(rt: HostRuntime) -> Result<(), Fail> {
 /// What is kept in round 1 is relayed in round 2 alone.
 #[test]
 fn relays_in_the_round_after(rt: HostRuntime) -> Result<(), Fail> {
-    let alloc = rt.alloc();
-    let desk = open_desk(alloc, Shape::new(3, 1, 2, 0)?)?;
-    let key = desk.replicas.get(1).ok_or("no such replica")?;
-    let mut state = SlotState::new(&desk.shape, 0);
-    close_next(&rt, &mut state, &mut chains_of(alloc, &desk, &[A, B])?);
-    for (round, count) in [(0, 0), (1, 0), (2, 2), (3, 0), (255, 0)] {
-        assert_eq!(rt; state.relays(alloc, round, key)?.len(), count);
+    let desk = open_desk(rt.alloc(), Shape::new(3, 1, 2, 0)?)?;
+    let mut slot = view_of(rt.alloc(), &desk, 0, 1)?;
+    slot.reads(&rt, &[A, B])?;
+    for round in [0, 1, 3, 255] {
+        slot.relays(&rt, round, &[])?;
     }
-    Ok(())
+    slot.relays(&rt, 2, &[A_BY_1, B_BY_1])
 }
 
 const A_BY_2_AND_1: Plan = Plan {
@@ -247,21 +273,16 @@ const A_BY_2_AND_1: Plan = Plan {
 /// whoever asks for the round past it.
 #[test]
 fn relays_what_the_last_round_brought(rt: HostRuntime) -> Result<(), Fail> {
-    let alloc = rt.alloc();
-    let desk = open_desk(alloc, Shape::new(3, 1, 2, 0)?)?;
-    let key = desk.replicas.get(1).ok_or("no such replica")?;
-    let mut state = SlotState::new(&desk.shape, 0);
-    assert!(rt; state.relays(alloc, 1, key)?.is_empty());
-    close_next(&rt, &mut state, &mut Vec::new(alloc));
-    assert_eq!(rt; state.closed_rounds(), 1);
-    assert!(rt; state.relays(alloc, 2, key)?.is_empty());
-    close_next(&rt, &mut state, &mut chains_of(alloc, &desk, &[A_BY_2])?);
-    assert_eq!(rt; state.closed_rounds(), 2);
-    assert!(rt; state.relays(alloc, 2, key)?.is_empty());
-    let relayed = state.relays(alloc, 3, key)?;
-    assert_eq!(rt; relayed.len(), 1);
-    assert!(rt; relayed[0].same(&chain_of(alloc, &desk, A_BY_2_AND_1)?));
-    Ok(())
+    let desk = open_desk(rt.alloc(), Shape::new(3, 1, 2, 0)?)?;
+    let mut slot = view_of(rt.alloc(), &desk, 0, 1)?;
+    slot.relays(&rt, 1, &[])?;
+    slot.reads(&rt, &[])?;
+    assert_eq!(rt; slot.state.closed_rounds(), 1);
+    slot.relays(&rt, 2, &[])?;
+    slot.reads(&rt, &[A_BY_2])?;
+    assert_eq!(rt; slot.state.closed_rounds(), 2);
+    slot.relays(&rt, 2, &[])?;
+    slot.relays(&rt, 3, &[A_BY_2_AND_1])
 }
 
 /// A chain that a traitor gives one replica in one round.
@@ -313,7 +334,7 @@ impl Broadcast<'_> {
             if let Some(key) = self.loyal_key(replica) {
                 chains = state.relays(alloc, round, key)?;
                 if round == 1 && replica == 0 {
-                    chains.push(chain_of(alloc, self.desk, A)?)?;
+                    chains.push(chain_of(alloc, self.desk, 0, A)?)?;
                 }
             }
             posted.push(chains)?;
@@ -338,30 +359,53 @@ impl Broadcast<'_> {
             for gift in self.gifts {
                 let giver = gift.chain.signers.last().copied();
                 if gift.round == round && gift.taker == taker && giver == Some(poster) {
-                    read.push(chain_of(alloc, self.desk, gift.chain)?)?;
+                    read.push(chain_of(alloc, self.desk, 0, gift.chain)?)?;
                 }
             }
         }
         Ok(read)
     }
 
-    /// Whether the broadcast goes so.
-    fn holds(&self, rt: &impl Abort, alloc: Global) -> Result<(), Fail> {
+    /// What each replica knows of the slot before its first round.
+    fn opened(&self, alloc: Global) -> Result<Vec<SlotState>, Fail> {
         let mut states = Vec::new(alloc);
         for _ in &self.desk.replicas {
             states.push(SlotState::new(&self.desk.shape, 0))?;
         }
-        for round in 1..self.desk.shape.f() + 2 {
-            let posted = self.posted(alloc, round, &states)?;
-            for (taker, state) in states.iter_mut().enumerate() {
-                close_next(rt, state, &mut self.read(alloc, round, taker, &posted)?);
-            }
+        Ok(states)
+    }
+
+    /// Closes the round at each replica.
+    fn close_at_each(
+        &self,
+        rt: &impl Abort,
+        alloc: Global,
+        round: u8,
+        states: &mut [SlotState],
+    ) -> Result<(), Fail> {
+        let posted = self.posted(alloc, round, states)?;
+        for (taker, state) in states.iter_mut().enumerate() {
+            close_next(rt, state, &mut self.read(alloc, round, taker, &posted)?);
         }
+        Ok(())
+    }
+
+    /// Whether each loyal replica decides as told.
+    fn is_decided(&self, rt: &impl Abort, states: &[SlotState]) -> Result<(), Fail> {
         let wanted = Some(decided_by(self.desk, self.decided)?);
         for (replica, state) in states.iter().enumerate() {
             assert!(rt; self.loyal_key(replica).is_none() || state.decide() == wanted);
         }
         Ok(())
+    }
+
+    /// Whether the broadcast goes so.
+    fn holds(&self, rt: &impl Abort, alloc: Global) -> Result<(), Fail> {
+        let mut states = self.opened(alloc)?;
+        for round in 1..self.desk.shape.f() + 2 {
+            self.close_at_each(rt, alloc, round, &mut states)?;
+        }
+        self.is_decided(rt, &states)
     }
 }
 
