@@ -3,9 +3,22 @@ use crate::{
     read_num, read_old, read_val, split_once, write_output,
 };
 use std::alloc::{AllocError, Global};
+use std::fmt::Display;
 use std::io;
 use std::process::Abort;
 use std::test::Fail;
+
+// The value prints this text.
+fn prints<T: Display>(
+    rt: &impl Abort,
+    alloc: Global,
+    value: &T,
+    text: &str,
+) -> Result<(), AllocError> {
+    let printed = value.to_string(alloc)?;
+    assert!(rt; printed.as_str() == text, "{text}");
+    Ok(())
+}
 
 // Each refusal with its number, the name of its variant and its text.
 const REFUSALS: [(Refusal, u8, &str, &str); 19] = [
@@ -55,18 +68,12 @@ fn is_named(rt: &impl Abort, refusal: Refusal, word: &str) {
     assert!(rt; refusal.word().as_bytes() == word.as_bytes(), "{word}");
 }
 
-// The refusal prints this text.
-fn says(rt: &impl Abort, alloc: Global, refusal: Refusal, text: &str) -> Result<(), AllocError> {
-    assert!(rt; refusal.to_string(alloc)?.as_str() == text, "{text}");
-    Ok(())
-}
-
 #[test]
 fn refusals_are_numbered_named_and_printed(rt: HostRuntime) -> Result<(), AllocError> {
     for (refusal, code, word, text) in REFUSALS {
         is_numbered(&rt, refusal, code);
         is_named(&rt, refusal, word);
-        says(&rt, rt.alloc(), refusal, text)?;
+        prints(&rt, rt.alloc(), &refusal, text)?;
     }
     Ok(())
 }
@@ -135,8 +142,7 @@ fn spells_content(
     text: &str,
 ) -> Result<(), AllocError> {
     assert!(rt; read_old(text.as_bytes()) == Some(content), "{text}");
-    assert!(rt; Old(content).to_string(alloc)?.as_str() == text, "{text}");
-    Ok(())
+    prints(rt, alloc, &Old(content), text)
 }
 
 // Contents with the text of each.
@@ -194,8 +200,7 @@ fn spells_actor(
     text: &str,
 ) -> Result<(), AllocError> {
     assert!(rt; Actor::read(text.as_bytes()) == Some(actor), "{text}");
-    assert!(rt; actor.to_string(alloc)?.as_str() == text, "{text}");
-    Ok(())
+    prints(rt, alloc, &actor, text)
 }
 
 #[test]
@@ -270,9 +275,9 @@ fn three_replicas() -> Result<Shape, Refusal> {
 #[test]
 fn a_shape_tells_its_parts(rt: HostRuntime) -> Result<(), Refusal> {
     let shape = three_replicas()?;
-    assert_eq!(rt; shape.n(), 3);
-    assert_eq!(rt; shape.f(), 1);
-    assert_eq!(rt; shape.m(), 2);
+    assert!(rt; shape.n() == 3);
+    assert!(rt; shape.f() == 1);
+    assert!(rt; shape.m() == 2);
     Ok(())
 }
 
@@ -330,8 +335,7 @@ fn spells_shape(
     text: &str,
 ) -> Result<(), AllocError> {
     assert!(rt; Shape::read(text.as_bytes()) == Some(Ok(shape)), "{text}");
-    assert!(rt; shape.to_string(alloc)?.as_str() == text, "{text}");
-    Ok(())
+    prints(rt, alloc, &shape, text)
 }
 
 // Texts, each with the replicas, the most traitors, the clients and the traitors of its shape.
@@ -460,18 +464,18 @@ fn each_read_fails_in_turn(rt: HostRuntime) {
 #[test]
 fn a_long_input_is_read_in_four_calls(rt: HostRuntime) -> Result<(), Refusal> {
     let text = read_input(rt.alloc(), &mut source_of(20_000, 5))?;
-    assert_eq!(rt; text.len(), 20_000);
+    assert!(rt; text.len() == 20_000);
     for byte in text {
-        assert_eq!(rt; byte, b'x');
+        assert!(rt; byte == b'x');
     }
     Ok(())
 }
 
 #[test]
 fn an_input_has_a_limit(rt: HostRuntime) -> Result<(), Refusal> {
-    assert_eq!(rt; MOST_BYTES, 16_777_216);
+    assert!(rt; MOST_BYTES == 16_777_216);
     let most = read_input(rt.alloc(), &mut source_of(16_777_216, 0))?;
-    assert_eq!(rt; most.len(), 16_777_216);
+    assert!(rt; most.len() == 16_777_216);
     let more = read_input(rt.alloc(), &mut source_of(16_777_217, 0));
     assert_eq!(rt; more.err(), Some(Refusal::ReadFailed));
     Ok(())
@@ -517,10 +521,10 @@ impl Sink for Dripping {
 #[test]
 fn a_steady_sink_is_given_everything(rt: HostRuntime) {
     let mut sink = Dripping { taken: 0 };
-    assert_eq!(rt; write_output(&mut sink, b"hello, world"), Ok(()));
-    assert_eq!(rt; sink.taken, 12);
-    assert_eq!(rt; write_output(&mut sink, b""), Ok(()));
-    assert_eq!(rt; sink.taken, 12);
+    assert!(rt; write_output(&mut sink, b"hello, world") == Ok(()));
+    assert!(rt; sink.taken == 12);
+    assert!(rt; write_output(&mut sink, b"") == Ok(()));
+    assert!(rt; sink.taken == 12);
 }
 
 #[test]
@@ -547,21 +551,27 @@ const WRITES: [(usize, usize, Result<(), Refusal>, &str); 6] = [
     (0, 0, WRITE_FAILED, ""),
 ];
 
+// The sink takes these bytes of a text, and the writing ends so.
+fn takes(rt: &impl Abort, mut sink: Narrow, end: Result<(), Refusal>, taken: &str) {
+    let fails_at = sink.fails_at;
+    let result = write_output(&mut sink, b"hello, world");
+    assert!(rt; result == end, "{fails_at} {taken}");
+    assert!(rt;
+        sink.taken.as_slice() == taken.as_bytes(),
+        "{fails_at} {taken}"
+    );
+}
+
 #[test]
 fn each_write_fails_in_turn(rt: HostRuntime) -> Result<(), AllocError> {
     for (most, fails_at, end, taken) in WRITES {
-        let mut sink = Narrow {
+        let sink = Narrow {
             taken: Vec::with_capacity(rt.alloc(), 12)?,
             most,
             calls: 0,
             fails_at,
         };
-        let result = write_output(&mut sink, b"hello, world");
-        assert!(rt; result == end, "{most} {fails_at}");
-        assert!(rt;
-            sink.taken.as_slice() == taken.as_bytes(),
-            "{most} {fails_at}"
-        );
+        takes(&rt, sink, end, taken);
     }
     Ok(())
 }
