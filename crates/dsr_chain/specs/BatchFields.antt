@@ -19,6 +19,7 @@ pub record IsBatchFields (a : Inside) : Type 0 where
   pub some : 0 < a.len
   pub places : IsPadded 8 (first_signed a.items) a.items a.len
 
+-- the fields of these two
 abbrev fields_of : List SignedRequest → ℕ → Inside
 fields_of items len = record { items = items; len = len }
 

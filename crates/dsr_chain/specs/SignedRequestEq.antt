@@ -14,6 +14,7 @@ use Rattle.dsr_chain.specs.contracts.signed_request.SignedRequestPartialEq.TheIm
 abbrev pub signed_request_eq : SignedRequest → SignedRequest → Bool
 signed_request_eq = ghosts.eq
 
+-- the signed request of these two
 abbrev make : Issued → Signed → SignedRequest
 make request signature = record { request = request; signature = signature }
 

@@ -25,7 +25,7 @@ const DONE: u8 = 0;
 /// The exit status after a refusal other than want of memory.
 const REFUSED: u8 = 1;
 
-/// The exit status after words that the program does not know.
+/// The exit status after words that the program does not know, or that are no text.
 pub const USAGE_FAULT: u8 = 2;
 
 /// The exit status after want of memory.

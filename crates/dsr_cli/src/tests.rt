@@ -56,6 +56,15 @@ fn each_list_of_words_does_its_task(rt: HostRuntime) {
         "dsr: bad text in line 1\n",
     );
     runs(&rt, alloc, &["fly"], text, 2, "", "error: ");
+    runs(
+        &rt,
+        alloc,
+        &["apply", "--transcript"],
+        text,
+        2,
+        "",
+        "error: ",
+    );
 }
 
 #[test]

@@ -14,6 +14,7 @@ blank = Replica 0
 pub record IsSignersFields (a : Inside) : Type 0 where
   pub places : IsPadded 16 blank a.items a.len
 
+-- the fields of these two
 abbrev fields_of : List Actor → ℕ → Inside
 fields_of items len = record { items = items; len = len }
 

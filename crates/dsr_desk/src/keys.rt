@@ -8,7 +8,7 @@ use std::alloc::Global;
 use std::marker::Model;
 
 /// The keys of a shape: one for each of its actors, to be taken once. A run is to make one `Keys` alone: a second
-/// one of the shape gives second keys.
+/// one, of whatever shape, gives second keys to the actors that both have.
 #[derive(Drop)]
 pub struct Keys {
     shape: Shape,

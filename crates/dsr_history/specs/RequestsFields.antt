@@ -16,6 +16,7 @@ pub record IsRequestsFields (a : Inside) : Type 0 where
   pub some : 0 < a.len
   pub places : IsPadded 8 (first_request a.items) a.items a.len
 
+-- the fields of these two
 abbrev fields_of : List Issued → ℕ → Inside
 fields_of items len = record { items = items; len = len }
 

@@ -10,6 +10,7 @@ pub record IsNameFields (a : Inside) : Type 0 where
   pub name : IsName (take a.len a.bytes)
   pub places : IsPadded 32 0 a.bytes a.len
 
+-- the fields of these two
 abbrev fields_of : List ℕ → ℕ → Inside
 fields_of bytes len = record { bytes = bytes; len = len }
 
@@ -17,6 +18,6 @@ fields_of bytes len = record { bytes = bytes; len = len }
 abbrev pub name_fields : List ℕ → Inside
 name_fields name = fields_of (padded 32 0 name) (length name)
 
--- they give it back
+-- the name that the fields hold gives them back
 pub fields_back : (a : Inside) → IsNameFields a → name_fields (take a.len a.bytes) ≡ a
 fields_back a h = ap₂ fields_of (padded_items 32 a.len 0 a.bytes h.places) (length_items 32 a.len 0 a.bytes h.places)

@@ -76,8 +76,8 @@ impl Calendar {
         Some(earlier as u8 + 1)
     }
 
-    /// The slot that closes with global round `t`; `None` exactly in the rounds 0 to f-1. It is the next in the
-    /// order of slots.
+    /// The slot that closes with global round `t`, the next in the order of slots. `None` exactly where `t` is
+    /// below f.
     #[tactic(auto, using(crate::proofs::Closing::closed_slots_count), unfolding(crate::specs::Calendar::first_round))]
     pub fn closes(&self, t: u64) -> Option<u64>
         ensures slot { (slot : ℕ) → (result ≡ Some slot) ↔ ClosesWith self.now slot t }
