@@ -72,8 +72,8 @@ impl Machine {
 
     /// Processes the requests of a value in the order of its list, and says how many of them acted; the empty
     /// list is the idle value. Asks for at most 8 requests, all of clients of the shape, and a history shorter
-    /// than 2^39. `NoMemory` where there was no room and no memory for it: then nothing changed but the
-    /// room. No more room goes than that of the requests.
+    /// than 2^39. `NoMemory` where there was no room and no memory for it: then nothing changed, but that there
+    /// may be more room. Otherwise no more room goes than that of the requests.
     pub fn accept_value(&mut self, requests: &[Request]) -> Result<u8, Refusal>
         requires few { length requests.now ≤ 8 }
         requires clients { All (λ r. r.client < self.old.clients) requests.now }
@@ -83,6 +83,7 @@ impl Machine {
         ensures most { IfOk result (λ n. n ≤ length requests.now) }
         ensures refusal { IfErr result (λ e. e ≡ Refusal.NoMemory) }
         ensures unchanged { OnErr result (self.new.history ≡ self.old.history) }
+        ensures no_less { OnErr result (self.old.room ≤ self.new.room) }
         ensures clients { self.new.clients ≡ self.old.clients }
         ensures in_room { 8 ≤ self.old.room → IsOk result }
         ensures left { self.old.room ≤ self.new.room + length requests.now }
