@@ -78,102 +78,131 @@ fn chain_by(alloc: Global, value: SlotValue, first: &Key, second: &Key) -> Resul
     extended(alloc, chain, second)
 }
 
-/// What the check of the chain answers for slot 0 and round 2, in the shape of two clients.
-fn checked(rt: &impl Abort, chain: &Chain) -> Result<(), ChainFault> {
-    let shape = shape(2).expect(rt, "a shape");
+/// Whether the check for slot 0 and round 2, in the shape of two clients, answers so.
+fn answers(rt: &impl Abort, chain: &Chain, wanted: Result<(), ChainFault>) -> Result<(), Refusal> {
+    let shape = shape(2)?;
     assert!(rt; shape.f() == 1);
-    chain.check(&shape, 0, 2)
+    assert_eq!(rt; chain.check(&shape, 0, 2), wanted);
+    Ok(())
+}
+
+/// Whether it answers so for the chain of this value that the two sign in turn.
+fn answers_by(
+    rt: &impl Abort,
+    alloc: Global,
+    value: SlotValue,
+    by: (&Key, &Key),
+    wanted: Result<(), ChainFault>,
+) -> Result<(), Fail> {
+    let chain = chain_by(alloc, value, by.0, by.1)?;
+    Ok(answers(rt, &chain, wanted)?)
 }
 
 #[test]
 fn passes_a_proper_chain(rt: HostRuntime) -> Result<(), Fail> {
     let desk = open_desk(rt.alloc())?;
-    let act = value(&rt, &[SignedRequest::by(request(0)?, &desk.c0)]);
-    let chain = chain_by(rt.alloc(), act, &desk.r0, &desk.r1)?;
-    assert_eq!(rt; checked(&rt, &chain), Ok(()));
-    assert_eq!(rt; checked(&rt, &chain.try_copy()?), Ok(()));
-    let idle = chain_by(rt.alloc(), SlotValue::Idle, &desk.r0, &desk.r1)?;
-    assert_eq!(rt; checked(&rt, &idle), Ok(()));
-    Ok(())
+    passes(&rt, rt.alloc(), &desk)
+}
+
+fn passes(rt: &impl Abort, alloc: Global, desk: &Desk) -> Result<(), Fail> {
+    let act = value(rt, &[SignedRequest::by(request(0)?, &desk.c0)]);
+    let by = (&desk.r0, &desk.r1);
+    answers_by(rt, alloc, act, by, Ok(()))?;
+    answers_by(rt, alloc, SlotValue::Idle, by, Ok(()))?;
+    let copy = chain_by(alloc, act, &desk.r0, &desk.r1)?.try_copy()?;
+    Ok(answers(rt, &copy, Ok(()))?)
 }
 
 #[test]
 fn tells_faults_of_signers(rt: HostRuntime) -> Result<(), Fail> {
     let desk = open_desk(rt.alloc())?;
-    let act = value(&rt, &[SignedRequest::by(request(0)?, &desk.c0)]);
-    let alone = Chain::start(rt.alloc(), 0, act, &desk.r0)?;
-    assert_eq!(rt; checked(&rt, &alone), Err(ChainFault::WrongCount));
-    let turned = chain_by(rt.alloc(), act, &desk.r1, &desk.r0)?;
-    assert_eq!(rt; checked(&rt, &turned), Err(ChainFault::WrongSender));
-    let by_client = chain_by(rt.alloc(), act, &desk.r0, &desk.c0)?;
-    assert_eq!(rt; checked(&rt, &by_client), Err(ChainFault::NoReplica));
-    let twice = chain_by(rt.alloc(), act, &desk.r0, &desk.r0)?;
-    assert_eq!(rt; checked(&rt, &twice), Err(ChainFault::SignedTwice));
+    refuses_signers(&rt, rt.alloc(), &desk)
+}
+
+fn refuses_signers(rt: &impl Abort, alloc: Global, desk: &Desk) -> Result<(), Fail> {
+    let act = value(rt, &[SignedRequest::by(request(0)?, &desk.c0)]);
+    let alone = Chain::start(alloc, 0, act, &desk.r0)?;
+    answers(rt, &alone, Err(ChainFault::WrongCount))?;
+    for (by, fault) in [
+        ((&desk.r1, &desk.r0), ChainFault::WrongSender),
+        ((&desk.r0, &desk.c0), ChainFault::NoReplica),
+        ((&desk.r0, &desk.r0), ChainFault::SignedTwice),
+    ] {
+        answers_by(rt, alloc, act, by, Err(fault))?;
+    }
     Ok(())
 }
 
 #[test]
 fn tells_faults_of_slots(rt: HostRuntime) -> Result<(), Fail> {
     let desk = open_desk(rt.alloc())?;
-    let act = value(&rt, &[SignedRequest::by(request(0)?, &desk.c0)]);
-    let other = Chain::start(rt.alloc(), 1, act, &desk.r0)?;
-    let other = extended(rt.alloc(), other, &desk.r1)?;
-    assert_eq!(rt; checked(&rt, &other), Err(ChainFault::OtherSlot));
+    refuses_slots(&rt, rt.alloc(), &desk)
+}
+
+/// A chain of slot 1, and one of slot 0 whose second signature is of slot 1.
+fn refuses_slots(rt: &impl Abort, alloc: Global, desk: &Desk) -> Result<(), Fail> {
+    let act = value(rt, &[SignedRequest::by(request(0)?, &desk.c0)]);
+    let other = Chain::start(alloc, 1, act, &desk.r0)?;
+    let other = extended(alloc, other, &desk.r1)?;
+    answers(rt, &other, Err(ChainFault::OtherSlot))?;
+    let first = link(act, 0, &desk.r0, Signers::new());
     let mut before = Signers::new();
     before.push(R0);
-    let mut signatures: Vec<Signature> = Vec::new(rt.alloc());
-    signatures.push(
-        desk.r0.sign(Statement::Link {
-            slot: 0,
-            value: act.content(),
-            before: Signers::new(),
-        }),
-    )?;
-    signatures.push(
-        desk.r1.sign(Statement::Link {
-            slot: 1,
-            value: act.content(),
-            before,
-        }),
-    )?;
+    let second = link(act, 1, &desk.r1, before);
+    let signatures = [first, second].as_slice().to_vec(alloc)?;
     assert!(rt; signatures.len() == 2);
-    let moved = Chain::of(rt.alloc(), 0, act, signatures)?;
-    assert_eq!(rt; checked(&rt, &moved), Err(ChainFault::Misfit));
-    Ok(())
+    let moved = Chain::of(alloc, 0, act, signatures)?;
+    Ok(answers(rt, &moved, Err(ChainFault::Misfit))?)
+}
+
+/// The key's signature on the link of this slot and these signers.
+fn link(value: SlotValue, slot: u64, key: &Key, before: Signers) -> Signature {
+    key.sign(Statement::Link {
+        slot,
+        value: value.content(),
+        before,
+    })
 }
 
 #[test]
 fn tells_bad_requests(rt: HostRuntime) -> Result<(), Fail> {
     let desk = open_desk(rt.alloc())?;
-    let by_another = value(&rt, &[SignedRequest::by(request(0)?, &desk.c1)]);
-    let chain = chain_by(rt.alloc(), by_another, &desk.r0, &desk.r1)?;
-    assert_eq!(rt; checked(&rt, &chain), Err(ChainFault::BadRequest));
-    let second = value(
-        &rt,
-        &[
-            SignedRequest::by(request(0)?, &desk.c0),
-            SignedRequest::by(request(1)?, &desk.c0),
-        ],
-    );
-    let chain = chain_by(rt.alloc(), second, &desk.r0, &desk.r1)?;
-    assert_eq!(rt; checked(&rt, &chain), Err(ChainFault::BadRequest));
-    let outside = value(&rt, &[SignedRequest::by(request(2)?, &desk.c2)]);
-    let chain = chain_by(rt.alloc(), outside, &desk.r0, &desk.r1)?;
-    assert_eq!(rt; checked(&rt, &chain), Err(ChainFault::BadRequest));
+    refuses_requests(&rt, rt.alloc(), &desk)
+}
+
+/// Requests that another client signed, alone and as the second, and one of a client outside the shape.
+fn refuses_requests(rt: &impl Abort, alloc: Global, desk: &Desk) -> Result<(), Fail> {
+    let own = SignedRequest::by(request(0)?, &desk.c0);
+    let by_another = SignedRequest::by(request(0)?, &desk.c1);
+    let second_by_another = SignedRequest::by(request(1)?, &desk.c0);
+    let outside = SignedRequest::by(request(2)?, &desk.c2);
+    for act in [
+        value(rt, &[by_another]),
+        value(rt, &[own, second_by_another]),
+        value(rt, &[outside]),
+    ] {
+        let by = (&desk.r0, &desk.r1);
+        answers_by(rt, alloc, act, by, Err(ChainFault::BadRequest))?;
+    }
     Ok(())
 }
 
 #[test]
 fn holds_one_to_eight_requests(rt: HostRuntime) -> Result<(), Fail> {
     let desk = open_desk(rt.alloc())?;
-    let signed = SignedRequest::by(request(0)?, &desk.c0);
-    assert!(rt; Batch::of(&[]).is_none());
-    assert!(rt; Batch::of(&[signed; 9]).is_none());
+    let first = SignedRequest::by(request(0)?, &desk.c0);
     let other = SignedRequest::by(request(1)?, &desk.c1);
-    let batch = Batch::of(&[signed, other]).ok_or("no list")?;
+    assert!(rt; Batch::of(&[]).is_none());
+    assert!(rt; Batch::of(&[first; 9]).is_none());
+    holds(&rt, &[first, other])
+}
+
+/// Whether a list can be made of the two, and holds them.
+fn holds(rt: &impl Abort, two: &[SignedRequest]) -> Result<(), Fail> {
+    let batch = Batch::of(two).ok_or("no list")?;
     assert_eq!(rt; batch.len(), 2);
-    assert!(rt; batch.as_slice() == [signed, other].as_slice());
-    assert!(rt; batch.get(0) == Some(signed));
+    assert!(rt; batch.as_slice() == two);
+    assert!(rt; batch.get(1) == two.last().copied());
     assert!(rt; batch.get(2).is_none());
     Ok(())
 }
@@ -182,14 +211,20 @@ fn holds_one_to_eight_requests(rt: HostRuntime) -> Result<(), Fail> {
 fn compares_signed_requests(rt: HostRuntime) -> Result<(), Fail> {
     let desk = open_desk(rt.alloc())?;
     let signed = SignedRequest::by(request(0)?, &desk.c0);
+    let equal = SignedRequest::by(request(0)?, &desk.c0);
     let by_another = SignedRequest::by(request(0)?, &desk.c1);
-    assert!(rt; signed.same(&SignedRequest::by(request(0)?, &desk.c0)));
-    assert!(rt; !signed.same(&by_another));
-    let batch = Batch::of(&[signed]).ok_or("no list")?;
-    assert!(rt; batch.same(&Batch::of(&[signed]).ok_or("no list")?));
-    assert!(rt; !batch.same(&Batch::of(&[by_another]).ok_or("no list")?));
-    assert!(rt; !SlotValue::Act(batch).same(&SlotValue::Idle));
+    differ(&rt, signed, equal, by_another);
     Ok(())
+}
+
+/// Whether the first two are the same and the third is another, alone and in lists.
+fn differ(rt: &impl Abort, signed: SignedRequest, equal: SignedRequest, other: SignedRequest) {
+    assert!(rt; signed.same(&equal));
+    assert!(rt; !signed.same(&other));
+    let batch = Batch::of(&[signed]).expect(rt, "a list");
+    assert!(rt; batch.same(&Batch::of(&[equal]).expect(rt, "a list")));
+    assert!(rt; !batch.same(&Batch::of(&[other]).expect(rt, "a list")));
+    assert!(rt; !SlotValue::Act(batch).same(&SlotValue::Idle));
 }
 
 #[test]
@@ -197,15 +232,35 @@ fn tells_its_parts(rt: HostRuntime) -> Result<(), Fail> {
     let desk = open_desk(rt.alloc())?;
     let act = value(&rt, &[SignedRequest::by(request(0)?, &desk.c0)]);
     let chain = Chain::start(rt.alloc(), 7, act, &desk.r0)?;
+    has_parts(&rt, &chain, act, request(0)?);
+    Ok(())
+}
+
+/// Whether the chain is of slot 7, of this value of this one request, and signed by the replica 0 alone.
+fn has_parts(rt: &impl Abort, chain: &Chain, act: SlotValue, request: Request) {
     assert_eq!(rt; chain.slot(), 7);
     assert!(rt; chain.value().same(&act));
-    assert!(rt; chain.content() == Requests::of(&[request(0)?]));
+    assert!(rt; chain.content() == Requests::of(&[request]));
     assert_eq!(rt; chain.signatures().len(), 1);
-    assert!(rt; chain.same(&chain.try_copy()?));
-    assert!(rt; !chain.same(&Chain::start(rt.alloc(), 7, act, &desk.r1)?));
     assert!(rt; chain.has_signer(R0));
-    assert!(rt; !chain.has_signer(client(0)?));
+    assert!(rt; !chain.has_signer(Actor::Client(ClientId::FIRST)));
+}
+
+/// A copy is the same chain. One that differs in its signer alone is another, and has the same content.
+#[test]
+fn compares_chains(rt: HostRuntime) -> Result<(), Fail> {
+    let desk = open_desk(rt.alloc())?;
+    let act = value(&rt, &[SignedRequest::by(request(0)?, &desk.c0)]);
+    let chain = Chain::start(rt.alloc(), 7, act, &desk.r0)?;
+    let other = Chain::start(rt.alloc(), 7, act, &desk.r1)?;
+    compare(&rt, &chain, &chain.try_copy()?, &other);
     Ok(())
+}
+
+fn compare(rt: &impl Abort, chain: &Chain, copy: &Chain, other: &Chain) {
+    assert!(rt; chain.same(copy));
+    assert!(rt; !chain.same(other));
+    assert!(rt; chain.same_content(other));
 }
 
 /// The content of a chain is its requests alone: neither its slot nor a signature beside a request is of it.
@@ -215,9 +270,14 @@ fn compares_contents(rt: HostRuntime) -> Result<(), Fail> {
     let act = value(&rt, &[SignedRequest::by(request(0)?, &desk.c0)]);
     let by_another = value(&rt, &[SignedRequest::by(request(0)?, &desk.c1)]);
     let chain = Chain::start(rt.alloc(), 7, act, &desk.r0)?;
-    assert!(rt; chain.same_content(&Chain::start(rt.alloc(), 7, by_another, &desk.r0)?));
-    assert!(rt; chain.same_content(&Chain::start(rt.alloc(), 8, act, &desk.r0)?));
-    assert!(rt; !chain.same_content(&Chain::start(rt.alloc(), 7, SlotValue::Idle, &desk.r0)?));
+    for (slot, value, is_same) in [
+        (7, by_another, true),
+        (8, act, true),
+        (7, SlotValue::Idle, false),
+    ] {
+        let other = Chain::start(rt.alloc(), slot, value, &desk.r0)?;
+        assert_eq!(rt; chain.same_content(&other), is_same);
+    }
     Ok(())
 }
 
@@ -228,15 +288,25 @@ fn gives_the_chain_back(rt: HostRuntime) -> Result<(), Fail> {
     let act = value(&rt, &[SignedRequest::by(request(0)?, &desk.c0)]);
     let chain = Chain::start(rt.alloc(), 7, act, &desk.r0)?;
     let equal = Chain::start(rt.alloc(), 7, act, &desk.r0)?;
+    comes_back(&rt, rt.alloc(), chain, &equal, &desk.r1)
+}
+
+fn comes_back(
+    rt: &impl Abort,
+    alloc: Global,
+    chain: Chain,
+    equal: &Chain,
+    key: &Key,
+) -> Result<(), Fail> {
     assert!(rt; chain.signatures().len() < 16);
-    match chain.extend(rt.alloc(), &desk.r1) {
+    match chain.extend(alloc, key) {
         Ok(longer) => {
             assert_eq!(rt; longer.signatures().len(), 2);
-            assert!(rt; longer.has_signer(replica(1)?));
+            assert!(rt; longer.has_signer(key.signer()));
             Ok(())
         }
         Err((back, refusal)) => {
-            assert!(rt; back.same(&equal));
+            assert!(rt; back.same(equal));
             assert_eq!(rt; refusal, Refusal::NoMemory);
             Err(refusal.into())
         }
