@@ -104,6 +104,7 @@ fn passes_a_proper_chain(rt: HostRuntime) -> Result<(), Fail> {
     passes(&rt, rt.alloc(), &desk)
 }
 
+/// A chain of one request, one of the idle value, and a copy.
 fn passes(rt: &impl Abort, alloc: Global, desk: &Desk) -> Result<(), Fail> {
     let act = value(rt, &[SignedRequest::by(request(0)?, &desk.c0)]);
     let by = (&desk.r0, &desk.r1);
@@ -119,6 +120,7 @@ fn tells_faults_of_signers(rt: HostRuntime) -> Result<(), Fail> {
     refuses_signers(&rt, rt.alloc(), &desk)
 }
 
+/// One signature too few, the wrong sender, a client as signer, and one replica twice.
 fn refuses_signers(rt: &impl Abort, alloc: Global, desk: &Desk) -> Result<(), Fail> {
     let act = value(rt, &[SignedRequest::by(request(0)?, &desk.c0)]);
     let alone = Chain::start(alloc, 0, act, &desk.r0)?;
@@ -202,6 +204,7 @@ fn holds(rt: &impl Abort, two: &[SignedRequest]) -> Result<(), Fail> {
     let batch = Batch::of(two).ok_or("no list")?;
     assert_eq!(rt; batch.len(), 2);
     assert!(rt; batch.as_slice() == two);
+    assert!(rt; batch.get(0) == two.first().copied());
     assert!(rt; batch.get(1) == two.last().copied());
     assert!(rt; batch.get(2).is_none());
     Ok(())
@@ -213,12 +216,17 @@ fn compares_signed_requests(rt: HostRuntime) -> Result<(), Fail> {
     let signed = SignedRequest::by(request(0)?, &desk.c0);
     let equal = SignedRequest::by(request(0)?, &desk.c0);
     let by_another = SignedRequest::by(request(0)?, &desk.c1);
-    differ(&rt, signed, equal, by_another);
+    tells_requests_apart(&rt, signed, equal, by_another);
     Ok(())
 }
 
 /// Whether the first two are the same and the third is another, alone and in lists.
-fn differ(rt: &impl Abort, signed: SignedRequest, equal: SignedRequest, other: SignedRequest) {
+fn tells_requests_apart(
+    rt: &impl Abort,
+    signed: SignedRequest,
+    equal: SignedRequest,
+    other: SignedRequest,
+) {
     assert!(rt; signed.same(&equal));
     assert!(rt; !signed.same(&other));
     let batch = Batch::of(&[signed]).expect(rt, "a list");
@@ -253,11 +261,11 @@ fn compares_chains(rt: HostRuntime) -> Result<(), Fail> {
     let act = value(&rt, &[SignedRequest::by(request(0)?, &desk.c0)]);
     let chain = Chain::start(rt.alloc(), 7, act, &desk.r0)?;
     let other = Chain::start(rt.alloc(), 7, act, &desk.r1)?;
-    compare(&rt, &chain, &chain.try_copy()?, &other);
+    tells_chains_apart(&rt, &chain, &chain.try_copy()?, &other);
     Ok(())
 }
 
-fn compare(rt: &impl Abort, chain: &Chain, copy: &Chain, other: &Chain) {
+fn tells_chains_apart(rt: &impl Abort, chain: &Chain, copy: &Chain, other: &Chain) {
     assert!(rt; chain.same(copy));
     assert!(rt; !chain.same(other));
     assert!(rt; chain.same_content(other));
@@ -291,6 +299,7 @@ fn gives_the_chain_back(rt: HostRuntime) -> Result<(), Fail> {
     comes_back(&rt, rt.alloc(), chain, &equal, &desk.r1)
 }
 
+/// Whether the chain comes back, the same as the equal one, where the key's holder cannot sign it for want of memory.
 fn comes_back(
     rt: &impl Abort,
     alloc: Global,
