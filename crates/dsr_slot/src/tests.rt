@@ -244,24 +244,31 @@ fn keeps_relays_and_decides(rt: HostRuntime) -> Result<(), Fail> {
 #[test]
 fn relays_in_later_slots(rt: HostRuntime) -> Result<(), Fail> {
     let desk = open_desk(rt.alloc(), Shape::new(3, 1, 2, 0)?)?;
-    for number in [3, u64::MAX] {
-        let mut slot = view_of(rt.alloc(), &desk, number, 1)?;
-        slot.reads(&rt, &[A, B])?;
-        slot.relays(&rt, 2, &[A_BY_1, B_BY_1])?;
-    }
-    Ok(())
+    relays_two(&rt, rt.alloc(), &desk, 3)?;
+    relays_two(&rt, rt.alloc(), &desk, u64::MAX)
 }
 
-/// What is kept in round 1 is relayed in round 2 alone.
+/// Whether the replica 1 relays both chains that it kept in this slot's first round.
+fn relays_two(rt: &impl Abort, alloc: Global, desk: &Desk, number: u64) -> Result<(), Fail> {
+    let mut slot = view_of(alloc, desk, number, 1)?;
+    slot.reads(rt, &[A, B])?;
+    slot.relays(rt, 2, &[A_BY_1, B_BY_1])
+}
+
 #[test]
 fn relays_in_the_round_after(rt: HostRuntime) -> Result<(), Fail> {
     let desk = open_desk(rt.alloc(), Shape::new(3, 1, 2, 0)?)?;
-    let mut slot = view_of(rt.alloc(), &desk, 0, 1)?;
-    slot.reads(&rt, &[A, B])?;
+    relays_in_round_2_alone(&rt, rt.alloc(), &desk)
+}
+
+/// What is kept in round 1 is relayed in round 2 alone.
+fn relays_in_round_2_alone(rt: &impl Abort, alloc: Global, desk: &Desk) -> Result<(), Fail> {
+    let mut slot = view_of(alloc, desk, 0, 1)?;
+    slot.reads(rt, &[A, B])?;
     for round in [0, 1, 3, 255] {
-        slot.relays(&rt, round, &[])?;
+        slot.relays(rt, round, &[])?;
     }
-    slot.relays(&rt, 2, &[A_BY_1, B_BY_1])
+    slot.relays(rt, 2, &[A_BY_1, B_BY_1])
 }
 
 const A_BY_2_AND_1: Plan = Plan {
@@ -269,20 +276,24 @@ const A_BY_2_AND_1: Plan = Plan {
     signers: &[0, 2, 1],
 };
 
-/// A round in which nothing was read is closed as any other. What is kept in the last round, f+1, is relayed by
-/// whoever asks for the round past it.
 #[test]
 fn relays_what_the_last_round_brought(rt: HostRuntime) -> Result<(), Fail> {
     let desk = open_desk(rt.alloc(), Shape::new(3, 1, 2, 0)?)?;
-    let mut slot = view_of(rt.alloc(), &desk, 0, 1)?;
-    slot.relays(&rt, 1, &[])?;
-    slot.reads(&rt, &[])?;
+    relays_past_the_last_round(&rt, rt.alloc(), &desk)
+}
+
+/// A round in which nothing was read is closed as any other. What is kept in the last round, f+1, is relayed by
+/// whoever asks for the round past it.
+fn relays_past_the_last_round(rt: &impl Abort, alloc: Global, desk: &Desk) -> Result<(), Fail> {
+    let mut slot = view_of(alloc, desk, 0, 1)?;
+    slot.relays(rt, 1, &[])?;
+    slot.reads(rt, &[])?;
     assert_eq!(rt; slot.state.closed_rounds(), 1);
-    slot.relays(&rt, 2, &[])?;
-    slot.reads(&rt, &[A_BY_2])?;
+    slot.relays(rt, 2, &[])?;
+    slot.reads(rt, &[A_BY_2])?;
     assert_eq!(rt; slot.state.closed_rounds(), 2);
-    slot.relays(&rt, 2, &[])?;
-    slot.relays(&rt, 3, &[A_BY_2_AND_1])
+    slot.relays(rt, 2, &[])?;
+    slot.relays(rt, 3, &[A_BY_2_AND_1])
 }
 
 /// A chain that a traitor gives one replica in one round.
