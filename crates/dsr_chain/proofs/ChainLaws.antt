@@ -7,14 +7,14 @@ use Rattle.std.proofs.lemmas.List.{get_or_default, get_or-map, length-map, lengt
 use Rattle.std.proofs.lemmas.List.Elements.{All-nil, All-cons, All-head, All-tail, All-map, All-push, All-weaker, All-get_or}
 use Rattle.std.proofs.lemmas.List.Quantifiers.{all_pairs_push}
 use Rattle.std.proofs.lemmas.Option.{same_Some, none-some, slice_get_within}
-use Rattle.dsr_names.specs.Bits.{count_below}
-use Rattle.dsr_names.specs.Member.{In, here, there}
+use Rattle.dsr_base.specs.Bits.{count_below}
+use Rattle.dsr_base.specs.Member.{In, here, there}
 use Rattle.dsr_names.specs.Shape.{Members, is_traitor}
 use Rattle.dsr_names.specs.declared.actor.Actor.{Actor}
 use Rattle.dsr_names.specs.declared.actor.Actor.TheVariants.{Replica, Client}
-use Rattle.dsr_names.proofs.MemberLemmas.{In-append_cases, In-one, In-place, In-from_place}
-use Rattle.dsr_names.proofs.Pigeonhole.{pigeonhole}
-use Rattle.dsr_history.specs.Issued.{Issued}
+use Rattle.dsr_base.proofs.MemberLemmas.{In-append_cases, In-one, In-place, In-from_place}
+use Rattle.dsr_base.proofs.Pigeonhole.{pigeonhole}
+use Rattle.dsr_request.specs.Issued.{Issued}
 use Rattle.dsr_desk.specs.Signed.{Signed, signed}
 use Rattle.dsr_chain.specs.Content.{content, signed_in, signed_by}
 use Rattle.dsr_chain.specs.SignedValue.{SignedValue, signers_of, link_after, extended, started}

@@ -2,7 +2,7 @@
 use Rattle.std.proofs.Common.{◌≡◌, ◌≤◌, ◌-◌, ◌↔◌, Bool, true, false, List, [], ◌∷◌, length, take, drop, get_or, map, arith, ap, ap₂, sym, ◌∙◌}
 use Rattle.std.specs.Prelude.{IsTrue}
 use Rattle.std.proofs.lemmas.Grind.{common_steps}
-use Rattle.dsr_history.specs.Issued.{Issued}
+use Rattle.dsr_request.specs.Issued.{Issued}
 use Rattle.dsr_chain.specs.declared.signed_request.SignedRequest.{SignedRequest}
 
 abbrev requests : List SignedRequest → List Issued

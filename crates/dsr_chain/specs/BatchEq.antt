@@ -5,7 +5,7 @@ use Rattle.std.specs.Cmp.{IsEquivalence}
 use Rattle.std.specs.Cmp.Lexicographic.{pointwise}
 use Rattle.std.proofs.lemmas.Slice.Eq.{slice_eq-Decides}
 use Rattle.std.proofs.Common.{refl}
-use Rattle.dsr_history.specs.Equality.{equivalence_from_decides}
+use Rattle.dsr_base.specs.Equality.{equivalence_from_decides}
 use Rattle.dsr_chain.specs.SignedRequestEq.{signed_request_eq, signed_request_eq-Decides}
 use Rattle.dsr_chain.specs.declared.signed_request.SignedRequest.{SignedRequest}
 

@@ -1,10 +1,10 @@
 -- How a list of signed requests stands in an array of 8: the places after it hold its first one again.
 use Rattle.std.specs.Prelude.{◌≡◌, ℕ, zero, suc, refl, ◌<◌, List, [], ◌∷◌, length, take}
 use Rattle.std.proofs.Common.{ap₂, ap, ◌∙◌, lt_irrefl}
-use Rattle.dsr_names.specs.Padded.{IsPadded, padded, length_items, padded_items}
+use Rattle.dsr_base.specs.Padded.{IsPadded, padded, length_items, padded_items}
 use Rattle.dsr_names.specs.declared.actor.Actor.TheVariants.{Client}
-use Rattle.dsr_register.specs.declared.op.Op.TheVariants.{Read}
-use Rattle.dsr_history.specs.Issued.{issued}
+use Rattle.dsr_request.specs.declared.op.Op.TheVariants.{Read}
+use Rattle.dsr_request.specs.Issued.{issued}
 use Rattle.dsr_chain.specs.Content.{signed_by}
 use Rattle.dsr_chain.specs.declared.batch.Batch.TheInside.{Inside}
 use Rattle.dsr_chain.specs.declared.signed_request.SignedRequest.{SignedRequest}

@@ -2,7 +2,7 @@
 -- that links cover the requests alone, is this project's).
 use Rattle.std.specs.Prelude.{List, [], Option, None, Some, map}
 use Rattle.dsr_names.specs.declared.actor.Actor.{Actor}
-use Rattle.dsr_history.specs.Issued.{Issued}
+use Rattle.dsr_request.specs.Issued.{Issued}
 use Rattle.dsr_desk.specs.Signed.{signed}
 use Rattle.dsr_desk.specs.declared.statement.Statement.TheVariants.{Ask}
 use Rattle.dsr_chain.specs.declared.signed_request.SignedRequest.{SignedRequest}

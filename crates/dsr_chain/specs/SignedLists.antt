@@ -1,6 +1,6 @@
 -- A value as the list of its signed requests.
 use Rattle.std.specs.Prelude.{List, [], ◌∷◌, Option}
-use Rattle.dsr_history.specs.Issued.{Issued}
+use Rattle.dsr_request.specs.Issued.{Issued}
 use Rattle.dsr_chain.specs.Content.{content}
 use Rattle.dsr_chain.specs.declared.signed_request.SignedRequest.{SignedRequest}
 use Rattle.dsr_chain.specs.declared.slot_value.SlotValue.{SlotValue}

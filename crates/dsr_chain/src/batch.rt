@@ -1,7 +1,7 @@
 ghost use Rattle.std.specs.Prelude.{◌≡◌, ◌<◌, ◌≤◌, ◌↔◌, length, map, slice_get, IsSome, IfSome, IsTrue};
 
 use crate::signed_request::SignedRequest;
-use dsr_history::MOST_REQUESTS;
+use dsr_request::MOST_REQUESTS;
 use std::marker::Model;
 
 /// A list of 1 to 8 signed requests, of fixed size: it is copied without taking memory.

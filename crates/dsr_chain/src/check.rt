@@ -8,8 +8,8 @@ use crate::chain::{Chain, signers_of};
 use crate::fault::ChainFault;
 use crate::signed_request::SignedRequest;
 use dsr_desk::{Signature, Signers, Statement};
-use dsr_history::Requests;
 use dsr_names::{Actor, ReplicaId, Shape};
+use dsr_request::Requests;
 
 impl Chain {
     /// Whether the chain is proper for this round of the slot. Otherwise the first fault that holds, in

@@ -3,7 +3,7 @@
 ghost use Rattle.std.specs.Prelude.{◌≡◌, ◌↔◌, ℕ, List, Option, Any, IsTrue};
 ghost use Rattle.dsr_names.specs.Shape.{Members};
 ghost use Rattle.dsr_names.specs.declared.actor.Actor.{Actor};
-ghost use Rattle.dsr_history.specs.Issued.{Issued};
+ghost use Rattle.dsr_request.specs.Issued.{Issued};
 ghost use Rattle.dsr_chain.specs.SignedValue.{SignedValue};
 ghost use Rattle.dsr_chain.specs.Proper.{IsProper};
 ghost use Rattle.dsr_chain.specs.ProperTest.{is_proper, same_content, is_signer};

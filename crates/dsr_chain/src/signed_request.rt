@@ -1,7 +1,7 @@
 ghost use Rattle.std.specs.Prelude.{◌≡◌, ◌↔◌, IsTrue};
 
 use dsr_desk::{Key, Signature, Statement};
-use dsr_history::Request;
+use dsr_request::Request;
 
 /// A request, and the signature that stands beside it. It is copied without taking memory.
 #[derive(Clone, Copy, Debug, PartialEq, Eq)]

@@ -3,7 +3,7 @@ ghost use Rattle.dsr_chain.specs.SignedLists.{requests_in as requests_of};
 
 use crate::batch::Batch;
 use crate::signed_request::SignedRequest;
-use dsr_history::{MOST_REQUESTS, Request, Requests};
+use dsr_request::{MOST_REQUESTS, Request, Requests};
 
 /// What a slot is given: nothing, or signed requests. It is copied without taking memory.
 #[derive(Clone, Copy, Debug, PartialEq, Eq)]

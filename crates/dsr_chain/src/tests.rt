@@ -1,8 +1,7 @@
 use crate::{Batch, Chain, ChainFault, SignedRequest, SlotValue};
 use dsr_desk::{Key, Keys, Signature, Signers, Statement};
-use dsr_history::{Request, Requests};
 use dsr_names::{Actor, ClientId, Refusal, ReplicaId, Shape};
-use dsr_register::{Name, Op};
+use dsr_request::{Name, Op, Request, Requests};
 use std::alloc::Global;
 use std::process::Abort;
 use std::test::Fail;

@@ -7,8 +7,8 @@ use Rattle.std.proofs.lemmas.List.Elements.{All-nil, All-cons, All-head, All-tai
 use Rattle.dsr_names.specs.Actor.{IsNumbered, actor_text}
 use Rattle.dsr_names.specs.declared.actor.Actor.{Actor}
 use Rattle.dsr_names.specs.declared.actor.Actor.TheVariants.{Replica, Client}
-use Rattle.dsr_names.specs.Split.{IsAbsent}
-use Rattle.dsr_names.proofs.Marks.{not_absent, one_cut, decimal_without_low, letter_then_without}
+use Rattle.dsr_base.specs.Split.{IsAbsent}
+use Rattle.dsr_base.proofs.Marks.{not_absent, one_cut, decimal_without_low, letter_then_without}
 use Rattle.std.proofs.lemmas.Option.{none-some, same_Some}
 use Rattle.dsr_desk.specs.SignersText.{signers_text, more_signers_text, IsSigners}
 use Rattle.dsr_desk.specs.SpellsAfter.{SpellsAfter}

@@ -2,13 +2,13 @@
 use Rattle.std.proofs.Common.{rules, ◌≡◌, ℕ, ◌^◌, ◌<◌, ◌↔◌, List, ◌∷◌, ◌++◌, Option, None, Some, refl, sym, ap, ◌∙◌, subst, arith}
 use Rattle.std.specs.Fmt.{decimal}
 use Rattle.std.proofs.lemmas.Option.{none-some, same_Some}
-use Rattle.dsr_names.specs.Split.{IsAbsent}
+use Rattle.dsr_base.specs.Split.{IsAbsent}
 use Rattle.dsr_names.specs.declared.actor.Actor.{Actor}
-use Rattle.dsr_names.proofs.Marks.{one_cut, not_absent}
-use Rattle.dsr_register.proofs.TextLemmas.{decimal_without}
-use Rattle.dsr_history.specs.Issued.{Issued}
-use Rattle.dsr_history.specs.RequestText.{request_token, IsRequest}
-use Rattle.dsr_history.proofs.RequestsTextLemmas.{token_without, requests_without}
+use Rattle.dsr_base.proofs.Marks.{one_cut, not_absent}
+use Rattle.dsr_request.proofs.TextLemmas.{decimal_without}
+use Rattle.dsr_request.specs.Issued.{Issued}
+use Rattle.dsr_request.specs.RequestText.{request_token, IsRequest}
+use Rattle.dsr_request.proofs.RequestsTextLemmas.{token_without, requests_without}
 use Rattle.dsr_desk.specs.ContentText.{content_text, IsContent}
 use Rattle.dsr_desk.specs.SignersText.{signers_text, IsSigners}
 use Rattle.dsr_desk.specs.StatementText.{statement_text, IsStatement, HasParts}

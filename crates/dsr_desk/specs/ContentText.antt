@@ -1,7 +1,7 @@
 -- How texts spell what a slot carries (this project): `idle`, or its requests.
 use Rattle.std.specs.Prelude.{ℕ, List, Option, None, Some, codes}
-use Rattle.dsr_history.specs.Issued.{Issued}
-use Rattle.dsr_history.specs.RequestsText.{requests_text, IsRequests}
+use Rattle.dsr_request.specs.Issued.{Issued}
+use Rattle.dsr_request.specs.RequestsText.{requests_text, IsRequests}
 
 -- the token of a content: its requests joined by commas, or `idle` where there is none
 abbrev pub content_text : Option (List Issued) → List ℕ

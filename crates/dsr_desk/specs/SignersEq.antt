@@ -7,7 +7,7 @@ use Rattle.std.proofs.lemmas.Slice.Eq.{slice_eq-Decides}
 use Rattle.std.proofs.Common.{rules, refl}
 use Rattle.dsr_names.specs.declared.actor.Actor.{Actor}
 use Rattle.dsr_names.specs.contracts.actor.ActorPartialEq.TheImpl.{ghosts}
-use Rattle.dsr_history.specs.Equality.{equivalence_from_decides}
+use Rattle.dsr_base.specs.Equality.{equivalence_from_decides}
 
 -- whether `==` holds of two actors
 abbrev pub actor_eq : Actor → Actor → Bool

@@ -1,7 +1,7 @@
 -- How texts spell a statement (this project): a request, or slot, content and signers before as in `0/c0#1:write:a:5/r1`.
 use Rattle.std.specs.Prelude.{◌≡◌, ℕ, ◌^◌, ◌<◌, List, ◌++◌, codes}
 use Rattle.std.specs.Fmt.{decimal}
-use Rattle.dsr_history.specs.RequestText.{request_token, IsRequest}
+use Rattle.dsr_request.specs.RequestText.{request_token, IsRequest}
 use Rattle.dsr_desk.specs.ContentText.{content_text, IsContent}
 use Rattle.dsr_desk.specs.SignersText.{signers_text, IsSigners}
 use Rattle.dsr_desk.specs.declared.statement.Statement.{Statement}

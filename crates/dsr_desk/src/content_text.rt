@@ -1,8 +1,8 @@
 ghost use Rattle.std.specs.Prelude.{◌≡◌, ◌↔◌, List, Option, Some};
-ghost use Rattle.dsr_history.specs.Issued.{Issued};
+ghost use Rattle.dsr_request.specs.Issued.{Issued};
 ghost use Rattle.dsr_desk.specs.ContentText.{content_text, IsContent};
 
-use dsr_history::Requests;
+use dsr_request::Requests;
 use std::fmt;
 
 /// The content whose token the bytes are: `idle`, or 1 to 8 requests joined by commas. The outer `None`

@@ -4,7 +4,8 @@ ghost use Rattle.dsr_desk.specs.SignersText.{signers_text, IsSigners};
 ghost use Rattle.dsr_desk.specs.SpellsAfter.{SpellsAfter};
 
 use crate::signers::{MOST_SIGNERS, Signers};
-use dsr_names::{Actor, split_once};
+use dsr_base::split_once;
+use dsr_names::Actor;
 use std::fmt;
 
 impl Signers {

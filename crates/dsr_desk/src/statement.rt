@@ -1,7 +1,7 @@
 ghost use Rattle.std.specs.Prelude.{◌≡◌, ◌↔◌, IsTrue};
 
 use crate::signers::Signers;
-use dsr_history::{Request, Requests};
+use dsr_request::{Request, Requests};
 
 /// What a signature is made on. A statement is copied without taking memory.
 #[derive(Clone, Copy, Debug, PartialEq, Eq)]

@@ -5,8 +5,9 @@ ghost use Rattle.dsr_desk.specs.StatementText.{statement_text, IsStatement, HasP
 use crate::content_text::{Content, read_content};
 use crate::signers::Signers;
 use crate::statement::Statement;
-use dsr_history::Request;
-use dsr_names::{read_num, split_once};
+use dsr_base::split_once;
+use dsr_names::read_num;
+use dsr_request::Request;
 use std::fmt;
 
 impl Statement {

@@ -1,7 +1,6 @@
 use crate::{Content, Key, Keys, Signers, Statement, read_content};
-use dsr_history::{Request, Requests};
 use dsr_names::{Actor, ClientId, Refusal, ReplicaId, Shape};
-use dsr_register::{Name, Op};
+use dsr_request::{Name, Op, Request, Requests};
 use std::alloc::Global;
 use std::process::Abort;
 use std::test::Fail;

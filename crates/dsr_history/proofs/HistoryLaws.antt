@@ -3,7 +3,7 @@ use Rattle.std.proofs.Common.{◌≡◌, ℕ, ◌<◌, Bool, true, false, cond, 
 use borrow.Author.Tests.{ltb-true}
 use Rattle.std.specs.List.{AllByRecursion}
 use Rattle.std.proofs.lemmas.Bool.{ne_eqb}
-use Rattle.dsr_history.specs.Issued.{Issued}
+use Rattle.dsr_request.specs.Issued.{Issued}
 use Rattle.dsr_history.specs.History.{requests_of, rises_above, acting, acted, answer_at, IsLegal, GrewFrom}
 
 -- prefixes

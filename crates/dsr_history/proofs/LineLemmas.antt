@@ -1,11 +1,11 @@
 -- A text begins with the line of a request in at most one way.
 use Rattle.std.proofs.Common.{◌≡◌, ℕ, ◌↔◌, List, [], ◌∷◌, ◌++◌, Option, None, Some, IfNone, refl, sym, ◌∙◌, subst, arith, append_assoc}
-use Rattle.dsr_names.specs.Split.{IsAbsent}
-use Rattle.dsr_names.proofs.Marks.{one_cut, not_absent}
-use Rattle.dsr_history.specs.Issued.{Issued}
-use Rattle.dsr_history.specs.RequestText.{request_text, IsRequest}
+use Rattle.dsr_base.specs.Split.{IsAbsent}
+use Rattle.dsr_base.proofs.Marks.{one_cut, not_absent}
+use Rattle.dsr_request.specs.Issued.{Issued}
+use Rattle.dsr_request.specs.RequestText.{request_text, IsRequest}
 use Rattle.dsr_history.specs.Applied.{request_line, IsNoLine}
-use Rattle.dsr_history.proofs.RequestTextLemmas.{text_without}
+use Rattle.dsr_request.proofs.RequestTextLemmas.{text_without}
 
 -- no line feed stands in the text of a request
 request_without : (request : Issued) → IsRequest request → IsAbsent 10 (request_text 32 32 request)

@@ -4,12 +4,12 @@ use Rattle.std.proofs.lemmas.Bool.Decides.{nat_tests}
 use Rattle.std.proofs.lemmas.Bool.{ne_eqb, eqb-false}
 use Rattle.std.proofs.lemmas.List.{reverse-append, reverse-reverse, length-reverse, get_or-set_same, get_or-set_other}
 use borrow.Author.Tests.{ltb-true, eqb-true}
-use Rattle.dsr_register.specs.declared.op.Op.{Op}
-use Rattle.dsr_register.specs.declared.answer.Answer.{Answer}
+use Rattle.dsr_request.specs.declared.op.Op.{Op}
+use Rattle.dsr_request.specs.declared.answer.Answer.{Answer}
 use Rattle.dsr_register.specs.Values.{answer_after}
 use Rattle.dsr_ledger.specs.declared.reply.Reply.{Reply}
 use Rattle.dsr_ledger.specs.Kept.{kept_of, Acts}
-use Rattle.dsr_history.specs.Issued.{Issued}
+use Rattle.dsr_request.specs.Issued.{Issued}
 use Rattle.dsr_history.specs.History.{rises_above, acting, operations, answer_at, reply_in}
 use Rattle.dsr_register.specs.Table.{StandsFor}
 use Rattle.dsr_history.specs.Machine.{answers_of, IsMachine}

@@ -1,8 +1,8 @@
 -- One more line of a run over lines of requests.
 use Rattle.std.proofs.Common.{◌≡◌, ◌≢◌, ℕ, ◌+◌, ◌<◌, List, [], ◌∷◌, ◌++◌, length, refl, sym, ◌∙◌, ap, subst, arith, append_assoc, length-append, zero-lt-suc}
-use Rattle.dsr_history.specs.Issued.{Issued}
+use Rattle.dsr_request.specs.Issued.{Issued}
 use Rattle.dsr_history.specs.History.{acted}
-use Rattle.dsr_history.specs.RequestText.{IsRequest}
+use Rattle.dsr_request.specs.RequestText.{IsRequest}
 use Rattle.dsr_history.specs.Applied.{request_line, request_lines, values_of, applied, BeginsWith, IsNoLine, HasAnswered, HasAnsweredTo}
 
 -- the lines before the rest are answered

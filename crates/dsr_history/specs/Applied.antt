@@ -7,11 +7,11 @@ use Rattle.std.specs.Io.KnownBytes.{Appends, Keeps}
 use Rattle.dsr_names.specs.Output.{SentFront}
 use Rattle.dsr_names.specs.declared.refusal.Refusal.{Refusal}
 use Rattle.dsr_names.specs.declared.refusal.Refusal.TheVariants.{BadText, NoMemory, ReadFailed, WriteFailed}
-use Rattle.dsr_register.specs.AnswerText.{answer_text}
+use Rattle.dsr_request.specs.AnswerText.{answer_text}
 use Rattle.dsr_ledger.specs.declared.reply.Reply.{Reply}
-use Rattle.dsr_history.specs.Issued.{Issued}
+use Rattle.dsr_request.specs.Issued.{Issued}
 use Rattle.dsr_history.specs.History.{reply}
-use Rattle.dsr_history.specs.RequestText.{request_text, IsRequest}
+use Rattle.dsr_request.specs.RequestText.{request_text, IsRequest}
 
 -- the line of a request: its text with spaces, and a line feed
 abbrev pub request_line : Issued → List ℕ

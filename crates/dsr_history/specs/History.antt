@@ -2,11 +2,11 @@
 -- number of older requests. A value is the list of requests that one slot decides, oldest first; the empty one is idle.
 use Rattle.std.specs.Prelude.{◌≡◌, ℕ, ◌<◌, Bool, true, not, ◌&&◌, ◌||◌, ◌==◌, nat_lt, if◌then◌else◌, List, [], ◌∷◌, ◌++◌, length, map, reverse, Option, None, Some}
 use Rattle.std.specs.List.{AllByRecursion}
-use Rattle.dsr_register.specs.declared.op.Op.{Op}
-use Rattle.dsr_register.specs.declared.answer.Answer.{Answer}
+use Rattle.dsr_request.specs.declared.op.Op.{Op}
+use Rattle.dsr_request.specs.declared.answer.Answer.{Answer}
 use Rattle.dsr_register.specs.Values.{answer_after}
 use Rattle.dsr_ledger.specs.declared.reply.Reply.{Reply}
-use Rattle.dsr_history.specs.Issued.{Issued}
+use Rattle.dsr_request.specs.Issued.{Issued}
 
 -- the requests of the values, each value's in the order of its list
 abbrev pub requests_of : List (List Issued) → List Issued

@@ -1,10 +1,4 @@
 pub mod Applied
 pub mod History
-pub mod Issued
 pub mod Machine
 pub mod MachineState
-pub mod RequestText
-pub mod RequestsText
-pub mod RequestsFields
-pub mod Equality
-pub mod RequestsEq

@@ -1,10 +1,10 @@
 -- A machine as contracts see it, and how its parts hold that.
 use Rattle.std.specs.Prelude.{◌≡◌, ℕ, ◌-◌, min, List, [], ◌∷◌, length, reverse, vec_len, vec_capacity}
-use Rattle.dsr_register.specs.declared.answer.Answer.{Answer}
+use Rattle.dsr_request.specs.declared.answer.Answer.{Answer}
 use Rattle.dsr_register.specs.Values.{answer_after}
 use Rattle.dsr_register.specs.Table.{StandsFor}
 use Rattle.dsr_ledger.specs.Kept.{kept_of}
-use Rattle.dsr_history.specs.Issued.{Issued}
+use Rattle.dsr_request.specs.Issued.{Issued}
 use Rattle.dsr_history.specs.History.{operations, reply_in}
 use Rattle.dsr_history.specs.declared.machine.Machine.TheInside.{Inside}
 use Rattle.dsr_history.specs.MachineState.{MachineState}

@@ -1,7 +1,7 @@
 -- What contracts see of a machine (Schneider 1990: equal machines that process the same requests in the same order
 -- give the same replies).
 use Rattle.std.specs.Prelude.{◌≡◌, ℕ, List}
-use Rattle.dsr_history.specs.Issued.{Issued}
+use Rattle.dsr_request.specs.Issued.{Issued}
 use Rattle.dsr_history.specs.History.{acted}
 
 -- the requests that acted, newest first; for how many clients it keeps replies; and how many more requests it can

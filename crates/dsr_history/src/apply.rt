@@ -1,13 +1,13 @@
 ghost use Rattle.std.specs.Prelude.{◌≡◌, ℕ, ◌+◌, ◌<◌, ◌≤◌, ◌^◌, List, ◌∷◌, ◌++◌, [], length, Option, Some, OnOk, IfOk, IfErr, IfSome, IfNone, IsErrOf, vec_len};
-ghost use Rattle.dsr_history.specs.Issued.{Issued};
+ghost use Rattle.dsr_request.specs.Issued.{Issued};
 ghost use Rattle.dsr_history.specs.MachineState.{Stands};
-ghost use Rattle.dsr_history.specs.RequestText.{IsRequest};
+ghost use Rattle.dsr_request.specs.RequestText.{IsRequest};
 ghost use Rattle.dsr_history.specs.Applied.{request_line, values_of, applied, AppliedAll, StandsAfter, IsNoLine, HasAnswered, HasAnsweredTo};
 
 use crate::machine::Machine;
-use crate::request::Request;
-use crate::request_text::read_request;
-use dsr_names::{Refusal, Shape, Sink, Source, read_input, split_once, write_output};
+use dsr_base::split_once;
+use dsr_names::{Refusal, Shape, Sink, Source, read_input, write_output};
+use dsr_request::Request;
 use std::alloc::Global;
 use std::io::Write;
 
@@ -63,7 +63,7 @@ fn first_line(text: &[u8]) -> Option<Line<'_>>
     ensures none { IfNone result (IsNoLine text.now) }
 {
     let (line, after) = split_once(text, b'\n')?;
-    let request = read_request(line, b' ', b' ')?;
+    let request = Request::read_line(line)?;
     Some(Line { request, after })
 }
 

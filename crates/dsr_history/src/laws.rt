@@ -1,7 +1,7 @@
 //! Laws over the definitions, as contracts of functions that do nothing.
 
 ghost use Rattle.std.specs.Prelude.{List, ◌++◌};
-ghost use Rattle.dsr_history.specs.Issued.{Issued};
+ghost use Rattle.dsr_request.specs.Issued.{Issued};
 ghost use Rattle.dsr_history.specs.History.{acted, IsLegal, GrewFrom};
 
 /// The history only grows: where some values came first and newer ones after them, the history of all is the

@@ -6,15 +6,10 @@ mod apply;
 mod apply_tests;
 mod laws;
 mod machine;
-mod request;
-mod request_text;
-mod requests;
-mod requests_text;
 #[cfg(test)]
 mod tests;
 
 pub use apply::run_apply;
+pub use dsr_request::{MOST_REQUESTS, Request, Requests};
 pub use laws::{history_is_legal, history_only_grows};
 pub use machine::Machine;
-pub use request::Request;
-pub use requests::{MOST_REQUESTS, Requests};

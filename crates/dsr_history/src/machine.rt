@@ -1,14 +1,13 @@
 ghost use Rattle.std.specs.Prelude.{◌≡◌, ℕ, ◌+◌, ◌<◌, ◌≤◌, ◌^◌, ◌↔◌, ◌∷◌, [], List, All, Option, length, map, reverse, if◌then◌else◌, Some, OnOk, OnErr, IsOk, IfSome, IfOk, IfErr, IsTrue};
 ghost use Rattle.dsr_register.specs.Values.{value};
-ghost use Rattle.dsr_history.specs.Issued.{Issued};
+ghost use Rattle.dsr_request.specs.Issued.{Issued};
 ghost use Rattle.dsr_history.specs.History.{acted, acting, rises_above, operations, reply, reply_in, answer_at};
 ghost use Rattle.dsr_history.specs.MachineState.{Stands};
 
-use crate::request::Request;
-use crate::requests::MOST_REQUESTS;
 use dsr_ledger::{Ledger, Reply};
 use dsr_names::{ClientId, Refusal, Shape};
-use dsr_register::{Answer, Directory, Name};
+use dsr_register::Directory;
+use dsr_request::{Answer, MOST_REQUESTS, Name, Request};
 use std::alloc::Global;
 use std::marker::Model;
 

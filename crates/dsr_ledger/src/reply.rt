@@ -1,4 +1,4 @@
-use dsr_register::Answer;
+use dsr_request::Answer;
 
 /// What a replica tells a client of its request: the request's number, its place in the history, counted
 /// from 0, and the answer that it was given there.

@@ -1,6 +1,6 @@
 use crate::{Ledger, Reply};
 use dsr_names::ClientId;
-use dsr_register::Answer;
+use dsr_request::Answer;
 use std::test::Fail;
 
 #[test]

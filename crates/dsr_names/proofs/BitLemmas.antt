@@ -3,7 +3,7 @@ use Rattle.std.proofs.Common.{◌≡◌, ◌≢◌, ℕ, ◌+◌, ◌/◌, ◌^�
 use Rattle.std.proofs.lemmas.Bool.{ne_eqb}
 use Rattle.std.proofs.lemmas.Nat.Bits.{shr_and_one}
 use Rattle.std.specs.Int.{bit_at}
-use Rattle.dsr_names.specs.Bits.{is_bit_set, count_below}
+use Rattle.dsr_base.specs.Bits.{is_bit_set, count_below}
 
 -- a set bit counts
 pub count_set : (bits i count : ℕ) → bit_and (bits / 2 ^ i) 1 ≡ 1 → count ≡ count_below (is_bit_set bits) i → count + 1 ≡ count_below (is_bit_set bits) (i + 1)

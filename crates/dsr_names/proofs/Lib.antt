@@ -1,8 +1,4 @@
 pub mod BitLemmas
-pub mod Marks
-pub mod MemberLemmas
-pub mod Numerals
-pub mod Padding
-pub mod Pigeonhole
+mod OldLemmas
 pub mod Rising
 mod Sending

@@ -9,12 +9,12 @@ use Rattle.std.proofs.Math.Nat.{pow-le-pow_right, mod-eq_of_lt}
 use Rattle.std.proofs.lemmas.Nat.Bits.{bit_at-lt, shr_and_one}
 use Rattle.dsr_names.specs.declared.actor.Actor.TheVariants.{Replica, Client}
 use Rattle.dsr_names.specs.Actor.{actor_text}
-use Rattle.dsr_names.specs.Bits.{is_bit_set}
+use Rattle.dsr_base.specs.Bits.{is_bit_set}
 use Rattle.dsr_names.specs.Shape.{shape_of}
 use Rattle.dsr_names.specs.ShapeText.{numbers_below, replicas_of, replicas_text, more_replicas_text, shape_text}
 use Rattle.dsr_names.specs.Parts.{IsRising, bits_of, SpellsRising}
-use Rattle.dsr_names.specs.Split.{IsAbsent}
-use Rattle.dsr_names.proofs.Marks.{not_absent, one_cut, decimal_without_low, letter_then_without}
+use Rattle.dsr_base.specs.Split.{IsAbsent}
+use Rattle.dsr_base.proofs.Marks.{not_absent, one_cut, decimal_without_low, letter_then_without}
 
 -- ---- actors
 

@@ -1,11 +1,7 @@
 pub mod Actor
-pub mod Bits
-pub mod Member
 pub mod Output
-pub mod Padded
 pub mod Parts
 pub mod Refusal
 pub mod Shape
 pub mod ShapeText
-pub mod Split
 pub mod Token

@@ -1,7 +1,7 @@
 -- Shapes: who takes part, and who of them may lie (the setting of Dolev and Strong 1983: n processors, at most f
 -- of them traitors; the clients are this project's).
 use Rattle.std.specs.Prelude.{◌≡◌, ℕ, ◌*◌, ◌^◌, ◌<◌, ◌≤◌, Bool, false}
-use Rattle.dsr_names.specs.Bits.{is_bit_set, count_below}
+use Rattle.dsr_base.specs.Bits.{is_bit_set, count_below}
 use Rattle.dsr_names.specs.declared.actor.Actor.{Actor}
 use Rattle.dsr_names.specs.declared.actor.Actor.TheVariants.{Replica, Client}
 

@@ -2,7 +2,7 @@
 use Rattle.std.specs.Prelude.{◌≡◌, ℕ, zero, suc, ◌^◌, ◌<◌, Bool, if◌then◌else◌, List, [], ◌∷◌, ◌++◌, codes, Result, Ok, Err}
 use Rattle.std.specs.Fmt.{decimal}
 use Rattle.dsr_names.specs.Actor.{actor_text}
-use Rattle.dsr_names.specs.Bits.{is_bit_set}
+use Rattle.dsr_base.specs.Bits.{is_bit_set}
 use Rattle.dsr_names.specs.Shape.{Members, IsAllowed}
 use Rattle.dsr_names.specs.declared.actor.Actor.TheVariants.{Replica}
 use Rattle.dsr_names.specs.declared.refusal.Refusal.{Refusal}

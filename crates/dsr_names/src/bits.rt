@@ -1,5 +1,5 @@
 ghost use Rattle.std.specs.Prelude.{◌≡◌, ◌≤◌};
-ghost use Rattle.dsr_names.specs.Bits.{is_bit_set, count_below};
+ghost use Rattle.dsr_base.specs.Bits.{is_bit_set, count_below};
 
 /// How many of the lowest `n` bits of `bits` are set.
 pub(crate) fn count_bits(bits: u16, n: u8) -> u8

@@ -1,5 +1,5 @@
-//! The names that every layer of the directory uses: actors and shapes, refusals, the tokens of all
-//! texts, and whole inputs and outputs.
+//! The names that every layer of the directory uses: actors and shapes, refusals, the tokens of
+//! numbers, and whole inputs and outputs.
 #![tactic(auto)]
 
 mod actor;
@@ -10,7 +10,6 @@ mod outside;
 mod refusal;
 mod shape;
 mod shape_text;
-mod split;
 #[cfg(test)]
 mod tests;
 mod token;
@@ -21,5 +20,4 @@ pub use output::{Sink, write_output};
 pub use outside::Outside;
 pub use refusal::Refusal;
 pub use shape::Shape;
-pub use split::split_once;
-pub use token::{NUMBER_END, Old, read_num, read_old, read_val};
+pub use token::{NUMBER_END, Old, read_num, read_old};

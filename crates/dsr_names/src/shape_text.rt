@@ -8,8 +8,8 @@ ghost use Rattle.dsr_names.specs.Parts.{SpellsRising};
 use crate::actor::Actor;
 use crate::refusal::Refusal;
 use crate::shape::Shape;
-use crate::split::split_once;
 use crate::token::read_num;
+use dsr_base::split_once;
 use std::fmt;
 
 impl Shape {

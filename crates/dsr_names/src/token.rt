@@ -1,43 +1,18 @@
 ghost use Rattle.std.specs.Prelude.{◌≡◌, ℕ, ◌<◌, ◌^◌, ◌↔◌, Some, Option};
-ghost use Rattle.std.specs.Option.{SomeIff};
 ghost use Rattle.std.specs.Fmt.{decimal};
-ghost use Rattle.std.specs.Str.Parse.{IsNumeral, digits_value};
 ghost use Rattle.dsr_names.specs.Token.{old_text, IsOld};
 
-use std::{fmt, str};
+use dsr_base::read_decimal;
+use std::fmt;
 
 /// 2^40: one more than the greatest number of a request, or of any text but for a register's value.
 pub const NUMBER_END: u64 = 1_099_511_627_776;
-
-/// The number that the bytes write in decimal, which may have leading zeros.
-fn digits(bytes: &[u8]) -> Option<u64>
-    ensures { SomeIff result (IsNumeral 10 bytes.now × (digits_value 10 bytes.now < 2 ^ 64)) (digits_value 10 bytes.now) }
-{
-    if !bytes.is_empty() && bytes[0] == b'+' {
-        return None;
-    }
-    match str::from_utf8(bytes) {
-        Ok(text) => text.parse().ok(),
-        Err(_) => None,
-    }
-}
-
-/// The number below 2^64 whose token the bytes are: a decimal with no sign and no leading zero but `0`
-/// itself. `None` exactly where they are no such token.
-pub fn read_val(bytes: &[u8]) -> Option<u64>
-    ensures { (n : ℕ) → (result ≡ Some n) ↔ ((n < 2 ^ 64) × (bytes.now ≡ decimal n)) }
-{
-    if bytes.len() > 1 && bytes[0] == b'0' {
-        return None;
-    }
-    digits(bytes)
-}
 
 /// The number below 2^40 whose token the bytes are. `None` exactly where they are no such token.
 pub fn read_num(bytes: &[u8]) -> Option<u64>
     ensures { (n : ℕ) → (result ≡ Some n) ↔ ((n < 2 ^ 40) × (bytes.now ≡ decimal n)) }
 {
-    read_val(bytes).filter(|n| *n < NUMBER_END)
+    read_decimal(bytes).filter(|n| *n < NUMBER_END)
 }
 
 /// The content of a register whose token the bytes are: `none`, or a number below 2^64. The outer
@@ -48,7 +23,7 @@ pub fn read_old(bytes: &[u8]) -> Option<Option<u64>>
     if bytes == b"none".as_slice() {
         return Some(None);
     }
-    read_val(bytes).map(Some)
+    read_decimal(bytes).map(Some)
 }
 
 /// A register's content as texts spell it: `none`, or the number.

@@ -1,8 +1,3 @@
-mod AnswerLemmas
-mod Names
-mod OpLemmas
 mod PlaceLemmas
 mod TableLemmas
-pub mod TextLemmas
 mod ValueLemmas
-pub mod Words

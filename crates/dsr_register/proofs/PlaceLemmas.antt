@@ -9,7 +9,8 @@ use Rattle.std.proofs.lemmas.Cmp.{nat_list_cmp_total}
 use Rattle.std.proofs.lemmas.Bool.Decides.{nat_tests}
 use Rattle.std.proofs.lemmas.List.{take-append-drop, get_or_default}
 use Rattle.std.proofs.lemmas.Option.{slice_get-get_or, get_or_from_slice_get}
-use Rattle.dsr_register.specs.Table.{content, compare_names, is_before, IsBelowEach, IsAscending, IsEntryOf, IsGapFor}
+use Rattle.dsr_request.specs.NameOrder.{compare_names, is_before}
+use Rattle.dsr_register.specs.Table.{content, IsBelowEach, IsAscending, IsEntryOf, IsGapFor}
 use Rattle.dsr_register.proofs.TableLemmas.{
   Entries,
   Misses,

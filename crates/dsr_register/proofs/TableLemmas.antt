@@ -8,7 +8,8 @@ use Rattle.std.specs.Str.{bytes_eq}
 use Rattle.std.proofs.lemmas.Cmp.{nat_list_cmp_total}
 use Rattle.std.proofs.lemmas.Map.Text.{is_eq-slice_cmp}
 use Rattle.std.proofs.lemmas.Slice.Eq.{bytes_eq-Decides}
-use Rattle.dsr_register.specs.Table.{content, compare_names, IsBelowEach, IsAscending}
+use Rattle.dsr_request.specs.NameOrder.{compare_names}
+use Rattle.dsr_register.specs.Table.{content, IsBelowEach, IsAscending}
 
 abbrev pub Entries : Type 0
 Entries = List (List ℕ × ℕ)

@@ -10,8 +10,9 @@ use Rattle.std.proofs.lemmas.Map.Entries.{length-keys_of}
 use Rattle.std.proofs.lemmas.Map.Made.{is_some-lookup}
 use Rattle.std.proofs.lemmas.Map.Steps.{length-le_from_keys}
 use Rattle.std.proofs.lemmas.Map.Views.{any-filter_same}
-use Rattle.dsr_register.specs.declared.op.Op.{Op}
-use Rattle.dsr_register.specs.Values.{value, registers, register_of, count_held, is_full, left_by, answer_on, answer_after}
+use Rattle.dsr_request.specs.declared.op.Op.{Op}
+use Rattle.dsr_request.specs.Register.{register_of}
+use Rattle.dsr_register.specs.Values.{value, registers, count_held, is_full, left_by, answer_on, answer_after}
 use Rattle.dsr_register.specs.Table.{content, IsBelowEach, IsAscending, StandsFor}
 use Rattle.dsr_register.proofs.TableLemmas.{Entries, same_name, name_itself, apart_below}
 

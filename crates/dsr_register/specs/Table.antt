@@ -2,12 +2,10 @@
 use Rattle.std.specs.Prelude.{◌≡◌, ℕ, ◌≤◌, Bool, take, drop, length, List, [], ◌∷◌, Option, Some, slice_get}
 use Rattle.std.specs.List.{AllByRecursion}
 use Rattle.std.specs.Map.{lookup}
-use Rattle.std.specs.Ordering.{nat_cmp, is_lt}
-use Rattle.std.specs.Cmp.Lexicographic.{slice_cmp}
-use Rattle.std.specs.declared.cmp.Ordering.{Ordering}
 use Rattle.std.specs.declared.cmp.Ordering.TheVariants.{Less}
 use Rattle.std.specs.Str.{bytes_eq}
-use Rattle.dsr_register.specs.declared.op.Op.{Op}
+use Rattle.dsr_request.specs.NameOrder.{compare_names}
+use Rattle.dsr_request.specs.declared.op.Op.{Op}
 use Rattle.dsr_register.specs.Values.{value}
 
 -- the register's number, or none where the table lacks its name
@@ -17,14 +15,6 @@ content table name = lookup (bytes_eq name) table
 -- the table stands for the operations: each register holds what they left there
 abbrev pub StandsFor : List (List ℕ × ℕ) → List Op → Type 0
 StandsFor table ops = (name : List ℕ) → content table name ≡ value ops name
-
--- the order of names, byte by byte
-abbrev pub compare_names : List ℕ → List ℕ → Ordering
-compare_names = slice_cmp nat_cmp
-
--- the first name comes before the second
-abbrev pub is_before : List ℕ → List ℕ → Bool
-is_before x y = is_lt (compare_names x y)
 
 -- each entry's name comes after this one
 abbrev pub IsBelowEach : List ℕ → List (List ℕ × ℕ) → Type 0

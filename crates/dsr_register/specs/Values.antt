@@ -5,17 +5,11 @@ use Rattle.std.specs.Prelude.{ℕ, Bool, ◌&&◌, not, nat_eq, nat_le, is_none,
 use Rattle.std.specs.List.{list_any}
 use Rattle.std.specs.Option.{option_eq}
 use Rattle.std.specs.Str.{bytes_eq}
-use Rattle.dsr_register.specs.declared.op.Op.{Op}
-use Rattle.dsr_register.specs.declared.op.Op.TheVariants.{Read, Write, Swap, Remove}
-use Rattle.dsr_register.specs.declared.answer.Answer.{Answer}
-use Rattle.dsr_register.specs.declared.answer.Answer.TheVariants.{Held, Written, Swapped, Kept, Full, Removed}
-
--- the register that an operation is on
-abbrev pub register_of : Op → List ℕ
-register_of (Read name) = name
-register_of (Write name value) = name
-register_of (Swap name from to) = name
-register_of (Remove name) = name
+use Rattle.dsr_request.specs.Register.{register_of}
+use Rattle.dsr_request.specs.declared.op.Op.{Op}
+use Rattle.dsr_request.specs.declared.op.Op.TheVariants.{Read, Write, Swap, Remove}
+use Rattle.dsr_request.specs.declared.answer.Answer.{Answer}
+use Rattle.dsr_request.specs.declared.answer.Answer.TheVariants.{Held, Written, Swapped, Kept, Full, Removed}
 
 -- the registers that operations are on, each once
 abbrev pub registers : List Op → List (List ℕ)

@@ -1,14 +1,13 @@
 ghost use Rattle.std.specs.Prelude.{◌≡◌, ℕ, ◌<◌, ◌≤◌, ◌↔◌, ◌&&◌, ◌∷◌, [], List, Option, None, Some, Ok, true, false, not, is_none, nat_le, length, if◌then◌else◌, IfOk, IfErr, IsTrue};
 ghost use Rattle.std.specs.Str.{bytes_eq};
 ghost use Rattle.std.specs.List.Sorted.{IsPartitionPoint};
-ghost use Rattle.dsr_register.specs.declared.op.Op.{Op};
-ghost use Rattle.dsr_register.specs.Values.{value, is_blocked, count_held, answer_after, answer_on, left_by, register_of};
-ghost use Rattle.dsr_register.specs.Table.{content, is_before, StandsFor, IsEntryOf, IsGapFor, IsAscending};
+ghost use Rattle.dsr_request.specs.declared.op.Op.{Op};
+ghost use Rattle.dsr_request.specs.NameOrder.{is_before};
+ghost use Rattle.dsr_register.specs.Values.{value, is_blocked, count_held, answer_after, answer_on, left_by};
+ghost use Rattle.dsr_register.specs.Table.{content, StandsFor, IsEntryOf, IsGapFor, IsAscending};
 
-use crate::answer::Answer;
-use crate::name::Name;
-use crate::op::Op;
 use dsr_names::Refusal;
+use dsr_request::{Answer, Name, Op};
 use std::alloc::Global;
 use std::marker::Model;
 

@@ -1,14 +1,9 @@
-//! The directory of registers, one operation at a time: names, operations, answers and the table.
+//! The directory of registers, one operation at a time.
 #![tactic(auto)]
 
-mod answer;
 mod directory;
-mod name;
-mod op;
 #[cfg(test)]
 mod tests;
 
-pub use answer::Answer;
 pub use directory::Directory;
-pub use name::Name;
-pub use op::{Joined, Op};
+pub use dsr_request::{Answer, Joined, Name, Op};

@@ -3,11 +3,11 @@ use Rattle.std.proofs.Common.{◌≡◌, ◌≢◌, ℕ, zero, suc, ◌<◌, ◌
 use Rattle.std.specs.Prelude.{◌==◌, ◌%◌}
 use Rattle.std.proofs.lemmas.Bool.{cases_lt}
 use Rattle.std.proofs.lemmas.Bool.Decides.{Decides-eqb}
-use Rattle.dsr_names.specs.Member.{In, here, there}
+use Rattle.dsr_base.specs.Member.{In, here, there}
 use Rattle.dsr_names.specs.Shape.{Members, HasFewTraitors, is_traitor, IsLoyal}
 use Rattle.dsr_names.specs.declared.actor.Actor.{Actor}
 use Rattle.dsr_names.specs.declared.actor.Actor.TheVariants.{Replica}
-use Rattle.dsr_history.specs.Issued.{Issued}
+use Rattle.dsr_request.specs.Issued.{Issued}
 use Rattle.dsr_desk.specs.Signed.{Signed, signed}
 use Rattle.dsr_desk.specs.declared.statement.Statement.{Statement}
 use Rattle.dsr_chain.specs.Content.{content}

@@ -8,10 +8,10 @@ use Rattle.std.proofs.lemmas.Bool.Decides.{Decides-and, Decides-or, Decides-not,
 use Rattle.std.proofs.lemmas.List.{append-nil, length_push}
 use Rattle.std.proofs.lemmas.List.Elements.{All-nil, All-cons}
 use Rattle.std.proofs.lemmas.List.Kept.{AllPairs-cons}
-use Rattle.dsr_names.specs.Member.{In, here, there}
+use Rattle.dsr_base.specs.Member.{In, here, there}
 use Rattle.dsr_names.specs.Shape.{Members}
-use Rattle.dsr_names.proofs.MemberLemmas.{In-append_left, In-append_right, In-append_cases, In-one}
-use Rattle.dsr_history.specs.Issued.{Issued}
+use Rattle.dsr_base.proofs.MemberLemmas.{In-append_left, In-append_right, In-append_cases, In-one}
+use Rattle.dsr_request.specs.Issued.{Issued}
 use Rattle.dsr_chain.specs.Content.{content}
 use Rattle.dsr_chain.specs.SignedValue.{SignedValue}
 use Rattle.dsr_chain.specs.Proper.{IsProper}

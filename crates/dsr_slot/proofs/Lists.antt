@@ -3,8 +3,8 @@ use Rattle.std.proofs.Common.{◌≡◌, ℕ, zero, suc, ◌<◌, Bool, true, fa
 use Rattle.std.specs.Prelude.{filter}
 use Rattle.std.specs.Bool.{Decides}
 use Rattle.std.proofs.lemmas.Bool.{cases_lt}
-use Rattle.dsr_names.specs.Member.{In, here, there}
-use Rattle.dsr_names.proofs.MemberLemmas.{In-append_left, In-append_right, In-append_cases}
+use Rattle.dsr_base.specs.Member.{In, here, there}
+use Rattle.dsr_base.proofs.MemberLemmas.{In-append_left, In-append_right, In-append_cases}
 use Rattle.dsr_chain.specs.SignedValue.{SignedValue}
 use Rattle.dsr_slot.specs.Broadcast.{from_each}
 

@@ -4,10 +4,10 @@ use Rattle.std.proofs.Common.{◌≡◌, ◌≢◌, ℕ, zero, suc, ◌<◌, Lis
 use Rattle.std.specs.Prelude.{Any, All, filter, ◌&&◌, ◌==◌, not}
 use Rattle.std.specs.Bool.{Decides}
 use Rattle.std.proofs.lemmas.Bool.Decides.{Decides-and, Decides-not, Decides-like, Decides-eqb}
-use Rattle.dsr_names.specs.Member.{In, here}
+use Rattle.dsr_base.specs.Member.{In, here}
 use Rattle.dsr_names.specs.Shape.{Members}
 use Rattle.dsr_names.specs.declared.actor.Actor.{Actor}
-use Rattle.dsr_names.proofs.MemberLemmas.{In-append_left, In-append_right, In-append_cases, In-one}
+use Rattle.dsr_base.proofs.MemberLemmas.{In-append_left, In-append_right, In-append_cases, In-one}
 use Rattle.dsr_desk.specs.Signed.{Signed, signed}
 use Rattle.dsr_desk.specs.SignersEq.{actor_eq, actor_eq-Decides}
 use Rattle.dsr_chain.specs.Content.{content, signed_in}

@@ -1,7 +1,7 @@
 -- One slot's broadcast among all replicas, the loyal ones and the traitors (Dolev and Strong 1983).
 use Rattle.std.specs.Prelude.{◌≡◌, ℕ, zero, suc, ◌<◌, ◌≤◌, List, [], ◌++◌, All, true}
 use Rattle.dsr_names.specs.Shape.{Members, is_traitor, IsLoyal}
-use Rattle.dsr_names.specs.Member.{In}
+use Rattle.dsr_base.specs.Member.{In}
 use Rattle.dsr_names.specs.declared.actor.Actor.TheVariants.{Replica}
 use Rattle.dsr_desk.specs.Signed.{Signed}
 use Rattle.dsr_desk.specs.declared.statement.Statement.{Statement}

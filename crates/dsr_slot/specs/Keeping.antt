@@ -4,7 +4,7 @@
 use Rattle.std.specs.Prelude.{ℕ, zero, suc, List, [], ◌∷◌, ◌++◌, Option, Bool, ◌&&◌, not, length, nat_lt, fold, if◌then◌else◌}
 use Rattle.std.specs.List.{list_any}
 use Rattle.dsr_names.specs.Shape.{Members}
-use Rattle.dsr_history.specs.Issued.{Issued}
+use Rattle.dsr_request.specs.Issued.{Issued}
 use Rattle.dsr_chain.specs.Content.{content}
 use Rattle.dsr_chain.specs.SignedValue.{SignedValue}
 use Rattle.dsr_chain.specs.ProperTest.{is_proper, same_content}

@@ -1,8 +1,8 @@
 -- What may be said of the chains that are kept (this project's words for what Dolev and Strong 1983 use).
 use Rattle.std.specs.Prelude.{◌≡◌, ◌⊎◌, ℕ, ◌<◌, ◌≤◌, List, ◌++◌, Option, length}
-use Rattle.dsr_names.specs.Member.{In}
+use Rattle.dsr_base.specs.Member.{In}
 use Rattle.dsr_names.specs.Shape.{Members}
-use Rattle.dsr_history.specs.Issued.{Issued}
+use Rattle.dsr_request.specs.Issued.{Issued}
 use Rattle.dsr_chain.specs.Proper.{IsProper}
 use Rattle.dsr_chain.specs.SignedValue.{SignedValue}
 use Rattle.dsr_slot.specs.declared.kept.Kept.{Kept}

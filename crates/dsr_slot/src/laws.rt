@@ -1,7 +1,7 @@
 //! The laws of one slot, as the contracts of functions that do nothing.
 
 ghost use Rattle.std.specs.Prelude.{◌≡◌, ◌≢◌, ℕ, ◌<◌, ◌≤◌, List, AllPairs, length};
-ghost use Rattle.dsr_names.specs.Member.{In};
+ghost use Rattle.dsr_base.specs.Member.{In};
 ghost use Rattle.dsr_names.specs.Shape.{Members, IsLoyal, HasFewTraitors};
 ghost use Rattle.dsr_names.specs.declared.actor.Actor.TheVariants.{Replica};
 ghost use Rattle.dsr_chain.specs.Content.{content};

@@ -1,9 +1,8 @@
 use crate::SlotState;
 use dsr_chain::{Batch, Chain, SignedRequest, SlotValue};
 use dsr_desk::{Key, Keys};
-use dsr_history::Request;
 use dsr_names::{Actor, ClientId, ReplicaId, Shape};
-use dsr_register::{Name, Op};
+use dsr_request::{Name, Op, Request};
 use std::alloc::Global;
 use std::process::Abort;
 use std::test::Fail;

@@ -1,6 +1,6 @@
 use Rattle.std.proofs.Common.{◌≡◌, codes, rules}
 use Rattle.std.proofs.lemmas.Slice.Eq.{bytes_eq-Decides}
-use Rattle.dsr_names.proofs.Numerals.{reads_none}
+use Rattle.dsr_names.proofs.OldLemmas.{reads_none}
 use Rattle.dsr_names.proofs.token.read_old.Goals as goal
 
 pub returns-then-eq : goal.returns-then-eq

@@ -1,5 +1,5 @@
 use Rattle.std.proofs.Common.{◌≡◌, ◌+◌, ◌≤◌, List, ◌++◌, length, take, reverse}
-use Rattle.dsr_history.specs.Issued.{Issued}
+use Rattle.dsr_request.specs.Issued.{Issued}
 use Rattle.dsr_history.specs.History.{acting, requests_of}
 use Rattle.dsr_history.specs.MachineState.{Stands}
 use Rattle.dsr_history.proofs.machine.Machine.accept_value.Given as goal

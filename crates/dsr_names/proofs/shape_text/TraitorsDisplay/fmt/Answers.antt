@@ -2,7 +2,7 @@ use Rattle.std.proofs.Common.{◌≡◌, ◌+◌, ◌∙◌, ◌++◌, sym, ap, 
 use Rattle.std.proofs.Output.{has_written_append, has_written_of_eq}
 use Rattle.dsr_names.specs.declared.actor.Actor.TheVariants.{Replica}
 use Rattle.dsr_names.specs.Actor.{actor_text}
-use Rattle.dsr_names.specs.Bits.{is_bit_set}
+use Rattle.dsr_base.specs.Bits.{is_bit_set}
 use Rattle.dsr_names.specs.ShapeText.{numbers_below, replicas_of, replicas_text}
 use Rattle.dsr_names.proofs.Rising.{none_text, some_text, joined, joint, joined_push, joint_push, next_set, next_clear}
 use Rattle.dsr_names.proofs.shape_text.TraitorsDisplay.fmt.Goals as goal

@@ -1,6 +1,6 @@
 use Rattle.std.proofs.Common.{◌≡◌}
 use Rattle.std.specs.Fmt.{HasWritten, IsPlainFormatter}
-use Rattle.dsr_names.specs.Bits.{is_bit_set}
+use Rattle.dsr_base.specs.Bits.{is_bit_set}
 use Rattle.dsr_names.specs.ShapeText.{numbers_below}
 use Rattle.dsr_names.proofs.Rising.{joined, joint}
 use Rattle.dsr_names.proofs.shape_text.TraitorsDisplay.fmt.Given as goal

@@ -1,7 +1,7 @@
 use Rattle.std.proofs.Common.{◌∙◌, sym, subst, ap, ◌∷◌}
 use Rattle.dsr_register.specs.Values.{answer_after}
 use Rattle.dsr_register.specs.Table.{StandsFor}
-use Rattle.dsr_register.specs.declared.op.Op.TheVariants.{Write, Swap}
+use Rattle.dsr_request.specs.declared.op.Op.TheVariants.{Write, Swap}
 use Rattle.dsr_register.proofs.ValueLemmas.{stands_after, answer_stands}
 use Rattle.dsr_register.proofs.directory.Directory.apply.Goals as goal
 

@@ -1,7 +1,7 @@
 use Rattle.std.proofs.Common.{rules, subst, sym, ◌∙◌, ℕ, List, true, false, ◌≡◌}
 use Rattle.std.specs.List.Sorted.{IsPartitionPoint, IsPartitionedBy}
 use Rattle.std.proofs.lemmas.List.Sorted.{IsPartitionPoint-from_clause}
-use Rattle.dsr_register.specs.Table.{is_before}
+use Rattle.dsr_request.specs.NameOrder.{is_before}
 use Rattle.dsr_register.proofs.PlaceLemmas.{parted}
 use Rattle.dsr_register.proofs.directory.Directory.place_of.Goals as goal
 

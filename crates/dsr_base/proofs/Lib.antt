@@ -1,0 +1,5 @@
+pub mod Marks
+pub mod MemberLemmas
+pub mod Numerals
+pub mod Padding
+pub mod Pigeonhole

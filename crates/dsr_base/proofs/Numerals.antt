@@ -1,0 +1,60 @@
+-- Decimals without sign or leading zero are what `decimal` writes, and nothing else.
+use Rattle.std.proofs.Common.{◌≡◌, ℕ, zero, suc, subst, ◌<◌, ◌^◌, ◌↔◌, None, Some, Option, length, List, [], ◌∷◌, get_or, arith, refl, sym, ◌∙◌, ap}
+use Rattle.std.specs.Option.{SomeIff}
+use Rattle.std.specs.Str.{IsUtf8}
+use Rattle.std.specs.Fmt.{decimal}
+use Rattle.std.specs.Str.Parse.{IsNumeral, AllDigits, digits_value}
+use Rattle.std.proofs.lemmas.Str.Parse.{IsNumeralModel, numerals_by_value, tells_digits}
+use Rattle.std.proofs.lemmas.Fmt.{IsAscii-from_digits, digits_decimal, first_decimal, decimal-digits_value, decimal_digit, decimal_is_IsNumeral}
+use Rattle.std.proofs.lemmas.Str.{IsUtf8-from_ascii}
+
+pub own : IsNumeralModel (AllDigits 10) (digits_value 10)
+own = numerals_by_value (AllDigits 10) tells_digits
+
+-- a numeral is text
+pub numeral_is_text : (bs : List ℕ) → IsNumeral 10 bs → IsUtf8 bs
+numeral_is_text bs h = IsUtf8-from_ascii bs (IsAscii-from_digits bs h.1)
+
+-- no number's decimal has a zero before another digit
+pub no_leading_zero : (bs : List ℕ) (n : ℕ) → 1 < length bs → get_or bs 0 0 ≡ 48 → n < 2 ^ 64 → bs ≡ decimal n → ⊥
+no_leading_zero bs zero long first small e =
+    let one : length bs ≡ 1 = ap length (e ∙ decimal_digit 0 (omega arith)) in
+    omega arith
+no_leading_zero bs (suc n) long first small e =
+    let above : 48 < get_or (decimal (suc n)) 0 0 = first_decimal (suc n) (omega arith) small in
+    let same : get_or bs 0 0 ≡ get_or (decimal (suc n)) 0 0 = ap (λ ds. get_or ds 0 0) e in
+    omega arith
+
+-- digits without a leading zero are the decimal of the number that they write
+pub decimal_of : (bs : List ℕ) → (get_or bs 0 0 ≡ 48 → length bs ≡ 1) → IsNumeral 10 bs → digits_value 10 bs < 2 ^ 64 → bs ≡ decimal (digits_value 10 bs)
+decimal_of bs single h small = sym (decimal-digits_value own bs h.1 h.0 single small)
+
+-- where no zero stands before another digit, a zero in front stands alone
+only_digit : (bs : List ℕ) → (1 < length bs → get_or bs 0 0 ≡ 48 → ⊥) → get_or bs 0 0 ≡ 48 → length bs ≡ 1
+only_digit [] apart first = cc
+only_digit (x ∷ []) apart first = refl
+only_digit (x ∷ y ∷ ys) apart first = absurd (apart (omega arith) first)
+
+-- what reads digits, where no leading zero stands, reads exactly the decimals
+pub reads_decimals : (bs : List ℕ) (r : Option ℕ) → (1 < length bs → get_or bs 0 0 ≡ 48 → ⊥)
+    → SomeIff r (IsNumeral 10 bs × (digits_value 10 bs < 2 ^ 64)) (digits_value 10 bs)
+    → (n : ℕ) → (r ≡ Some n) ↔ ((n < 2 ^ 64) × (bs ≡ decimal n))
+reads_decimals bs None apart h n = (
+  (λ e. cc),
+  (λ p.
+      let q : IsNumeral 10 (decimal n) × (digits_value 10 (decimal n) ≡ n) = decimal_is_IsNumeral n p.0 in
+      let numeral : IsNumeral 10 bs = rw p.1 q.0 in
+      let value : digits_value 10 bs ≡ n = rw p.1 q.1 in
+      absurd (h (numeral, omega arith))),
+)
+reads_decimals bs (Some m) apart h n = (
+  (λ e.
+      let same : m ≡ n = cc in
+      let value : digits_value 10 bs ≡ n = sym h.1 ∙ same in
+      let spelled : bs ≡ decimal (digits_value 10 bs) = decimal_of bs (only_digit bs apart) h.0.0 h.0.1 in
+      (omega arith, spelled ∙ ap decimal value)),
+  (λ p.
+      let q : IsNumeral 10 (decimal n) × (digits_value 10 (decimal n) ≡ n) = decimal_is_IsNumeral n p.0 in
+      let value : digits_value 10 bs ≡ n = rw p.1 q.1 in
+      ap Some (h.1 ∙ value)),
+)

@@ -1,0 +1,5 @@
+pub mod Bits
+pub mod Equality
+pub mod Member
+pub mod Padded
+pub mod Split

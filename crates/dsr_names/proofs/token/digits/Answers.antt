@@ -1,6 +1,0 @@
-use Rattle.dsr_names.proofs.Numerals.{numeral_is_text}
-use Rattle.dsr_names.proofs.token.digits.Goals as goal
-
--- bytes that are no text are no numeral
-pub returns-in-Err : goal.returns-in-Err
-returns-in-Err c = λ h. c.in-Err.ensures.cases.0 (numeral_is_text c.args.bytes.now h.0)

@@ -1,8 +1,0 @@
-use Rattle.dsr_register.proofs.AnswerLemmas.{reads_held, reads_kept}
-use Rattle.dsr_register.proofs.answer.Answer.read.Goals as goal
-
-pub returns-in-Some : goal.returns-in-Some
-returns-in-Some c = reads_held c.args.bytes.now c.in-Some.old c.in-Some.ensures
-
-pub returns-in-Some-old_after : goal.returns-in-Some-old_after
-returns-in-Some-old_after c = reads_kept c.args.bytes.now c.in-Some-old_after.old c.in-Some-old_after.ensures

@@ -1,0 +1,23 @@
+-- How texts spell an answer (this project).
+use Rattle.std.specs.Prelude.{ℕ, List, ◌++◌, codes}
+use Rattle.dsr_names.specs.Token.{IsOld, old_text}
+use Rattle.dsr_request.specs.declared.answer.Answer.{Answer}
+use Rattle.dsr_request.specs.declared.answer.Answer.TheVariants.{Held, Written, Swapped, Kept, Full, Removed}
+
+-- the text of an answer: a word, and after some what the register held
+abbrev pub answer_text : Answer → List ℕ
+answer_text (Held old) = codes "held " ++ old_text old
+answer_text Written = codes "written"
+answer_text Swapped = codes "swapped"
+answer_text (Kept old) = codes "kept " ++ old_text old
+answer_text Full = codes "full"
+answer_text (Removed old) = codes "removed " ++ old_text old
+
+-- an answer that a text can spell: its number, if it has one, is below 2 ^ 64
+abbrev pub IsAnswer : Answer → Type 0
+IsAnswer (Held old) = IsOld old
+IsAnswer Written = Unit {0}
+IsAnswer Swapped = Unit {0}
+IsAnswer (Kept old) = IsOld old
+IsAnswer Full = Unit {0}
+IsAnswer (Removed old) = IsOld old

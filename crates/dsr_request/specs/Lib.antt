@@ -1,0 +1,11 @@
+pub mod AnswerText
+pub mod Issued
+pub mod NameFields
+pub mod NameOrder
+pub mod NameText
+pub mod OpText
+pub mod Register
+pub mod RequestText
+pub mod RequestsEq
+pub mod RequestsFields
+pub mod RequestsText

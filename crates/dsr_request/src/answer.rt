@@ -1,0 +1,81 @@
+ghost use Rattle.std.specs.Prelude.{◌≡◌, ℕ, ◌++◌, Some, Option, ◌↔◌};
+ghost use Rattle.dsr_names.specs.Token.{IsOld, old_text};
+ghost use Rattle.dsr_request.specs.declared.answer.Answer.{Answer};
+ghost use Rattle.dsr_request.specs.AnswerText.{IsAnswer, answer_text};
+
+use dsr_names::{Old, read_old};
+use std::fmt;
+
+/// What an operation answers.
+#[derive(Clone, Copy, Debug, PartialEq, Eq)]
+pub enum Answer {
+    /// A read: what the register held.
+    Held(Option<u64>),
+    /// A write was done.
+    Written,
+    /// A swap was done.
+    Swapped,
+    /// A swap was not done, since the register held this in place of its `from`.
+    Kept(Option<u64>),
+    /// A write or a swap would have made one register too many, and was not done.
+    Full,
+    /// A remove was done, and the register held this before.
+    Removed(Option<u64>),
+}
+
+impl Answer {
+    /// The answer that the bytes spell. `None` exactly where they spell none.
+    pub fn read(bytes: &[u8]) -> Option<Answer>
+        ensures { (a : Answer) → (result ≡ Some a) ↔ (IsAnswer a × (bytes.now ≡ answer_text a)) }
+    {
+        if bytes == b"written".as_slice() {
+            Some(Answer::Written)
+        } else if bytes == b"swapped".as_slice() {
+            Some(Answer::Swapped)
+        } else if bytes == b"full".as_slice() {
+            Some(Answer::Full)
+        } else if let Some(old) = old_after(bytes, b"held ") {
+            Some(Answer::Held(old))
+        } else if let Some(old) = old_after(bytes, b"kept ") {
+            Some(Answer::Kept(old))
+        } else if let Some(old) = old_after(bytes, b"removed ") {
+            Some(Answer::Removed(old))
+        } else {
+            None
+        }
+    }
+}
+
+impl fmt::Display for Answer {
+    ghost use Rattle.dsr_request.specs.AnswerText.{answer_text};
+
+    ghost output = { λ a. Some (answer_text a) };
+
+    fn fmt<W: fmt::Write>(&self, f: &mut fmt::Formatter<W>) -> fmt::Result {
+        match self {
+            Answer::Held(old) => {
+                let old = Old(*old);
+                write!(f, "held {old}")
+            }
+            Answer::Written => f.write_str("written"),
+            Answer::Swapped => f.write_str("swapped"),
+            Answer::Kept(old) => {
+                let old = Old(*old);
+                write!(f, "kept {old}")
+            }
+            Answer::Full => f.write_str("full"),
+            Answer::Removed(old) => {
+                let old = Old(*old);
+                write!(f, "removed {old}")
+            }
+        }
+    }
+}
+
+/// What stands after the word, where the bytes are the word and a token OLD.
+fn old_after(bytes: &[u8], word: &[u8]) -> Option<Option<u64>>
+    ensures { (old : Option ℕ) → (result ≡ Some old) ↔ (IsOld old × (bytes.now ≡ word.now ++ old_text old)) }
+{
+    let rest = bytes.strip_prefix(word)?;
+    read_old(rest)
+}

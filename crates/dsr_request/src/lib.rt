@@ -1,0 +1,20 @@
+//! What clients ask for: names of registers, operations and their answers, requests, and how texts spell them.
+#![tactic(auto)]
+
+mod answer;
+mod name;
+mod op;
+mod request;
+#[cfg(test)]
+mod request_tests;
+mod request_text;
+mod requests;
+mod requests_text;
+#[cfg(test)]
+mod tests;
+
+pub use answer::Answer;
+pub use name::Name;
+pub use op::{Joined, Op};
+pub use request::Request;
+pub use requests::{MOST_REQUESTS, Requests};

@@ -1,0 +1,155 @@
+ghost use Rattle.std.specs.Prelude.{◌≡◌, ℕ, List, Some, ◌↔◌, ◌⊎◌, codes};
+ghost use Rattle.dsr_request.specs.declared.op.Op.{Op};
+ghost use Rattle.dsr_request.specs.NameText.{IsName};
+ghost use Rattle.dsr_request.specs.OpText.{IsOp, op_text, verb_of, operands_text};
+ghost use Rattle.dsr_request.specs.Register.{register_of};
+
+use crate::name::Name;
+use dsr_base::{read_decimal, split_once};
+use dsr_names::{Old, read_old};
+use std::fmt;
+
+/// One operation on one register.
+#[derive(Clone, Copy, Debug, PartialEq, Eq)]
+pub enum Op {
+    /// What the register holds.
+    Read {
+        /// The register.
+        name: Name,
+    },
+    /// Let it hold this value.
+    Write {
+        /// The register.
+        name: Name,
+        /// What it is to hold.
+        value: u64,
+    },
+    /// Let it hold `to` where it holds `from`.
+    Swap {
+        /// The register.
+        name: Name,
+        /// What it must hold for that, none where it must hold nothing.
+        from: Option<u64>,
+        /// What it is to hold then.
+        to: u64,
+    },
+    /// Let it hold nothing.
+    Remove {
+        /// The register.
+        name: Name,
+    },
+}
+
+impl Op {
+    /// The operation that the bytes spell. Its parts are apart by the separator: a space, as in
+    /// `swap a none 1`, or a colon, as in `swap:a:none:1`. `None` exactly where they spell none.
+    pub fn read(bytes: &[u8], separator: u8) -> Option<Op>
+        requires { (separator ≡ 32) ⊎ (separator ≡ 58) }
+        ensures { (op : Op) → (result ≡ Some op) ↔ (IsOp op × (bytes.now ≡ op_text separator op)) }
+    {
+        let (verb, operands) = split_once(bytes, separator)?;
+        read_operands(verb, operands, separator)
+    }
+
+    /// The register that the operation is on.
+    pub fn name(&self) -> Name
+        ensures { result ≡ register_of self.now }
+    {
+        match self {
+            Op::Read { name } | Op::Write { name, .. } => *name,
+            Op::Swap { name, .. } | Op::Remove { name } => *name,
+        }
+    }
+}
+
+impl fmt::Display for Op {
+    ghost use Rattle.dsr_request.specs.OpText.{op_text};
+
+    ghost output = { λ op. Some (op_text 32 op) };
+
+    fn fmt<W: fmt::Write>(&self, f: &mut fmt::Formatter<W>) -> fmt::Result {
+        match self {
+            Op::Read { name } => write!(f, "read {name}"),
+            Op::Write { name, value } => write!(f, "write {name} {value}"),
+            Op::Swap { name, from, to } => {
+                let from = Old(*from);
+                write!(f, "swap {name} {from} {to}")
+            }
+            Op::Remove { name } => write!(f, "remove {name}"),
+        }
+    }
+}
+
+/// An operation that is printed with colons in place of spaces, as `swap:a:none:1`.
+#[derive(Clone, Copy, Debug, PartialEq, Eq)]
+pub struct Joined(pub Op);
+
+impl fmt::Display for Joined {
+    ghost use Rattle.dsr_request.specs.OpText.{op_text};
+
+    ghost output = { λ joined. Some (op_text 58 joined.0) };
+
+    fn fmt<W: fmt::Write>(&self, f: &mut fmt::Formatter<W>) -> fmt::Result {
+        match &self.0 {
+            Op::Read { name } => write!(f, "read:{name}"),
+            Op::Write { name, value } => write!(f, "write:{name}:{value}"),
+            Op::Swap { name, from, to } => {
+                let from = Old(*from);
+                write!(f, "swap:{name}:{from}:{to}")
+            }
+            Op::Remove { name } => write!(f, "remove:{name}"),
+        }
+    }
+}
+
+/// The operation that begins with this word and goes on with these operands.
+fn read_operands(verb: &[u8], operands: &[u8], separator: u8) -> Option<Op>
+    requires { (separator ≡ 32) ⊎ (separator ≡ 58) }
+    ensures { (op : Op) → (result ≡ Some op)
+        ↔ (IsOp op × (verb.now ≡ verb_of op) × (operands.now ≡ operands_text separator op)) }
+{
+    if verb == b"read".as_slice() {
+        read_name(operands).map(|name| Op::Read { name })
+    } else if verb == b"write".as_slice() {
+        read_write(operands, separator)
+    } else if verb == b"swap".as_slice() {
+        read_swap(operands, separator)
+    } else if verb == b"remove".as_slice() {
+        read_name(operands).map(|name| Op::Remove { name })
+    } else {
+        None
+    }
+}
+
+/// The write whose operands the bytes are.
+fn read_write(operands: &[u8], separator: u8) -> Option<Op>
+    requires { (separator ≡ 32) ⊎ (separator ≡ 58) }
+    ensures { (op : Op) → (result ≡ Some op)
+        ↔ (IsOp op × (verb_of op ≡ codes "write") × (operands.now ≡ operands_text separator op)) }
+{
+    let (name, value) = split_once(operands, separator)?;
+    let name = read_name(name)?;
+    let value = read_decimal(value)?;
+    Some(Op::Write { name, value })
+}
+
+/// The swap whose operands the bytes are.
+fn read_swap(operands: &[u8], separator: u8) -> Option<Op>
+    requires { (separator ≡ 32) ⊎ (separator ≡ 58) }
+    ensures { (op : Op) → (result ≡ Some op)
+        ↔ (IsOp op × (verb_of op ≡ codes "swap") × (operands.now ≡ operands_text separator op)) }
+{
+    let (name, values) = split_once(operands, separator)?;
+    let (from, to) = split_once(values, separator)?;
+    let name = read_name(name)?;
+    let from = read_old(from)?;
+    let to = read_decimal(to)?;
+    Some(Op::Swap { name, from, to })
+}
+
+/// The name that the bytes spell.
+fn read_name(bytes: &[u8]) -> Option<Name>
+    ensures { (name : List ℕ) → (result ≡ Some name) ↔ (IsName name × (bytes.now ≡ name)) }
+{
+    Name::read(bytes).ok()
+}

@@ -1,0 +1,66 @@
+ghost use Rattle.std.specs.Prelude.{◌≡◌, ◌<◌, ◌^◌, ◌↔◌, IsOk, IfOk, IfErr, IsTrue};
+ghost use Rattle.dsr_request.specs.Issued.{issued};
+
+use crate::op::Op;
+use dsr_names::{ClientId, NUMBER_END, Refusal};
+use std::marker::Model;
+
+/// An operation that a client wants, under a number of its own from 1 to 2^40-1. A request is copied
+/// without taking memory.
+#[derive(Clone, Copy, Debug, PartialEq, Eq)]
+pub struct Request {
+    client: ClientId,
+    number: u64,
+    op: Op,
+}
+
+impl Model for Request {
+    ghost use Rattle.std.specs.Prelude.{◌<◌, ◌^◌};
+    ghost use Rattle.dsr_request.specs.Issued.{Issued};
+
+    ghost Value = { Issued };
+
+    ghost view = { λ r. record { client = r.client; number = r.number; op = r.op } };
+
+    ghost invariant = { λ r. (0 < r.number) × (r.number < 2 ^ 40) };
+
+    ghost inverse = { λ r. record { client = r.client; number = r.number; op = r.op } };
+}
+
+impl Request {
+    /// The request of this client for the operation. `BadNumber` where the number is 0, or 2^40 or more.
+    pub fn new(client: ClientId, number: u64, op: Op) -> Result<Request, Refusal>
+        ensures ok { IfOk result (λ request. request ≡ issued client number op) }
+        ensures when { IsOk result ↔ ((0 < number) × (number < 2 ^ 40)) }
+        ensures refusal { IfErr result (λ e. e ≡ Refusal.BadNumber) }
+    {
+        if 0 < number && number < NUMBER_END {
+            Ok(Request { client, number, op })
+        } else {
+            Err(Refusal::BadNumber)
+        }
+    }
+
+    /// Whose request it is.
+    pub fn client(&self) -> ClientId
+        ensures { result ≡ self.now.client }
+    {
+        self.client
+    }
+
+    /// Its number, from 1 to 2^40-1.
+    pub fn number(&self) -> u64
+        ensures same { result ≡ self.now.number }
+        ensures some { 0 < result }
+        ensures small { result < 2 ^ 40 }
+    {
+        self.number
+    }
+
+    /// The operation.
+    pub fn op(&self) -> Op
+        ensures { result ≡ self.now.op }
+    {
+        self.op
+    }
+}
