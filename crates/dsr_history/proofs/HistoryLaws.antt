@@ -1,10 +1,12 @@
 -- Laws over histories.
-use Rattle.std.proofs.Common.{◌≡◌, ℕ, ◌<◌, Bool, true, false, cond, not, ◌&&◌, ◌||◌, nat_eq, nat_lt, List, [], ◌∷◌, ◌++◌, length, reverse, refl, sym, ◌∙◌, ap, arith, append_assoc, length-append, eq-eqb}
+use Rattle.std.proofs.Common.{◌≡◌, ℕ, ◌<◌, Bool, true, false, cond, not, ◌&&◌, ◌||◌, nat_eq, nat_lt, List, [], ◌∷◌, ◌++◌, length, reverse, refl, sym, ◌∙◌, ap, subst, arith, append_assoc, length-append, eq-eqb}
 use borrow.Author.Tests.{ltb-true}
-use Rattle.std.specs.List.{AllByRecursion}
 use Rattle.std.proofs.lemmas.Bool.{ne_eqb}
+use Rattle.dsr_base.specs.Member.{In, here, there}
+use Rattle.dsr_base.specs.Growth.{Extends}
 use Rattle.dsr_request.specs.Issued.{Issued}
-use Rattle.dsr_history.specs.History.{requests_of, rises_above, acting, acted, answer_at, IsLegal, GrewFrom}
+use Rattle.dsr_history.specs.History.{requests_of, rises_above, acting, acted, answer_at, IsLegal}
+use Rattle.dsr_history.proofs.Standing.{In-acting}
 
 -- prefixes
 
@@ -30,15 +32,16 @@ answer_kept (r ∷ newer) earlier place h =
     ne_eqb (length (newer ++ earlier)) place (λ e. omega (arith, length-append newer earlier)) in
     rw other (answer_kept newer earlier place h)
 
-pub grew_from : (newer values : List (List Issued)) → GrewFrom (acted values) (acted (newer ++ values))
-grew_from newer values =
+pub acted_extends : (newer values : List (List Issued)) → Extends (acted (newer ++ values)) (acted values)
+acted_extends newer values =
     let parts = acting-append (requests_of newer) (requests_of values) in
-    let is : acted (newer ++ values) ≡ parts.0 ++ acted values = ap acting (requests-append newer values) ∙ parts.1 in
-    record {
-      newer = parts.0;
-      is = is;
-      answers = λ place h. ap (λ later. answer_at later place) is ∙ answer_kept parts.0 (acted values) place h;
-    }
+    (parts.0, ap acting (requests-append newer values) ∙ parts.1)
+
+pub answers_kept : (newer values : List (List Issued)) (place : ℕ) → place < length (acted values)
+    → answer_at (acted (newer ++ values)) place ≡ answer_at (acted values) place
+answers_kept newer values place h =
+    let grew = acted_extends newer values in
+    ap (λ later. answer_at later place) grew.1 ∙ answer_kept grew.0 (acted values) place h
 
 -- numbers rise
 
@@ -53,24 +56,19 @@ number_above false below h e = cc
 ltb_holds : (a b : ℕ) → nat_lt a b ≡ true → a < b
 ltb_holds a b h = ltb-true a b h
 
--- what rises above all older requests rises above those that act
-legal_head : (request : Issued) (older : List Issued) → rises_above request older ≡ true
-    → AllByRecursion (λ q. q.client ≡ request.client → q.number < request.number) (acting older)
-legal_head request [] h = tt
-legal_head request (r ∷ older) h =
+-- what rises above all older requests rises above each of them
+rises_over : (request q : Issued) (older : List Issued) → rises_above request older ≡ true → In q older → q.client ≡ request.client → q.number < request.number
+rises_over request q [] h inside = elim inside [ ]
+rises_over request q (r ∷ older) h (here e) =
     let parts = both_true (not (nat_eq r.client request.client) || nat_lt r.number request.number) (rises_above request older) h in
-    kept (rises_above r older)
+    subst (λ x. x.client ≡ request.client → x.number < request.number) e
     (λ same. ltb_holds r.number request.number (number_above (nat_eq r.client request.client) (nat_lt r.number request.number) parts.0 (eq-eqb r.client request.client same)))
-    (legal_head request older parts.1)
-  where
-    kept : (b : Bool) → (r.client ≡ request.client → r.number < request.number)
-        → AllByRecursion (λ q. q.client ≡ request.client → q.number < request.number) (acting older)
-        → AllByRecursion (λ q. q.client ≡ request.client → q.number < request.number) (cond b (r ∷ acting older) (acting older))
-    kept true first rest = (first, rest)
-    kept false first rest = rest
+rises_over request q (r ∷ older) h (there inside) =
+    let parts = both_true (not (nat_eq r.client request.client) || nat_lt r.number request.number) (rises_above request older) h in
+    rises_over request q older parts.1 inside
 
 legal_step : (b : Bool) (request : Issued) (older : List Issued) → b ≡ rises_above request older → IsLegal (acting older) → IsLegal (cond b (request ∷ acting older) (acting older))
-legal_step true request older e h = (legal_head request older (sym e), h)
+legal_step true request older e h = (λ q inside. rises_over request q older (sym e) (In-acting q older inside), h)
 legal_step false request older e h = h
 
 pub legal_acting : (requests : List Issued) → IsLegal (acting requests)

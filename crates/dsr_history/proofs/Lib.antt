@@ -1,4 +1,6 @@
-pub mod HistoryLaws
+mod HistoryLaws
+pub mod Lemmas
 mod LineLemmas
 mod MachineLemmas
 mod RunLemmas
+mod Standing

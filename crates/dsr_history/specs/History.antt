@@ -1,7 +1,7 @@
 -- Which requests act, and what each is answered. Values, requests and histories stand newest first: a place is the
 -- number of older requests. A value is the list of requests that one slot decides, oldest first; the empty one is idle.
 use Rattle.std.specs.Prelude.{◌≡◌, ℕ, ◌<◌, Bool, true, not, ◌&&◌, ◌||◌, ◌==◌, nat_lt, if◌then◌else◌, List, [], ◌∷◌, ◌++◌, length, map, reverse, Option, None, Some}
-use Rattle.std.specs.List.{AllByRecursion}
+use Rattle.dsr_base.specs.Member.{In}
 use Rattle.dsr_request.specs.declared.op.Op.{Op}
 use Rattle.dsr_request.specs.declared.answer.Answer.{Answer}
 use Rattle.dsr_register.specs.Values.{answer_after}
@@ -47,13 +47,22 @@ reply_in (r ∷ older) client =
 abbrev pub reply : List (List Issued) → ℕ → Option Reply
 reply values client = reply_in (acted values) client
 
+-- the request stands at this place of the history, and this is its answer
+pub record StandsAt (history : List Issued) (place : ℕ) (request : Issued) (answer : Answer) : Type 0 where
+  pub newer : List Issued
+  pub older : List Issued
+  pub parts : history ≡ newer ++ request ∷ older
+  pub place_is : place ≡ length older
+  pub answer_is : answer ≡ answer_after (operations older) request.op
+
+-- a reply to the client's request that stands at the place that it names: its number, and its answer there
+pub record IsReplyTo (history : List Issued) (client : ℕ) (reply : Reply) : Type 0 where
+  pub request : Issued
+  pub stands : StandsAt history reply.place request reply.answer
+  pub client_is : request.client ≡ client
+  pub number_is : request.number ≡ reply.number
+
 -- within each client the numbers rise strictly
 abbrev pub IsLegal : List Issued → Type 0
 IsLegal [] = Unit {0}
-IsLegal (r ∷ older) = AllByRecursion (λ q. q.client ≡ r.client → q.number < r.number) older × IsLegal older
-
--- the later history is the earlier one with newer requests, and each place of the earlier one keeps its answer
-pub record GrewFrom (earlier later : List Issued) : Type 0 where
-  pub newer : List Issued
-  pub is : later ≡ newer ++ earlier
-  pub answers : (place : ℕ) → place < length earlier → answer_at later place ≡ answer_at earlier place
+IsLegal (r ∷ older) = ((q : Issued) → In q older → q.client ≡ r.client → q.number < r.number) × IsLegal older

@@ -1,7 +1,7 @@
 ghost use Rattle.std.specs.Prelude.{◌≡◌, ℕ, ◌+◌, ◌<◌, ◌≤◌, ◌^◌, ◌↔◌, ◌∷◌, [], List, All, Option, length, map, reverse, if◌then◌else◌, Some, OnOk, OnErr, IsOk, IfSome, IfOk, IfErr, IsTrue};
 ghost use Rattle.dsr_register.specs.Values.{value};
 ghost use Rattle.dsr_request.specs.Issued.{Issued};
-ghost use Rattle.dsr_history.specs.History.{acted, acting, rises_above, operations, reply, reply_in, answer_at};
+ghost use Rattle.dsr_history.specs.History.{acted, acting, rises_above, operations, reply, reply_in, answer_at, IsReplyTo};
 ghost use Rattle.dsr_history.specs.MachineState.{Stands};
 
 use dsr_ledger::{Ledger, Reply};
@@ -69,6 +69,15 @@ impl Machine {
         Ok(())
     }
 
+    /// For how many more requests there is room: so many can act before memory is taken.
+    pub fn spare(&self) -> usize
+        ensures { result ≡ self.now.room }
+    {
+        let history = self.history.capacity() - self.history.len();
+        let answers = self.answers.capacity() - self.answers.len();
+        history.min(answers)
+    }
+
     /// Processes the requests of a value in the order of its list, and says how many of them acted; the empty
     /// list is the idle value. Asks for at most 8 requests, all of clients of the shape, and a history shorter
     /// than 2^39. `NoMemory` where there was no room and no memory for it: then nothing changed, but that there
@@ -97,15 +106,6 @@ impl Machine {
             }
         }
         Ok(count)
-    }
-
-    /// How many more requests fit without taking memory.
-    fn spare(&self) -> usize
-        ensures { result ≡ self.now.room }
-    {
-        let history = self.history.capacity() - self.history.len();
-        let answers = self.answers.capacity() - self.answers.len();
-        history.min(answers)
     }
 
     /// Lets the request act if it is to, and says whether it did.
@@ -140,7 +140,8 @@ impl Machine {
     /// The client's last reply: to the last of its requests that acted.
     pub fn kept(&self, client: ClientId) -> Option<Reply>
         ensures last { result ≡ reply_in self.now.history client }
-        ensures stands { IfSome result (λ last. answer_at self.now.history last.place ≡ Some last.answer) }
+        ensures stands { IfSome result (IsReplyTo self.now.history client) }
+        ensures answer { IfSome result (λ last. answer_at self.now.history last.place ≡ Some last.answer) }
         ensures reply { (values : List (List Issued)) → Stands self.now values → result ≡ reply values client }
     {
         self.ledger.kept(client)

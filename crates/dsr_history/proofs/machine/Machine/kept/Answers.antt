@@ -1,12 +1,16 @@
-use Rattle.std.proofs.Common.{◌≡◌, ◌∙◌, Some, IfSome, sym, ap, subst}
-use Rattle.dsr_history.specs.History.{answer_at, reply_in}
-use Rattle.dsr_history.proofs.MachineLemmas.{true_replies, told}
+use Rattle.std.proofs.Common.{◌≡◌, ◌∙◌, ap}
+use Rattle.dsr_history.specs.History.{reply_in}
+use Rattle.dsr_history.proofs.Standing.{reply_if, answered_if}
 use Rattle.dsr_history.proofs.machine.Machine.kept.Goals as goal
 
 pub returns-clause-stands : goal.returns-clause-stands
 returns-clause-stands c =
-    let h = c.args.self.now.history in
-    let is : c.kept.result ≡ reply_in h c.args.client =
+    let is : c.kept.result ≡ reply_in c.args.self.now.history c.args.client =
     c.kept.ensures ∙ (c.self.invariant.replies c.args.client ∙ ap (λ m. reply_in m.history c.args.client) c.self.view_is) in
-    subst (λ kept. IfSome kept (λ last. answer_at h last.place ≡ Some last.answer)) (sym is)
-    (told h (reply_in h c.args.client) (true_replies h c.args.client))
+    reply_if c.args.self.now.history c.args.client c.kept.result is
+
+pub returns-clause-answer : goal.returns-clause-answer
+returns-clause-answer c =
+    let is : c.kept.result ≡ reply_in c.args.self.now.history c.args.client =
+    c.kept.ensures ∙ (c.self.invariant.replies c.args.client ∙ ap (λ m. reply_in m.history c.args.client) c.self.view_is) in
+    answered_if c.args.self.now.history c.args.client c.kept.result is
