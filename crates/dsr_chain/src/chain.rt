@@ -1,4 +1,4 @@
-ghost use Rattle.std.specs.Prelude.{◌≡◌, ◌<◌, ◌≤◌, ◌+◌, ◌↔◌, ◌++◌, ◌∷◌, [], Any, length, IfOk, IfErr, IsTrue};
+ghost use Rattle.std.specs.Prelude.{◌≡◌, ◌<◌, ◌≤◌, ◌+◌, ◌↔◌, ◌++◌, ◌∷◌, [], Any, length, IfOk, IfErr, IsTrue, IsOkUnless};
 ghost use Rattle.dsr_chain.specs.SignedValue.{signers_of as signers_in};
 
 use crate::shared_value::SharedValue;
@@ -45,7 +45,7 @@ impl Chain {
     /// The chain of this value with the key's signature alone. `NoMemory` where a growth is refused.
     pub fn start(alloc: Global, slot: u64, value: SlotValue, key: &Key) -> Result<Chain, Refusal>
         ensures started { IfOk result (λ chain. chain ≡ started slot value key.now) }
-        ensures refusal { IfErr result (λ e. e ≡ Refusal.NoMemory) }
+        ensures refusal { IsOkUnless result Refusal.NoMemory }
     {
         let link = Statement::Link {
             slot,
@@ -80,7 +80,7 @@ impl Chain {
     ) -> Result<Chain, Refusal>
         requires { length signatures.items ≤ 16 }
         ensures made { IfOk result (λ chain. chain ≡ signed_value slot value signatures.items) }
-        ensures refusal { IfErr result (λ e. e ≡ Refusal.NoMemory) }
+        ensures refusal { IsOkUnless result Refusal.NoMemory }
     {
         let value = SharedValue::of(alloc, value)?;
         Chain::share(
@@ -96,7 +96,7 @@ impl Chain {
     /// The same chain once more. It shares what this one holds. `NoMemory` where one handle more is refused.
     pub fn try_copy(&self) -> Result<Chain, Refusal>
         ensures same { IfOk result (λ chain. chain ≡ self.now) }
-        ensures refusal { IfErr result (λ e. e ≡ Refusal.NoMemory) }
+        ensures refusal { IsOkUnless result Refusal.NoMemory }
     {
         match Arc::try_clone(&self.body) {
             Ok(body) => Ok(Chain { body }),
@@ -170,7 +170,7 @@ impl Chain {
     fn share(alloc: Global, body: Body) -> Result<Chain, Refusal>
         requires { length body.signatures.items ≤ 16 }
         ensures made { IfOk result (λ chain. chain ≡ signed_value body.slot body.value body.signatures.items) }
-        ensures refusal { IfErr result (λ e. e ≡ Refusal.NoMemory) }
+        ensures refusal { IsOkUnless result Refusal.NoMemory }
     {
         match Arc::new(alloc, body) {
             Ok(body) => Ok(Chain { body }),
@@ -182,7 +182,7 @@ impl Chain {
     fn try_extended(&self, alloc: Global, key: &Key) -> Result<Chain, Refusal>
         requires { length self.now.signatures < 16 }
         ensures extended { IfOk result (λ chain. chain ≡ extended self.now key.now) }
-        ensures refusal { IfErr result (λ e. e ≡ Refusal.NoMemory) }
+        ensures refusal { IsOkUnless result Refusal.NoMemory }
     {
         let link = Statement::Link {
             slot: self.slot(),
@@ -229,7 +229,7 @@ fn with_one_more(
 ) -> Result<Vec<Signature>, Refusal>
     requires { length signatures.now < 16 }
     ensures all { IfOk result (λ all. all.items ≡ signatures.now ++ last ∷ []) }
-    ensures refusal { IfErr result (λ e. e ≡ Refusal.NoMemory) }
+    ensures refusal { IsOkUnless result Refusal.NoMemory }
 {
     let Ok(mut all) = Vec::with_capacity(alloc, signatures.len() + 1) else {
         return Err(Refusal::NoMemory);

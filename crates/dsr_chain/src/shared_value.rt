@@ -1,4 +1,4 @@
-ghost use Rattle.std.specs.Prelude.{◌≡◌, ◌≤◌, ◌↔◌, map, length, IsTrue, IfOk, IfErr};
+ghost use Rattle.std.specs.Prelude.{◌≡◌, ◌≤◌, ◌↔◌, map, length, IsTrue, IfOk, IsOkUnless};
 ghost use Rattle.dsr_chain.specs.Content.{content, signed_in};
 
 use crate::batch::Batch;
@@ -33,7 +33,7 @@ impl SharedValue {
     /// The value, to be shared.
     pub(crate) fn of(alloc: Global, value: SlotValue) -> Result<SharedValue, Refusal>
         ensures made { IfOk result (λ shared. shared ≡ value) }
-        ensures refusal { IfErr result (λ e. e ≡ Refusal.NoMemory) }
+        ensures refusal { IsOkUnless result Refusal.NoMemory }
     {
         let mut signed = Vec::new(alloc);
         if let SlotValue::Act(batch) = value {
@@ -51,7 +51,7 @@ impl SharedValue {
     /// The same value once more.
     pub(crate) fn try_share(&self) -> Result<SharedValue, Refusal>
         ensures same { IfOk result (λ shared. shared ≡ self.now) }
-        ensures refusal { IfErr result (λ e. e ≡ Refusal.NoMemory) }
+        ensures refusal { IsOkUnless result Refusal.NoMemory }
     {
         match Arc::try_clone(&self.signed) {
             Ok(signed) => Ok(SharedValue { signed }),

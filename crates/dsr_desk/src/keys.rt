@@ -1,4 +1,4 @@
-ghost use Rattle.std.specs.Prelude.{◌≡◌, ◌≢◌, ◌↔◌, Some, true, false, replicate, slice_get, slice_set, All, IsTrue, IsSome, IfOk, IfErr, IfSome, OnSome, IfNone};
+ghost use Rattle.std.specs.Prelude.{◌≡◌, ◌≢◌, ◌↔◌, Some, true, false, replicate, slice_get, slice_set, All, IsTrue, IsSome, IfOk, IfSome, OnSome, IfNone, IsOkUnless};
 ghost use Rattle.std.specs.Bool.{OnTrue, OnFalse};
 ghost use Rattle.dsr_names.specs.declared.actor.Actor.{Actor};
 
@@ -68,7 +68,7 @@ impl Keys {
     pub fn new(alloc: Global, shape: Shape) -> Result<Keys, Refusal>
         ensures shape { IfOk result (λ keys. keys.shape ≡ shape) }
         ensures whole { IfOk result IsWhole }
-        ensures refusal { IfErr result (λ e. e ≡ Refusal.NoMemory) }
+        ensures refusal { IsOkUnless result Refusal.NoMemory }
     {
         let replicas = untaken(alloc, shape.n())?;
         let clients = untaken(alloc, shape.m())?;
@@ -169,9 +169,9 @@ impl Signature {
 /// One flag for each of `count` actors: no key is taken.
 fn untaken(alloc: Global, count: u8) -> Result<Vec<bool>, Refusal>
     ensures unset { IfOk result (λ flags. flags.items ≡ replicate count false) }
-    ensures refusal { IfErr result (λ e. e ≡ Refusal.NoMemory) }
+    ensures refusal { IsOkUnless result Refusal.NoMemory }
 {
-    vec![in alloc; false; count as usize].map_err(|_| Refusal::NoMemory)
+    Ok(vec![in alloc; false; count as usize]?)
 }
 
 /// Whether no flag is set.

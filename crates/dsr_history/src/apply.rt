@@ -1,4 +1,4 @@
-ghost use Rattle.std.specs.Prelude.{◌≡◌, ℕ, ◌+◌, ◌<◌, ◌≤◌, ◌^◌, List, ◌∷◌, ◌++◌, [], length, Option, Some, OnOk, IfOk, IfErr, IfSome, IfNone, IsErrOf, vec_len};
+ghost use Rattle.std.specs.Prelude.{◌≡◌, ℕ, ◌+◌, ◌<◌, ◌≤◌, ◌^◌, List, ◌∷◌, ◌++◌, [], length, Option, Some, OnOk, IfOk, IfErr, IfSome, IfNone, IsErrOf, vec_len, IsOkUnless};
 ghost use Rattle.dsr_request.specs.Issued.{Issued};
 ghost use Rattle.dsr_history.specs.MachineState.{Stands};
 ghost use Rattle.dsr_request.specs.RequestText.{IsRequest};
@@ -26,7 +26,7 @@ impl Run {
         ensures done { OnOk result ((older : List Issued) → Stands self.old.machine (values_of older)
             → self.old.answers.items ≡ applied older
             → Stands self.new.machine (values_of (request.now ∷ older)) × (self.new.answers.items ≡ applied (request.now ∷ older))) }
-        ensures refusal { IfErr result (λ e. e ≡ Refusal.NoMemory) }
+        ensures refusal { IsOkUnless result Refusal.NoMemory }
         ensures clients { self.new.machine.clients ≡ self.old.machine.clients }
         ensures longer { length self.new.machine.history ≤ length self.old.machine.history + 1 }
     {
@@ -42,10 +42,7 @@ impl Run {
             // A client has a reply after its own line, so there is always something to tell.
             None => writeln!(self.answers),
         };
-        match written {
-            Ok(()) => Ok(()),
-            Err(_) => Err(Refusal::NoMemory),
-        }
+        written.map_err(|_| Refusal::NoMemory)
     }
 }
 
@@ -76,7 +73,7 @@ impl Run {
         requires short { length text.now < 2 ^ 39 }
         ensures all { IfOk result (λ bad. IfNone bad (HasAnswered text.now self.new.answers.items)) }
         ensures bad { IfOk result (λ bad. IfSome bad (λ line. HasAnsweredTo line text.now self.new.answers.items)) }
-        ensures refusal { IfErr result (λ e. e ≡ Refusal.NoMemory) }
+        ensures refusal { IsOkUnless result Refusal.NoMemory }
     {
         let mut rest = text;
         let mut count = 0;

@@ -1,4 +1,4 @@
-ghost use Rattle.std.specs.Prelude.{◌≡◌, ℕ, ◌+◌, ◌<◌, ◌≤◌, ◌^◌, ◌↔◌, ◌∷◌, [], List, All, Option, length, map, reverse, if◌then◌else◌, Some, OnOk, OnErr, IsOk, IfSome, IfOk, IfErr, IsTrue};
+ghost use Rattle.std.specs.Prelude.{◌≡◌, ℕ, ◌+◌, ◌<◌, ◌≤◌, ◌^◌, ◌↔◌, ◌∷◌, [], List, All, Option, length, map, reverse, if◌then◌else◌, Some, OnOk, OnErr, IsOk, IfSome, IfOk, IsTrue, IsOkUnless};
 ghost use Rattle.dsr_register.specs.Values.{value};
 ghost use Rattle.dsr_request.specs.Issued.{Issued};
 ghost use Rattle.dsr_history.specs.History.{acted, acting, rises_above, operations, reply, reply_in, answer_at, IsReplyTo};
@@ -40,7 +40,7 @@ impl Machine {
     pub fn new(alloc: Global, shape: &Shape) -> Result<Machine, Refusal>
         ensures empty { IfOk result (λ machine. machine.history ≡ []) }
         ensures clients { IfOk result (λ machine. machine.clients ≡ shape.now.m) }
-        ensures refusal { IfErr result (λ e. e ≡ Refusal.NoMemory) }
+        ensures refusal { IsOkUnless result Refusal.NoMemory }
     {
         let directory = Directory::new(alloc)?;
         let ledger = Ledger::new(alloc, shape.m())?;
@@ -57,15 +57,12 @@ impl Machine {
     pub fn room(&mut self) -> Result<(), Refusal>
         ensures ok { OnOk result (8 ≤ self.new.room) }
         ensures no_less { self.old.room ≤ self.new.room }
-        ensures refusal { IfErr result (λ e. e ≡ Refusal.NoMemory) }
+        ensures refusal { IsOkUnless result Refusal.NoMemory }
         ensures history { self.new.history ≡ self.old.history }
         ensures clients { self.new.clients ≡ self.old.clients }
     {
-        if self.history.reserve(MOST_REQUESTS).is_err()
-            || self.answers.reserve(MOST_REQUESTS).is_err()
-        {
-            return Err(Refusal::NoMemory);
-        }
+        self.history.reserve(MOST_REQUESTS)?;
+        self.answers.reserve(MOST_REQUESTS)?;
         Ok(())
     }
 
@@ -89,7 +86,7 @@ impl Machine {
         ensures accepted { OnOk result ((values : List (List Issued)) → Stands self.old values → Stands self.new (requests.now ∷ values)) }
         ensures count { IfOk result (λ n. length self.new.history ≡ length self.old.history + n) }
         ensures most { IfOk result (λ n. n ≤ length requests.now) }
-        ensures refusal { IfErr result (λ e. e ≡ Refusal.NoMemory) }
+        ensures refusal { IsOkUnless result Refusal.NoMemory }
         ensures unchanged { OnErr result (self.new.history ≡ self.old.history) }
         ensures no_less { OnErr result (self.old.room ≤ self.new.room) }
         ensures clients { self.new.clients ≡ self.old.clients }

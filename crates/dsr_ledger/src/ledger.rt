@@ -1,4 +1,4 @@
-ghost use Rattle.std.specs.Prelude.{◌≡◌, ◌<◌, ◌↔◌, None, Some, IfOk, IfErr, IsTrue, length, replicate, slice_set};
+ghost use Rattle.std.specs.Prelude.{◌≡◌, ◌<◌, ◌↔◌, None, Some, IfOk, IsTrue, length, replicate, slice_set, IsOkUnless};
 ghost use Rattle.dsr_ledger.specs.Kept.{kept_of, Acts};
 
 use crate::reply::Reply;
@@ -26,12 +26,10 @@ impl Ledger {
     /// after that. `NoMemory` where it is refused.
     pub fn new(alloc: Global, clients: u8) -> Result<Ledger, Refusal>
         ensures empty { IfOk result (λ ledger. ledger ≡ replicate clients None) }
-        ensures refusal { IfErr result (λ e. e ≡ Refusal.NoMemory) }
+        ensures refusal { IsOkUnless result Refusal.NoMemory }
     {
-        match vec![in alloc; None; clients as usize] {
-            Ok(replies) => Ok(Ledger { replies }),
-            Err(_) => Err(Refusal::NoMemory),
-        }
+        let replies = vec![in alloc; None; clients as usize]?;
+        Ok(Ledger { replies })
     }
 
     /// Whether a request of this client, one of the ledger's, with this number would act: its number is above

@@ -1,4 +1,4 @@
-ghost use Rattle.std.specs.Prelude.{◌≡◌, ◌<◌, ◌↔◌, Some, IsOk, IfOk, IfErr};
+ghost use Rattle.std.specs.Prelude.{◌≡◌, ◌<◌, ◌↔◌, Some, IsOk, IfOk, IsOkUnless};
 ghost use Rattle.std.specs.Option.{SomeIff};
 ghost use Rattle.dsr_names.specs.declared.actor.Actor.{Actor};
 ghost use Rattle.dsr_names.specs.Actor.{actor_text, IsNumbered};
@@ -34,7 +34,7 @@ impl ReplicaId {
     pub fn new(number: u8) -> Result<ReplicaId, Refusal>
         ensures ok { IfOk result (λ replica. replica ≡ number) }
         ensures when { IsOk result ↔ (number < 16) }
-        ensures refusal { IfErr result (λ e. e ≡ Refusal.NoActor) }
+        ensures refusal { IsOkUnless result Refusal.NoActor }
     {
         if number < 16 {
             Ok(ReplicaId { number })
@@ -86,7 +86,7 @@ impl ClientId {
     pub fn new(number: u8) -> Result<ClientId, Refusal>
         ensures ok { IfOk result (λ client. client ≡ number) }
         ensures when { IsOk result ↔ (number < 32) }
-        ensures refusal { IfErr result (λ e. e ≡ Refusal.NoActor) }
+        ensures refusal { IsOkUnless result Refusal.NoActor }
     {
         if number < 32 {
             Ok(ClientId { number })

@@ -1,4 +1,4 @@
-ghost use Rattle.std.specs.Prelude.{◌≡◌, ℕ, ◌+◌, ◌++◌, ◌↔◌, ◌<◌, ◌≤◌, List, length, min, Option, None, Some, IfOk, IfErr, IfSome, OnOk, IsOkAnd, IsErrOf, vec_len};
+ghost use Rattle.std.specs.Prelude.{◌≡◌, ℕ, ◌+◌, ◌++◌, ◌↔◌, ◌<◌, ◌≤◌, List, length, min, Option, None, Some, IfOk, IfErr, IfSome, OnOk, IsOkAnd, IsErrOf, vec_len, IsOkUnless};
 ghost use Rattle.std.specs.Io.{ReadsAtMost};
 ghost use Rattle.std.specs.Io.KnownBytes.{ReadConsumes, IsAtEnd};
 ghost use Rattle.dsr_names.specs.Refusal.{IsReadRefusal};
@@ -85,9 +85,7 @@ fn keep(text: &mut Vec<u8>, bytes: &[u8]) -> Result<(), Refusal>
     if bytes.len() > MOST_BYTES - text.len() {
         return Err(Refusal::ReadFailed);
     }
-    if text.extend_from_slice(bytes).is_err() {
-        return Err(Refusal::NoMemory);
-    }
+    text.extend_from_slice(bytes)?;
     Ok(())
 }
 
@@ -98,7 +96,7 @@ fn next_bytes<S: Source>(source: &mut S, buffer: &mut [u8]) -> Result<usize, Ref
     ensures stays { S.is_in_memory source.old → S.is_in_memory source.new }
     ensures sure { S.is_in_memory source.old → IfSome (S.left source.old) (λ bytes.
         IsOkAnd result (λ n. n ≡ min (length bytes) (length buffer.new))) }
-    ensures refusal { IfErr result (λ e. e ≡ Refusal.ReadFailed) }
+    ensures refusal { IsOkUnless result Refusal.ReadFailed }
 {
     match source.give(buffer) {
         Ok(count) => Ok(count),

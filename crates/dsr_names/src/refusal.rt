@@ -1,6 +1,8 @@
 ghost use Rattle.std.specs.Prelude.{◌≡◌};
 ghost use Rattle.dsr_names.specs.Refusal.{code_of, word_of};
+ghost use Rattle.dsr_names.specs.declared.refusal.Refusal.TheVariants.{NoMemory};
 
+use std::alloc::{AllocError, AllocFailed};
 use std::fmt;
 
 /// Why a call was refused. The number of each is its `code`, from 1 to 19.
@@ -44,6 +46,24 @@ pub enum Refusal {
     WriteFailed,
     /// A thread could not be started, for want of memory too.
     NoThread,
+}
+
+/// A growth that was refused is `NoMemory`.
+impl From<AllocError> for Refusal {
+    ghost from_gives = { λ _ e. e ≡ NoMemory };
+
+    fn from(_: AllocError) -> Refusal {
+        Refusal::NoMemory
+    }
+}
+
+/// A growth that was refused is `NoMemory`, whatever was to be stored.
+impl<T: Drop> From<AllocFailed<T>> for Refusal {
+    ghost from_gives = { λ _ e. e ≡ NoMemory };
+
+    fn from(_: AllocFailed<T>) -> Refusal {
+        Refusal::NoMemory
+    }
 }
 
 impl Refusal {

@@ -1,4 +1,4 @@
-ghost use Rattle.std.specs.Prelude.{◌≡◌, ◌<◌, ◌%◌, ◌↔◌, IsOk, IfOk, IfErr, IsTrue};
+ghost use Rattle.std.specs.Prelude.{◌≡◌, ◌<◌, ◌%◌, ◌↔◌, IsOk, IfOk, IsTrue, IsOkUnless};
 
 use crate::actor::{Actor, ReplicaId};
 use crate::bits::count_bits;
@@ -36,7 +36,7 @@ impl Shape {
     pub fn new(n: u8, f: u8, m: u8, traitors: u16) -> Result<Shape, Refusal>
         ensures ok { IfOk result (λ shape. shape ≡ shape_of n f m traitors) }
         ensures when { IsOk result ↔ IsAllowed (shape_of n f m traitors) }
-        ensures refusal { IfErr result (λ e. e ≡ Refusal.BadShape) }
+        ensures refusal { IsOkUnless result Refusal.BadShape }
     {
         let in_range = 0 < n && n <= 16 && f <= 7 && 2 * f < n && 0 < m && m <= 32;
         if !in_range {

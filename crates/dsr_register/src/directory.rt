@@ -1,4 +1,4 @@
-ghost use Rattle.std.specs.Prelude.{◌≡◌, ℕ, ◌<◌, ◌≤◌, ◌↔◌, ◌&&◌, ◌∷◌, [], List, Option, None, Some, Ok, true, false, not, is_none, nat_le, length, if◌then◌else◌, IfOk, IfErr, IsTrue};
+ghost use Rattle.std.specs.Prelude.{◌≡◌, ℕ, ◌<◌, ◌≤◌, ◌↔◌, ◌&&◌, ◌∷◌, [], List, Option, None, Some, Ok, true, false, not, is_none, nat_le, length, if◌then◌else◌, IfOk, IfErr, IsTrue, IsOkUnless};
 ghost use Rattle.std.specs.Str.{bytes_eq};
 ghost use Rattle.std.specs.List.Sorted.{IsPartitionPoint};
 ghost use Rattle.dsr_request.specs.declared.op.Op.{Op};
@@ -37,12 +37,10 @@ impl Directory {
     /// `NoMemory` where that room is refused.
     pub fn new(alloc: Global) -> Result<Directory, Refusal>
         ensures empty { IfOk result (λ directory. StandsFor directory []) }
-        ensures refusal { IfErr result (λ e. e ≡ Refusal.NoMemory) }
+        ensures refusal { IsOkUnless result Refusal.NoMemory }
     {
-        match Vec::with_capacity(alloc, MOST_REGISTERS) {
-            Ok(entries) => Ok(Directory { entries }),
-            Err(_) => Err(Refusal::NoMemory),
-        }
+        let entries = Vec::with_capacity(alloc, MOST_REGISTERS)?;
+        Ok(Directory { entries })
     }
 
     /// Takes every value out, and keeps the room.

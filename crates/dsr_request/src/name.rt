@@ -1,4 +1,4 @@
-ghost use Rattle.std.specs.Prelude.{◌≡◌, ◌↔◌, ◌∷◌, [], Some, IsOk, IfOk, IfErr, IsTrue};
+ghost use Rattle.std.specs.Prelude.{◌≡◌, ◌↔◌, ◌∷◌, [], Some, IsOk, IfOk, IsTrue, IsOkUnless};
 ghost use Rattle.dsr_request.specs.NameText.{IsName, is_name_byte};
 
 use dsr_names::Refusal;
@@ -61,7 +61,7 @@ impl Name {
     pub fn read(bytes: &[u8]) -> Result<Name, Refusal>
         ensures ok { IfOk result (λ name. name ≡ bytes.now) }
         ensures when { IsOk result ↔ IsName bytes.now }
-        ensures refusal { IfErr result (λ e. e ≡ Refusal.BadName) }
+        ensures refusal { IsOkUnless result Refusal.BadName }
     {
         if !is_name(bytes) {
             return Err(Refusal::BadName);

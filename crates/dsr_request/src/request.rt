@@ -1,4 +1,4 @@
-ghost use Rattle.std.specs.Prelude.{◌≡◌, ◌<◌, ◌^◌, ◌↔◌, IsOk, IfOk, IfErr, IsTrue};
+ghost use Rattle.std.specs.Prelude.{◌≡◌, ◌<◌, ◌^◌, ◌↔◌, IsOk, IfOk, IsTrue, IsOkUnless};
 ghost use Rattle.dsr_request.specs.Issued.{issued};
 
 use crate::op::Op;
@@ -32,7 +32,7 @@ impl Request {
     pub fn new(client: ClientId, number: u64, op: Op) -> Result<Request, Refusal>
         ensures ok { IfOk result (λ request. request ≡ issued client number op) }
         ensures when { IsOk result ↔ ((0 < number) × (number < 2 ^ 40)) }
-        ensures refusal { IfErr result (λ e. e ≡ Refusal.BadNumber) }
+        ensures refusal { IsOkUnless result Refusal.BadNumber }
     {
         if 0 < number && number < NUMBER_END {
             Ok(Request { client, number, op })

@@ -1,4 +1,4 @@
-ghost use Rattle.std.specs.Prelude.{◌≡◌, ℕ, ◌+◌, ◌<◌, ◌≤◌, ◌↔◌, ◌++◌, ◌∷◌, List, [], Some, IfOk, IfErr, IsOk, IsSome, false, length, vec_capacity};
+ghost use Rattle.std.specs.Prelude.{◌≡◌, ℕ, ◌+◌, ◌<◌, ◌≤◌, ◌↔◌, ◌++◌, ◌∷◌, List, [], Some, IfOk, IsOk, IsSome, false, length, vec_capacity, IsOkUnless};
 ghost use Rattle.dsr_chain.specs.SignedValue.{SignedValue};
 ghost use Rattle.dsr_chain.specs.ProperTest.{is_proper};
 ghost use Rattle.dsr_slot.specs.Keeping.{kept_after, keep_one, is_news};
@@ -91,7 +91,7 @@ impl SlotState {
         ensures stands { (read : ℕ → List SignedValue) → StandsFor self.now read → IfOk result (λ chains.
             chains.items ≡ relayed key.now round (kept_after self.now.shape self.now.slot read self.now.closed)) }
         ensures few { IfOk result (λ chains. length chains.items ≤ 2) }
-        ensures refusal { IfErr result (λ e. e ≡ Refusal.NoMemory) }
+        ensures refusal { IsOkUnless result Refusal.NoMemory }
         ensures nothing { relayed key.now round self.now.kept ≡ [] → IsOk result }
     {
         let mut chains = Vec::new(alloc);
@@ -174,7 +174,7 @@ fn relay(
 ) -> Result<(), Refusal>
     requires { IsOfSomeRound kept.now }
     ensures relayed { IfOk result (λ _. chains.new.items ≡ chains.old.items ++ relayed key.now round (kept.now ∷ [])) }
-    ensures refusal { IfErr result (λ e. e ≡ Refusal.NoMemory) }
+    ensures refusal { IsOkUnless result Refusal.NoMemory }
     ensures nothing { is_relayed key.now round kept.now ≡ false → IsOk result }
 {
     if !is_relayed(kept, round, key.signer()) {
