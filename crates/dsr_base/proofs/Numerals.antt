@@ -1,12 +1,13 @@
 -- Decimals without sign or leading zero are what `decimal` writes, and nothing else.
-use Rattle.std.proofs.Common.{◌≡◌, ℕ, zero, suc, subst, ◌<◌, ◌^◌, ◌↔◌, None, Some, Option, length, List, [], ◌∷◌, get_or, arith, refl, sym, ◌∙◌, ap}
+use Rattle.std.proofs.Common.{◌≡◌, ℕ, zero, suc, ◌<◌, ◌^◌, ◌↔◌, None, Some, Option, length, List, [], ◌∷◌, get_or, arith, refl, sym, ◌∙◌, ap}
 use Rattle.std.specs.Option.{SomeIff}
 use Rattle.std.specs.Str.{IsUtf8}
 use Rattle.std.specs.Fmt.{decimal}
 use Rattle.std.specs.Str.Parse.{IsNumeral, AllDigits, digits_value}
 use Rattle.std.proofs.lemmas.Str.Parse.{IsNumeralModel, numerals_by_value, tells_digits}
-use Rattle.std.proofs.lemmas.Fmt.{IsAscii-from_digits, digits_decimal, first_decimal, decimal-digits_value, decimal_digit, decimal_is_IsNumeral}
+use Rattle.std.proofs.lemmas.Fmt.{IsAscii-from_digits, first_decimal, decimal-digits_value, decimal_digit, decimal_is_IsNumeral}
 use Rattle.std.proofs.lemmas.Str.{IsUtf8-from_ascii}
+use Rattle.dsr_base.specs.Reads.{Reads}
 
 pub own : IsNumeralModel (AllDigits 10) (digits_value 10)
 own = numerals_by_value (AllDigits 10) tells_digits
@@ -26,7 +27,7 @@ no_leading_zero bs (suc n) long first small e =
     omega arith
 
 -- digits without a leading zero are the decimal of the number that they write
-pub decimal_of : (bs : List ℕ) → (get_or bs 0 0 ≡ 48 → length bs ≡ 1) → IsNumeral 10 bs → digits_value 10 bs < 2 ^ 64 → bs ≡ decimal (digits_value 10 bs)
+decimal_of : (bs : List ℕ) → (get_or bs 0 0 ≡ 48 → length bs ≡ 1) → IsNumeral 10 bs → digits_value 10 bs < 2 ^ 64 → bs ≡ decimal (digits_value 10 bs)
 decimal_of bs single h small = sym (decimal-digits_value own bs h.1 h.0 single small)
 
 -- where no zero stands before another digit, a zero in front stands alone
@@ -37,8 +38,7 @@ only_digit (x ∷ y ∷ ys) apart first = absurd (apart (omega arith) first)
 
 -- what reads digits, where no leading zero stands, reads exactly the decimals
 pub reads_decimals : (bs : List ℕ) (r : Option ℕ) → (1 < length bs → get_or bs 0 0 ≡ 48 → ⊥)
-    → SomeIff r (IsNumeral 10 bs × (digits_value 10 bs < 2 ^ 64)) (digits_value 10 bs)
-    → (n : ℕ) → (r ≡ Some n) ↔ ((n < 2 ^ 64) × (bs ≡ decimal n))
+    → SomeIff r (IsNumeral 10 bs × (digits_value 10 bs < 2 ^ 64)) (digits_value 10 bs) → Reads (λ (n : ℕ). n < 2 ^ 64) decimal bs r
 reads_decimals bs None apart h n = (
   (λ e. cc),
   (λ p.

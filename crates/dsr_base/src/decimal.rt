@@ -1,9 +1,21 @@
-ghost use Rattle.std.specs.Prelude.{◌≡◌, ℕ, ◌<◌, ◌^◌, ◌↔◌, Some};
+ghost use Rattle.std.specs.Prelude.{◌≡◌, ℕ, ◌<◌, ◌^◌};
 ghost use Rattle.std.specs.Option.{SomeIff};
 ghost use Rattle.std.specs.Fmt.{decimal};
 ghost use Rattle.std.specs.Str.Parse.{IsNumeral, digits_value};
+ghost use Rattle.dsr_base.specs.Reads.{Reads};
 
 use std::str;
+
+/// The number below 2^64 whose decimal the bytes are: no sign, and no leading zero but in `0` itself.
+/// `None` exactly where they are no such decimal.
+pub fn read_decimal(bytes: &[u8]) -> Option<u64>
+    ensures { Reads (λ (n : ℕ). n < 2 ^ 64) decimal bytes.now result }
+{
+    if bytes.len() > 1 && bytes[0] == b'0' {
+        return None;
+    }
+    digits(bytes)
+}
 
 /// The number that the bytes write in decimal, which may have leading zeros.
 fn digits(bytes: &[u8]) -> Option<u64>
@@ -16,15 +28,4 @@ fn digits(bytes: &[u8]) -> Option<u64>
         Ok(text) => text.parse().ok(),
         Err(_) => None,
     }
-}
-
-/// The number below 2^64 that the bytes are in decimal, with no sign and no leading zero but `0` itself. `None`
-/// exactly where they are no such decimal.
-pub fn read_decimal(bytes: &[u8]) -> Option<u64>
-    ensures { (n : ℕ) → (result ≡ Some n) ↔ ((n < 2 ^ 64) × (bytes.now ≡ decimal n)) }
-{
-    if bytes.len() > 1 && bytes[0] == b'0' {
-        return None;
-    }
-    digits(bytes)
 }

@@ -1,10 +1,21 @@
-//! What is of no field: cuts of texts, decimals, and lemmas on membership, counting and padded arrays.
+//! What the directory's types are built on: lists of bounded length that are copied without taking memory, and
+//! what every text is read and written by, whatever it says: cuts, decimals, and items joined by a mark.
 #![tactic(auto)]
 
 mod decimal;
+mod exact;
+mod few;
+mod few_text;
 mod split;
 #[cfg(test)]
 mod tests;
+mod token;
+mod up_to;
+mod up_to_text;
 
 pub use decimal::read_decimal;
-pub use split::split_once;
+pub use exact::Exact;
+pub use few::Few;
+pub use split::{split_once, split_outside};
+pub use token::Token;
+pub use up_to::UpTo;

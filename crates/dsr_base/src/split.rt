@@ -1,5 +1,7 @@
-ghost use Rattle.std.specs.Prelude.{◌≡◌, ◌∷◌, ◌++◌, IfSome, IfNone};
-ghost use Rattle.dsr_base.specs.Split.{IsAbsent};
+ghost use Rattle.std.specs.Prelude.{◌≡◌, ◌∷◌, ◌++◌, false, IfSome, IfNone};
+ghost use Rattle.dsr_base.specs.Split.{IsAbsent, IsFree, IsPart, is_inside_with};
+
+use memchr::memchr;
 
 /// What stands before the first such byte, and what stands after it. `None` exactly where there is none.
 pub fn split_once(bytes: &[u8], byte: u8) -> Option<(&[u8], &[u8])>
@@ -7,10 +9,36 @@ pub fn split_once(bytes: &[u8], byte: u8) -> Option<(&[u8], &[u8])>
     ensures first { IfSome result (λ parts. IsAbsent byte parts.0.now) }
     ensures absent { IfNone result (IsAbsent byte bytes.now) }
 {
+    match memchr(byte, bytes) {
+        Some(place) => Some((&bytes[..place], &bytes[place + 1..])),
+        None => None,
+    }
+}
+
+/// What stands before the first mark outside parentheses, and what stands after it. `None` exactly where
+/// there is no such mark. Parentheses are one level deep.
+pub fn split_outside(bytes: &[u8], mark: u8) -> Option<(&[u8], &[u8])>
+    ensures found { IfSome result (λ parts. bytes.now ≡ parts.0.now ++ mark ∷ parts.1.now) }
+    ensures first { IfSome result (λ parts. IsPart mark parts.0.now) }
+    ensures free { IfNone result (IsFree mark false bytes.now) }
+{
+    let mut inside = false;
     for i in 0..bytes.len() {
-        if bytes[i] == byte {
+        if !inside && bytes[i] == mark {
             return Some((&bytes[..i], &bytes[i + 1..]));
         }
+        inside = inside_with(inside, bytes[i]);
     }
     None
+}
+
+/// Whether what follows the byte stands in parentheses, where it is known whether the byte does.
+fn inside_with(inside: bool, byte: u8) -> bool
+    ensures { result ≡ is_inside_with inside byte }
+{
+    match byte {
+        b'(' => true,
+        b')' => false,
+        _ => inside,
+    }
 }

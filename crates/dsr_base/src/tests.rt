@@ -1,43 +1,75 @@
-use crate::{read_decimal, split_once};
+ghost use Rattle.std.proofs.Common.{rules};
+
+use crate::{Exact, Few, UpTo};
 use std::process::Abort;
+use std::test::Fail;
 
-// The text is split at its first equals sign into these two parts.
-fn splits(rt: &impl Abort, text: &str, front: &str, rest: &str) {
-    let parts = Some((front.as_bytes(), rest.as_bytes()));
-    assert!(rt; split_once(text.as_bytes(), b'=') == parts, "{text}");
+#[derive(Clone, Copy, Debug, PartialEq, Eq)]
+struct Letter {
+    code: u8,
+}
+
+impl Exact for Letter {
+    ghost decides = { λ a b. Prim.search rules };
+}
+
+const A: Letter = Letter { code: 65 };
+
+const B: Letter = Letter { code: 66 };
+
+const C: Letter = Letter { code: 67 };
+
+const D: Letter = Letter { code: 68 };
+
+#[test]
+fn a_list_has_1_to_3_items(rt: HostRuntime) -> Result<(), Fail> {
+    assert!(rt; Few::<Letter, 3>::of(&[]).is_none());
+    assert!(rt; Few::<Letter, 3>::of(&[A, B, C, D]).is_none());
+    assert_eq!(rt; Few::<Letter, 3>::of(&[A]), Some(Few::one(A)));
+    let list = Few::<Letter, 3>::of(&[A, B, C]).ok_or("no list")?;
+    assert_eq!(rt; list.as_slice(), [A, B, C].as_slice());
+    assert_eq!(rt; list.len(), 3);
+    assert_eq!(rt; list.get(2), Some(C));
+    assert_eq!(rt; list.get(3), None);
+    Ok(())
 }
 
 #[test]
-fn bytes_are_split_at_the_first(rt: HostRuntime) {
-    splits(&rt, "ab=cd", "ab", "cd");
-    splits(&rt, "=a==b=", "", "a==b=");
-    splits(&rt, "ab=", "ab", "");
-    for text in ["", "ab cd"] {
-        assert!(rt; split_once(text.as_bytes(), b'=').is_none(), "{text}");
-    }
+fn a_list_grows_at_both_ends(rt: HostRuntime) -> Result<(), Fail> {
+    let mut list = Few::<Letter, 3>::one(B);
+    list.push(C);
+    assert_eq!(rt; list.as_slice(), [B, C].as_slice());
+    assert_eq!(rt; list.get(2), None);
+    let full = list.after(A).ok_or("no list")?;
+    assert_eq!(rt; full.as_slice(), [A, B, C].as_slice());
+    assert!(rt; full.after(D).is_none());
+    Ok(())
 }
 
-// Texts, and the number that each is in decimal.
-const DECIMALS: [(&str, Option<u64>); 14] = [
-    ("0", Some(0)),
-    ("7", Some(7)),
-    ("00", None),
-    ("01", None),
-    ("+1", None),
-    ("-1", None),
-    ("", None),
-    (" 1", None),
-    ("1 ", None),
-    ("1a", None),
-    ("none", None),
-    ("1099511627776", Some(1_099_511_627_776)),
-    ("18446744073709551615", Some(18_446_744_073_709_551_615)),
-    ("18446744073709551616", None),
-];
+#[test]
+fn lists_are_the_same_by_their_items(rt: HostRuntime) -> Result<(), Fail> {
+    let list = Few::<Letter, 3>::of(&[A, B]).ok_or("no list")?;
+    let mut other = Few::one(A);
+    assert!(rt; !list.same(&other));
+    other.push(B);
+    assert!(rt; list.same(&other));
+    assert!(rt; list.same(&other.clone()?));
+    assert!(rt; !list.same(&Few::of(&[B, A]).ok_or("no list")?));
+    Ok(())
+}
 
 #[test]
-fn decimals_are_read(rt: HostRuntime) {
-    for (text, number) in DECIMALS {
-        assert!(rt; read_decimal(text.as_bytes()) == number, "{text}");
-    }
+fn a_list_may_be_empty(rt: HostRuntime) -> Result<(), Fail> {
+    let empty = UpTo::<Letter, 3>::new();
+    assert!(rt; empty.is_empty());
+    assert_eq!(rt; empty.len(), 0);
+    let mut list = empty;
+    list.push(A);
+    assert!(rt; !list.is_empty());
+    list.push(B);
+    assert_eq!(rt; list.as_slice(), [A, B].as_slice());
+    assert_eq!(rt; list.len(), 2);
+    assert!(rt; list.same(&list.clone()?));
+    assert!(rt; !list.same(&empty));
+    Ok(())
 }

@@ -1,6 +1,6 @@
 -- A list of signed requests that was written over copies of its first.
 use Rattle.std.proofs.Common.{◌≡◌, ◌<◌, ◌≤◌, List, [], ◌∷◌, ◌++◌, length, drop, replicate, get_or, ap, sym, ◌∙◌, subst, lt_irrefl}
-use Rattle.dsr_base.specs.Padded.{IsPadded}
+use Rattle.dsr_base.specs.Fields.Padded.{IsPadded}
 use Rattle.dsr_base.proofs.Padding.{items_over_blanks}
 use Rattle.dsr_chain.specs.BatchFields.{IsBatchFields, first_signed}
 use Rattle.dsr_chain.specs.declared.signed_request.SignedRequest.{SignedRequest}

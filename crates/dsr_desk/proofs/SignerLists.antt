@@ -2,7 +2,7 @@
 use Rattle.std.proofs.Common.{ℕ, ◌+◌, ◌-◌, ◌<◌, List, drop, replicate, arith, ap, sym, ◌∙◌}
 use Rattle.std.proofs.Math.ListN.{set, length-set}
 use Rattle.std.proofs.lemmas.List.{drop-set-lt, drop-replicate, drop-drop}
-use Rattle.dsr_base.specs.Padded.{IsPadded}
+use Rattle.dsr_base.specs.Fields.Padded.{IsPadded}
 
 pub pushed_on_blanks : {X : Type 0} (n k : ℕ) (blank item : X) (places : List X) → IsPadded n blank places k → k < n
     → IsPadded n blank (set places k item) (k + 1)

@@ -1,7 +1,7 @@
 -- How a list of signers stands in an array of 16: the places after it hold replica 0.
 use Rattle.std.specs.Prelude.{◌≡◌, ℕ, List, length, take}
 use Rattle.std.proofs.Common.{ap₂}
-use Rattle.dsr_base.specs.Padded.{IsPadded, padded, length_items, padded_items}
+use Rattle.dsr_base.specs.Fields.Padded.{IsPadded, padded, length_items, padded_items}
 use Rattle.dsr_names.specs.declared.actor.Actor.{Actor}
 use Rattle.dsr_names.specs.declared.actor.Actor.TheVariants.{Replica}
 use Rattle.dsr_desk.specs.declared.signers.Signers.TheInside.{Inside}

@@ -2,7 +2,7 @@
 use Rattle.std.proofs.Common.{◌≡◌, ℕ, ◌+◌, ◌-◌, ◌<◌, ◌≤◌, List, [], ◌∷◌, ◌++◌, length, take, drop, replicate, get_or, ap, ap₂, sym, ◌∙◌, subst, refl, arith, lt_irrefl}
 use Rattle.std.proofs.lemmas.List.{drop-drop, take_at}
 use borrow.Rule.Slice.PartMut.{post_of}
-use Rattle.dsr_base.specs.Padded.{IsPadded}
+use Rattle.dsr_base.specs.Fields.Padded.{IsPadded}
 use Rattle.dsr_base.proofs.Padding.{items_over_blanks}
 use Rattle.dsr_request.specs.Issued.{Issued}
 use Rattle.dsr_request.specs.RequestsFields.{IsRequestsFields, first_request}

@@ -1,7 +1,7 @@
 -- How a name stands in an array: the bytes after it are 0.
 use Rattle.std.specs.Prelude.{◌≡◌, ℕ, List, length, take}
 use Rattle.std.proofs.Common.{ap₂}
-use Rattle.dsr_base.specs.Padded.{IsPadded, padded, length_items, padded_items}
+use Rattle.dsr_base.specs.Fields.Padded.{IsPadded, padded, length_items, padded_items}
 use Rattle.dsr_request.specs.NameText.{IsName}
 use Rattle.dsr_request.specs.declared.name.Name.TheInside.{Inside}
 

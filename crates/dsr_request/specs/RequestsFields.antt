@@ -1,7 +1,7 @@
 -- How a list of requests stands in an array of 8: the places after it hold its first request again.
 use Rattle.std.specs.Prelude.{◌≡◌, ℕ, zero, suc, refl, ◌<◌, List, [], ◌∷◌, length, take}
 use Rattle.std.proofs.Common.{ap₂, ap, ◌∙◌, lt_irrefl}
-use Rattle.dsr_base.specs.Padded.{IsPadded, padded, length_items, padded_items}
+use Rattle.dsr_base.specs.Fields.Padded.{IsPadded, padded, length_items, padded_items}
 use Rattle.dsr_request.specs.declared.op.Op.TheVariants.{Read}
 use Rattle.dsr_request.specs.Issued.{Issued, issued}
 use Rattle.dsr_request.specs.declared.requests.Requests.TheInside.{Inside}

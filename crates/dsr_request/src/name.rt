@@ -19,7 +19,7 @@ pub struct Name {
 
 impl Model for Name {
     ghost use Rattle.std.specs.Prelude.{List, ℕ, length, take};
-    ghost use Rattle.dsr_base.specs.Padded.{padded};
+    ghost use Rattle.dsr_base.specs.Fields.Padded.{padded};
 
     ghost Value = { List ℕ };
 

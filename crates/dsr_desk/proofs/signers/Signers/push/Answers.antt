@@ -1,5 +1,5 @@
 use Rattle.std.proofs.Common.{◌<◌}
-use Rattle.dsr_base.specs.Padded.{length_items}
+use Rattle.dsr_base.specs.Fields.Padded.{length_items}
 use Rattle.dsr_desk.specs.SignersFields.{blank}
 use Rattle.dsr_desk.proofs.SignerLists.{pushed_on_blanks}
 use Rattle.dsr_desk.proofs.signers.Signers.push.Goals as goal

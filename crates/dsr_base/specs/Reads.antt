@@ -1,0 +1,6 @@
+-- What a reader of texts promises (this project).
+use Rattle.std.specs.Prelude.{◌≡◌, ℕ, ◌↔◌, List, Option, Some}
+
+-- the answer is the value of this kind whose text the bytes are, and there is none exactly where they are no such text
+abbrev pub Reads : {X : Type 0} → (X → Type 0) → (X → List ℕ) → List ℕ → Option X → Type 0
+Reads {X} is text bytes answer = (x : X) → (answer ≡ Some x) ↔ (is x × (bytes ≡ text x))

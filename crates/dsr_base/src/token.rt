@@ -1,0 +1,33 @@
+ghost use Rattle.std.specs.Prelude.{◌≡◌, ℕ, ◌<◌, List, Some, get_or};
+ghost use Rattle.dsr_base.specs.Reads.{Reads};
+ghost use Rattle.dsr_base.specs.Split.{IsPart};
+
+use std::fmt;
+
+/// An item that texts spell by a token, and join to others of its kind by a mark.
+pub trait Token: Copy + fmt::Display {
+    // the items that have a token
+    ghost is: { Self → Type 0 };
+
+    // an item's token
+    ghost text: { Self → List ℕ };
+
+    ghost MARK: { ℕ };
+
+    /// The byte that joins these tokens.
+    const MARK: u8;
+
+    /// The item whose token the bytes are. `None` exactly where they are no such token.
+    fn read(bytes: &[u8]) -> Option<Self>
+        ensures { Reads is text bytes.now result };
+
+    ghost ascii: { MARK < 128 };
+
+    // no token has the mark in it, but in parentheses
+    ghost apart: { (x : Self) → is x → IsPart MARK (text x) };
+
+    // every token begins with a digit or a letter, so that none is a dash
+    ghost begun: { (x : Self) → is x → 45 < get_or (text x) 0 0 };
+
+    ghost shown: { (x : Self) → Self.output x ≡ Some (text x) };
+}
