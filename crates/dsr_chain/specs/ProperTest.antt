@@ -7,7 +7,7 @@ use Rattle.dsr_names.specs.Shape.{Members}
 use Rattle.dsr_names.specs.declared.actor.Actor.{Actor}
 use Rattle.dsr_names.specs.declared.actor.Actor.TheVariants.{Replica, Client}
 use Rattle.dsr_request.specs.Issued.{Issued}
-use Rattle.dsr_request.specs.RequestsEq.{requests_eq}
+use Rattle.dsr_request.specs.RequestEq.{requests_eq}
 use Rattle.dsr_desk.specs.Signed.{Signed, signed}
 use Rattle.dsr_desk.specs.SignersEq.{actor_eq}
 use Rattle.dsr_desk.specs.StatementEq.{statement_eq}

@@ -4,7 +4,7 @@ use Rattle.std.specs.Bool.{Decides}
 use Rattle.std.proofs.lemmas.Bool.Decides.{Decides-and, Decides-like}
 use Rattle.std.proofs.Common.{ap, ap₂}
 use Rattle.dsr_request.specs.Issued.{Issued}
-use Rattle.dsr_request.specs.RequestsEq.{request_eq, request_eq-Decides}
+use Rattle.dsr_request.specs.RequestEq.{request_eq, request_eq-Decides}
 use Rattle.dsr_desk.specs.Signed.{Signed}
 use Rattle.dsr_desk.specs.SignatureEq.{signature_eq, signature_eq-Decides}
 use Rattle.dsr_chain.specs.declared.signed_request.SignedRequest.{SignedRequest}

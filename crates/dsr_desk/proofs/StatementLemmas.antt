@@ -5,7 +5,7 @@ use Rattle.std.proofs.lemmas.Option.{none-some, same_Some}
 use Rattle.dsr_base.specs.Split.{IsAbsent}
 use Rattle.dsr_names.specs.declared.actor.Actor.{Actor}
 use Rattle.dsr_base.proofs.Marks.{one_cut, not_absent}
-use Rattle.dsr_request.proofs.TextLemmas.{decimal_without}
+use Rattle.dsr_request.specs.Fields.Texts.{decimal_without}
 use Rattle.dsr_request.specs.Issued.{Issued}
 use Rattle.dsr_request.specs.RequestText.{request_token, IsRequest}
 use Rattle.dsr_request.proofs.RequestsTextLemmas.{token_without, requests_without}

@@ -5,7 +5,7 @@ use Rattle.std.specs.Option.{option_eq}
 use Rattle.std.proofs.lemmas.Bool.Decides.{Decides-and, Decides-like, Decides-eqb}
 use Rattle.std.proofs.Common.{refl, eqb}
 use Rattle.dsr_request.specs.Issued.{Issued}
-use Rattle.dsr_request.specs.RequestsEq.{request_eq, request_eq-Decides, requests_eq, requests_eq-Decides}
+use Rattle.dsr_request.specs.RequestEq.{request_eq, request_eq-Decides, requests_eq, requests_eq-Decides}
 use Rattle.dsr_desk.specs.SignersEq.{signers_eq, signers_eq-Decides}
 use Rattle.dsr_desk.specs.declared.statement.Statement.{Statement}
 use Rattle.dsr_desk.specs.declared.statement.Statement.TheVariants.{Ask, Link}

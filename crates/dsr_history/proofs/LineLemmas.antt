@@ -5,7 +5,7 @@ use Rattle.dsr_base.proofs.Marks.{one_cut, not_absent}
 use Rattle.dsr_request.specs.Issued.{Issued}
 use Rattle.dsr_request.specs.RequestText.{request_text, IsRequest}
 use Rattle.dsr_history.specs.Applied.{request_line, IsNoLine}
-use Rattle.dsr_request.proofs.RequestTextLemmas.{text_without}
+use Rattle.dsr_request.specs.Fields.RequestToken.{text_without}
 
 -- no line feed stands in the text of a request
 request_without : (request : Issued) → IsRequest request → IsAbsent 10 (request_text 32 32 request)

@@ -8,9 +8,8 @@ use Rattle.dsr_names.specs.declared.actor.Actor.TheVariants.{Replica, Client}
 use Rattle.dsr_request.specs.NameText.{is_name_byte}
 use Rattle.dsr_request.specs.OpText.{op_text}
 use Rattle.dsr_base.proofs.Marks.{one_cut, not_absent}
-use Rattle.dsr_request.proofs.TextLemmas.{decimal_without, op_without}
-use Rattle.std.proofs.lemmas.Bool.{false≢true}
-use Rattle.std.proofs.lemmas.List.Elements.{All-cons, All-append}
+use Rattle.dsr_request.specs.Fields.Texts.{decimal_without}
+use Rattle.std.proofs.lemmas.List.Elements.{All-cons}
 use Rattle.dsr_request.specs.Issued.{Issued}
 use Rattle.dsr_request.specs.RequestText.{request_text, IsRequest}
 
@@ -60,20 +59,6 @@ letter_is_no_mark mark (inr at) e = omega arith
 client_without : (mark client : ℕ) → IsMark mark → client < 32 → IsAbsent mark (actor_text (Client client))
 client_without mark client m small =
     All-cons (λ b. b ≡ mark → ⊥) 99 (decimal client) (letter_is_no_mark mark m) (decimal_without mark client (mark_is_no_name_byte mark m) (omega arith))
-
-joined_without : (byte : ℕ) (first second : List ℕ) (mark : ℕ) → (mark ≡ byte → ⊥) → IsAbsent byte first → IsAbsent byte second → IsAbsent byte (first ++ mark ∷ second)
-joined_without byte first second mark apart p q =
-    All-append (λ b. b ≡ byte → ⊥) first (mark ∷ second) p (All-cons (λ b. b ≡ byte → ⊥) mark second apart q)
-
--- a byte that no name has stands in no request's text, unless it separates the parts
-pub text_without : (byte mark separator : ℕ) (request : Issued) → is_name_byte byte ≡ false → (mark ≡ byte → ⊥) → (separator ≡ byte → ⊥)
-    → IsRequest request → IsAbsent byte (request_text mark separator request)
-text_without byte mark separator request other apart_mark apart_separator h =
-    let letter : 99 ≡ byte → ⊥ = λ e. false≢true (sym other ∙ ap is_name_byte (sym e)) in
-    joined_without byte (actor_text (Client request.client)) (decimal request.number ++ separator ∷ op_text separator request.op) mark apart_mark
-    (All-cons (λ b. b ≡ byte → ⊥) 99 (decimal request.client) letter (decimal_without byte request.client other (omega (arith, h.client_exists))))
-    (joined_without byte (decimal request.number) (op_text separator request.op) separator apart_separator
-    (decimal_without byte request.number other (omega (arith, h.small_number))) (op_without byte separator request.op other apart_separator h.is_op))
 
 -- a text without the mark spells no request
 pub no_mark : (mark separator : ℕ) (bytes : List ℕ) (request : Issued) → IsAbsent mark bytes → bytes ≡ request_text mark separator request → ⊥

@@ -1,11 +1,10 @@
 pub mod AnswerText
+pub mod Fields
 pub mod Issued
-pub mod NameFields
 pub mod NameOrder
 pub mod NameText
 pub mod OpText
 pub mod Register
+pub mod RequestEq
 pub mod RequestText
-pub mod RequestsEq
-pub mod RequestsFields
 pub mod RequestsText

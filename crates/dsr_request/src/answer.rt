@@ -1,6 +1,6 @@
-ghost use Rattle.std.specs.Prelude.{◌≡◌, ℕ, ◌++◌, Some, Option, ◌↔◌};
+ghost use Rattle.std.specs.Prelude.{◌++◌, Some};
+ghost use Rattle.dsr_base.specs.Reads.{Reads};
 ghost use Rattle.dsr_names.specs.Token.{IsOld, old_text};
-ghost use Rattle.dsr_request.specs.declared.answer.Answer.{Answer};
 ghost use Rattle.dsr_request.specs.AnswerText.{IsAnswer, answer_text};
 
 use dsr_names::{Old, read_old};
@@ -26,7 +26,7 @@ pub enum Answer {
 impl Answer {
     /// The answer that the bytes spell. `None` exactly where they spell none.
     pub fn read(bytes: &[u8]) -> Option<Answer>
-        ensures { (a : Answer) → (result ≡ Some a) ↔ (IsAnswer a × (bytes.now ≡ answer_text a)) }
+        ensures { Reads IsAnswer answer_text bytes.now result }
     {
         if bytes == b"written".as_slice() {
             Some(Answer::Written)
@@ -74,7 +74,7 @@ impl fmt::Display for Answer {
 
 /// What stands after the word, where the bytes are the word and a token OLD.
 fn old_after(bytes: &[u8], word: &[u8]) -> Option<Option<u64>>
-    ensures { (old : Option ℕ) → (result ≡ Some old) ↔ (IsOld old × (bytes.now ≡ word.now ++ old_text old)) }
+    ensures { Reads IsOld (λ old. word.now ++ old_text old) bytes.now result }
 {
     let rest = bytes.strip_prefix(word)?;
     read_old(rest)

@@ -9,7 +9,6 @@ mod request;
 mod request_tests;
 mod request_text;
 mod requests;
-mod requests_text;
 #[cfg(test)]
 mod tests;
 

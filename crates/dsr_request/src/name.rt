@@ -23,7 +23,7 @@ impl Model for Name {
 
     ghost Value = { List ℕ };
 
-    ghost use Rattle.dsr_request.specs.NameFields.{IsNameFields, name_fields, fields_back};
+    ghost use Rattle.dsr_request.specs.Fields.Name.{IsNameFields, name_fields, fields_back};
 
     ghost view = { λ name. take name.len name.bytes };
 

@@ -1,4 +1,5 @@
-ghost use Rattle.std.specs.Prelude.{◌≡◌, ℕ, List, Some, ◌↔◌, ◌⊎◌, codes};
+ghost use Rattle.std.specs.Prelude.{◌≡◌, Some, ◌↔◌, ◌⊎◌, codes};
+ghost use Rattle.dsr_base.specs.Reads.{Reads};
 ghost use Rattle.dsr_request.specs.declared.op.Op.{Op};
 ghost use Rattle.dsr_request.specs.NameText.{IsName};
 ghost use Rattle.dsr_request.specs.OpText.{IsOp, op_text, verb_of, operands_text};
@@ -45,7 +46,7 @@ impl Op {
     /// `swap a none 1`, or a colon, as in `swap:a:none:1`. `None` exactly where they spell none.
     pub fn read(bytes: &[u8], separator: u8) -> Option<Op>
         requires { (separator ≡ 32) ⊎ (separator ≡ 58) }
-        ensures { (op : Op) → (result ≡ Some op) ↔ (IsOp op × (bytes.now ≡ op_text separator op)) }
+        ensures { Reads IsOp (op_text separator) bytes.now result }
     {
         let (verb, operands) = split_once(bytes, separator)?;
         read_operands(verb, operands, separator)
@@ -149,7 +150,7 @@ fn read_swap(operands: &[u8], separator: u8) -> Option<Op>
 
 /// The name that the bytes spell.
 fn read_name(bytes: &[u8]) -> Option<Name>
-    ensures { (name : List ℕ) → (result ≡ Some name) ↔ (IsName name × (bytes.now ≡ name)) }
+    ensures { Reads IsName (λ name. name) bytes.now result }
 {
     Name::read(bytes).ok()
 }

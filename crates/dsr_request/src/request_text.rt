@@ -1,5 +1,6 @@
-ghost use Rattle.std.specs.Prelude.{◌≡◌, ◌⊎◌, ◌↔◌, ℕ, ◌<◌, Some};
+ghost use Rattle.std.specs.Prelude.{◌≡◌, ◌⊎◌, ◌↔◌, ◌<◌, Some};
 ghost use Rattle.std.specs.Fmt.{decimal};
+ghost use Rattle.dsr_base.specs.Reads.{Reads};
 ghost use Rattle.dsr_names.specs.Actor.{actor_text};
 ghost use Rattle.dsr_names.specs.declared.actor.Actor.TheVariants.{Client};
 ghost use Rattle.dsr_request.specs.OpText.{op_text};
@@ -15,7 +16,7 @@ use std::fmt;
 impl Request {
     /// The request whose token the bytes are, as `c0#7:write:a:5`. `None` exactly where they are no such token.
     pub fn read(bytes: &[u8]) -> Option<Request>
-        ensures { (request : Issued) → (result ≡ Some request) ↔ (IsRequest request × (bytes.now ≡ request_token request)) }
+        ensures { Reads IsRequest request_token bytes.now result }
     {
         read_request(bytes, b'#', b':')
     }
@@ -23,7 +24,7 @@ impl Request {
     /// The request that the bytes spell as a line does, without its line feed, as `c0 7 write a 5`. `None` exactly
     /// where they spell none.
     pub fn read_line(bytes: &[u8]) -> Option<Request>
-        ensures { (request : Issued) → (result ≡ Some request) ↔ (IsRequest request × (bytes.now ≡ request_text 32 32 request)) }
+        ensures { Reads IsRequest (request_text 32 32) bytes.now result }
     {
         read_request(bytes, b' ', b' ')
     }
@@ -44,7 +45,7 @@ impl fmt::Display for Request {
 fn read_request(bytes: &[u8], mark: u8, separator: u8) -> Option<Request>
     requires mark { (mark ≡ 32) ⊎ (mark ≡ 35) }
     requires separator { (separator ≡ 32) ⊎ (separator ≡ 58) }
-    ensures { (request : Issued) → (result ≡ Some request) ↔ (IsRequest request × (bytes.now ≡ request_text mark separator request)) }
+    ensures { Reads IsRequest (request_text mark separator) bytes.now result }
 {
     let (client, rest) = split_once(bytes, mark)?;
     let (number, op) = split_once(rest, separator)?;
@@ -66,7 +67,7 @@ fn read_parts(client: &[u8], number: &[u8], op: &[u8], separator: u8) -> Option<
 
 /// The client whose token the bytes are.
 fn read_client(bytes: &[u8]) -> Option<ClientId>
-    ensures { (client : ℕ) → (result ≡ Some client) ↔ ((client < 32) × (bytes.now ≡ actor_text (Client client))) }
+    ensures { Reads (λ client. client < 32) (λ client. actor_text (Client client)) bytes.now result }
 {
     match Actor::read(bytes)? {
         Actor::Client(client) => Some(client),

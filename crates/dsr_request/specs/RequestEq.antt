@@ -1,11 +1,9 @@
--- When `==` holds of two lists of requests: exactly where they are equal.
+-- When `==` holds of two requests, and of two lists of them: exactly where they are equal.
 use Rattle.std.specs.Prelude.{◌≡◌, List, Bool}
 use Rattle.std.specs.Bool.{Decides}
-use Rattle.std.specs.Cmp.{IsEquivalence}
 use Rattle.std.specs.Cmp.Lexicographic.{pointwise}
 use Rattle.std.proofs.lemmas.Slice.Eq.{slice_eq-Decides}
 use Rattle.std.proofs.Common.{rules, refl}
-use Rattle.dsr_base.specs.Equality.{equivalence_from_decides}
 use Rattle.dsr_request.specs.Issued.{Issued}
 use Rattle.dsr_request.specs.contracts.request.RequestPartialEq.TheImpl.{ghosts}
 
@@ -24,7 +22,3 @@ request_eq-Decides a b = search rules
 -- the second holds exactly of equal lists
 pub requests_eq-Decides : (xs ys : List Issued) → Decides (requests_eq xs ys) (xs ≡ ys)
 requests_eq-Decides xs ys = slice_eq-Decides request_eq-Decides xs ys (requests_eq xs ys) refl
-
--- so it is an equivalence, as `==` has to be
-pub requests_eq_equiv : IsEquivalence requests_eq
-requests_eq_equiv = equivalence_from_decides requests_eq requests_eq-Decides
