@@ -1,8 +1,10 @@
 mod BatchLists
-pub mod ChainLaws
+mod Blindness
+mod ChainLaws
 mod Contents
 mod FaultLemmas
 mod Fitting
-pub mod ProperDecides
+pub mod Lemmas
+mod ProperDecides
 mod Sameness
 mod Twice

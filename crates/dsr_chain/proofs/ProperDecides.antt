@@ -134,13 +134,13 @@ links-Decides slot value (t ∷ rest) before =
 
 -- ---- asked requests
 
-asked-Decides : (shape : Members) (s : SignedRequest) → Decides (is_asked shape s) (IsAsked shape s)
+pub asked-Decides : (shape : Members) (s : SignedRequest) → Decides (is_asked shape s) (IsAsked shape s)
 asked-Decides shape s =
     let own = signed (Client s.request.client) (Ask s.request) in
     Decides-like (is_asked shape s) (λ e. record { client = e.0; signature = e.1 }) (λ h. (h.client, h.signature))
     (Decides-and (nat_lt s.request.client shape.m) (signature_eq s.signature own) (Decides-ltb s.request.client shape.m) (signature_eq-Decides s.signature own))
 
-all_asked-Decides : (shape : Members) (requests : List SignedRequest) → Decides (list_all (is_asked shape) requests) (All (IsAsked shape) requests)
+pub all_asked-Decides : (shape : Members) (requests : List SignedRequest) → Decides (list_all (is_asked shape) requests) (All (IsAsked shape) requests)
 all_asked-Decides shape requests =
     Decides-by_and (is_asked shape) (IsAsked shape) (list_all (is_asked shape)) (asked-Decides shape) refl (λ _ _. refl) requests
 

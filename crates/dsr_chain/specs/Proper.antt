@@ -1,7 +1,7 @@
 -- When a chain of signatures is proper (Dolev and Strong 1983: a message of round r counts when it carries the value
 -- with r distinct signatures, the sender's first; that clients sign the requests of the value is this project's).
-use Rattle.std.specs.Prelude.{◌≡◌, ◌≢◌, ℕ, ◌<◌, ◌%◌, Some, All, AllPairs, length, take, slice_get}
-use Rattle.dsr_names.specs.Shape.{Members}
+use Rattle.std.specs.Prelude.{◌≡◌, ◌≢◌, ℕ, ◌<◌, Some, All, AllPairs, length, take, slice_get}
+use Rattle.dsr_names.specs.Shape.{Members, sender}
 use Rattle.dsr_names.specs.declared.actor.Actor.{Actor}
 use Rattle.dsr_names.specs.declared.actor.Actor.TheVariants.{Replica, Client}
 use Rattle.dsr_desk.specs.Signed.{Signed, signed}
@@ -16,9 +16,9 @@ abbrev pub IsReplica : Members → Actor → Type 0
 IsReplica shape (Replica r) = r < shape.n
 IsReplica shape (Client c) = ⊥
 
--- the sender of a slot: the replicas send in turn
+-- the sender of a slot, as an actor
 abbrev pub sender_of : Members → ℕ → Actor
-sender_of shape slot = Replica (slot % shape.n)
+sender_of shape slot = Replica (sender shape slot)
 
 -- the statement that fits a place: the chain's slot, its content, and the signers before that place
 abbrev pub fitting_at : SignedValue → ℕ → Statement

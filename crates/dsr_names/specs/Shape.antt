@@ -1,6 +1,6 @@
 -- Shapes: who takes part, and who of them may lie (the setting of Dolev and Strong 1983: n processors, at most f
 -- of them traitors; the clients are this project's).
-use Rattle.std.specs.Prelude.{◌≡◌, ℕ, ◌*◌, ◌^◌, ◌<◌, ◌≤◌, Bool, false}
+use Rattle.std.specs.Prelude.{◌≡◌, ℕ, ◌*◌, ◌^◌, ◌%◌, ◌<◌, ◌≤◌, Bool, false}
 use Rattle.dsr_base.specs.Bits.{is_bit_set, count_below}
 use Rattle.dsr_names.specs.declared.actor.Actor.{Actor}
 use Rattle.dsr_names.specs.declared.actor.Actor.TheVariants.{Replica, Client}
@@ -19,6 +19,10 @@ shape_of n f m traitors = record { n = n; f = f; m = m; traitors = traitors }
 -- whether the bits of a shape call this replica a traitor
 abbrev pub is_traitor : Members → ℕ → Bool
 is_traitor shape p = is_bit_set shape.traitors p
+
+-- the number of the replica that sends in a slot: the replicas send in turn (this project)
+abbrev pub sender : Members → ℕ → ℕ
+sender shape slot = slot % shape.n
 
 -- at most f of the replicas are traitors
 abbrev pub HasFewTraitors : Members → Type 0
@@ -44,3 +48,9 @@ IsActor shape (Client c) = c < shape.m
 abbrev pub IsLoyal : Members → Actor → Type 0
 IsLoyal shape (Replica r) = (r < shape.n) × (is_traitor shape r ≡ false)
 IsLoyal shape (Client c) = c < shape.m
+
+-- two shapes agree in all but perhaps in who the traitors are (this project)
+pub record AgreeButForTraitors (shape other : Members) : Type 0 where
+  pub replicas : shape.n ≡ other.n
+  pub most_traitors : shape.f ≡ other.f
+  pub clients : shape.m ≡ other.m

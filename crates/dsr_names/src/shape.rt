@@ -1,4 +1,4 @@
-ghost use Rattle.std.specs.Prelude.{◌≡◌, ◌<◌, ◌%◌, ◌↔◌, IsOk, IfOk, IsTrue, IsOkUnless};
+ghost use Rattle.std.specs.Prelude.{◌≡◌, ◌<◌, ◌↔◌, IsOk, IfOk, IsTrue, IsOkUnless};
 
 use crate::actor::{Actor, ReplicaId};
 use crate::bits::count_bits;
@@ -28,7 +28,7 @@ impl Model for Shape {
 }
 
 impl Shape {
-    ghost use Rattle.dsr_names.specs.Shape.{shape_of, IsAllowed, IsActor, IsLoyal};
+    ghost use Rattle.dsr_names.specs.Shape.{shape_of, sender, IsAllowed, IsActor, IsLoyal};
 
     /// The shape of `n` replicas, `f` of which at most are traitors, and `m` clients; bit i of `traitors`
     /// says that replica i is a traitor. `BadShape` where n is not 1 to 16, n is less than 2f+1, m is not
@@ -106,7 +106,7 @@ impl Shape {
 
     /// The replica that sends in this slot: the senders take turns.
     pub fn sender(&self, slot: u64) -> ReplicaId
-        ensures same { result ≡ slot % self.now.n }
+        ensures same { result ≡ sender self.now slot }
         ensures inside { result < self.now.n }
     {
         let number = (slot % self.n as u64) as u8;

@@ -1,1 +1,2 @@
-pub mod Closing
+mod Closing
+pub mod Lemmas

@@ -1,4 +1,5 @@
-ghost use Rattle.std.specs.Prelude.{◌≡◌, ℕ, suc, ◌+◌, ◌<◌, ◌≤◌, ◌%◌, ◌↔◌, Some, IsSome, IsNone, IfSome};
+ghost use Rattle.std.specs.Prelude.{◌≡◌, ℕ, suc, ◌+◌, ◌<◌, ◌≤◌, ◌↔◌, Some, IsSome, IsNone, IfSome};
+ghost use Rattle.dsr_names.specs.Shape.{sender};
 ghost use Rattle.dsr_rotation.specs.Calendar.{first_round, last_round, IsInFlight, IsRoundOf, ClosesWith, closed_slots};
 
 use dsr_names::{ReplicaId, Shape};
@@ -93,7 +94,7 @@ impl Calendar {
 
     /// The replica that sends in this slot: the senders take turns.
     pub fn sender(&self, slot: u64) -> ReplicaId
-        ensures same { result ≡ slot % self.now.n }
+        ensures same { result ≡ sender self.now slot }
         ensures inside { result < self.now.n }
     {
         self.shape.sender(slot)

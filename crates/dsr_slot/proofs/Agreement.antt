@@ -1,10 +1,10 @@
 -- The law of one slot: all loyal replicas decide the same, and a loyal sender's value is decided.
 use Rattle.std.proofs.Common.{◌≡◌, ◌≢◌, ℕ, zero, suc, ◌<◌, ◌≤◌, Bool, true, false, List, [], ◌∷◌, Option, inl, inr, refl, ap, ap₂, sym, ◌∙◌, subst, arith}
-use Rattle.std.specs.Prelude.{◌==◌, ◌%◌}
+use Rattle.std.specs.Prelude.{◌==◌}
 use Rattle.std.proofs.lemmas.Bool.{cases_lt}
 use Rattle.std.proofs.lemmas.Bool.Decides.{Decides-eqb}
 use Rattle.dsr_base.specs.Member.{In, here, there}
-use Rattle.dsr_names.specs.Shape.{Members, HasFewTraitors, is_traitor, IsLoyal}
+use Rattle.dsr_names.specs.Shape.{Members, HasFewTraitors, is_traitor, IsLoyal, sender}
 use Rattle.dsr_names.specs.declared.actor.Actor.{Actor}
 use Rattle.dsr_names.specs.declared.actor.Actor.TheVariants.{Replica}
 use Rattle.dsr_request.specs.Issued.{Issued}
@@ -15,8 +15,7 @@ use Rattle.dsr_chain.specs.SignedValue.{SignedValue, link_after, extended, start
 use Rattle.dsr_chain.specs.Proper.{IsProper, sender_of}
 use Rattle.dsr_chain.specs.ProperTest.{is_signer}
 use Rattle.dsr_chain.specs.declared.slot_value.SlotValue.{SlotValue}
-use Rattle.dsr_chain.proofs.ProperDecides.{is_signer-Decides}
-use Rattle.dsr_chain.proofs.ChainLaws.{signature_of, link_at, first_link, same_value, same_asked_value, some_loyal}
+use Rattle.dsr_chain.proofs.Lemmas.{is_signer-Decides, signature_of, link_at, first_link, same_value, same_asked_value, some_loyal}
 use Rattle.dsr_slot.specs.declared.kept.Kept.{Kept}
 use Rattle.dsr_slot.specs.Keeping.{kept_after, content_of}
 use Rattle.dsr_slot.specs.Conduct.{posted}
@@ -207,17 +206,17 @@ module _ (shape : Members) (slot : ℕ) (value : SlotValue) (given : Exchange) (
   -- ---- validity
 
   only_its_own : (p : ℕ) (k : Kept) → IsLoyal shape (sender_of shape slot) → Loyal p → In k (kept p (suc shape.f)) → content_of k ≡ content value
-  only_its_own p k sender loyal h =
+  only_its_own p k sends loyal h =
       let was = after_from shape slot (read_by shape given p) (suc shape.f) k h in
       let earlier = was.earlier in
-      let l = slot % shape.n in
+      let l = sender shape slot in
       let first = first_link shape slot (suc was.before) k.chain was.proper in
       let is : first.0 ≡ signed (Replica l) (link_after slot k.chain.value []) =
       signed_is first.0 (Replica l) (link_after slot k.chain.value []) first.2 first.3 in
       let found =
       subst (WasPosted shape given l) is
-      (all_posted was.before (omega arith) p l k.chain first.0 loyal sender was.read_then was.proper first.1 first.2) in
-      let stands : In found.chain (posts l found.round) = subst (In found.chain) (gives found.round l found.taker found.within sender found.inside) found.stands in
+      (all_posted was.before (omega arith) p l k.chain first.0 loyal sends was.read_then was.proper first.1 first.2) in
+      let stands : In found.chain (posts l found.round) = subst (In found.chain) (gives found.round l found.taker found.within sends found.inside) found.stands in
       (post_own shape slot (read_by shape given l) (Replica l) value found.round found.chain k.chain.value [] stands found.signed).from_start refl
 
   value_decided : (ks : List Kept) → Apart ks → Hears ks (content value) → ((k : Kept) → In k ks → content_of k ≡ content value)
@@ -228,11 +227,11 @@ module _ (shape : Members) (slot : ℕ) (value : SlotValue) (given : Exchange) (
       absurd (apart.0 (l, here refl, only l (there (here refl)) ∙ sym (only k (here refl))))
 
   pub validity : IsLoyal shape (sender_of shape slot) → (p : ℕ) → Loyal p → decided_by shape slot given p ≡ value
-  validity sender p loyal =
-      let l = slot % shape.n in
+  validity sends p loyal =
+      let l = sender shape slot in
       value_decided (kept p (suc shape.f)) (after_apart shape slot (read_by shape given p) (suc shape.f))
-      (post_heard 0 l p (started slot value (Replica l)) (omega arith) sender loyal (start_posted shape slot (Replica l) value (kept l 0) refl))
-      (λ k h. only_its_own p k sender loyal h)
+      (post_heard 0 l p (started slot value (Replica l)) (omega arith) sends loyal (start_posted shape slot (Replica l) value (kept l 0) refl))
+      (λ k h. only_its_own p k sends loyal h)
       (λ k h same.
       let was = after_from shape slot (read_by shape given p) (suc shape.f) k h in
       same_asked_value shape k.chain.value value was.proper.asked broadcast.asked same)

@@ -10,7 +10,7 @@ use Rattle.dsr_names.specs.declared.actor.Actor.{Actor}
 use Rattle.dsr_chain.specs.Content.{content}
 use Rattle.dsr_chain.specs.ProperTest.{is_proper, same_content, is_signer}
 use Rattle.dsr_chain.specs.SignedValue.{SignedValue}
-use Rattle.dsr_chain.proofs.ProperDecides.{same_content-Decides}
+use Rattle.dsr_chain.proofs.Lemmas.{same_content-Decides}
 use Rattle.dsr_slot.specs.declared.kept.Kept.{Kept}
 use Rattle.dsr_slot.specs.Keeping.{keep_one, kept_in, content_of, is_kept, is_news}
 use Rattle.dsr_slot.specs.Conduct.{is_relayed}

@@ -16,7 +16,7 @@ use Rattle.dsr_chain.specs.Content.{content}
 use Rattle.dsr_chain.specs.SignedValue.{SignedValue}
 use Rattle.dsr_chain.specs.Proper.{IsProper}
 use Rattle.dsr_chain.specs.ProperTest.{is_proper, same_content}
-use Rattle.dsr_chain.proofs.ProperDecides.{is_proper-Decides, same_content-Decides}
+use Rattle.dsr_chain.proofs.Lemmas.{is_proper-Decides, same_content-Decides}
 use Rattle.dsr_slot.specs.declared.kept.Kept.{Kept}
 use Rattle.dsr_slot.specs.Kept.{HasContent, Hears, GrewTo, CameFrom}
 use Rattle.dsr_slot.specs.Keeping.{kept_in, content_of, is_kept, is_news, keep_one, keep, kept_after}

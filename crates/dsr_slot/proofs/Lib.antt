@@ -1,6 +1,11 @@
-pub mod Agreement
+mod Agreement
+mod Blindness
+mod Deciding
+mod Fields
 mod KeepLemmas
-pub mod Keeps
-pub mod Lists
-pub mod Posting
+mod Keeps
+pub mod Lemmas
+mod Lists
+mod Posting
+mod Silence
 mod Standing

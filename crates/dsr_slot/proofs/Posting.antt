@@ -15,8 +15,7 @@ use Rattle.dsr_chain.specs.SignedValue.{SignedValue, signed_value, link_after, e
 use Rattle.dsr_chain.specs.Proper.{IsReplica, IsAsked, IsProper, sender_of}
 use Rattle.dsr_chain.specs.ProperTest.{is_signer}
 use Rattle.dsr_chain.specs.declared.slot_value.SlotValue.{SlotValue}
-use Rattle.dsr_chain.proofs.ProperDecides.{is_signer-Decides}
-use Rattle.dsr_chain.proofs.ChainLaws.{started_proper, extended_proper, own_before, other_place, link_parts}
+use Rattle.dsr_chain.proofs.Lemmas.{is_signer-Decides, started_proper, extended_proper, own_before, other_place, link_parts}
 use Rattle.dsr_slot.specs.declared.kept.Kept.{Kept}
 use Rattle.dsr_slot.specs.Keeping.{kept_after}
 use Rattle.dsr_slot.specs.Conduct.{is_relayed, relayed, begun, posted}
@@ -32,7 +31,7 @@ pub record IsRelayed (me : Actor) (round : ℕ) (k : Kept) : Type 0 where
   pub kept_before : suc k.round ≡ round
   pub unsigned : ¬ HasSigned me k.chain
 
-is_relayed-Decides : (me : Actor) (round : ℕ) (k : Kept) → Decides (is_relayed me round k) (IsRelayed me round k)
+pub is_relayed-Decides : (me : Actor) (round : ℕ) (k : Kept) → Decides (is_relayed me round k) (IsRelayed me round k)
 is_relayed-Decides me round k =
     Decides-like (is_relayed me round k) (λ h. record { kept_before = h.0; unsigned = h.1 }) (λ h. (h.kept_before, h.unsigned))
     (Decides-and (suc k.round == round) (not (is_signer me k.chain)) (Decides-eqb (suc k.round) round)

@@ -57,3 +57,7 @@ pub record IsBroadcast (shape : Members) (slot : ℕ) (value : SlotValue) (given
 -- what a replica decides of the slot
 abbrev pub decided_by : Members → ℕ → Exchange → ℕ → SlotValue
 decided_by shape slot given p = decided shape slot (read_by shape given p)
+
+-- in this exchange traitors give nothing
+abbrev pub AreTraitorsSilent : Members → Exchange → Type 0
+AreTraitorsSilent shape given = (round poster taker : ℕ) → is_traitor shape poster ≡ true → given round poster taker ≡ []

@@ -1,6 +1,8 @@
 -- What the fields of a slot's state hold (this project).
-use Rattle.std.specs.Prelude.{◌≡◌, ◌+◌, ◌≤◌, ◌++◌, None, IfSome, length}
+use Rattle.std.specs.Prelude.{◌≡◌, ℕ, ◌+◌, ◌≤◌, ◌++◌, None, IfSome, length}
 use Rattle.std.specs.Option.{option_to_list}
+use Rattle.dsr_names.specs.Shape.{Members}
+use Rattle.dsr_chain.specs.Proper.{IsProper}
 use Rattle.dsr_slot.specs.declared.kept.Kept.{Kept}
 use Rattle.dsr_slot.specs.declared.slot_state.SlotState.TheInside.{Inside}
 use Rattle.dsr_slot.specs.SlotView.{SlotView}
@@ -19,10 +21,15 @@ pub record IsOfSomeRound (k : Kept) : Type 0 where
   pub counted : length k.chain.signatures ≡ k.round
   pub within : k.round ≤ 8
 
--- the second place is empty where the first is, and no more rounds are closed than the slot has, at most 8
+-- a kept chain is proper for the slot's round that stands with it
+pub record IsProperlyKept (shape : Members) (slot : ℕ) (k : Kept) : Type 0 where
+  pub within : k.round ≤ shape.f + 1
+  pub proper : IsProper shape slot k.round k.chain
+
+-- each kept chain is properly kept; the second place is empty where the first is, and no more rounds are closed than the slot has, at most 8
 pub record IsSlotFields (a : Inside) : Type 0 where
   pub in_order : a.first ≡ None → a.second ≡ None
   pub closed : a.closed ≤ a.shape.f + 1
   pub few : a.shape.f ≤ 7
-  pub first : IfSome a.first IsOfSomeRound
-  pub second : IfSome a.second IsOfSomeRound
+  pub first : IfSome a.first (IsProperlyKept a.shape a.slot)
+  pub second : IfSome a.second (IsProperlyKept a.shape a.slot)

@@ -1,15 +1,18 @@
 //! The laws of one slot, as the contracts of functions that do nothing.
 
-ghost use Rattle.std.specs.Prelude.{◌≡◌, ◌≢◌, ℕ, ◌<◌, ◌≤◌, List, AllPairs, length};
+ghost use Rattle.std.specs.Prelude.{◌≡◌, ◌≢◌, ℕ, ◌<◌, ◌≤◌, List, All, AllPairs, length};
 ghost use Rattle.dsr_base.specs.Member.{In};
-ghost use Rattle.dsr_names.specs.Shape.{Members, IsLoyal, HasFewTraitors};
+ghost use Rattle.dsr_names.specs.Shape.{Members, IsLoyal, HasFewTraitors, AgreeButForTraitors};
+ghost use Rattle.dsr_names.specs.declared.actor.Actor.{Actor};
 ghost use Rattle.dsr_names.specs.declared.actor.Actor.TheVariants.{Replica};
-ghost use Rattle.dsr_chain.specs.Content.{content};
-ghost use Rattle.dsr_chain.specs.Proper.{IsProper, sender_of};
+ghost use Rattle.dsr_chain.specs.Content.{content, signed_in};
+ghost use Rattle.dsr_chain.specs.Proper.{IsAsked, IsProper, sender_of};
 ghost use Rattle.dsr_chain.specs.SignedValue.{SignedValue};
 ghost use Rattle.dsr_chain.specs.declared.slot_value.SlotValue.{SlotValue};
 ghost use Rattle.dsr_slot.specs.declared.kept.Kept.{Kept};
-ghost use Rattle.dsr_slot.specs.Broadcast.{Exchange, IsBroadcast, decided_by};
+ghost use Rattle.dsr_slot.specs.Broadcast.{Exchange, IsBroadcast, AreTraitorsSilent, decided_by};
+ghost use Rattle.dsr_slot.specs.Conduct.{posted};
+ghost use Rattle.dsr_slot.specs.Decision.{decided};
 ghost use Rattle.dsr_slot.specs.Keeping.{content_of, kept_after};
 ghost use Rattle.dsr_slot.specs.Kept.{CameFrom, GrewTo, Hears};
 
@@ -18,6 +21,9 @@ ghost use Rattle.dsr_slot.specs.Kept.{CameFrom, GrewTo, Hears};
 /// traitor gives a loyal replica's signature on a link of the slot that this replica did not post, and clients of
 /// the shape signed the requests of the value: all loyal replicas decide the same. And where the sender is loyal
 /// they decide the value, however many are traitors.
+///
+/// The requests of what a replica decides were signed by clients of the shape, whatever it read. And there is such an
+/// exchange for every value whose requests were signed so: one in which traitors give nothing at all.
 pub fn one_slot()
     ensures agreement { (shape : Members) (slot : ℕ) (value : SlotValue) (given : Exchange)
         → HasFewTraitors shape → IsBroadcast shape slot value given
@@ -27,6 +33,23 @@ pub fn one_slot()
         → IsBroadcast shape slot value given
         → IsLoyal shape (sender_of shape slot) → (p : ℕ) → IsLoyal shape (Replica p)
         → decided_by shape slot given p ≡ value }
+    ensures asked { (shape : Members) (slot : ℕ) (read : ℕ → List SignedValue)
+        → All (IsAsked shape) (signed_in (decided shape slot read)) }
+    ensures some { (shape : Members) (slot : ℕ) (value : SlotValue) → All (IsAsked shape) (signed_in value)
+        → (given : Exchange) × IsBroadcast shape slot value given × AreTraitorsSilent shape given }
+{}
+
+/// The rules never look at who is a traitor. Two shapes that agree in all but that give the same: what a replica keeps
+/// in the first rounds of a slot, whatever it reads; what it posts, whatever it has kept; and what it decides.
+pub fn rules_are_blind()
+    ensures kept { (shape other : Members) → AgreeButForTraitors shape other
+        → (slot : ℕ) (read : ℕ → List SignedValue) (rounds : ℕ)
+        → kept_after shape slot read rounds ≡ kept_after other slot read rounds }
+    ensures posted { (shape other : Members) → AgreeButForTraitors shape other
+        → (slot : ℕ) (me : Actor) (value : SlotValue) (round : ℕ) (kept : List Kept)
+        → posted shape slot me value round kept ≡ posted other slot me value round kept }
+    ensures decided { (shape other : Members) → AgreeButForTraitors shape other
+        → (slot : ℕ) (read : ℕ → List SignedValue) → decided shape slot read ≡ decided other slot read }
 {}
 
 /// What a replica keeps in the first rounds of a slot, whatever it reads: at most two chains; no two of one

@@ -1,5 +1,7 @@
-ghost use Rattle.std.specs.Prelude.{◌≡◌, ℕ, ◌+◌, ◌<◌, ◌≤◌, ◌↔◌, ◌++◌, ◌∷◌, List, [], Some, IfOk, IsOk, IsSome, false, length, vec_capacity, IsOkUnless};
+ghost use Rattle.std.specs.Prelude.{◌≡◌, ℕ, ◌+◌, ◌<◌, ◌≤◌, ◌↔◌, ◌++◌, ◌∷◌, List, [], Some, All, IfOk, IfSome, IsOk, IsSome, false, length, vec_capacity, IsOkUnless};
 ghost use Rattle.dsr_chain.specs.SignedValue.{SignedValue};
+ghost use Rattle.dsr_chain.specs.Content.{signed_in};
+ghost use Rattle.dsr_chain.specs.Proper.{IsAsked};
 ghost use Rattle.dsr_chain.specs.ProperTest.{is_proper};
 ghost use Rattle.dsr_slot.specs.Keeping.{kept_after, keep_one, is_news};
 ghost use Rattle.dsr_slot.specs.Conduct.{relayed, is_relayed};
@@ -105,12 +107,13 @@ impl SlotState {
     }
 
     /// What is decided: the value of the one kept chain, idle where none or two are kept. `None` until round
-    /// f+1 is closed.
+    /// f+1 is closed. Clients of the shape signed the requests of the value.
     pub fn decide(&self) -> Option<SlotValue>
         ensures decision { result ≡ decision_of self.now }
         ensures when { IsSome result ↔ (self.now.closed ≡ self.now.shape.f + 1) }
         ensures stands { (read : ℕ → List SignedValue) → StandsFor self.now read
             → self.now.closed ≡ self.now.shape.f + 1 → result ≡ Some (decided self.now.shape self.now.slot read) }
+        ensures asked { IfSome result (λ value. All (IsAsked self.now.shape) (signed_in value)) }
     {
         if self.closed < self.shape.f() + 1 {
             return None;

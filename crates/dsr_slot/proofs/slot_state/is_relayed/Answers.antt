@@ -1,5 +1,5 @@
 use Rattle.dsr_chain.specs.ProperTest.{is_signer}
-use Rattle.dsr_chain.proofs.ProperDecides.{is_signer-Decides}
+use Rattle.dsr_chain.proofs.Lemmas.{is_signer-Decides}
 use Rattle.dsr_slot.proofs.KeepLemmas.{same_test, relays_unsigned}
 use Rattle.dsr_slot.proofs.slot_state.is_relayed.Goals as goal
 

@@ -1,6 +1,6 @@
 use Rattle.std.proofs.Common.{◌∙◌}
 use Rattle.dsr_chain.specs.ProperTest.{is_proper}
-use Rattle.dsr_chain.proofs.ProperDecides.{is_proper-Decides}
+use Rattle.dsr_chain.proofs.Lemmas.{is_proper-Decides}
 use Rattle.dsr_slot.proofs.KeepLemmas.{same_test}
 use Rattle.dsr_slot.proofs.slot_state.SlotState.is_proper.Goals as goal
 

@@ -1,4 +1,5 @@
 use Rattle.std.proofs.Common.{sym, ap, ◌∙◌, not}
+use Rattle.dsr_slot.proofs.Fields.{first_filled, second_filled}
 use Rattle.dsr_slot.proofs.KeepLemmas.{news_comes_second}
 use Rattle.dsr_slot.specs.SlotFields.{slot_view}
 use Rattle.dsr_slot.proofs.slot_state.SlotState.keep.Goals.{in-Some-2, in-None-2}
@@ -14,3 +15,20 @@ returns-else-is_none c =
       | in-Some-2 w ↦ w.self-is ∙ kept
       | in-None-2 w ↦ w.self-is ∙ kept
     ])
+
+pub invariant_of-self-then-is_none-2 : goal.invariant_of-self-then-is_none-2
+invariant_of-self-then-is_none-2 c =
+    let news = sym (rw (← c.self.view_is) at c.is_news.ensures) ∙ c.if-not-is_news.false in
+    first_filled c.self.inside c.args.round c.args.chain c.self.invariant (rw (← c.self.view_is) at c.requires.within) news
+
+pub invariant_of-self-else-is_none : goal.invariant_of-self-else-is_none
+invariant_of-self-else-is_none c =
+    let news = sym (rw (← c.self.view_is) at c.is_news.ensures) ∙ c.if-not-is_news.false in
+    let taken = c.is_none.ensures ∙ ap not c.if-is_none.false in
+    second_filled c.self.inside c.args.round c.args.chain c.self.invariant (rw (← c.self.view_is) at c.requires.within) news taken
+
+pub invariant_of-self-else-is_none-2 : goal.invariant_of-self-else-is_none-2
+invariant_of-self-else-is_none-2 c =
+    let news = sym (rw (← c.self.view_is) at c.is_news.ensures) ∙ c.if-not-is_news.false in
+    let taken = c.is_none.ensures ∙ ap not c.if-is_none.false in
+    second_filled c.self.inside c.args.round c.args.chain c.self.invariant (rw (← c.self.view_is) at c.requires.within) news taken
