@@ -1,6 +1,5 @@
 -- Texts of items joined by a mark, cut at the first mark outside parentheses.
-use Rattle.std.proofs.Common.{◌≡◌, ◌≢◌, ℕ, ◌+◌, ◌-◌, ◌<◌, List, [], ◌∷◌, ◌++◌, Option, None, Some, codes, length, get_or, take, false, refl, sym, ap, ◌∙◌, subst, arith, append_assoc}
-use Rattle.std.specs.Prelude.{All}
+use Rattle.std.proofs.Common.{◌≡◌, ℕ, ◌+◌, ◌-◌, ◌<◌, List, [], ◌∷◌, ◌++◌, Option, None, Some, codes, length, get_or, take, false, refl, sym, ap, ◌∙◌, subst, arith, append_assoc}
 use Rattle.std.proofs.lemmas.List.{append-nil, take_more}
 use Rattle.std.proofs.lemmas.List.Elements.{All-nil, All-cons, All-head, All-tail}
 use Rattle.dsr_base.specs.Reads.{Reads}
@@ -91,10 +90,10 @@ module _ {X : Type 0} (is : X → Type 0) (text : X → List ℕ) (mark : ℕ) (
       (record { some = omega arith; few = omega (arith, others.0.few, room); each = All-cons is x xs one.0 others.0.each })
       (parts ∙ (ap (λ begin. begin ++ mark ∷ rest) one.1 ∙ led_text x xs rest others.0.some others.1))
       (λ ys few e.
-          let cut = led front rest ys part few (sym parts ∙ e) in
-          let first = only_read is text front x reads cut.first cut.kind cut.spelled in
-          let more = only_read (AreFew is (most - 1)) (joined mark text) rest xs reads_others cut.others cut.kinds cut.others_spelled in
-          ap (λ y. y ∷ xs) first ∙ ap (λ zs. cut.first ∷ zs) more ∙ cut.all)
+      let cut = led front rest ys part few (sym parts ∙ e) in
+      let first = only_read is text front x reads cut.first cut.kind cut.spelled in
+      let more = only_read (AreFew is (most - 1)) (joined mark text) rest xs reads_others cut.others cut.kinds cut.others_spelled in
+      ap (λ y. y ∷ xs) first ∙ ap (λ zs. cut.first ∷ zs) more ∙ cut.all)
 
 -- ---- a dash for no item
 

@@ -1,4 +1,5 @@
 mod FewLemmas
+pub mod JoinedBytes
 pub mod JoinedLemmas
 pub mod Marks
 pub mod MemberLemmas

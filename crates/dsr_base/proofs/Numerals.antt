@@ -1,5 +1,5 @@
 -- Decimals without sign or leading zero are what `decimal` writes, and nothing else.
-use Rattle.std.proofs.Common.{◌≡◌, ℕ, zero, suc, ◌<◌, ◌^◌, ◌↔◌, None, Some, Option, length, List, [], ◌∷◌, get_or, arith, refl, sym, ◌∙◌, ap}
+use Rattle.std.proofs.Common.{◌≡◌, ℕ, zero, suc, ◌<◌, ◌^◌, None, Some, Option, length, List, [], ◌∷◌, get_or, arith, refl, sym, ◌∙◌, ap}
 use Rattle.std.specs.Option.{SomeIff}
 use Rattle.std.specs.Str.{IsUtf8}
 use Rattle.std.specs.Fmt.{decimal}

@@ -1,10 +1,11 @@
 -- Cuts at a mark that stands outside parentheses, and what such a mark can follow.
-use Rattle.std.proofs.Common.{◌≡◌, ◌≢◌, ℕ, zero, suc, ◌+◌, ◌<◌, Bool, true, false, cond, eqb, List, [], ◌∷◌, ◌++◌, length, get_or, take, arith, refl, sym, ◌∙◌, ap, subst}
-use Rattle.std.specs.Prelude.{All}
-use Rattle.std.proofs.lemmas.Bool.{ne_eqb, eq-eqb}
+use Rattle.std.proofs.Common.{◌≡◌, ◌≢◌, ℕ, ◌+◌, ◌<◌, Bool, true, false, cond, eqb, List, [], ◌∷◌, ◌++◌, length, get_or, take, refl, sym, ◌∙◌, ap, subst, ◌≤◌, ◌^◌, arith, lit<}
+use Rattle.std.proofs.lemmas.Bool.{ne_eqb}
 use Rattle.std.proofs.lemmas.List.{take_more}
 use Rattle.std.proofs.lemmas.List.Elements.{All-head, All-tail}
+use Rattle.std.specs.Fmt.{decimal}
 use Rattle.dsr_base.specs.Split.{IsAbsent, IsFree, IsPart, is_inside_with, is_inside_after}
+use Rattle.dsr_base.proofs.Marks.{decimal_without_low, letter_then_without}
 
 -- ---- two texts, one after the other
 
@@ -110,3 +111,9 @@ free_more mark bytes i inside h other =
 pub inside_more : (bytes : List ℕ) (i : ℕ) → i < length bytes
     → is_inside_after false (take (i + 1) bytes) ≡ is_inside_with (is_inside_after false (take i bytes)) (get_or bytes i 0)
 inside_more bytes i inside = ap (is_inside_after false) (take_more bytes i 0 inside) ∙ inside_append false (take i bytes) (get_or bytes i 0 ∷ [])
+
+-- a letter with a number after it is a part for each mark below the digits
+pub lettered_part : (mark letter n : ℕ) → mark < 48 → 48 ≤ letter → n < 2 ^ 64 → IsPart mark (letter ∷ decimal n)
+lettered_part mark letter n low high small =
+    plain_part mark (letter ∷ decimal n) (letter_then_without letter mark (decimal n) (omega arith) (decimal_without_low mark n low small))
+    (letter_then_without letter 40 (decimal n) (omega arith) (decimal_without_low 40 n (lit< tt) small))

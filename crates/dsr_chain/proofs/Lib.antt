@@ -1,4 +1,3 @@
-mod BatchLists
 mod Blindness
 mod ChainLaws
 mod Contents

@@ -1,5 +1,4 @@
 pub mod BatchEq
-pub mod BatchFields
 pub mod Content
 pub mod Faults
 pub mod Proper

@@ -9,7 +9,7 @@ use Rattle.dsr_names.specs.declared.actor.Actor.TheVariants.{Replica, Client}
 use Rattle.dsr_request.specs.Issued.{Issued}
 use Rattle.dsr_request.specs.RequestEq.{requests_eq}
 use Rattle.dsr_desk.specs.Signed.{Signed, signed}
-use Rattle.dsr_desk.specs.SignersEq.{actor_eq}
+use Rattle.dsr_names.specs.ActorEq.{actor_eq}
 use Rattle.dsr_desk.specs.StatementEq.{statement_eq}
 use Rattle.dsr_desk.specs.SignatureEq.{signature_eq}
 use Rattle.dsr_desk.specs.declared.statement.Statement.TheVariants.{Ask}

@@ -172,10 +172,8 @@ impl Chain {
         ensures made { IfOk result (λ chain. chain ≡ signed_value body.slot body.value body.signatures.items) }
         ensures refusal { IsOkUnless result Refusal.NoMemory }
     {
-        match Arc::new(alloc, body) {
-            Ok(body) => Ok(Chain { body }),
-            Err(_) => Err(Refusal::NoMemory),
-        }
+        let body = Arc::new(alloc, body)?;
+        Ok(Chain { body })
     }
 
     /// A chain that has the key's signature put at its end, and shares the value.
@@ -231,11 +229,8 @@ fn with_one_more(
     ensures all { IfOk result (λ all. all.items ≡ signatures.now ++ last ∷ []) }
     ensures refusal { IsOkUnless result Refusal.NoMemory }
 {
-    let Ok(mut all) = Vec::with_capacity(alloc, signatures.len() + 1) else {
-        return Err(Refusal::NoMemory);
-    };
-    if all.extend_from_slice(signatures).is_err() || all.push(last).is_err() {
-        return Err(Refusal::NoMemory);
-    }
+    let mut all = Vec::with_capacity(alloc, signatures.len() + 1)?;
+    all.extend_from_slice(signatures)?;
+    all.push(last)?;
     Ok(all)
 }

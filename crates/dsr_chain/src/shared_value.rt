@@ -37,15 +37,10 @@ impl SharedValue {
     {
         let mut signed = Vec::new(alloc);
         if let SlotValue::Act(batch) = value {
-            signed = batch
-                .as_slice()
-                .to_vec(alloc)
-                .map_err(|_| Refusal::NoMemory)?;
+            signed = batch.as_slice().to_vec(alloc)?;
         }
-        match Arc::new(alloc, signed) {
-            Ok(signed) => Ok(SharedValue { signed }),
-            Err(_) => Err(Refusal::NoMemory),
-        }
+        let signed = Arc::new(alloc, signed)?;
+        Ok(SharedValue { signed })
     }
 
     /// The same value once more.

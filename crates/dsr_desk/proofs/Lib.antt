@@ -1,4 +1,2 @@
 mod Flags
-mod SignerLists
-mod Spelling
 mod StatementLemmas

@@ -2,35 +2,36 @@
 use Rattle.std.proofs.Common.{rules, ◌≡◌, ℕ, ◌^◌, ◌<◌, ◌↔◌, List, ◌∷◌, ◌++◌, Option, None, Some, refl, sym, ap, ◌∙◌, subst, arith}
 use Rattle.std.specs.Fmt.{decimal}
 use Rattle.std.proofs.lemmas.Option.{none-some, same_Some}
+use Rattle.dsr_base.specs.Reads.{Reads}
 use Rattle.dsr_base.specs.Split.{IsAbsent}
 use Rattle.dsr_names.specs.declared.actor.Actor.{Actor}
 use Rattle.dsr_base.proofs.Marks.{one_cut, not_absent}
 use Rattle.dsr_request.specs.Fields.Texts.{decimal_without}
 use Rattle.dsr_request.specs.Issued.{Issued}
 use Rattle.dsr_request.specs.RequestText.{request_token, IsRequest}
-use Rattle.dsr_request.proofs.RequestsTextLemmas.{token_without, requests_without}
+use Rattle.dsr_base.proofs.JoinedBytes.{joined_without}
+use Rattle.dsr_request.specs.Fields.RequestToken.{token_without}
 use Rattle.dsr_desk.specs.ContentText.{content_text, IsContent}
 use Rattle.dsr_desk.specs.SignersText.{signers_text, IsSigners}
 use Rattle.dsr_desk.specs.StatementText.{statement_text, IsStatement, HasParts}
 use Rattle.dsr_desk.specs.declared.statement.Statement.{Statement}
 use Rattle.dsr_desk.specs.declared.statement.Statement.TheVariants.{Ask, Link}
 
--- the answer is the statement that the bytes spell, none exactly where they spell none
-abbrev pub Reads : List ℕ → Option Statement → Type 0
-Reads bytes answer = (statement : Statement) → (answer ≡ Some statement) ↔ (IsStatement statement × (bytes ≡ statement_text statement))
+-- what the readers of a statement, of a request and of a link's parts answer
+abbrev pub ReadsStatement : List ℕ → Option Statement → Type 0
+ReadsStatement = Reads IsStatement statement_text
 
--- the same of a request, a content and a link's parts
 abbrev ReadsRequest : List ℕ → Option Issued → Type 0
-ReadsRequest bytes answer = (request : Issued) → (answer ≡ Some request) ↔ (IsRequest request × (bytes ≡ request_token request))
+ReadsRequest = Reads IsRequest request_token
 
 abbrev ReadsSlot : List ℕ → ℕ → Type 0
-ReadsSlot bytes slot = (n : ℕ) → (Some slot ≡ Some n) ↔ ((n < 2 ^ 40) × (bytes ≡ decimal n))
+ReadsSlot bytes slot = Reads (λ n. n < 2 ^ 40) decimal bytes (Some slot)
 
 abbrev ReadsContent : List ℕ → Option (List Issued) → Type 0
-ReadsContent bytes value = (content : Option (List Issued)) → (Some value ≡ Some content) ↔ (IsContent content × (bytes ≡ content_text content))
+ReadsContent bytes value = Reads IsContent content_text bytes (Some value)
 
 abbrev ReadsSigners : List ℕ → List Actor → Type 0
-ReadsSigners bytes before = (signers : List Actor) → (Some before ≡ Some signers) ↔ (IsSigners signers × (bytes ≡ signers_text signers))
+ReadsSigners bytes before = Reads IsSigners signers_text bytes (Some before)
 
 abbrev ReadsLink : List ℕ → List ℕ → List ℕ → Option Statement → Type 0
 ReadsLink slot content before answer = (statement : Statement) → (answer ≡ Some statement) ↔ (IsStatement statement × HasParts slot content before statement)
@@ -46,10 +47,8 @@ no_slash_in_request request h =
 no_slash_in_content : (content : Option (List Issued)) → IsContent content → IsAbsent 47 (content_text content)
 no_slash_in_content None h = search (rules, arith)
 no_slash_in_content (Some requests) h =
-    let no_mark : ◌≡◌ {A = ℕ} 35 47 → ⊥ = λ (e : ◌≡◌ {A = ℕ} 35 47). omega arith in
-    let no_colon : ◌≡◌ {A = ℕ} 58 47 → ⊥ = λ (e : ◌≡◌ {A = ℕ} 58 47). omega arith in
     let no_comma : ◌≡◌ {A = ℕ} 44 47 → ⊥ = λ (e : ◌≡◌ {A = ℕ} 44 47). omega arith in
-    requests_without 47 requests refl no_mark no_colon no_comma h.each
+    joined_without IsRequest request_token 44 47 no_comma no_slash_in_request requests h.each
 
 no_slash_in_slot : (slot : ℕ) → slot < 2 ^ 40 → IsAbsent 47 (decimal slot)
 no_slash_in_slot slot small = decimal_without 47 slot refl (omega (arith, small))
@@ -66,7 +65,7 @@ spelled_asked bytes r free reads (Ask request) h e = (request, (reads request).1
 spelled_asked bytes r free reads (Link slot value before) h e =
     absurd (not_absent 47 (decimal slot) (content_text value ++ 47 ∷ signers_text before) (subst (IsAbsent 47) e free))
 
-pub no_request : (bytes : List ℕ) → IsAbsent 47 bytes → ReadsRequest bytes None → Reads bytes None
+pub no_request : (bytes : List ℕ) → IsAbsent 47 bytes → ReadsRequest bytes None → ReadsStatement bytes None
 no_request bytes free reads statement = (
   λ e. absurd (none-some statement e),
   λ h.
@@ -74,7 +73,7 @@ no_request bytes free reads statement = (
       absurd (none-some asked.0 asked.1),
 )
 
-pub one_request : (bytes : List ℕ) (request : Issued) → IsAbsent 47 bytes → ReadsRequest bytes (Some request) → Reads bytes (Some (Ask request))
+pub one_request : (bytes : List ℕ) (request : Issued) → IsAbsent 47 bytes → ReadsRequest bytes (Some request) → ReadsStatement bytes (Some (Ask request))
 one_request bytes request free reads statement = (
   λ e.
       let read = (reads request).0 refl in
@@ -95,7 +94,7 @@ one_slash bytes front rest parts free_front free_rest (Link slot value before) h
     let same = one_cut 47 front rest (decimal slot) (content_text value ++ 47 ∷ signers_text before) free_front (no_slash_in_slot slot h.0) (sym parts ∙ e) in
     not_absent 47 (content_text value) (signers_text before) (subst (IsAbsent 47) same.1 free_rest)
 
-pub no_link : (bytes front rest : List ℕ) → bytes ≡ front ++ 47 ∷ rest → IsAbsent 47 front → IsAbsent 47 rest → Reads bytes None
+pub no_link : (bytes front rest : List ℕ) → bytes ≡ front ++ 47 ∷ rest → IsAbsent 47 front → IsAbsent 47 rest → ReadsStatement bytes None
 no_link bytes front rest parts free_front free_rest statement =
     (λ e. absurd (none-some statement e), λ h. absurd (one_slash bytes front rest parts free_front free_rest statement h.0 h.1))
 
@@ -117,7 +116,7 @@ text_of bytes front rest content before parts cut (Link slot value signers) h =
     parts ∙ (ap (λ xs. xs ++ 47 ∷ rest) h.0 ∙ ap (λ xs. decimal slot ++ 47 ∷ xs) (cut ∙ (ap (λ xs. xs ++ 47 ∷ before) h.1 ∙ ap (λ xs. content_text value ++ 47 ∷ xs) h.2)))
 
 pub link_by_parts : (bytes front rest content before : List ℕ) (r : Option Statement) → bytes ≡ front ++ 47 ∷ rest → IsAbsent 47 front
-    → rest ≡ content ++ 47 ∷ before → IsAbsent 47 content → ReadsLink front content before r → Reads bytes r
+    → rest ≡ content ++ 47 ∷ before → IsAbsent 47 content → ReadsLink front content before r → ReadsStatement bytes r
 link_by_parts bytes front rest content before r parts free cut free_content reads statement = (
   λ e.
       let h = (reads statement).0 e in

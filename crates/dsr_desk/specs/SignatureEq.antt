@@ -4,7 +4,7 @@ use Rattle.std.specs.Bool.{Decides}
 use Rattle.std.proofs.lemmas.Bool.Decides.{Decides-and, Decides-like}
 use Rattle.std.proofs.Common.{ap, ap₂}
 use Rattle.dsr_desk.specs.Signed.{Signed, signed}
-use Rattle.dsr_desk.specs.SignersEq.{actor_eq, actor_eq-Decides}
+use Rattle.dsr_names.specs.ActorEq.{actor_eq, actor_eq-Decides}
 use Rattle.dsr_desk.specs.StatementEq.{statement_eq, statement_eq-Decides}
 use Rattle.dsr_desk.specs.contracts.keys.SignaturePartialEq.TheImpl.{ghosts}
 

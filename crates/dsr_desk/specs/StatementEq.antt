@@ -1,10 +1,10 @@
 -- When `==` holds of two statements: exactly where they are equal.
-use Rattle.std.specs.Prelude.{◌≡◌, List, Bool, ◌&&◌, Option, None, Some}
+use Rattle.std.specs.Prelude.{◌≡◌, Bool, ◌&&◌}
 use Rattle.std.specs.Bool.{Decides}
 use Rattle.std.specs.Option.{option_eq}
 use Rattle.std.proofs.lemmas.Bool.Decides.{Decides-and, Decides-like, Decides-eqb}
-use Rattle.std.proofs.Common.{refl, eqb}
-use Rattle.dsr_request.specs.Issued.{Issued}
+use Rattle.std.proofs.Common.{eqb}
+use Rattle.dsr_base.specs.Fields.Equality.{equal_options}
 use Rattle.dsr_request.specs.RequestEq.{request_eq, request_eq-Decides, requests_eq, requests_eq-Decides}
 use Rattle.dsr_desk.specs.SignersEq.{signers_eq, signers_eq-Decides}
 use Rattle.dsr_desk.specs.declared.statement.Statement.{Statement}
@@ -15,12 +15,6 @@ use Rattle.dsr_desk.specs.contracts.statement.StatementPartialEq.TheImpl.{ghosts
 abbrev pub statement_eq : Statement → Statement → Bool
 statement_eq = ghosts.eq
 
-content_eq-Decides : (a b : Option (List Issued)) → Decides (option_eq requests_eq a b) (a ≡ b)
-content_eq-Decides None None = (λ e. refl, λ e. refl)
-content_eq-Decides None (Some b) = (λ e. cc, λ e. cc)
-content_eq-Decides (Some a) None = (λ e. cc, λ e. cc)
-content_eq-Decides (Some a) (Some b) = Decides-like (requests_eq a b) (λ e. cc) (λ e. cc) (requests_eq-Decides a b)
-
 -- it holds exactly of equal ones
 pub statement_eq-Decides : (a b : Statement) → Decides (statement_eq a b) (a ≡ b)
 statement_eq-Decides (Ask a) (Ask b) = Decides-like (request_eq a b) (λ e. cc) (λ e. cc) (request_eq-Decides a b)
@@ -29,4 +23,4 @@ statement_eq-Decides (Link slot value before) (Ask b) = (λ e. cc, λ e. cc)
 statement_eq-Decides (Link slot value before) (Link slot' value' before') =
     Decides-like (eqb slot slot' && (option_eq requests_eq value value' && signers_eq before before')) (λ e. cc) (λ e. (cc, (cc, cc)))
     (Decides-and (eqb slot slot') (option_eq requests_eq value value' && signers_eq before before') (Decides-eqb slot slot')
-    (Decides-and (option_eq requests_eq value value') (signers_eq before before') (content_eq-Decides value value') (signers_eq-Decides before before')))
+    (Decides-and (option_eq requests_eq value value') (signers_eq before before') (equal_options requests_eq-Decides value value') (signers_eq-Decides before before')))

@@ -1,5 +1,5 @@
-ghost use Rattle.std.specs.Prelude.{◌≡◌, ◌↔◌, List, Option, Some};
-ghost use Rattle.dsr_request.specs.Issued.{Issued};
+ghost use Rattle.std.specs.Prelude.{Some};
+ghost use Rattle.dsr_base.specs.Reads.{Reads};
 ghost use Rattle.dsr_desk.specs.ContentText.{content_text, IsContent};
 
 use dsr_request::Requests;
@@ -8,7 +8,7 @@ use std::fmt;
 /// The content whose token the bytes are: `idle`, or 1 to 8 requests joined by commas. The outer `None`
 /// comes exactly where they are no such token.
 pub fn read_content(bytes: &[u8]) -> Option<Option<Requests>>
-    ensures { (content : Option (List Issued)) → (result ≡ Some content) ↔ (IsContent content × (bytes.now ≡ content_text content)) }
+    ensures { Reads IsContent content_text bytes.now result }
 {
     if bytes == b"idle".as_slice() {
         return Some(None);

@@ -8,7 +8,6 @@
 mod content_text;
 mod keys;
 mod signers;
-mod signers_text;
 mod statement;
 mod statement_text;
 

@@ -1,4 +1,5 @@
 ghost use Rattle.std.specs.Prelude.{◌≡◌, ◌↔◌, Some};
+ghost use Rattle.dsr_base.specs.Reads.{Reads};
 ghost use Rattle.dsr_desk.specs.declared.statement.Statement.{Statement};
 ghost use Rattle.dsr_desk.specs.StatementText.{statement_text, IsStatement, HasParts};
 
@@ -14,7 +15,7 @@ impl Statement {
     /// The statement that the bytes spell: a request, or slot (below 2^40), content and signers before with
     /// slashes between them, as `0/c0#1:write:a:5/r1`. `None` exactly where they spell none.
     pub fn read(bytes: &[u8]) -> Option<Statement>
-        ensures { (statement : Statement) → (result ≡ Some statement) ↔ (IsStatement statement × (bytes.now ≡ statement_text statement)) }
+        ensures { Reads IsStatement statement_text bytes.now result }
     {
         match split_once(bytes, b'/') {
             None => {

@@ -1,4 +1,4 @@
 pub mod BitLemmas
 mod OldLemmas
-pub mod Rising
+mod ReplicaSets
 mod Sending

@@ -9,7 +9,11 @@ abbrev pub IsNumbered : Actor → Type 0
 IsNumbered (Replica r) = r < 16
 IsNumbered (Client c) = c < 32
 
--- the token of an actor: `r` or `c`, and its number
+-- the token of a replica: `r`, and its number
+abbrev pub replica_text : ℕ → List ℕ
+replica_text r = codes "r" ++ decimal r
+
+-- the token of an actor: of a replica, or `c` and the client's number
 abbrev pub actor_text : Actor → List ℕ
-actor_text (Replica r) = codes "r" ++ decimal r
+actor_text (Replica r) = replica_text r
 actor_text (Client c) = codes "c" ++ decimal c

@@ -1,10 +1,10 @@
 -- How texts spell a shape (this project): `n f m traitors`, as `3 1 1 r0` or `3 1 1 -`.
 use Rattle.std.specs.Prelude.{◌≡◌, ℕ, zero, suc, ◌^◌, ◌<◌, Bool, if◌then◌else◌, List, [], ◌∷◌, ◌++◌, codes, Result, Ok, Err}
 use Rattle.std.specs.Fmt.{decimal}
-use Rattle.dsr_names.specs.Actor.{actor_text}
+use Rattle.dsr_base.specs.Joined.{joined_or_dash}
+use Rattle.dsr_names.specs.Actor.{replica_text}
 use Rattle.dsr_base.specs.Bits.{is_bit_set}
 use Rattle.dsr_names.specs.Shape.{Members, IsAllowed}
-use Rattle.dsr_names.specs.declared.actor.Actor.TheVariants.{Replica}
 use Rattle.dsr_names.specs.declared.refusal.Refusal.{Refusal}
 use Rattle.dsr_names.specs.declared.refusal.Refusal.TheVariants.{BadShape}
 
@@ -17,15 +17,9 @@ numbers_below test (suc n) = numbers_below test n ++ (if test n then n ∷ [] el
 unfoldable pub replicas_of : ℕ → List ℕ
 replicas_of bits = numbers_below (is_bit_set bits) 16
 
--- further replicas, each after a plus
-abbrev pub more_replicas_text : List ℕ → List ℕ
-more_replicas_text [] = []
-more_replicas_text (r ∷ rs) = codes "+" ++ (actor_text (Replica r) ++ more_replicas_text rs)
-
 -- replicas joined by a plus, or a dash where there is none
 abbrev pub replicas_text : List ℕ → List ℕ
-replicas_text [] = codes "-"
-replicas_text (r ∷ rs) = actor_text (Replica r) ++ more_replicas_text rs
+replicas_text = joined_or_dash 43 replica_text
 
 -- the token of a shape
 abbrev pub shape_text : Members → List ℕ

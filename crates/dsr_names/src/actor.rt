@@ -1,10 +1,13 @@
-ghost use Rattle.std.specs.Prelude.{◌≡◌, ◌<◌, ◌↔◌, Some, IsOk, IfOk, IsOkUnless};
+ghost use Rattle.std.specs.Prelude.{◌≡◌, ℕ, ◌<◌, ◌↔◌, Some, IsOk, IfOk, IsOkUnless};
 ghost use Rattle.std.specs.Option.{SomeIff};
 ghost use Rattle.dsr_names.specs.declared.actor.Actor.{Actor};
-ghost use Rattle.dsr_names.specs.Actor.{actor_text, IsNumbered};
+ghost use Rattle.dsr_names.specs.Actor.{actor_text, replica_text, IsNumbered};
+ghost use Rattle.std.proofs.Common.{rules};
+ghost use Rattle.dsr_base.specs.Reads.{Reads};
 
 use crate::refusal::Refusal;
 use crate::token::read_num;
+use dsr_base::Exact;
 use std::fmt;
 use std::marker::Model;
 
@@ -43,6 +46,16 @@ impl ReplicaId {
         }
     }
 
+    /// The replica whose token the bytes are, as `r0`; `None` exactly where they are no such token.
+    pub fn read(bytes: &[u8]) -> Option<ReplicaId>
+        ensures { Reads (λ (r : ℕ). r < 16) replica_text bytes.now result }
+    {
+        match Actor::read(bytes)? {
+            Actor::Replica(replica) => Some(replica),
+            Actor::Client(_) => None,
+        }
+    }
+
     /// The replica of this number, where it is known to be below 16.
     pub(crate) fn of(number: u8) -> ReplicaId
         requires { number < 16 }
@@ -58,6 +71,19 @@ impl ReplicaId {
     {
         self.number
     }
+}
+
+impl fmt::Display for ReplicaId {
+    ghost output = { λ replica. Some (replica_text replica) };
+
+    fn fmt<W: fmt::Write>(&self, f: &mut fmt::Formatter<W>) -> fmt::Result {
+        let number = self.number;
+        write!(f, "r{number}")
+    }
+}
+
+impl Exact for ReplicaId {
+    ghost decides = { λ a b. Prim.search rules };
 }
 
 /// A client by its number, from 0 to 31.
@@ -104,6 +130,10 @@ impl ClientId {
     }
 }
 
+impl Exact for ClientId {
+    ghost decides = { λ a b. Prim.search rules };
+}
+
 /// Whoever takes a step: a replica or a client.
 #[derive(Clone, Copy, Debug, PartialEq, Eq)]
 pub enum Actor {
@@ -116,7 +146,7 @@ pub enum Actor {
 impl Actor {
     /// The actor whose token the bytes are, as `r0` or `c31`; `None` exactly where they are no such token.
     pub fn read(bytes: &[u8]) -> Option<Actor>
-        ensures { (a : Actor) → (result ≡ Some a) ↔ (IsNumbered a × (bytes.now ≡ actor_text a)) }
+        ensures { Reads IsNumbered actor_text bytes.now result }
     {
         if bytes.is_empty() {
             return None;
@@ -130,15 +160,18 @@ impl Actor {
     }
 }
 
+impl Exact for Actor {
+    ghost use Rattle.dsr_names.specs.ActorEq.{actor_eq-Decides};
+
+    ghost decides = { actor_eq-Decides };
+}
+
 impl fmt::Display for Actor {
     ghost output = { λ a. Some (actor_text a) };
 
     fn fmt<W: fmt::Write>(&self, f: &mut fmt::Formatter<W>) -> fmt::Result {
         match self {
-            Actor::Replica(replica) => {
-                let number = replica.number;
-                write!(f, "r{number}")
-            }
+            Actor::Replica(replica) => write!(f, "{replica}"),
             Actor::Client(client) => {
                 let number = client.number;
                 write!(f, "c{number}")

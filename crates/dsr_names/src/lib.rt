@@ -3,11 +3,13 @@
 #![tactic(auto)]
 
 mod actor;
+mod actor_token;
 mod bits;
 mod input;
 mod output;
 mod outside;
 mod refusal;
+mod replicas;
 mod shape;
 mod shape_text;
 #[cfg(test)]

@@ -1,12 +1,11 @@
-ghost use Rattle.std.specs.Prelude.{◌≡◌, ℕ, ◌<◌, ◌≤◌, ◌^◌, List, ◌∷◌, ◌++◌, codes, Some, IfSome, IfNone, IsSomeAnd};
+ghost use Rattle.std.specs.Prelude.{◌≡◌, ℕ, ◌<◌, ◌^◌, List, ◌∷◌, ◌++◌, codes, Some, IfSome, IfNone, IsSomeAnd};
 ghost use Rattle.std.specs.Fmt.{decimal};
-ghost use Rattle.dsr_names.specs.Actor.{actor_text};
 ghost use Rattle.dsr_names.specs.Shape.{Members, shape_of};
 ghost use Rattle.dsr_names.specs.ShapeText.{shape_text, replicas_of, replicas_text, IsSpelled, IsVerdict, IsShapeReading};
-ghost use Rattle.dsr_names.specs.Parts.{SpellsRising};
+ghost use Rattle.dsr_base.specs.Reads.{Reads};
 
-use crate::actor::Actor;
 use crate::refusal::Refusal;
+use crate::replicas::{Replicas, bits_of, replicas_in};
 use crate::shape::Shape;
 use crate::token::read_num;
 use dsr_base::split_once;
@@ -36,30 +35,8 @@ impl fmt::Display for Shape {
         let n = self.n();
         let most = self.f();
         let m = self.m();
-        let traitors = Traitors(self.traitors());
+        let traitors = replicas_in(self.traitors());
         write!(f, "{n} {most} {m} {traitors}")
-    }
-}
-
-/// A set of replicas as texts spell it: replica i by bit i.
-#[derive(Clone, Copy)]
-struct Traitors(u16);
-
-impl fmt::Display for Traitors {
-    ghost output = { λ t. Some (replicas_text (replicas_of t.0)) };
-
-    fn fmt<W: fmt::Write>(&self, f: &mut fmt::Formatter<W>) -> fmt::Result {
-        if self.0 == 0 {
-            return f.write_str("-");
-        }
-        let mut joint = "";
-        for number in 0..16u8 {
-            if (self.0 >> number) & 1 == 1 {
-                write!(f, "{joint}r{number}")?;
-                joint = "+";
-            }
-        }
-        Ok(())
     }
 }
 
@@ -86,40 +63,14 @@ fn read_field(bytes: &[u8]) -> Option<(u64, &[u8])>
 
 /// The traitors that the bytes spell, replica i by bit i.
 fn read_traitors(bytes: &[u8]) -> Option<u16>
-    ensures spelled { IfSome result (λ bits. (bits < 2 ^ 16) × (bytes.now ≡ replicas_text (replicas_of bits))) }
-    ensures read { (bits : ℕ) → bits < 2 ^ 16 → bytes.now ≡ replicas_text (replicas_of bits) → result ≡ Some bits }
+    ensures { Reads (λ (bits : ℕ). bits < 2 ^ 16) (λ bits. replicas_text (replicas_of bits)) bytes.now result }
 {
-    if bytes == b"-".as_slice() {
-        return Some(0);
-    }
-    read_rising(bytes, 0)
-}
-
-/// One or more replicas from `least` on, rising and joined by plus signs; replica i by bit i.
-fn read_rising(bytes: &[u8], least: u8) -> Option<u16>
-    ensures spelled { IfSome result (SpellsRising least bytes.now) }
-    ensures read { (bits : ℕ) → SpellsRising least bytes.now bits → result ≡ Some bits }
-{
-    match split_once(bytes, b'+') {
-        None => {
-            let last = read_replica(bytes, least)?;
-            Some(1 << last)
-        }
-        Some((front, rest)) => {
-            let first = read_replica(front, least)?;
-            let others = read_rising(rest, first + 1)?;
-            Some((1 << first) + others)
-        }
-    }
-}
-
-/// The replica whose token the bytes are, where its number is not below `least`.
-fn read_replica(bytes: &[u8], least: u8) -> Option<u8>
-    ensures spelled { IfSome result (λ r. (least ≤ r) × (r < 16) × (bytes.now ≡ actor_text (Actor.Replica r))) }
-    ensures read { (r : ℕ) → least ≤ r → r < 16 → bytes.now ≡ actor_text (Actor.Replica r) → result ≡ Some r }
-{
-    match Actor::read(bytes)? {
-        Actor::Replica(replica) if replica.number() >= least => Some(replica.number()),
-        _ => None,
+    let spelled = Replicas::read(bytes)?;
+    let bits = bits_of(spelled.as_slice());
+    // One spelling alone stands for a set: the one in which its replicas rise.
+    if replicas_in(bits).same(&spelled) {
+        Some(bits)
+    } else {
+        None
     }
 }

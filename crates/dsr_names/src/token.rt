@@ -1,5 +1,6 @@
-ghost use Rattle.std.specs.Prelude.{◌≡◌, ℕ, ◌<◌, ◌^◌, ◌↔◌, Some, Option};
+ghost use Rattle.std.specs.Prelude.{◌<◌, ◌^◌, Some};
 ghost use Rattle.std.specs.Fmt.{decimal};
+ghost use Rattle.dsr_base.specs.Reads.{Reads};
 ghost use Rattle.dsr_names.specs.Token.{old_text, IsOld};
 
 use dsr_base::read_decimal;
@@ -10,7 +11,7 @@ pub const NUMBER_END: u64 = 1_099_511_627_776;
 
 /// The number below 2^40 whose token the bytes are. `None` exactly where they are no such token.
 pub fn read_num(bytes: &[u8]) -> Option<u64>
-    ensures { (n : ℕ) → (result ≡ Some n) ↔ ((n < 2 ^ 40) × (bytes.now ≡ decimal n)) }
+    ensures { Reads (λ n. n < 2 ^ 40) decimal bytes.now result }
 {
     read_decimal(bytes).filter(|n| *n < NUMBER_END)
 }
@@ -18,7 +19,7 @@ pub fn read_num(bytes: &[u8]) -> Option<u64>
 /// The content of a register whose token the bytes are: `none`, or a number below 2^64. The outer
 /// `None` comes exactly where they are no such token.
 pub fn read_old(bytes: &[u8]) -> Option<Option<u64>>
-    ensures { (old : Option ℕ) → (result ≡ Some old) ↔ (IsOld old × (bytes.now ≡ old_text old)) }
+    ensures { Reads IsOld old_text bytes.now result }
 {
     if bytes == b"none".as_slice() {
         return Some(None);

@@ -3,7 +3,7 @@ use Rattle.std.proofs.Common.{◌≡◌, ℕ, zero, suc, ◌&&◌, ◌==◌, not
 use Rattle.std.specs.Prelude.{fold}
 use Rattle.dsr_names.specs.Shape.{Members, AgreeButForTraitors}
 use Rattle.dsr_names.specs.declared.actor.Actor.{Actor}
-use Rattle.dsr_desk.specs.SignersEq.{actor_eq}
+use Rattle.dsr_names.specs.ActorEq.{actor_eq}
 use Rattle.dsr_chain.specs.Content.{content}
 use Rattle.dsr_chain.specs.SignedValue.{SignedValue, started}
 use Rattle.dsr_chain.specs.declared.slot_value.SlotValue.{SlotValue}

@@ -9,7 +9,7 @@ use Rattle.dsr_names.specs.Shape.{Members}
 use Rattle.dsr_names.specs.declared.actor.Actor.{Actor}
 use Rattle.dsr_base.proofs.MemberLemmas.{In-append_left, In-append_right, In-append_cases, In-one}
 use Rattle.dsr_desk.specs.Signed.{Signed, signed}
-use Rattle.dsr_desk.specs.SignersEq.{actor_eq, actor_eq-Decides}
+use Rattle.dsr_names.specs.ActorEq.{actor_eq, actor_eq-Decides}
 use Rattle.dsr_chain.specs.Content.{content, signed_in}
 use Rattle.dsr_chain.specs.SignedValue.{SignedValue, signed_value, link_after, extended, started}
 use Rattle.dsr_chain.specs.Proper.{IsReplica, IsAsked, IsProper, sender_of}

@@ -3,7 +3,7 @@
 use Rattle.std.specs.Prelude.{ℕ, suc, List, [], ◌∷◌, ◌++◌, Bool, ◌&&◌, ◌==◌, not, map, filter, if◌then◌else◌}
 use Rattle.dsr_names.specs.Shape.{Members}
 use Rattle.dsr_names.specs.declared.actor.Actor.{Actor}
-use Rattle.dsr_desk.specs.SignersEq.{actor_eq}
+use Rattle.dsr_names.specs.ActorEq.{actor_eq}
 use Rattle.dsr_chain.specs.SignedValue.{SignedValue, extended, started}
 use Rattle.dsr_chain.specs.ProperTest.{is_signer}
 use Rattle.dsr_chain.specs.Proper.{sender_of}

@@ -3,7 +3,7 @@ use Rattle.std.specs.Fmt.{decimal}
 use Rattle.std.proofs.lemmas.Option.{none-some, same_Some}
 use Rattle.dsr_base.specs.Split.{IsAbsent}
 use Rattle.dsr_base.proofs.Marks.{not_absent}
-use Rattle.dsr_names.proofs.Rising.{field_cut}
+use Rattle.dsr_names.proofs.ReplicaSets.{field_cut}
 use Rattle.dsr_names.proofs.shape_text.read_field.Goals as goal
 
 -- with no space there is no field

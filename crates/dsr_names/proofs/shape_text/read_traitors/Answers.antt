@@ -1,32 +1,21 @@
-use Rattle.std.proofs.Common.{◌≡◌, ◌∙◌, true, codes, sym, ap, rules, lit<, inl, inr, Some, refl}
+use Rattle.std.proofs.Common.{◌∙◌, ap, sym, subst}
 use Rattle.std.proofs.lemmas.Bool.{false≢true}
-use Rattle.std.proofs.lemmas.Slice.Eq.{bytes_eq-Decides}
-use Rattle.dsr_names.proofs.Rising.{none_text, traitors_spelled, traitors_read, dash_is_none}
+use Rattle.dsr_base.specs.Bits.{bits_with}
+use Rattle.dsr_names.specs.ShapeText.{replicas_of}
+use Rattle.dsr_names.proofs.ReplicaSets.{ReadsSet, no_list, its_list, another_list}
 use Rattle.dsr_names.proofs.shape_text.read_traitors.Goals as goal
 
-pub returns-then-eq-clause-spelled : goal.returns-then-eq-clause-spelled
-returns-then-eq-clause-spelled c =
-    let dash : c.args.bytes.now ≡ codes "-" =
-    (bytes_eq-Decides c.args.bytes.now (codes "-")).0 (search (rules, c.eq.ensures, c.if-eq.true)) in
-    (lit< tt, dash ∙ sym (none_text 0 refl))
+pub returns-in_err-spelled : goal.returns-in_err-spelled
+returns-in_err-spelled c = subst (ReadsSet c.args.bytes.now) (sym c.from_residual.ensures) (no_list c.args.bytes.now c.in_err-spelled.ensures)
 
-pub returns-then-eq-clause-read : goal.returns-then-eq-clause-read
-returns-then-eq-clause-read c bits small text =
-    let dash : c.args.bytes.now ≡ codes "-" =
-    (bytes_eq-Decides c.args.bytes.now (codes "-")).0 (search (rules, c.eq.ensures, c.if-eq.true)) in
-    elim (traitors_spelled c.args.bytes.now bits small text) [
-      | inl none ↦ ap Some (sym none.1)
-      | inr some ↦ absurd (dash_is_none c.args.bytes.now bits dash some)
-    ]
+pub returns-then-same : goal.returns-then-same
+returns-then-same c =
+    its_list c.args.bytes.now c.in_ok-spelled.spelled c.bits_of-bits.result c.bits_of-bits.ensures.fits c.in_ok-spelled.ensures
+    (c.bits_of-bits.ensures.set ∙ ap (bits_with 0) c.as_slice.ensures.same) (sym c.replicas_in.ensures ∙ c.same.ensures.0 c.if-same.true)
 
-pub returns-clause-spelled : goal.returns-clause-spelled
-returns-clause-spelled c = traitors_read c.args.bytes.now c.read_rising.result c.read_rising.ensures.spelled
-
-pub returns-clause-read : goal.returns-clause-read
-returns-clause-read c bits small text =
-    elim (traitors_spelled c.args.bytes.now bits small text) [
-      | inl none ↦
-          let same : c.eq.result ≡ true = rw (c.eq.ensures, c.as_slice.ensures) ((bytes_eq-Decides c.args.bytes.now (codes "-")).1 none.0) in
-          absurd (false≢true (sym c.if-eq.false ∙ same))
-      | inr some ↦ c.read_rising.ensures.read bits some
-    ]
+-- the list of the set is another
+pub returns-else-same : goal.returns-else-same
+returns-else-same c =
+    let set = c.bits_of-bits.ensures.set ∙ ap (bits_with 0) c.as_slice.ensures.same in
+    another_list c.args.bytes.now c.in_ok-spelled.spelled c.in_ok-spelled.ensures
+    (λ same. false≢true (sym c.if-same.false ∙ c.same.ensures.1 (c.replicas_in.ensures ∙ ap replicas_of set ∙ same)))

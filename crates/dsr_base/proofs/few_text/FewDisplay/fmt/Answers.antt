@@ -1,4 +1,4 @@
-use Rattle.std.proofs.Common.{◌≡◌, ◌∷◌, Some, rules, refl}
+use Rattle.std.proofs.Common.{◌∷◌, Some, rules, refl}
 use Rattle.std.proofs.Output.{displays_on_ok_of_eq, has_written_append, has_written_of_eq}
 use Rattle.std.proofs.lemmas.Str.{encode_ascii}
 use Rattle.dsr_base.proofs.JoinedLemmas.{more_next}

@@ -1,15 +1,15 @@
 use Rattle.std.proofs.Common.{sym, subst}
-use Rattle.dsr_desk.proofs.StatementLemmas.{Reads, no_request, one_request, no_link, link_by_parts}
+use Rattle.dsr_desk.proofs.StatementLemmas.{ReadsStatement, no_request, one_request, no_link, link_by_parts}
 use Rattle.dsr_desk.proofs.statement.Statement.read.Goals as goal
 
 pub returns-in_err-request-in-None : goal.returns-in_err-request-in-None
 returns-in_err-request-in-None c =
-    subst (Reads c.args.bytes.now) (sym c.from_residual.ensures)
+    subst (ReadsStatement c.args.bytes.now) (sym c.from_residual.ensures)
     (no_request c.args.bytes.now c.in-None.ensures.absent c.in_err-request-in-None.ensures)
 
 pub returns-in_err-content-in-Some : goal.returns-in_err-content-in-Some
 returns-in_err-content-in-Some c =
-    subst (Reads c.args.bytes.now) (sym c.from_residual-in_err-content-in-Some.ensures)
+    subst (ReadsStatement c.args.bytes.now) (sym c.from_residual-in_err-content-in-Some.ensures)
     (no_link c.args.bytes.now c.in-Some.slot.now c.in-Some.rest.now c.in-Some.ensures.found c.in-Some.ensures.first c.in_err-content-in-Some.ensures.absent)
 
 pub returns-in_ok-request-in-None : goal.returns-in_ok-request-in-None

@@ -1,0 +1,53 @@
+ghost use Rattle.std.specs.Prelude.{ℕ, ◌<◌, refl};
+ghost use Rattle.std.proofs.Common.{lit<};
+ghost use Rattle.dsr_names.specs.Actor.{IsNumbered, actor_text, replica_text};
+ghost use Rattle.dsr_names.specs.ActorToken.{replica_part, actor_part, actor_begun};
+
+use crate::actor::{Actor, ReplicaId};
+use dsr_base::Token;
+
+/// Actors are joined by plus signs, as `r0+c1`.
+impl Token for Actor {
+    ghost is = { IsNumbered };
+
+    ghost text = { actor_text };
+
+    ghost MARK = { 43 };
+
+    const MARK: u8 = b'+';
+
+    fn read(bytes: &[u8]) -> Option<Actor> {
+        Actor::read(bytes)
+    }
+
+    ghost ascii = { lit< tt };
+
+    ghost apart = { actor_part };
+
+    ghost begun = { actor_begun };
+
+    ghost shown = { λ actor. refl };
+}
+
+/// Replicas are joined by plus signs, as `r0+r2`.
+impl Token for ReplicaId {
+    ghost is = { λ (r : ℕ). r < 16 };
+
+    ghost text = { replica_text };
+
+    ghost MARK = { 43 };
+
+    const MARK: u8 = b'+';
+
+    fn read(bytes: &[u8]) -> Option<ReplicaId> {
+        ReplicaId::read(bytes)
+    }
+
+    ghost ascii = { lit< tt };
+
+    ghost apart = { replica_part };
+
+    ghost begun = { λ r is. lit< tt };
+
+    ghost shown = { λ r. refl };
+}
