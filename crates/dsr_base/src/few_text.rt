@@ -1,4 +1,4 @@
-ghost use Rattle.std.specs.Prelude.{◌≤◌, Some};
+ghost use Rattle.std.specs.Prelude.{◌≤◌, ◌↔◌, Some, IsTrue};
 ghost use Rattle.dsr_base.specs.Reads.{Reads};
 ghost use Rattle.dsr_base.specs.Joined.{AreFew, joined};
 
@@ -14,6 +14,13 @@ impl<T: Token, const N: usize> Few<T, N> {
         ensures { Reads (AreFew T.is N) (joined T.MARK T.text) bytes.now result }
     {
         read_joined(bytes, N)
+    }
+
+    /// Whether the list has a text: each item has a token.
+    pub fn fits(&self) -> bool
+        ensures { IsTrue result ↔ AreFew T.is N self.now }
+    {
+        self.as_slice().iter().all(|item| item.fits())
     }
 }
 

@@ -25,6 +25,10 @@ impl Token for bool {
         None
     }
 
+    fn fits(&self) -> bool {
+        true
+    }
+
     ghost ascii = { Prim.search rules };
 
     ghost apart = { elim [

@@ -1,4 +1,4 @@
-ghost use Rattle.std.specs.Prelude.{◌≡◌, ℕ, ◌<◌, List, Some, get_or};
+ghost use Rattle.std.specs.Prelude.{◌≡◌, ℕ, ◌<◌, ◌↔◌, List, Some, IsTrue, get_or};
 ghost use Rattle.dsr_base.specs.Reads.{Reads};
 ghost use Rattle.dsr_base.specs.Split.{IsPart};
 
@@ -20,6 +20,10 @@ pub trait Token: Copy + fmt::Display {
     /// The item whose token the bytes are. `None` exactly where they are no such token.
     fn read(bytes: &[u8]) -> Option<Self>
         ensures { Reads is text bytes.now result };
+
+    /// Whether the item has a token.
+    fn fits(&self) -> bool
+        ensures { IsTrue result ↔ is self.now };
 
     ghost ascii: { MARK < 128 };
 

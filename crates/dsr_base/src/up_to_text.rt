@@ -1,4 +1,4 @@
-ghost use Rattle.std.specs.Prelude.{Some};
+ghost use Rattle.std.specs.Prelude.{◌↔◌, Some, IsTrue};
 ghost use Rattle.dsr_base.specs.Reads.{Reads};
 ghost use Rattle.dsr_base.specs.Joined.{AreUpTo, joined_or_dash};
 
@@ -19,6 +19,13 @@ impl<T: Token, const N: usize> UpTo<T, N> {
         Some(UpTo {
             list: Some(Few::read(bytes)?),
         })
+    }
+
+    /// Whether the list has a text: each item has a token.
+    pub fn fits(&self) -> bool
+        ensures { IsTrue result ↔ AreUpTo T.is N self.now }
+    {
+        self.as_slice().iter().all(|item| item.fits())
     }
 }
 

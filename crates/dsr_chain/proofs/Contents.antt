@@ -1,9 +1,13 @@
 -- Lists of signed requests with the same requests, whatever signatures stand beside them.
-use Rattle.std.proofs.Common.{◌≡◌, ◌≤◌, ◌-◌, ◌↔◌, Bool, true, false, List, [], ◌∷◌, length, take, drop, get_or, map, arith, ap, ap₂, sym, ◌∙◌}
+use Rattle.std.proofs.Common.{◌≡◌, ◌≤◌, ◌-◌, ◌↔◌, Bool, true, false, List, [], ◌∷◌, length, take, drop, get_or, map, arith, ap, ap₂, sym, ◌∙◌, refl, Option, None, Some}
 use Rattle.std.specs.Prelude.{IsTrue}
 use Rattle.std.proofs.lemmas.Grind.{common_steps}
 use Rattle.dsr_request.specs.Issued.{Issued}
+use Rattle.std.proofs.lemmas.Option.{same_Some}
+use Rattle.dsr_chain.specs.Content.{content, requests_in}
 use Rattle.dsr_chain.specs.declared.signed_request.SignedRequest.{SignedRequest}
+use Rattle.dsr_chain.specs.declared.slot_value.SlotValue.{SlotValue}
+use Rattle.dsr_chain.specs.declared.slot_value.SlotValue.TheVariants.{Idle, Act}
 
 abbrev requests : List SignedRequest → List Issued
 requests signed = map (λ s. s.request) signed
@@ -34,3 +38,13 @@ decided_by_first (a ∷ xs) (b ∷ ys) x y first some some_other x_is y_is tests
   λ t. let e : true ≡ false = sym t ∙ differ in cc,
   λ e. let heads : a.request ≡ b.request = cc in tests.1 (ap (λ s. s.request) x_is ∙ (heads ∙ sym (ap (λ s. s.request) y_is))),
 )
+
+-- what a content tells of the requests
+
+pub requests_of_content : (value : SlotValue) (them : List Issued) → content value ≡ Some them → requests_in value ≡ them
+requests_of_content Idle them e = cc
+requests_of_content (Act batch) them e = same_Some (map (λ s. s.request) batch) them e
+
+pub no_requests : (value : SlotValue) → content value ≡ None → requests_in value ≡ []
+no_requests Idle e = refl
+no_requests (Act batch) e = cc

@@ -22,3 +22,7 @@ signed_in (Act batch) = batch
 abbrev pub content : SlotValue → Option (List Issued)
 content Idle = None
 content (Act batch) = Some (map (λ s. s.request) batch)
+
+-- the requests of a value in their order, none where it is idle
+abbrev pub requests_in : SlotValue → List Issued
+requests_in value = map (λ s. s.request) (signed_in value)

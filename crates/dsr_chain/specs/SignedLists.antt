@@ -11,6 +11,6 @@ abbrev pub value_of : List SignedRequest → SlotValue
 value_of [] = Idle
 value_of (s ∷ ss) = Act (s ∷ ss)
 
--- these requests without their signatures, none where there are none
-abbrev pub requests_in : List SignedRequest → Option (List Issued)
-requests_in signed = content (value_of signed)
+-- the content of that value
+abbrev pub content_of : List SignedRequest → Option (List Issued)
+content_of signed = content (value_of signed)

@@ -134,7 +134,7 @@ impl Chain {
     }
 
     /// The signed requests of the value, none where it is idle.
-    pub(crate) fn signed(&self) -> &[SignedRequest]
+    pub fn signed(&self) -> &[SignedRequest]
         ensures { result.now ≡ signed_in self.now.value }
     {
         self.body.value.signed()

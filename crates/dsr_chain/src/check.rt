@@ -120,22 +120,9 @@ fn stands_twice(signers: &[Actor]) -> bool
     }
 }
 
-/// Whether the request's client is of the shape, and the signature beside it is that client's on it.
-fn is_asked(shape: &Shape, signed: &SignedRequest) -> bool
-    ensures { IsTrue result ↔ IsAsked shape.now signed.now }
-{
-    let client = signed.request.client();
-    client.number() < shape.m()
-        && signed.signature.signer() == Actor::Client(client)
-        && signed
-            .signature
-            .statement()
-            .same(&Statement::Ask(signed.request))
-}
-
 /// Whether one of the requests was not asked by its client, a client of the shape.
 fn has_bad_request(shape: &Shape, signed: &[SignedRequest]) -> bool
     ensures { IsTrue result ↔ Any (λ s. ¬ IsAsked shape.now s) signed.now }
 {
-    signed.iter().any(|request| !is_asked(shape, request))
+    signed.iter().any(|request| !request.is_asked(shape))
 }

@@ -3,7 +3,7 @@ ghost use Rattle.dsr_chain.specs.Content.{content, signed_in};
 
 use crate::batch::Batch;
 use crate::signed_request::SignedRequest;
-use crate::slot_value::{SlotValue, requests_in};
+use crate::slot_value::{SlotValue, content_of};
 use dsr_names::Refusal;
 use dsr_request::Requests;
 use std::alloc::Global;
@@ -76,7 +76,7 @@ impl SharedValue {
     pub(crate) fn content(&self) -> Option<Requests>
         ensures { result ≡ content self.now }
     {
-        requests_in(self.signed.as_slice())
+        content_of(self.signed.as_slice())
     }
 
     /// Whether two values have the same requests in the same order, or both have none.

@@ -1,6 +1,7 @@
 ghost use Rattle.std.specs.Prelude.{◌≡◌, ◌↔◌, IsTrue};
 
 use dsr_desk::{Key, Signature, Statement};
+use dsr_names::{Actor, Shape};
 use dsr_request::Request;
 
 /// A request, and the signature that stands beside it. It is copied without taking memory.
@@ -14,6 +15,7 @@ pub struct SignedRequest {
 
 impl SignedRequest {
     ghost use Rattle.dsr_chain.specs.Content.{signed_by};
+    ghost use Rattle.dsr_chain.specs.Proper.{IsAsked};
 
     /// The request, signed with the key.
     pub fn by(request: Request, key: &Key) -> SignedRequest
@@ -23,6 +25,20 @@ impl SignedRequest {
             request,
             signature: key.sign(Statement::Ask(request)),
         }
+    }
+
+    /// Whether the client asked for the request: it is a client of the shape, and the signature beside the request is its
+    /// own on that request.
+    pub fn is_asked(&self, shape: &Shape) -> bool
+        ensures { IsTrue result ↔ IsAsked shape.now self.now }
+    {
+        let client = self.request.client();
+        client.number() < shape.m()
+            && self.signature.signer() == Actor::Client(client)
+            && self
+                .signature
+                .statement()
+                .same(&Statement::Ask(self.request))
     }
 
     /// Whether two requests are the same and have the same signature beside them.

@@ -1,5 +1,5 @@
-ghost use Rattle.std.specs.Prelude.{◌≡◌, ◌≤◌, ◌↔◌, length, IsTrue};
-ghost use Rattle.dsr_chain.specs.SignedLists.{requests_in as requests_of};
+ghost use Rattle.std.specs.Prelude.{◌≡◌, ◌≤◌, ◌↔◌, [], length, IsTrue, IfSome, IfNone};
+ghost use Rattle.dsr_chain.specs.SignedLists.{content_of as content_in};
 
 use crate::batch::Batch;
 use crate::signed_request::SignedRequest;
@@ -15,15 +15,17 @@ pub enum SlotValue {
 }
 
 impl SlotValue {
-    ghost use Rattle.dsr_chain.specs.Content.{content};
+    ghost use Rattle.dsr_chain.specs.Content.{content, requests_in};
 
     /// What a link of a chain covers: the requests without their signatures, or nothing.
     pub fn content(&self) -> Option<Requests>
-        ensures { result ≡ content self.now }
+        ensures same { result ≡ content self.now }
+        ensures requests { IfSome result (λ requests. requests ≡ requests_in self.now) }
+        ensures idle { IfNone result (requests_in self.now ≡ []) }
     {
         match self {
             SlotValue::Idle => None,
-            SlotValue::Act(batch) => requests_in(batch.as_slice()),
+            SlotValue::Act(batch) => content_of(batch.as_slice()),
         }
     }
 
@@ -36,9 +38,9 @@ impl SlotValue {
 }
 
 /// The requests without their signatures, or `None` where there are none.
-pub(crate) fn requests_in(signed: &[SignedRequest]) -> Option<Requests>
+pub(crate) fn content_of(signed: &[SignedRequest]) -> Option<Requests>
     requires { length signed.now ≤ 8 }
-    ensures { result ≡ requests_of signed.now }
+    ensures { result ≡ content_in signed.now }
 {
     if signed.is_empty() {
         return None;

@@ -1,4 +1,4 @@
-ghost use Rattle.std.specs.Prelude.{Some};
+ghost use Rattle.std.specs.Prelude.{◌↔◌, Some, IsTrue};
 ghost use Rattle.dsr_base.specs.Reads.{Reads};
 ghost use Rattle.dsr_desk.specs.ContentText.{content_text, IsContent};
 
@@ -14,6 +14,16 @@ pub fn read_content(bytes: &[u8]) -> Option<Option<Requests>>
         return Some(None);
     }
     Requests::read(bytes).map(Some)
+}
+
+/// Whether the content has a token: each of its requests has one.
+pub(crate) fn content_fits(content: &Option<Requests>) -> bool
+    ensures { IsTrue result ↔ IsContent content.now }
+{
+    match content {
+        None => true,
+        Some(requests) => requests.fits(),
+    }
 }
 
 /// What a slot carries as texts spell it: `idle`, or its requests joined by commas.

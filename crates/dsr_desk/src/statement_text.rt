@@ -1,13 +1,13 @@
-ghost use Rattle.std.specs.Prelude.{◌≡◌, ◌↔◌, Some};
+ghost use Rattle.std.specs.Prelude.{◌≡◌, ◌↔◌, Some, IsTrue};
 ghost use Rattle.dsr_base.specs.Reads.{Reads};
 ghost use Rattle.dsr_desk.specs.declared.statement.Statement.{Statement};
 ghost use Rattle.dsr_desk.specs.StatementText.{statement_text, IsStatement, HasParts};
 
-use crate::content_text::{Content, read_content};
+use crate::content_text::{Content, content_fits, read_content};
 use crate::signers::Signers;
 use crate::statement::Statement;
-use dsr_base::split_once;
-use dsr_names::read_num;
+use dsr_base::{Token, split_once};
+use dsr_names::{NUMBER_END, read_num};
 use dsr_request::Request;
 use std::fmt;
 
@@ -26,6 +26,21 @@ impl Statement {
                 let (content, before) = split_once(rest, b'/')?;
                 read_link(slot, content, before)
             }
+        }
+    }
+
+    /// Whether the statement has a text: a link's slot is below 2^40. All else of a statement in hand can be
+    /// spelled.
+    pub fn fits(&self) -> bool
+        ensures { IsTrue result ↔ IsStatement self.now }
+    {
+        match self {
+            Statement::Ask(request) => request.fits(),
+            Statement::Link {
+                slot,
+                value,
+                before,
+            } => *slot < NUMBER_END && content_fits(value) && before.fits(),
         }
     }
 }

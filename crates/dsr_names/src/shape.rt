@@ -74,7 +74,7 @@ impl Shape {
     }
 
     /// The traitors, replica i by bit i.
-    pub(crate) fn traitors(&self) -> u16
+    pub fn traitors(&self) -> u16
         ensures same { result ≡ self.now.traitors }
         ensures allowed { IsAllowed self.now }
     {

@@ -54,12 +54,17 @@ impl Op {
 
     /// The register that the operation is on.
     pub fn name(&self) -> Name
-        ensures { result ≡ register_of self.now }
+        ensures same { result ≡ register_of self.now }
+        ensures spelled { IsOp self.now }
     {
-        match self {
-            Op::Read { name } | Op::Write { name, .. } => *name,
-            Op::Swap { name, .. } | Op::Remove { name } => *name,
-        }
+        let op = *self;
+        let name = match op {
+            Op::Read { name } | Op::Write { name, .. } => name,
+            Op::Swap { name, .. } | Op::Remove { name } => name,
+        };
+        // that it is a name is known from here on
+        let _bytes = name.as_bytes();
+        name
     }
 }
 

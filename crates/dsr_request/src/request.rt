@@ -1,5 +1,7 @@
 ghost use Rattle.std.specs.Prelude.{◌≡◌, ◌<◌, ◌^◌, ◌↔◌, IsOk, IfOk, IsTrue, IsOkUnless};
 ghost use Rattle.dsr_request.specs.Issued.{issued};
+ghost use Rattle.dsr_request.specs.OpText.{IsOp};
+ghost use Rattle.dsr_request.specs.RequestText.{IsRequest};
 
 use crate::op::Op;
 use dsr_names::{ClientId, NUMBER_END, Refusal};
@@ -53,14 +55,20 @@ impl Request {
         ensures same { result ≡ self.now.number }
         ensures some { 0 < result }
         ensures small { result < 2 ^ 40 }
+        ensures spelled { IsRequest self.now }
     {
+        // that the client and the operation can be spelled is known from here on
+        let _client = self.client.number();
+        let _op = self.op();
         self.number
     }
 
     /// The operation.
     pub fn op(&self) -> Op
-        ensures { result ≡ self.now.op }
+        ensures same { result ≡ self.now.op }
+        ensures spelled { IsOp result }
     {
+        let _name = self.op.name();
         self.op
     }
 }

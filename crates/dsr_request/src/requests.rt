@@ -32,6 +32,12 @@ impl Token for Request {
         Request::read(bytes)
     }
 
+    // Every request in hand has a token: what is called says so.
+    fn fits(&self) -> bool {
+        let _number = self.number();
+        true
+    }
+
     ghost ascii = { lit< tt };
 
     ghost apart = { request_part };

@@ -1,6 +1,6 @@
 use Rattle.std.proofs.Common.{◌≡◌, length, take}
 use Rattle.std.specs.Prelude.{map}
-use Rattle.dsr_chain.proofs.slot_value.requests_in.Given as goal
+use Rattle.dsr_chain.proofs.slot_value.content_of.Given as goal
 
 abbrev pub invariant-loop-i : goal.invariant-loop-i
 invariant-loop-i l = record {
