@@ -1,12 +1,12 @@
 -- Texts of items joined by a mark, cut at the first mark outside parentheses.
-use Rattle.std.proofs.Common.{◌≡◌, ℕ, ◌+◌, ◌-◌, ◌<◌, List, [], ◌∷◌, ◌++◌, Option, None, Some, codes, length, get_or, take, false, refl, sym, ap, ◌∙◌, subst, arith, append_assoc}
+use Rattle.std.proofs.Common.{All, ◌≡◌, ℕ, ◌+◌, ◌-◌, ◌<◌, List, [], ◌∷◌, ◌++◌, Option, None, Some, codes, length, get_or, take, false, refl, sym, ap, ◌∙◌, subst, arith, append_assoc}
 use Rattle.std.proofs.lemmas.List.{append-nil, take_more}
-use Rattle.std.proofs.lemmas.List.Elements.{All-nil, All-cons, All-head, All-tail}
+use Rattle.std.proofs.lemmas.List.Elements.{All-nil, All-cons, All-append, All-head, All-tail}
 use Rattle.dsr_base.specs.Reads.{Reads}
 use Rattle.dsr_base.specs.Split.{IsFree, IsPart}
 use Rattle.dsr_base.specs.Joined.{joined, more_joined, joined_or_dash, AreFew, AreUpTo}
 use Rattle.dsr_base.proofs.ReadsLemmas.{reads_none, reads_some, not_read, was_read, only_read}
-use Rattle.dsr_base.proofs.Outside.{not_free, one_cut_outside}
+use Rattle.dsr_base.proofs.Outside.{not_free, one_cut_outside, part_append}
 
 -- ---- reading
 
@@ -123,6 +123,35 @@ module _ {X : Type 0} (is : X → Type 0) (text : X → List ℕ) (mark most : �
     λ e. let read = (reads (x ∷ xs)).0 e in (record { few = read.0.few; each = read.0.each }, read.1),
     λ h. (reads (x ∷ xs)).1 (record { some = omega arith; few = h.0.few; each = h.0.each }, h.1),
   )
+
+-- ---- what stands in a joined text
+
+module _ {X : Type 0} (is : X → Type 0) (text : X → List ℕ) (mark : ℕ) where
+  more_all : (P : ℕ → Type 0) → P mark → ((x : X) → is x → All P (text x)) → (xs : List X) → All is xs → All P (more_joined mark text xs)
+  more_all P here each [] h = All-nil P
+  more_all P here each (x ∷ xs) h =
+      All-cons P mark (text x ++ more_joined mark text xs) here
+      (All-append P (text x) (more_joined mark text xs) (each x (All-head is x xs h)) (more_all P here each xs (All-tail is x xs h)))
+
+  -- what holds of the mark and of each token's bytes holds of all bytes
+  pub joined_all : (P : ℕ → Type 0) → P mark → ((x : X) → is x → All P (text x)) → (xs : List X) → All is xs → All P (joined mark text xs)
+  joined_all P here each [] h = All-nil P
+  joined_all P here each (x ∷ xs) h =
+      All-append P (text x) (more_joined mark text xs) (each x (All-head is x xs h)) (more_all P here each xs (All-tail is x xs h))
+
+  more_part : (other : ℕ) → IsPart other (mark ∷ []) → ((x : X) → is x → IsPart other (text x)) → (xs : List X) → All is xs
+      → IsPart other (more_joined mark text xs)
+  more_part other here each [] h = record { free = tt; closed = refl }
+  more_part other here each (x ∷ xs) h =
+      part_append other (mark ∷ []) (text x ++ more_joined mark text xs) here
+      (part_append other (text x) (more_joined mark text xs) (each x (All-head is x xs h)) (more_part other here each xs (All-tail is x xs h)))
+
+  -- joined parts are a part for another mark
+  pub joined_part : (other : ℕ) → IsPart other (mark ∷ []) → ((x : X) → is x → IsPart other (text x)) → (xs : List X) → All is xs
+      → IsPart other (joined mark text xs)
+  joined_part other here each [] h = record { free = tt; closed = refl }
+  joined_part other here each (x ∷ xs) h =
+      part_append other (text x) (more_joined mark text xs) (each x (All-head is x xs h)) (more_part other here each xs (All-tail is x xs h))
 
 -- ---- writing
 

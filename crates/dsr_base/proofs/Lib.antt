@@ -1,5 +1,4 @@
 mod FewLemmas
-pub mod JoinedBytes
 pub mod JoinedLemmas
 pub mod Marks
 pub mod MemberLemmas
@@ -8,3 +7,4 @@ pub mod Outside
 pub mod Padding
 pub mod Pigeonhole
 pub mod ReadsLemmas
+pub mod TwoParts

@@ -9,7 +9,7 @@ use Rattle.dsr_base.proofs.Marks.{one_cut, not_absent}
 use Rattle.dsr_request.specs.Fields.Texts.{decimal_without}
 use Rattle.dsr_request.specs.Issued.{Issued}
 use Rattle.dsr_request.specs.RequestText.{request_token, IsRequest}
-use Rattle.dsr_base.proofs.JoinedBytes.{joined_without}
+use Rattle.dsr_base.proofs.JoinedLemmas.{joined_all}
 use Rattle.dsr_request.specs.Fields.RequestToken.{token_without}
 use Rattle.dsr_desk.specs.ContentText.{content_text, IsContent}
 use Rattle.dsr_desk.specs.SignersText.{signers_text, IsSigners}
@@ -48,7 +48,7 @@ no_slash_in_content : (content : Option (List Issued)) → IsContent content →
 no_slash_in_content None h = search (rules, arith)
 no_slash_in_content (Some requests) h =
     let no_comma : ◌≡◌ {A = ℕ} 44 47 → ⊥ = λ (e : ◌≡◌ {A = ℕ} 44 47). omega arith in
-    joined_without IsRequest request_token 44 47 no_comma no_slash_in_request requests h.each
+    joined_all IsRequest request_token 44 (λ b. b ≡ 47 → ⊥) no_comma no_slash_in_request requests h.each
 
 no_slash_in_slot : (slot : ℕ) → slot < 2 ^ 40 → IsAbsent 47 (decimal slot)
 no_slash_in_slot slot small = decimal_without 47 slot refl (omega (arith, small))

@@ -2,6 +2,7 @@ use crate::{
     Actor, ClientId, MOST_BYTES, Old, Outside, Refusal, ReplicaId, Shape, Sink, Source, read_input,
     read_num, read_old, write_output,
 };
+use dsr_base::UpTo;
 use std::alloc::{AllocError, Global};
 use std::fmt::Display;
 use std::io;
@@ -145,6 +146,17 @@ fn replicas_are_numbered(rt: HostRuntime) -> Result<(), Refusal> {
 }
 
 #[test]
+fn replicas_are_read_and_printed(rt: HostRuntime) -> Result<(), Fail> {
+    let last = ReplicaId::new(15)?;
+    assert!(rt; ReplicaId::read(b"r15") == Some(last));
+    prints(&rt, rt.alloc(), &last, "r15")?;
+    for text in ["", "r", "15", "r16", "c0", "r01"] {
+        assert!(rt; ReplicaId::read(text.as_bytes()).is_none(), "{text}");
+    }
+    Ok(())
+}
+
+#[test]
 fn clients_are_numbered(rt: HostRuntime) -> Result<(), Refusal> {
     assert!(rt; ClientId::new(0)? == ClientId::FIRST);
     assert!(rt; ClientId::new(31)?.number() == 31);
@@ -204,6 +216,17 @@ fn reads_no_other_actor(rt: HostRuntime) {
     for text in NO_ACTORS {
         assert!(rt; Actor::read(text.as_bytes()).is_none(), "{text}");
     }
+}
+
+#[test]
+fn actors_are_joined_by_plus_signs(rt: HostRuntime) -> Result<(), Fail> {
+    let mut actors = UpTo::<Actor, 2>::new();
+    actors.push(Actor::Replica(ReplicaId::FIRST));
+    actors.push(Actor::Client(ClientId::FIRST));
+    assert!(rt; UpTo::read(b"r0+c0") == Some(actors));
+    prints(&rt, rt.alloc(), &actors, "r0+c0")?;
+    assert!(rt; UpTo::<Actor, 2>::read(b"r0+c0+r1").is_none());
+    Ok(())
 }
 
 const BAD_SHAPE: Option<Refusal> = Some(Refusal::BadShape);
