@@ -19,7 +19,7 @@ impl<T: Copy, const N: usize> Model for Few<T, N> {
 
     ghost Value = { List T };
 
-    ghost use Rattle.dsr_base.specs.Fields.Few.{IsFew, few_fields, fields_back};
+    ghost use Rattle.dsr_base.specs.Support.Few.{IsFew, few_fields, fields_back};
 
     ghost view = { λ a. take a.len a.items };
 

@@ -16,7 +16,7 @@ impl<T: Copy, const N: usize> Model for UpTo<T, N> {
 
     ghost Value = { List T };
 
-    ghost use Rattle.dsr_base.specs.Fields.UpTo.{IsUpTo, items_of, up_to_fields, fields_back};
+    ghost use Rattle.dsr_base.specs.Support.UpTo.{IsUpTo, items_of, up_to_fields, fields_back};
 
     ghost view = { λ a. items_of a.list };
 

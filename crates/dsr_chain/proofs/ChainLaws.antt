@@ -9,15 +9,15 @@ use Rattle.std.proofs.lemmas.List.Quantifiers.{all_pairs_push}
 use Rattle.std.proofs.lemmas.Option.{same_Some, none-some, slice_get_within}
 use Rattle.dsr_base.specs.Bits.{count_below}
 use Rattle.dsr_base.specs.Member.{In, here, there}
-use Rattle.dsr_names.specs.Shape.{Members, is_traitor}
+use Rattle.dsr_names.specs.Shape.{Shape, is_traitor}
 use Rattle.dsr_names.specs.declared.actor.Actor.{Actor}
 use Rattle.dsr_names.specs.declared.actor.Actor.TheVariants.{Replica, Client}
 use Rattle.dsr_base.proofs.MemberLemmas.{In-append_cases, In-one, In-place, In-from_place}
 use Rattle.dsr_base.proofs.Pigeonhole.{pigeonhole}
-use Rattle.dsr_request.specs.Issued.{Issued}
-use Rattle.dsr_desk.specs.Signed.{Signed, signed}
+use Rattle.dsr_request.specs.Request.{Request}
+use Rattle.dsr_desk.specs.Signature.{Signature, signed}
 use Rattle.dsr_chain.specs.Content.{content, signed_in, signed_by}
-use Rattle.dsr_chain.specs.SignedValue.{SignedValue, signers_of, link_after, extended, started}
+use Rattle.dsr_chain.specs.Chain.{Chain, signers_of, link_after, extended, started}
 use Rattle.dsr_chain.specs.Proper.{IsReplica, IsAsked, IsProper, sender_of, fitting_at}
 use Rattle.dsr_chain.specs.declared.signed_request.SignedRequest.{SignedRequest}
 use Rattle.dsr_chain.specs.declared.slot_value.SlotValue.{SlotValue}
@@ -27,13 +27,13 @@ use Rattle.dsr_chain.proofs.ProperDecides.{at_head, in_rest, head_or_rest, none_
 -- ---- signers
 
 -- the signer of a signature that stands in the list signed
-pub signer_in : (s : Signed) (signatures : List Signed) → In s signatures → Any (λ t. t.signer ≡ s.signer) signatures
+pub signer_in : (s : Signature) (signatures : List Signature) → In s signatures → Any (λ t. t.signer ≡ s.signer) signatures
 signer_in s [] h = elim h [ ]
 signer_in s (t ∷ rest) (here e) = at_head (λ u. u.signer ≡ s.signer) t rest (ap (λ u. u.signer) e)
 signer_in s (t ∷ rest) (there h) = in_rest (λ u. u.signer ≡ s.signer) t rest (signer_in s rest h)
 
 -- an actor that signed has a signature in the list
-pub signature_of : (a : Actor) (signatures : List Signed) → Any (λ t. t.signer ≡ a) signatures → (s : Signed) × In s signatures × (s.signer ≡ a)
+pub signature_of : (a : Actor) (signatures : List Signature) → Any (λ t. t.signer ≡ a) signatures → (s : Signature) × In s signatures × (s.signer ≡ a)
 signature_of a [] h = absurd (none_in_nil (λ t. t.signer ≡ a) h)
 signature_of a (t ∷ rest) h = elim (head_or_rest (λ u. u.signer ≡ a) t rest h) [
   | inl first ↦ (t, here refl, first)
@@ -41,7 +41,7 @@ signature_of a (t ∷ rest) h = elim (head_or_rest (λ u. u.signer ≡ a) t rest
 ]
 
 -- who is among the signers signed
-signed_from_signers : (a : Actor) (signatures : List Signed) → Any (λ b. b ≡ a) (signers_of signatures) → Any (λ s. s.signer ≡ a) signatures
+signed_from_signers : (a : Actor) (signatures : List Signature) → Any (λ b. b ≡ a) (signers_of signatures) → Any (λ s. s.signer ≡ a) signatures
 signed_from_signers a [] h = absurd (none_in_nil (λ b. b ≡ a) h)
 signed_from_signers a (s ∷ rest) h = elim (head_or_rest (λ b. b ≡ a) s.signer (signers_of rest) h) [
   | inl first ↦ at_head (λ t. t.signer ≡ a) s rest first
@@ -49,18 +49,18 @@ signed_from_signers a (s ∷ rest) h = elim (head_or_rest (λ b. b ≡ a) s.sign
 ]
 
 -- a proper chain has a signer for each round
-pub signers_count : (shape : Members) (slot r : ℕ) (chain : SignedValue) → IsProper shape slot r chain → length (signers_of chain.signatures) ≡ r
+pub signers_count : (shape : Shape) (slot r : ℕ) (chain : Chain) → IsProper shape slot r chain → length (signers_of chain.signatures) ≡ r
 signers_count shape slot r chain h = length-map chain.signatures (λ s. s.signer) ∙ h.count
 
 -- ---- the first signature
 
-started_fits : (slot : ℕ) (value : SlotValue) (a : Actor) (place : ℕ) (s : Signed) → slice_get (signed a (link_after slot value []) ∷ []) place ≡ Some s
+started_fits : (slot : ℕ) (value : SlotValue) (a : Actor) (place : ℕ) (s : Signature) → slice_get (signed a (link_after slot value []) ∷ []) place ≡ Some s
     → s.statement ≡ fitting_at (started slot value a) place
 started_fits slot value a zero s stands = ap (λ t. t.statement) (sym (same_Some (signed a (link_after slot value [])) s stands))
 started_fits slot value a (suc place) s stands = absurd (none-some s stands)
 
 -- what the sender of a slot starts is proper for the first round
-pub started_proper : (shape : Members) (slot : ℕ) (value : SlotValue) → IsReplica shape (sender_of shape slot) → All (IsAsked shape) (signed_in value)
+pub started_proper : (shape : Shape) (slot : ℕ) (value : SlotValue) → IsReplica shape (sender_of shape slot) → All (IsAsked shape) (signed_in value)
     → IsProper shape slot 1 (started slot value (sender_of shape slot))
 started_proper shape slot value sender asked =
     record {
@@ -90,7 +90,7 @@ first_stays : {X : Type 0} (xs ys : List X) (x : X) → slice_get xs 0 ≡ Some 
 first_stays [] ys x e = absurd (none-some x e)
 first_stays (z ∷ xs) ys x e = e
 
-extended_fits : (shape : Members) (slot r : ℕ) (chain : SignedValue) (a : Actor) → IsProper shape slot r chain → (place : ℕ) (s : Signed)
+extended_fits : (shape : Shape) (slot r : ℕ) (chain : Chain) (a : Actor) → IsProper shape slot r chain → (place : ℕ) (s : Signature)
     → slice_get (extended chain a).signatures place ≡ Some s → s.statement ≡ fitting_at (extended chain a) place
 extended_fits shape slot r chain a h place s stands =
     let own = signed a (link_after chain.slot chain.value (signers_of chain.signatures)) in
@@ -109,7 +109,7 @@ extended_distinct signers a distinct fresh =
     (λ k d inside. λ e. fresh (k, get_or signers k d, inside, get_or_default signers k (get_or signers k d) d inside, e))
 
 -- a proper chain that a replica of the shape signs, which had not signed it, is proper for the next round
-pub extended_proper : (shape : Members) (slot r : ℕ) (chain : SignedValue) (a : Actor) → IsProper shape slot r chain → IsReplica shape a
+pub extended_proper : (shape : Shape) (slot r : ℕ) (chain : Chain) (a : Actor) → IsProper shape slot r chain → IsReplica shape a
     → ¬ Any (λ s. s.signer ≡ a) chain.signatures → IsProper shape slot (suc r) (extended chain a)
 extended_proper shape slot r chain a h replica fresh =
     let own = signed a (link_after chain.slot chain.value (signers_of chain.signatures)) in
@@ -129,7 +129,7 @@ extended_proper shape slot r chain a h replica fresh =
     }
 
 -- the signature that an extended chain has more is on the link after all signers before
-pub own_place : (shape : Members) (slot r : ℕ) (chain : SignedValue) (a : Actor) (s : Signed) → IsProper shape slot r chain
+pub own_place : (shape : Shape) (slot r : ℕ) (chain : Chain) (a : Actor) (s : Signature) → IsProper shape slot r chain
     → ¬ Any (λ t. t.signer ≡ a) chain.signatures → In s (extended chain a).signatures → s.signer ≡ a
     → s ≡ signed a (link_after slot chain.value (signers_of chain.signatures))
 own_place shape slot r chain a s h fresh stands own =
@@ -141,14 +141,14 @@ own_place shape slot r chain a s h fresh stands own =
     ]
 
 -- a signature of an extended chain that isn't the new signer's stood in the chain before
-pub other_place : (chain : SignedValue) (a : Actor) (s : Signed) → In s (extended chain a).signatures → s.signer ≢ a → In s chain.signatures
+pub other_place : (chain : Chain) (a : Actor) (s : Signature) → In s (extended chain a).signatures → s.signer ≢ a → In s chain.signatures
 other_place chain a s stands other =
     elim (In-append_cases s chain.signatures (signed a (link_after chain.slot chain.value (signers_of chain.signatures)) ∷ []) stands) [
       | inl before ↦ before
       | inr last ↦ not_last (signed a (link_after chain.slot chain.value (signers_of chain.signatures))) other last
     ]
   where
-    not_last : (y : Signed) → s.signer ≢ y.signer → In s (y ∷ []) → In s chain.signatures
+    not_last : (y : Signature) → s.signer ≢ y.signer → In s (y ∷ []) → In s chain.signatures
     not_last y differ (here e) = absurd (differ (ap (λ t. t.signer) (sym e)))
     not_last y differ (there later) = elim later [ ]
 
@@ -160,7 +160,7 @@ pub link_parts : (slot slot' : ℕ) (v w : SlotValue) (xs ys : List Actor) → l
 link_parts slot slot' v w xs ys e = (cc, cc, cc)
 
 -- by its own signature the new signer tells the slot, the content and how many signed before
-pub own_before : (shape : Members) (slot r : ℕ) (chain : SignedValue) (a : Actor) (s : Signed) (slot' : ℕ) (w : SlotValue) (before : List Actor)
+pub own_before : (shape : Shape) (slot r : ℕ) (chain : Chain) (a : Actor) (s : Signature) (slot' : ℕ) (w : SlotValue) (before : List Actor)
     → IsProper shape slot r chain → ¬ Any (λ t. t.signer ≡ a) chain.signatures → In s (extended chain a).signatures → s.signer ≡ a
     → s.statement ≡ link_after slot' w before → (slot' ≡ slot) × (content w ≡ content chain.value) × (length before ≡ r)
 own_before shape slot r chain a s slot' w before h fresh stands own on_link =
@@ -170,13 +170,13 @@ own_before shape slot r chain a s slot' w before h fresh stands own on_link =
     (parts.0, parts.1, ap length parts.2 ∙ signers_count shape slot r chain h)
 
 -- the signature is on a link of the slot and the value, with fewer than r signers before it
-pub record StandsOnLink (slot : ℕ) (value : SlotValue) (r : ℕ) (s : Signed) : Type 0 where
+pub record StandsOnLink (slot : ℕ) (value : SlotValue) (r : ℕ) (s : Signature) : Type 0 where
   pub before : List Actor
   pub statement : s.statement ≡ link_after slot value before
   pub fewer : length before < r
 
 -- each signature of a proper chain stands on a link of its slot and value, with fewer signers before than it has
-pub link_at : (shape : Members) (slot r : ℕ) (chain : SignedValue) (s : Signed) → IsProper shape slot r chain → In s chain.signatures
+pub link_at : (shape : Shape) (slot r : ℕ) (chain : Chain) (s : Signature) → IsProper shape slot r chain → In s chain.signatures
     → StandsOnLink slot chain.value r s
 link_at shape slot r chain s h stands =
     let at = In-place s chain.signatures stands in
@@ -189,14 +189,14 @@ link_at shape slot r chain s h stands =
       fewer = omega (arith, inside, taken, length-map front (λ t. t.signer), h.count);
     }
 
-first_signature : (a : Actor) (signatures : List Signed) → slice_get (signers_of signatures) 0 ≡ Some a
-    → (s : Signed) × (slice_get signatures 0 ≡ Some s) × (s.signer ≡ a)
+first_signature : (a : Actor) (signatures : List Signature) → slice_get (signers_of signatures) 0 ≡ Some a
+    → (s : Signature) × (slice_get signatures 0 ≡ Some s) × (s.signer ≡ a)
 first_signature a [] e = absurd (none-some a e)
 first_signature a (s ∷ rest) e = (s, refl, same_Some s.signer a e)
 
 -- the sender's signature is on the link with no signer before it
-pub first_link : (shape : Members) (slot r : ℕ) (chain : SignedValue) → IsProper shape slot r chain
-    → (s : Signed) × In s chain.signatures × (s.signer ≡ sender_of shape slot) × (s.statement ≡ link_after slot chain.value [])
+pub first_link : (shape : Shape) (slot r : ℕ) (chain : Chain) → IsProper shape slot r chain
+    → (s : Signature) × In s chain.signatures × (s.signer ≡ sender_of shape slot) × (s.statement ≡ link_after slot chain.value [])
 first_link shape slot r chain h =
     let first = first_signature (sender_of shape slot) chain.signatures h.sender_first in
     let fits : first.0.statement ≡ link_after chain.slot chain.value [] = h.fitting 0 first.0 first.1 in
@@ -204,13 +204,13 @@ first_link shape slot r chain h =
 
 -- ---- values
 
-abbrev make : Issued → Signed → SignedRequest
+abbrev make : Request → Signature → SignedRequest
 make request signature = record { request = request; signature = signature }
 
-asked_is : (shape : Members) (s : SignedRequest) → IsAsked shape s → s ≡ signed_by s.request (Client s.request.client)
+asked_is : (shape : Shape) (s : SignedRequest) → IsAsked shape s → s ≡ signed_by s.request (Client s.request.client)
 asked_is shape s h = ap (make s.request) h.signature
 
-same_asked : (shape : Members) (xs ys : List SignedRequest) → All (IsAsked shape) xs → All (IsAsked shape) ys
+same_asked : (shape : Shape) (xs ys : List SignedRequest) → All (IsAsked shape) xs → All (IsAsked shape) ys
     → map (λ s. s.request) xs ≡ map (λ s. s.request) ys → xs ≡ ys
 same_asked shape [] [] hx hy e = refl
 same_asked shape [] (y ∷ ys) hx hy e = cc
@@ -225,7 +225,7 @@ same_asked shape (x ∷ xs) (y ∷ ys) hx hy e =
     cc
 
 -- values whose requests were asked, and are the same, are the same
-pub same_asked_value : (shape : Members) (v w : SlotValue) → All (IsAsked shape) (signed_in v) → All (IsAsked shape) (signed_in w)
+pub same_asked_value : (shape : Shape) (v w : SlotValue) → All (IsAsked shape) (signed_in v) → All (IsAsked shape) (signed_in w)
     → content v ≡ content w → v ≡ w
 same_asked_value shape Idle Idle hv hw e = refl
 same_asked_value shape Idle (Act ys) hv hw e = cc
@@ -234,15 +234,15 @@ same_asked_value shape (Act xs) (Act ys) hv hw e =
     ap Act (same_asked shape xs ys hv hw (same_Some (map (λ s. s.request) xs) (map (λ s. s.request) ys) e))
 
 -- proper chains of one content have one value, since the signatures in it are the clients' on those requests
-pub same_value : (shape : Members) (slot r r' : ℕ) (c d : SignedValue) → IsProper shape slot r c → IsProper shape slot r' d
+pub same_value : (shape : Shape) (slot r r' : ℕ) (c d : Chain) → IsProper shape slot r c → IsProper shape slot r' d
     → content c.value ≡ content d.value → c.value ≡ d.value
 same_value shape slot r r' c d hc hd e = same_asked_value shape c.value d.value hc.asked hd.asked e
 
 -- ---- a loyal signer
 
 -- a signature in the list is a loyal replica's
-pub record HasLoyalSigner (shape : Members) (signatures : List Signed) : Type 0 where
-  pub signature : Signed
+pub record HasLoyalSigner (shape : Shape) (signatures : List Signature) : Type 0 where
+  pub signature : Signature
   pub stands : In signature signatures
   pub replica : ℕ
   pub signer : signature.signer ≡ Replica replica
@@ -253,14 +253,14 @@ abbrev number_of : Actor → ℕ
 number_of (Replica r) = r
 number_of (Client c) = c
 
-abbrev numbers_of : List Signed → List ℕ
+abbrev numbers_of : List Signature → List ℕ
 numbers_of signatures = map number_of (signers_of signatures)
 
-loyal_later : (shape : Members) (s : Signed) (rest : List Signed) → HasLoyalSigner shape rest → HasLoyalSigner shape (s ∷ rest)
+loyal_later : (shape : Shape) (s : Signature) (rest : List Signature) → HasLoyalSigner shape rest → HasLoyalSigner shape (s ∷ rest)
 loyal_later shape s rest h =
     record { signature = h.signature; stands = there h.stands; replica = h.replica; signer = h.signer; inside = h.inside; loyal = h.loyal }
 
-loyal_or_traitor : (shape : Members) (s : Signed) (rest : List Signed) (a : Actor) → s.signer ≡ a → IsReplica shape a
+loyal_or_traitor : (shape : Shape) (s : Signature) (rest : List Signature) (a : Actor) → s.signer ≡ a → IsReplica shape a
     → All (λ k. is_traitor shape k ≡ true) (numbers_of rest)
     → HasLoyalSigner shape (s ∷ rest) ⊎ All (λ k. is_traitor shape k ≡ true) (numbers_of (s ∷ rest))
 loyal_or_traitor shape s rest (Client c) is replica traitors = absurd replica
@@ -272,7 +272,7 @@ loyal_or_traitor shape s rest (Replica l) is replica traitors = elim (cases_Bool
 ]
 
 -- one of the signers is loyal, or all are traitors
-loyal_or_traitors : (shape : Members) (signatures : List Signed) → All (IsReplica shape) (signers_of signatures)
+loyal_or_traitors : (shape : Shape) (signatures : List Signature) → All (IsReplica shape) (signers_of signatures)
     → HasLoyalSigner shape signatures ⊎ All (λ k. is_traitor shape k ≡ true) (numbers_of signatures)
 loyal_or_traitors shape [] replicas = inr (All-nil (λ k. is_traitor shape k ≡ true))
 loyal_or_traitors shape (s ∷ rest) replicas =
@@ -282,16 +282,16 @@ loyal_or_traitors shape (s ∷ rest) replicas =
           loyal_or_traitor shape s rest s.signer refl (All-head (IsReplica shape) s.signer (signers_of rest) replicas) traitors
     ]
 
-number_below : (shape : Members) (a : Actor) → IsReplica shape a → number_of a < shape.n
+number_below : (shape : Shape) (a : Actor) → IsReplica shape a → number_of a < shape.n
 number_below shape (Replica r) h = h
 number_below shape (Client c) h = absurd h
 
-same_number : (shape : Members) (a b : Actor) → IsReplica shape a → IsReplica shape b → number_of a ≡ number_of b → a ≡ b
+same_number : (shape : Shape) (a b : Actor) → IsReplica shape a → IsReplica shape b → number_of a ≡ number_of b → a ≡ b
 same_number shape (Replica r) (Replica s) ha hb e = ap Replica e
 same_number shape (Replica r) (Client c) ha hb e = absurd hb
 same_number shape (Client c) b ha hb e = absurd ha
 
-numbers_apart : (shape : Members) (actors : List Actor) → All (IsReplica shape) actors → AllPairs (λ x y. x ≢ y) actors
+numbers_apart : (shape : Shape) (actors : List Actor) → All (IsReplica shape) actors → AllPairs (λ x y. x ≢ y) actors
     → AllPairs (λ x y. x ≢ y) (map number_of actors)
 numbers_apart shape actors replicas distinct i j d less inside same =
     let blank = Replica 0 in
@@ -305,7 +305,7 @@ numbers_apart shape actors replicas distinct i j d less inside same =
     (All-get_or (IsReplica shape) actors j blank second replicas) numbers)
 
 -- a chain with more signatures than there are traitors has a loyal replica's
-pub some_loyal : (shape : Members) (slot : ℕ) (chain : SignedValue) → IsProper shape slot (suc shape.f) chain
+pub some_loyal : (shape : Shape) (slot : ℕ) (chain : Chain) → IsProper shape slot (suc shape.f) chain
     → count_below (is_traitor shape) shape.n ≤ shape.f → HasLoyalSigner shape chain.signatures
 some_loyal shape slot chain h few = elim (loyal_or_traitors shape chain.signatures h.replicas) [
   | inl loyal ↦ loyal

@@ -2,14 +2,14 @@
 use Rattle.std.proofs.Common.{◌≡◌, ◌≤◌, ◌-◌, ◌↔◌, Bool, true, false, List, [], ◌∷◌, length, take, drop, get_or, map, arith, ap, ap₂, sym, ◌∙◌, refl, Option, None, Some}
 use Rattle.std.specs.Prelude.{IsTrue}
 use Rattle.std.proofs.lemmas.Grind.{common_steps}
-use Rattle.dsr_request.specs.Issued.{Issued}
+use Rattle.dsr_request.specs.Request.{Request}
 use Rattle.std.proofs.lemmas.Option.{same_Some}
 use Rattle.dsr_chain.specs.Content.{content, requests_in}
 use Rattle.dsr_chain.specs.declared.signed_request.SignedRequest.{SignedRequest}
 use Rattle.dsr_chain.specs.declared.slot_value.SlotValue.{SlotValue}
 use Rattle.dsr_chain.specs.declared.slot_value.SlotValue.TheVariants.{Idle, Act}
 
-abbrev requests : List SignedRequest → List Issued
+abbrev requests : List SignedRequest → List Request
 requests signed = map (λ s. s.request) signed
 
 rest_is : (x : SignedRequest) (xs : List SignedRequest) → take (length (x ∷ xs) - 1) (drop 1 (x ∷ xs)) ≡ xs
@@ -41,7 +41,7 @@ decided_by_first (a ∷ xs) (b ∷ ys) x y first some some_other x_is y_is tests
 
 -- what a content tells of the requests
 
-pub requests_of_content : (value : SlotValue) (them : List Issued) → content value ≡ Some them → requests_in value ≡ them
+pub requests_of_content : (value : SlotValue) (them : List Request) → content value ≡ Some them → requests_in value ≡ them
 requests_of_content Idle them e = cc
 requests_of_content (Act batch) them e = same_Some (map (λ s. s.request) batch) them e
 

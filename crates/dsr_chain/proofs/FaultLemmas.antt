@@ -6,16 +6,16 @@ use Rattle.std.proofs.lemmas.Bool.{cases_lt}
 use Rattle.std.proofs.lemmas.Bool.Decides.{Decides-eqb}
 use Rattle.std.proofs.lemmas.List.{get_or_default}
 use Rattle.std.proofs.lemmas.Option.{slice_get_within, get_or_from_slice_get, slice_get-get_or}
-use Rattle.dsr_names.specs.Shape.{Members}
+use Rattle.dsr_names.specs.Shape.{Shape}
 use Rattle.dsr_names.specs.declared.actor.Actor.{Actor}
 use Rattle.dsr_names.specs.declared.actor.Actor.TheVariants.{Replica, Client}
-use Rattle.dsr_desk.specs.Signed.{Signed, signed}
-use Rattle.dsr_names.specs.ActorEq.{actor_eq, actor_eq-Decides}
-use Rattle.dsr_desk.specs.StatementEq.{statement_eq, statement_eq-Decides}
-use Rattle.dsr_desk.specs.SignatureEq.{signature_eq, signature_eq-Decides}
+use Rattle.dsr_desk.specs.Signature.{Signature, signed}
+use Rattle.dsr_names.specs.Support.ActorEquality.{actor_eq, actor_eq-Decides}
+use Rattle.dsr_desk.specs.Support.StatementEquality.{statement_eq, statement_eq-Decides}
+use Rattle.dsr_desk.specs.Support.SignatureEquality.{signature_eq, signature_eq-Decides}
 use Rattle.dsr_desk.specs.declared.statement.Statement.TheVariants.{Ask}
 use Rattle.dsr_chain.specs.Content.{signed_in}
-use Rattle.dsr_chain.specs.SignedValue.{SignedValue, signers_of}
+use Rattle.dsr_chain.specs.Chain.{Chain, signers_of}
 use Rattle.dsr_chain.specs.Proper.{IsReplica, IsAsked, IsProper, sender_of, fitting_at}
 use Rattle.dsr_chain.specs.Faults.{StandsTwice, HasMisfit, HasNoFault}
 use Rattle.dsr_chain.specs.declared.fault.ChainFault.TheVariants.{OtherSlot, WrongCount, WrongSender, NoReplica, SignedTwice, Misfit, BadRequest}
@@ -36,11 +36,11 @@ same_first : (a : Option Actor) (b : Actor) → ¬ (a ≢ Some b) → a ≡ Some
 same_first None b h = absurd (h (λ e. cc))
 same_first (Some a) b h = ap Some (by_decision (actor_eq a b) (actor_eq-Decides a b) (λ differ. h (λ e. differ cc)))
 
-replica_stable : (shape : Members) (a : Actor) → ¬ (¬ IsReplica shape a) → IsReplica shape a
+replica_stable : (shape : Shape) (a : Actor) → ¬ (¬ IsReplica shape a) → IsReplica shape a
 replica_stable shape (Replica r) h = below r shape.n h
 replica_stable shape (Client c) h = h (λ e. e)
 
-asked_stable : (shape : Members) (s : SignedRequest) → ¬ (¬ IsAsked shape s) → IsAsked shape s
+asked_stable : (shape : Shape) (s : SignedRequest) → ¬ (¬ IsAsked shape s) → IsAsked shape s
 asked_stable shape s h =
     record {
       client = below s.request.client shape.m (λ fails. h (λ asked. fails asked.client));
@@ -75,13 +75,13 @@ once_from_distinct xs distinct h =
     (get_or_from_slice_get xs h.first h.signer h.signer h.at_first
     ∙ sym (get_or_from_slice_get xs h.second h.signer h.signer h.at_second))
 
-fits_from_none : (chain : SignedValue) → ¬ HasMisfit chain → (place : ℕ) (s : Signed) → slice_get chain.signatures place ≡ Some s
+fits_from_none : (chain : Chain) → ¬ HasMisfit chain → (place : ℕ) (s : Signature) → slice_get chain.signatures place ≡ Some s
     → s.statement ≡ fitting_at chain place
 fits_from_none chain none place s stands =
     by_decision (statement_eq s.statement (fitting_at chain place)) (statement_eq-Decides s.statement (fitting_at chain place))
     (λ differ. none (record { place = place; signature = s; stands = stands; misfits = differ }))
 
-pub without_fault : (shape : Members) (slot round : ℕ) (chain : SignedValue) → IsProper shape slot round chain → HasNoFault shape slot round chain
+pub without_fault : (shape : Shape) (slot round : ℕ) (chain : Chain) → IsProper shape slot round chain → HasNoFault shape slot round chain
 without_fault shape slot round chain h OtherSlot = λ fault. fault h.of_slot
 without_fault shape slot round chain h WrongCount = λ fault. fault h.count
 without_fault shape slot round chain h WrongSender = λ fault. fault h.sender_first
@@ -90,7 +90,7 @@ without_fault shape slot round chain h SignedTwice = once_from_distinct (signers
 without_fault shape slot round chain h Misfit = λ fault. fault.misfits (h.fitting fault.place fault.signature fault.stands)
 without_fault shape slot round chain h BadRequest = none_from_all (IsAsked shape) (signed_in chain.value) h.asked
 
-pub proper_from_none : (shape : Members) (slot round : ℕ) (chain : SignedValue) → HasNoFault shape slot round chain → IsProper shape slot round chain
+pub proper_from_none : (shape : Shape) (slot round : ℕ) (chain : Chain) → HasNoFault shape slot round chain → IsProper shape slot round chain
 proper_from_none shape slot round chain none =
     record {
       of_slot = same_number chain.slot slot (none OtherSlot);

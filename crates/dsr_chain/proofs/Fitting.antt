@@ -4,20 +4,20 @@ use Rattle.std.specs.Prelude.{slice_get}
 use Rattle.std.proofs.lemmas.Bool.{cases_lt}
 use Rattle.std.proofs.lemmas.Option.{slice_get_within, get_or_from_slice_get}
 use Rattle.dsr_names.specs.declared.actor.Actor.{Actor}
-use Rattle.dsr_request.specs.Issued.{Issued}
-use Rattle.dsr_desk.specs.Signed.{Signed}
+use Rattle.dsr_request.specs.Request.{Request}
+use Rattle.dsr_desk.specs.Signature.{Signature}
 use Rattle.dsr_desk.specs.declared.statement.Statement.{Statement}
 use Rattle.dsr_desk.specs.declared.statement.Statement.TheVariants.{Link}
 use Rattle.dsr_chain.specs.Content.{content}
-use Rattle.dsr_chain.specs.SignedValue.{SignedValue, signers_of}
+use Rattle.dsr_chain.specs.Chain.{Chain, signers_of}
 use Rattle.dsr_chain.specs.Proper.{fitting_at}
 use Rattle.dsr_chain.specs.Faults.{HasMisfit}
 
 -- the signatures before place k fit
-pub record FitsBelow (chain : SignedValue) (k : ℕ) : Type 0 where
-  pub fits : (place : ℕ) (s : Signed) → place < k → slice_get chain.signatures place ≡ Some s → s.statement ≡ fitting_at chain place
+pub record FitsBelow (chain : Chain) (k : ℕ) : Type 0 where
+  pub fits : (place : ℕ) (s : Signature) → place < k → slice_get chain.signatures place ≡ Some s → s.statement ≡ fitting_at chain place
 
-pub fits_more : (chain : SignedValue) (signatures : List Signed) (k : ℕ) (s : Signed) → signatures ≡ chain.signatures → FitsBelow chain k
+pub fits_more : (chain : Chain) (signatures : List Signature) (k : ℕ) (s : Signature) → signatures ≡ chain.signatures → FitsBelow chain k
     → s ≡ get_or signatures k s → s.statement ≡ fitting_at chain k → FitsBelow chain (k + 1)
 fits_more chain signatures k s same h is fit =
     record {
@@ -33,13 +33,13 @@ fits_more chain signatures k s same h is fit =
           ];
     }
 
-pub none_misfits : (chain : SignedValue) (k : ℕ) → FitsBelow chain k → length chain.signatures ≤ k → HasMisfit chain → ⊥
+pub none_misfits : (chain : Chain) (k : ℕ) → FitsBelow chain k → length chain.signatures ≤ k → HasMisfit chain → ⊥
 none_misfits chain k h end misfit =
     let inside = slice_get_within chain.signatures misfit.place misfit.signature misfit.stands in
     misfit.misfits (h.fits misfit.place misfit.signature (omega arith) misfit.stands)
 
 -- a statement that was compared with the link of these parts
-pub fits_here : (chain : SignedValue) (signatures : List Signed) (k slot : ℕ) (value : Option (List Issued)) (before : List Actor) (statement : Statement)
+pub fits_here : (chain : Chain) (signatures : List Signature) (k slot : ℕ) (value : Option (List Request)) (before : List Actor) (statement : Statement)
     → slot ≡ chain.slot → value ≡ content chain.value → signatures ≡ chain.signatures → before ≡ signers_of (take k signatures)
     → statement ≡ Link slot value before → statement ≡ fitting_at chain k
 fits_here chain signatures k slot value before statement slot_is value_is same before_is is =

@@ -6,18 +6,18 @@ use Rattle.std.specs.List.{list_all, list_any}
 use Rattle.std.proofs.lemmas.Bool.Decides.{Decides-and, Decides-or, Decides-not, Decides-like, Decides-eqb, Decides-ltb, Decides-by_and}
 use Rattle.std.proofs.lemmas.List.{get_or_default}
 use Rattle.std.proofs.lemmas.Option.{same_Some, none-some}
-use Rattle.dsr_names.specs.Shape.{Members}
+use Rattle.dsr_names.specs.Shape.{Shape}
 use Rattle.dsr_names.specs.declared.actor.Actor.{Actor}
 use Rattle.dsr_names.specs.declared.actor.Actor.TheVariants.{Replica, Client}
-use Rattle.dsr_request.specs.Issued.{Issued}
-use Rattle.dsr_request.specs.RequestEq.{requests_eq, requests_eq-Decides}
-use Rattle.dsr_desk.specs.Signed.{Signed, signed}
-use Rattle.dsr_names.specs.ActorEq.{actor_eq, actor_eq-Decides}
-use Rattle.dsr_desk.specs.StatementEq.{statement_eq, statement_eq-Decides}
-use Rattle.dsr_desk.specs.SignatureEq.{signature_eq, signature_eq-Decides}
+use Rattle.dsr_request.specs.Request.{Request}
+use Rattle.dsr_request.specs.Support.RequestEquality.{requests_eq, requests_eq-Decides}
+use Rattle.dsr_desk.specs.Signature.{Signature, signed}
+use Rattle.dsr_names.specs.Support.ActorEquality.{actor_eq, actor_eq-Decides}
+use Rattle.dsr_desk.specs.Support.StatementEquality.{statement_eq, statement_eq-Decides}
+use Rattle.dsr_desk.specs.Support.SignatureEquality.{signature_eq, signature_eq-Decides}
 use Rattle.dsr_desk.specs.declared.statement.Statement.TheVariants.{Ask}
 use Rattle.dsr_chain.specs.Content.{signed_in}
-use Rattle.dsr_chain.specs.SignedValue.{SignedValue, signers_of, link_after}
+use Rattle.dsr_chain.specs.Chain.{Chain, signers_of, link_after}
 use Rattle.dsr_chain.specs.Proper.{IsReplica, IsAsked, IsProper, sender_of}
 use Rattle.dsr_chain.specs.ProperTest.{same_content, has_signed, is_signer, begins_with, is_replica, are_distinct, links_fit, is_asked, is_proper}
 use Rattle.dsr_chain.specs.declared.signed_request.SignedRequest.{SignedRequest}
@@ -47,28 +47,28 @@ any-Decides p P each (x ∷ xs) =
 
 -- ---- contents and signers
 
-pub same_content-Decides : (a b : Option (List Issued)) → Decides (same_content a b) (a ≡ b)
+pub same_content-Decides : (a b : Option (List Request)) → Decides (same_content a b) (a ≡ b)
 same_content-Decides None None = (λ e. refl, λ e. refl)
 same_content-Decides None (Some b) = (λ e. cc, λ e. cc)
 same_content-Decides (Some a) None = (λ e. cc, λ e. cc)
 same_content-Decides (Some a) (Some b) = Decides-like (requests_eq a b) (λ e. cc) (λ e. cc) (requests_eq-Decides a b)
 
-pub has_signed-Decides : (a : Actor) (signatures : List Signed) → Decides (has_signed a signatures) (Any (λ s. s.signer ≡ a) signatures)
+pub has_signed-Decides : (a : Actor) (signatures : List Signature) → Decides (has_signed a signatures) (Any (λ s. s.signer ≡ a) signatures)
 has_signed-Decides a signatures =
     any-Decides (λ s. actor_eq s.signer a) (λ s. s.signer ≡ a) (λ s. actor_eq-Decides s.signer a) signatures
 
-pub is_signer-Decides : (a : Actor) (chain : SignedValue) → Decides (is_signer a chain) (Any (λ s. s.signer ≡ a) chain.signatures)
+pub is_signer-Decides : (a : Actor) (chain : Chain) → Decides (is_signer a chain) (Any (λ s. s.signer ≡ a) chain.signatures)
 is_signer-Decides a chain = has_signed-Decides a chain.signatures
 
 begins-Decides : (a : Actor) (signers : List Actor) → Decides (begins_with a signers) (slice_get signers 0 ≡ Some a)
 begins-Decides a [] = (λ e. cc, λ e. cc)
 begins-Decides a (b ∷ rest) = Decides-like (actor_eq b a) (λ e. ap Some e) (λ e. same_Some b a e) (actor_eq-Decides b a)
 
-replica-Decides : (shape : Members) (a : Actor) → Decides (is_replica shape a) (IsReplica shape a)
+replica-Decides : (shape : Shape) (a : Actor) → Decides (is_replica shape a) (IsReplica shape a)
 replica-Decides shape (Replica r) = Decides-ltb r shape.n
 replica-Decides shape (Client c) = (λ e. cc, λ h. absurd h)
 
-replicas-Decides : (shape : Members) (signers : List Actor) → Decides (list_all (is_replica shape) signers) (All (IsReplica shape) signers)
+replicas-Decides : (shape : Shape) (signers : List Actor) → Decides (list_all (is_replica shape) signers) (All (IsReplica shape) signers)
 replicas-Decides shape signers =
     Decides-by_and (is_replica shape) (IsReplica shape) (list_all (is_replica shape)) (replica-Decides shape) refl (λ _ _. refl) signers
 
@@ -102,18 +102,18 @@ distinct-Decides (a ∷ rest) =
 -- ---- fitting links
 
 -- each of the signatures is on the link after those signers and the ones before it
-pub record AreFitting (slot : ℕ) (value : SlotValue) (signatures : List Signed) (before : List Actor) : Type 0 where
-  pub fits : (place : ℕ) (s : Signed) → slice_get signatures place ≡ Some s → s.statement ≡ link_after slot value (before ++ signers_of (take place signatures))
+pub record AreFitting (slot : ℕ) (value : SlotValue) (signatures : List Signature) (before : List Actor) : Type 0 where
+  pub fits : (place : ℕ) (s : Signature) → slice_get signatures place ≡ Some s → s.statement ≡ link_after slot value (before ++ signers_of (take place signatures))
 
-fits_at : (slot : ℕ) (value : SlotValue) (t : Signed) (rest : List Signed) (before : List Actor) → t.statement ≡ link_after slot value before
-    → AreFitting slot value rest (before ++ t.signer ∷ []) → (place : ℕ) (s : Signed) → slice_get (t ∷ rest) place ≡ Some s
+fits_at : (slot : ℕ) (value : SlotValue) (t : Signature) (rest : List Signature) (before : List Actor) → t.statement ≡ link_after slot value before
+    → AreFitting slot value rest (before ++ t.signer ∷ []) → (place : ℕ) (s : Signature) → slice_get (t ∷ rest) place ≡ Some s
     → s.statement ≡ link_after slot value (before ++ signers_of (take place (t ∷ rest)))
 fits_at slot value t rest before first later zero s stands =
     sym (ap (λ x. x.statement) (same_Some t s stands)) ∙ (first ∙ ap (link_after slot value) (sym (append-nil before)))
 fits_at slot value t rest before first later (suc place) s stands =
     later.fits place s stands ∙ ap (link_after slot value) (append_assoc before (t.signer ∷ []) (signers_of (take place rest)))
 
-fitting_parts : (slot : ℕ) (value : SlotValue) (t : Signed) (rest : List Signed) (before : List Actor) → AreFitting slot value (t ∷ rest) before
+fitting_parts : (slot : ℕ) (value : SlotValue) (t : Signature) (rest : List Signature) (before : List Actor) → AreFitting slot value (t ∷ rest) before
     → (t.statement ≡ link_after slot value before) × AreFitting slot value rest (before ++ t.signer ∷ [])
 fitting_parts slot value t rest before h = (
   h.fits 0 t refl ∙ ap (link_after slot value) (append-nil before),
@@ -123,7 +123,7 @@ fitting_parts slot value t rest before h = (
   },
 )
 
-links-Decides : (slot : ℕ) (value : SlotValue) (signatures : List Signed) (before : List Actor)
+links-Decides : (slot : ℕ) (value : SlotValue) (signatures : List Signature) (before : List Actor)
     → Decides (links_fit slot value signatures before) (AreFitting slot value signatures before)
 links-Decides slot value [] before = (λ e. record { fits = λ place s stands. absurd (none-some s stands) }, λ h. refl)
 links-Decides slot value (t ∷ rest) before =
@@ -134,13 +134,13 @@ links-Decides slot value (t ∷ rest) before =
 
 -- ---- asked requests
 
-pub asked-Decides : (shape : Members) (s : SignedRequest) → Decides (is_asked shape s) (IsAsked shape s)
+pub asked-Decides : (shape : Shape) (s : SignedRequest) → Decides (is_asked shape s) (IsAsked shape s)
 asked-Decides shape s =
     let own = signed (Client s.request.client) (Ask s.request) in
     Decides-like (is_asked shape s) (λ e. record { client = e.0; signature = e.1 }) (λ h. (h.client, h.signature))
     (Decides-and (nat_lt s.request.client shape.m) (signature_eq s.signature own) (Decides-ltb s.request.client shape.m) (signature_eq-Decides s.signature own))
 
-pub all_asked-Decides : (shape : Members) (requests : List SignedRequest) → Decides (list_all (is_asked shape) requests) (All (IsAsked shape) requests)
+pub all_asked-Decides : (shape : Shape) (requests : List SignedRequest) → Decides (list_all (is_asked shape) requests) (All (IsAsked shape) requests)
 all_asked-Decides shape requests =
     Decides-by_and (is_asked shape) (IsAsked shape) (list_all (is_asked shape)) (asked-Decides shape) refl (λ _ _. refl) requests
 
@@ -155,7 +155,7 @@ seven a b c d e f g da db dc dd de df dg =
     (Decides-and d (e && (f && g)) dd (Decides-and e (f && g) de (Decides-and f g df dg)))))
 
 -- the test is true exactly of the proper chains
-pub is_proper-Decides : (shape : Members) (slot round : ℕ) (chain : SignedValue) → Decides (is_proper shape slot round chain) (IsProper shape slot round chain)
+pub is_proper-Decides : (shape : Shape) (slot round : ℕ) (chain : Chain) → Decides (is_proper shape slot round chain) (IsProper shape slot round chain)
 is_proper-Decides shape slot round chain =
     let signers = signers_of chain.signatures in
     Decides-like (is_proper shape slot round chain)

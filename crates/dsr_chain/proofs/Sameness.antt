@@ -2,8 +2,8 @@
 use Rattle.std.proofs.Common.{◌≡◌, List, [], ◌∷◌, refl, ap, sym, ◌∙◌}
 use Rattle.std.specs.Bool.{Decides}
 use Rattle.std.proofs.lemmas.Bool.Decides.{Decides-like}
-use Rattle.dsr_chain.specs.BatchEq.{batch_eq, batch_eq-Decides}
-use Rattle.dsr_chain.specs.SignedLists.{value_of}
+use Rattle.dsr_chain.specs.Support.BatchEquality.{batch_eq, batch_eq-Decides}
+use Rattle.dsr_chain.specs.Support.SignedLists.{value_of}
 use Rattle.dsr_chain.specs.declared.signed_request.SignedRequest.{SignedRequest}
 use Rattle.dsr_chain.specs.declared.slot_value.SlotValue.{SlotValue}
 use Rattle.dsr_chain.specs.declared.slot_value.SlotValue.TheVariants.{Idle, Act}

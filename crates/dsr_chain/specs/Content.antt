@@ -2,15 +2,15 @@
 -- that links cover the requests alone, is this project's).
 use Rattle.std.specs.Prelude.{List, [], Option, None, Some, map}
 use Rattle.dsr_names.specs.declared.actor.Actor.{Actor}
-use Rattle.dsr_request.specs.Issued.{Issued}
-use Rattle.dsr_desk.specs.Signed.{signed}
+use Rattle.dsr_request.specs.Request.{Request}
+use Rattle.dsr_desk.specs.Signature.{signed}
 use Rattle.dsr_desk.specs.declared.statement.Statement.TheVariants.{Ask}
 use Rattle.dsr_chain.specs.declared.signed_request.SignedRequest.{SignedRequest}
 use Rattle.dsr_chain.specs.declared.slot_value.SlotValue.{SlotValue}
 use Rattle.dsr_chain.specs.declared.slot_value.SlotValue.TheVariants.{Idle, Act}
 
 -- the request with this actor's signature on it beside it
-abbrev pub signed_by : Issued → Actor → SignedRequest
+abbrev pub signed_by : Request → Actor → SignedRequest
 signed_by request signer = record { request = request; signature = signed signer (Ask request) }
 
 -- the signed requests of a value, none where it is idle
@@ -19,10 +19,10 @@ signed_in Idle = []
 signed_in (Act batch) = batch
 
 -- what a link covers: the requests without the signatures beside them, or nothing where the value is idle
-abbrev pub content : SlotValue → Option (List Issued)
+abbrev pub content : SlotValue → Option (List Request)
 content Idle = None
 content (Act batch) = Some (map (λ s. s.request) batch)
 
 -- the requests of a value in their order, none where it is idle
-abbrev pub requests_in : SlotValue → List Issued
+abbrev pub requests_in : SlotValue → List Request
 requests_in value = map (λ s. s.request) (signed_in value)

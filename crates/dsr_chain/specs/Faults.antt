@@ -1,28 +1,28 @@
 -- The faults of chains, in the order in which a check tells them (this project).
 use Rattle.std.specs.Prelude.{◌≡◌, ◌≢◌, ℕ, ◌<◌, List, Some, Any, length, slice_get}
-use Rattle.dsr_names.specs.Shape.{Members}
+use Rattle.dsr_names.specs.Shape.{Shape}
 use Rattle.dsr_names.specs.declared.actor.Actor.{Actor}
-use Rattle.dsr_desk.specs.Signed.{Signed}
+use Rattle.dsr_desk.specs.Signature.{Signature}
 use Rattle.dsr_chain.specs.Content.{signed_in}
-use Rattle.dsr_chain.specs.SignedValue.{SignedValue, signers_of}
+use Rattle.dsr_chain.specs.Chain.{Chain, signers_of}
 use Rattle.dsr_chain.specs.Proper.{IsReplica, IsAsked, sender_of, fitting_at}
 use Rattle.dsr_chain.specs.declared.fault.ChainFault.{ChainFault}
 use Rattle.dsr_chain.specs.declared.fault.ChainFault.TheVariants.{OtherSlot, WrongCount, WrongSender, NoReplica, SignedTwice, Misfit, BadRequest}
 
 -- the chain is of another slot
-abbrev pub IsOfOtherSlot : ℕ → SignedValue → Type 0
+abbrev pub IsOfOtherSlot : ℕ → Chain → Type 0
 IsOfOtherSlot slot chain = chain.slot ≢ slot
 
 -- the signatures are not as many as the round's number
-abbrev pub HasWrongCount : ℕ → SignedValue → Type 0
+abbrev pub HasWrongCount : ℕ → Chain → Type 0
 HasWrongCount round chain = length chain.signatures ≢ round
 
 -- the first signer is not the sender of the slot
-abbrev pub HasWrongSender : Members → ℕ → SignedValue → Type 0
+abbrev pub HasWrongSender : Shape → ℕ → Chain → Type 0
 HasWrongSender shape slot chain = slice_get (signers_of chain.signatures) 0 ≢ Some (sender_of shape slot)
 
 -- a signer is no replica of the shape
-abbrev pub HasNoReplica : Members → SignedValue → Type 0
+abbrev pub HasNoReplica : Shape → Chain → Type 0
 HasNoReplica shape chain = Any (λ a. ¬ IsReplica shape a) (signers_of chain.signatures)
 
 -- an actor stands at two places
@@ -35,22 +35,22 @@ pub record StandsTwice (signers : List Actor) : Type 0 where
   pub at_second : slice_get signers second ≡ Some signer
 
 -- a signer signed twice
-abbrev pub IsSignedTwice : SignedValue → Type 0
+abbrev pub IsSignedTwice : Chain → Type 0
 IsSignedTwice chain = StandsTwice (signers_of chain.signatures)
 
 -- a signature is on a statement that does not fit its place
-pub record HasMisfit (chain : SignedValue) : Type 0 where
+pub record HasMisfit (chain : Chain) : Type 0 where
   pub place : ℕ
-  pub signature : Signed
+  pub signature : Signature
   pub stands : slice_get chain.signatures place ≡ Some signature
   pub misfits : signature.statement ≢ fitting_at chain place
 
 -- a request's client is not in the shape, or the signature beside it is not that client's on that request
-abbrev pub HasBadRequest : Members → SignedValue → Type 0
+abbrev pub HasBadRequest : Shape → Chain → Type 0
 HasBadRequest shape chain = Any (λ s. ¬ IsAsked shape s) (signed_in chain.value)
 
 -- what each fault says
-abbrev pub IsFault : Members → ℕ → ℕ → SignedValue → ChainFault → Type 0
+abbrev pub IsFault : Shape → ℕ → ℕ → Chain → ChainFault → Type 0
 IsFault shape slot round chain OtherSlot = IsOfOtherSlot slot chain
 IsFault shape slot round chain WrongCount = HasWrongCount round chain
 IsFault shape slot round chain WrongSender = HasWrongSender shape slot chain
@@ -60,7 +60,7 @@ IsFault shape slot round chain Misfit = HasMisfit chain
 IsFault shape slot round chain BadRequest = HasBadRequest shape chain
 
 -- no fault holds
-abbrev pub HasNoFault : Members → ℕ → ℕ → SignedValue → Type 0
+abbrev pub HasNoFault : Shape → ℕ → ℕ → Chain → Type 0
 HasNoFault shape slot round chain = (fault : ChainFault) → ¬ IsFault shape slot round chain fault
 
 -- the place of a fault in their order
@@ -74,6 +74,6 @@ rank Misfit = 5
 rank BadRequest = 6
 
 -- the fault holds, and none that comes before it does
-pub record IsFirstFault (shape : Members) (slot round : ℕ) (chain : SignedValue) (fault : ChainFault) : Type 0 where
+pub record IsFirstFault (shape : Shape) (slot round : ℕ) (chain : Chain) (fault : ChainFault) : Type 0 where
   pub holds : IsFault shape slot round chain fault
   pub none_before : (other : ChainFault) → rank other < rank fault → ¬ IsFault shape slot round chain other

@@ -1,8 +1,6 @@
-pub mod BatchEq
+pub mod Chain
 pub mod Content
 pub mod Faults
 pub mod Proper
 pub mod ProperTest
-pub mod SignedLists
-pub mod SignedRequestEq
-pub mod SignedValue
+pub mod Support

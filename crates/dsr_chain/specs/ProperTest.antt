@@ -3,32 +3,32 @@
 use Rattle.std.specs.Prelude.{ℕ, Bool, true, false, not, ◌&&◌, ◌==◌, nat_lt, List, [], ◌∷◌, ◌++◌, Option, length}
 use Rattle.std.specs.List.{list_all, list_any}
 use Rattle.std.specs.Option.{option_eq}
-use Rattle.dsr_names.specs.Shape.{Members}
+use Rattle.dsr_names.specs.Shape.{Shape}
 use Rattle.dsr_names.specs.declared.actor.Actor.{Actor}
 use Rattle.dsr_names.specs.declared.actor.Actor.TheVariants.{Replica, Client}
-use Rattle.dsr_request.specs.Issued.{Issued}
-use Rattle.dsr_request.specs.RequestEq.{requests_eq}
-use Rattle.dsr_desk.specs.Signed.{Signed, signed}
-use Rattle.dsr_names.specs.ActorEq.{actor_eq}
-use Rattle.dsr_desk.specs.StatementEq.{statement_eq}
-use Rattle.dsr_desk.specs.SignatureEq.{signature_eq}
+use Rattle.dsr_request.specs.Request.{Request}
+use Rattle.dsr_request.specs.Support.RequestEquality.{requests_eq}
+use Rattle.dsr_desk.specs.Signature.{Signature, signed}
+use Rattle.dsr_names.specs.Support.ActorEquality.{actor_eq}
+use Rattle.dsr_desk.specs.Support.StatementEquality.{statement_eq}
+use Rattle.dsr_desk.specs.Support.SignatureEquality.{signature_eq}
 use Rattle.dsr_desk.specs.declared.statement.Statement.TheVariants.{Ask}
 use Rattle.dsr_chain.specs.Content.{signed_in}
-use Rattle.dsr_chain.specs.SignedValue.{SignedValue, signers_of, link_after}
+use Rattle.dsr_chain.specs.Chain.{Chain, signers_of, link_after}
 use Rattle.dsr_chain.specs.Proper.{sender_of}
 use Rattle.dsr_chain.specs.declared.signed_request.SignedRequest.{SignedRequest}
 use Rattle.dsr_chain.specs.declared.slot_value.SlotValue.{SlotValue}
 
 -- whether two contents are the same
-abbrev pub same_content : Option (List Issued) → Option (List Issued) → Bool
+abbrev pub same_content : Option (List Request) → Option (List Request) → Bool
 same_content = option_eq requests_eq
 
 -- whether one of the signatures is this actor's
-abbrev pub has_signed : Actor → List Signed → Bool
+abbrev pub has_signed : Actor → List Signature → Bool
 has_signed a signatures = list_any (λ s. actor_eq s.signer a) signatures
 
 -- whether this actor signed the chain
-abbrev pub is_signer : Actor → SignedValue → Bool
+abbrev pub is_signer : Actor → Chain → Bool
 is_signer a chain = has_signed a chain.signatures
 
 -- whether the list begins with this actor
@@ -37,7 +37,7 @@ begins_with a [] = false
 begins_with a (b ∷ rest) = actor_eq b a
 
 -- whether it is a replica of the shape
-abbrev pub is_replica : Members → Actor → Bool
+abbrev pub is_replica : Shape → Actor → Bool
 is_replica shape (Replica r) = nat_lt r shape.n
 is_replica shape (Client c) = false
 
@@ -47,17 +47,17 @@ are_distinct [] = true
 are_distinct (a ∷ rest) = not (list_any (λ b. actor_eq b a) rest) && are_distinct rest
 
 -- whether each signature is on the link after the signers before it, the first on the link after these
-abbrev pub links_fit : ℕ → SlotValue → List Signed → List Actor → Bool
+abbrev pub links_fit : ℕ → SlotValue → List Signature → List Actor → Bool
 links_fit slot value [] before = true
 links_fit slot value (s ∷ rest) before =
     statement_eq s.statement (link_after slot value before) && links_fit slot value rest (before ++ s.signer ∷ [])
 
 -- whether it is a request of a client of the shape with that client's signature on it
-abbrev pub is_asked : Members → SignedRequest → Bool
+abbrev pub is_asked : Shape → SignedRequest → Bool
 is_asked shape s = nat_lt s.request.client shape.m && signature_eq s.signature (signed (Client s.request.client) (Ask s.request))
 
 -- whether the chain is proper for this round of this slot
-abbrev pub is_proper : Members → ℕ → ℕ → SignedValue → Bool
+abbrev pub is_proper : Shape → ℕ → ℕ → Chain → Bool
 is_proper shape slot round chain =
     (chain.slot == slot)
     && ((length chain.signatures == round)

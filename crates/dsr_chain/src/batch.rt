@@ -1,4 +1,4 @@
-ghost use Rattle.dsr_chain.specs.SignedRequestEq.{signed_request_eq-Decides};
+ghost use Rattle.dsr_chain.specs.Support.SignedRequestEquality.{signed_request_eq-Decides};
 
 use crate::signed_request::SignedRequest;
 use dsr_base::{Exact, Few};

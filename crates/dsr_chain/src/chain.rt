@@ -1,5 +1,5 @@
 ghost use Rattle.std.specs.Prelude.{◌≡◌, ◌<◌, ◌≤◌, ◌+◌, ◌↔◌, ◌++◌, ◌∷◌, [], Any, length, IfOk, IfErr, IsTrue, IsOkUnless};
-ghost use Rattle.dsr_chain.specs.SignedValue.{signers_of as signers_in};
+ghost use Rattle.dsr_chain.specs.Chain.{signers_of as signers_in};
 
 use crate::shared_value::SharedValue;
 use crate::signed_request::SignedRequest;
@@ -29,18 +29,18 @@ pub struct Chain {
 impl Model for Chain {
     ghost use Rattle.std.specs.Prelude.{length, ◌≤◌};
     ghost use Rattle.std.specs.Arc.{arc_value};
-    ghost use Rattle.dsr_chain.specs.SignedValue.{SignedValue, signed_value};
+    ghost use Rattle.dsr_chain.specs.Chain.{Chain, chain_of};
 
-    ghost Value = { SignedValue };
+    ghost Value = { Chain };
 
-    ghost view = { λ c. signed_value (arc_value c.body).slot (arc_value c.body).value (arc_value c.body).signatures.items };
+    ghost view = { λ c. chain_of (arc_value c.body).slot (arc_value c.body).value (arc_value c.body).signatures.items };
 
     ghost invariant = { λ c. length (arc_value c.body).signatures.items ≤ 16 };
 }
 
 impl Chain {
     ghost use Rattle.dsr_chain.specs.Content.{content, signed_in};
-    ghost use Rattle.dsr_chain.specs.SignedValue.{signed_value, started, extended};
+    ghost use Rattle.dsr_chain.specs.Chain.{chain_of, started, extended};
 
     /// The chain of this value with the key's signature alone. `NoMemory` where a growth is refused.
     pub fn start(alloc: Global, slot: u64, value: SlotValue, key: &Key) -> Result<Chain, Refusal>
@@ -79,7 +79,7 @@ impl Chain {
         signatures: Vec<Signature>,
     ) -> Result<Chain, Refusal>
         requires { length signatures.items ≤ 16 }
-        ensures made { IfOk result (λ chain. chain ≡ signed_value slot value signatures.items) }
+        ensures made { IfOk result (λ chain. chain ≡ chain_of slot value signatures.items) }
         ensures refusal { IsOkUnless result Refusal.NoMemory }
     {
         let value = SharedValue::of(alloc, value)?;
@@ -169,7 +169,7 @@ impl Chain {
     /// The chain of this body.
     fn share(alloc: Global, body: Body) -> Result<Chain, Refusal>
         requires { length body.signatures.items ≤ 16 }
-        ensures made { IfOk result (λ chain. chain ≡ signed_value body.slot body.value body.signatures.items) }
+        ensures made { IfOk result (λ chain. chain ≡ chain_of body.slot body.value body.signatures.items) }
         ensures refusal { IsOkUnless result Refusal.NoMemory }
     {
         let body = Arc::new(alloc, body)?;

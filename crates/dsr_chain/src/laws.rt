@@ -1,38 +1,38 @@
 //! Laws over the definitions, as contracts of functions that do nothing.
 
 ghost use Rattle.std.specs.Prelude.{◌≡◌, ◌↔◌, ℕ, List, [], Option, None, Some, Any, IsTrue};
-ghost use Rattle.dsr_names.specs.Shape.{Members};
+ghost use Rattle.dsr_names.specs.Shape.{Shape};
 ghost use Rattle.dsr_names.specs.declared.actor.Actor.{Actor};
-ghost use Rattle.dsr_request.specs.Issued.{Issued};
-ghost use Rattle.dsr_chain.specs.SignedValue.{SignedValue};
+ghost use Rattle.dsr_request.specs.Request.{Request};
+ghost use Rattle.dsr_chain.specs.Chain.{Chain};
 ghost use Rattle.dsr_chain.specs.declared.signed_request.SignedRequest.{SignedRequest};
 ghost use Rattle.dsr_chain.specs.declared.slot_value.SlotValue.{SlotValue};
 ghost use Rattle.dsr_chain.specs.Content.{content, requests_in};
 ghost use Rattle.dsr_chain.specs.Proper.{IsProper, IsAsked};
 ghost use Rattle.dsr_chain.specs.ProperTest.{is_proper, is_asked, same_content, is_signer};
-ghost use Rattle.dsr_names.specs.ActorEq.{actor_eq};
+ghost use Rattle.dsr_names.specs.Support.ActorEquality.{actor_eq};
 ghost use Rattle.dsr_chain.specs.Faults.{HasNoFault};
 
 /// A chain is proper exactly where no fault holds.
-pub fn proper_is_without_fault()
-    ensures { (shape : Members) (slot round : ℕ) (chain : SignedValue)
+pub fn proper_means_no_fault()
+    ensures { (shape : Shape) (slot round : ℕ) (chain : Chain)
         → IsProper shape slot round chain ↔ HasNoFault shape slot round chain }
 {}
 
 /// The tests on which definitions branch tell what the facts say: `is_proper` holds exactly of proper chains,
 /// `is_asked` exactly where the client asked for the request, `same_content` exactly of equal contents, `is_signer`
 /// exactly where one of the signatures is the actor's, and `actor_eq` exactly of equal actors.
-pub fn tests_tell_the_facts()
-    ensures proper { (shape : Members) (slot round : ℕ) (chain : SignedValue)
+pub fn tests_decide_the_facts()
+    ensures proper { (shape : Shape) (slot round : ℕ) (chain : Chain)
         → IsTrue (is_proper shape slot round chain) ↔ IsProper shape slot round chain }
-    ensures asked { (shape : Members) (s : SignedRequest) → IsTrue (is_asked shape s) ↔ IsAsked shape s }
-    ensures content { (a b : Option (List Issued)) → IsTrue (same_content a b) ↔ (a ≡ b) }
-    ensures signer { (actor : Actor) (chain : SignedValue) → IsTrue (is_signer actor chain) ↔ Any (λ s. s.signer ≡ actor) chain.signatures }
+    ensures asked { (shape : Shape) (s : SignedRequest) → IsTrue (is_asked shape s) ↔ IsAsked shape s }
+    ensures content { (a b : Option (List Request)) → IsTrue (same_content a b) ↔ (a ≡ b) }
+    ensures signer { (actor : Actor) (chain : Chain) → IsTrue (is_signer actor chain) ↔ Any (λ s. s.signer ≡ actor) chain.signatures }
     ensures actor { (a b : Actor) → IsTrue (actor_eq a b) ↔ (a ≡ b) }
 {}
 
 /// Values of one content have the same requests: those of the content, none where it is idle.
-pub fn contents_tell_requests()
-    ensures requests { (value : SlotValue) (requests : List Issued) → content value ≡ Some requests → requests_in value ≡ requests }
+pub fn content_determines_requests()
+    ensures requests { (value : SlotValue) (requests : List Request) → content value ≡ Some requests → requests_in value ≡ requests }
     ensures idle { (value : SlotValue) → content value ≡ None → requests_in value ≡ [] }
 {}

@@ -13,7 +13,7 @@ mod slot_value;
 pub use batch::Batch;
 pub use chain::Chain;
 pub use fault::ChainFault;
-pub use laws::{contents_tell_requests, proper_is_without_fault, tests_tell_the_facts};
+pub use laws::{content_determines_requests, proper_means_no_fault, tests_decide_the_facts};
 pub use signed_request::SignedRequest;
 pub use slot_value::SlotValue;
 

@@ -20,7 +20,7 @@ impl Model for SharedValue {
     ghost use Rattle.std.specs.Prelude.{length, ◌≤◌};
     ghost use Rattle.std.specs.Arc.{arc_value};
     ghost use Rattle.dsr_chain.specs.declared.slot_value.SlotValue.{SlotValue};
-    ghost use Rattle.dsr_chain.specs.SignedLists.{value_of};
+    ghost use Rattle.dsr_chain.specs.Support.SignedLists.{value_of};
 
     ghost Value = { SlotValue };
 

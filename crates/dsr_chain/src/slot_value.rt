@@ -1,5 +1,5 @@
 ghost use Rattle.std.specs.Prelude.{◌≡◌, ◌≤◌, ◌↔◌, [], length, IsTrue, IfSome, IfNone};
-ghost use Rattle.dsr_chain.specs.SignedLists.{content_of as content_in};
+ghost use Rattle.dsr_chain.specs.Support.SignedLists.{content_of as content_in};
 
 use crate::batch::Batch;
 use crate::signed_request::SignedRequest;

@@ -1,10 +1,10 @@
 -- What the program's exit status tells (this project).
 use Rattle.std.specs.Prelude.{◌≡◌, ◌⊎◌, ℕ, ◌<◌, List, length, Option, IfSome}
 use Rattle.std.specs.Io.KnownBytes.{Appends}
-use Rattle.dsr_names.specs.Output.{SentFront}
+use Rattle.dsr_names.specs.Output.{SentPrefix}
 use Rattle.dsr_names.specs.declared.refusal.Refusal.{Refusal}
 use Rattle.dsr_names.specs.declared.refusal.Refusal.TheVariants.{NoMemory, ReadFailed}
-use Rattle.dsr_history.specs.Applied.{AppliedAll, StandsAfter}
+use Rattle.dsr_history.specs.Applied.{AppliedAll, WrittenAfter}
 use Rattle.dsr_command.specs.Asked.{Asked, task, help, unknown}
 use Rattle.dsr_command.specs.HelpText.{IsHelp}
 use Rattle.dsr_command.specs.declared.Task.TheVariants.{Apply}
@@ -21,12 +21,12 @@ WhatApplyLeft status in_memory left room old new =
     ((status ≡ 0) × AppliedAll left old new)
     ⊎ ((refusal : Refusal) × (status ≡ status_of refusal)
     × (in_memory → refusal ≡ ReadFailed → IfSome left (λ bytes. 16777216 < length bytes))
-    × StandsAfter refusal left room old new)
+    × WrittenAfter refusal left room old new)
 
 -- after 0 the whole text went out; after 1 a front of it did, and a known room was too small for all of it
 abbrev pub WhatShowingLeft : List ℕ → ℕ → Option ℕ → Option (List ℕ) → Option (List ℕ) → Type 0
 WhatShowingLeft text status room old new =
-    ((status ≡ 0) × Appends old new text) ⊎ ((status ≡ 1) × IfSome room (λ most. most < length text) × SentFront old new text)
+    ((status ≡ 0) × Appends old new text) ⊎ ((status ≡ 1) × IfSome room (λ most. most < length text) × SentPrefix old new text)
 
 -- a help's text was shown, or could not be
 pub record ShowedHelp (status : ℕ) (room : Option ℕ) (old new : Option (List ℕ)) : Type 0 where

@@ -6,11 +6,11 @@ use Rattle.dsr_base.specs.Reads.{Reads}
 use Rattle.dsr_base.specs.Split.{IsAbsent}
 use Rattle.dsr_names.specs.declared.actor.Actor.{Actor}
 use Rattle.dsr_base.proofs.Marks.{one_cut, not_absent}
-use Rattle.dsr_request.specs.Fields.Texts.{decimal_without}
-use Rattle.dsr_request.specs.Issued.{Issued}
+use Rattle.dsr_request.specs.Support.Texts.{decimal_without}
+use Rattle.dsr_request.specs.Request.{Request}
 use Rattle.dsr_request.specs.RequestText.{request_token, IsRequest}
 use Rattle.dsr_base.proofs.JoinedLemmas.{joined_all}
-use Rattle.dsr_request.specs.Fields.RequestToken.{token_without}
+use Rattle.dsr_request.specs.Support.RequestToken.{token_without}
 use Rattle.dsr_desk.specs.ContentText.{content_text, IsContent}
 use Rattle.dsr_desk.specs.SignersText.{signers_text, IsSigners}
 use Rattle.dsr_desk.specs.StatementText.{statement_text, IsStatement, HasParts}
@@ -21,13 +21,13 @@ use Rattle.dsr_desk.specs.declared.statement.Statement.TheVariants.{Ask, Link}
 abbrev pub ReadsStatement : List ℕ → Option Statement → Type 0
 ReadsStatement = Reads IsStatement statement_text
 
-abbrev ReadsRequest : List ℕ → Option Issued → Type 0
+abbrev ReadsRequest : List ℕ → Option Request → Type 0
 ReadsRequest = Reads IsRequest request_token
 
 abbrev ReadsSlot : List ℕ → ℕ → Type 0
 ReadsSlot bytes slot = Reads (λ n. n < 2 ^ 40) decimal bytes (Some slot)
 
-abbrev ReadsContent : List ℕ → Option (List Issued) → Type 0
+abbrev ReadsContent : List ℕ → Option (List Request) → Type 0
 ReadsContent bytes value = Reads IsContent content_text bytes (Some value)
 
 abbrev ReadsSigners : List ℕ → List Actor → Type 0
@@ -38,13 +38,13 @@ ReadsLink slot content before answer = (statement : Statement) → (answer ≡ S
 
 -- ---- slashes
 
-no_slash_in_request : (request : Issued) → IsRequest request → IsAbsent 47 (request_token request)
+no_slash_in_request : (request : Request) → IsRequest request → IsAbsent 47 (request_token request)
 no_slash_in_request request h =
     let no_mark : ◌≡◌ {A = ℕ} 35 47 → ⊥ = λ (e : ◌≡◌ {A = ℕ} 35 47). omega arith in
     let no_colon : ◌≡◌ {A = ℕ} 58 47 → ⊥ = λ (e : ◌≡◌ {A = ℕ} 58 47). omega arith in
     token_without 47 request refl no_mark no_colon h
 
-no_slash_in_content : (content : Option (List Issued)) → IsContent content → IsAbsent 47 (content_text content)
+no_slash_in_content : (content : Option (List Request)) → IsContent content → IsAbsent 47 (content_text content)
 no_slash_in_content None h = search (rules, arith)
 no_slash_in_content (Some requests) h =
     let no_comma : ◌≡◌ {A = ℕ} 44 47 → ⊥ = λ (e : ◌≡◌ {A = ℕ} 44 47). omega arith in
@@ -55,12 +55,12 @@ no_slash_in_slot slot small = decimal_without 47 slot refl (omega (arith, small)
 
 -- ---- no slash: a request
 
-ask_text : (bytes : List ℕ) (request : Issued) (statement : Statement) → Ask request ≡ statement → IsRequest request
+ask_text : (bytes : List ℕ) (request : Request) (statement : Statement) → Ask request ≡ statement → IsRequest request
     → bytes ≡ request_token request → IsStatement statement × (bytes ≡ statement_text statement)
 ask_text bytes request statement same h e = subst (λ s. IsStatement s × (bytes ≡ statement_text s)) same (h, e)
 
-spelled_asked : (bytes : List ℕ) (r : Option Issued) → IsAbsent 47 bytes → ReadsRequest bytes r → (statement : Statement) → IsStatement statement
-    → bytes ≡ statement_text statement → (request : Issued) × (r ≡ Some request) × (statement ≡ Ask request)
+spelled_asked : (bytes : List ℕ) (r : Option Request) → IsAbsent 47 bytes → ReadsRequest bytes r → (statement : Statement) → IsStatement statement
+    → bytes ≡ statement_text statement → (request : Request) × (r ≡ Some request) × (statement ≡ Ask request)
 spelled_asked bytes r free reads (Ask request) h e = (request, (reads request).1 (h, e), refl)
 spelled_asked bytes r free reads (Link slot value before) h e =
     absurd (not_absent 47 (decimal slot) (content_text value ++ 47 ∷ signers_text before) (subst (IsAbsent 47) e free))
@@ -73,7 +73,7 @@ no_request bytes free reads statement = (
       absurd (none-some asked.0 asked.1),
 )
 
-pub one_request : (bytes : List ℕ) (request : Issued) → IsAbsent 47 bytes → ReadsRequest bytes (Some request) → ReadsStatement bytes (Some (Ask request))
+pub one_request : (bytes : List ℕ) (request : Request) → IsAbsent 47 bytes → ReadsRequest bytes (Some request) → ReadsStatement bytes (Some (Ask request))
 one_request bytes request free reads statement = (
   λ e.
       let read = (reads request).0 refl in
@@ -126,13 +126,13 @@ link_by_parts bytes front rest content before r parts free cut free_content read
 
 -- ---- the parts of a link
 
-link_parts : (slot_bytes content_bytes before_bytes : List ℕ) (statement : Statement) (slot : ℕ) (value : Option (List Issued)) (before : List Actor)
+link_parts : (slot_bytes content_bytes before_bytes : List ℕ) (statement : Statement) (slot : ℕ) (value : Option (List Request)) (before : List Actor)
     → Link slot value before ≡ statement → (slot < 2 ^ 40) × (slot_bytes ≡ decimal slot) → IsContent value × (content_bytes ≡ content_text value)
     → IsSigners before × (before_bytes ≡ signers_text before) → IsStatement statement × HasParts slot_bytes content_bytes before_bytes statement
 link_parts slot_bytes content_bytes before_bytes statement slot value before same s v b =
     subst (λ it. IsStatement it × HasParts slot_bytes content_bytes before_bytes it) same ((s.0, v.0, b.0), (s.1, v.1, b.1))
 
-parts_link : (slot_bytes content_bytes before_bytes : List ℕ) (slot : ℕ) (value : Option (List Issued)) (before : List Actor) → ReadsSlot slot_bytes slot
+parts_link : (slot_bytes content_bytes before_bytes : List ℕ) (slot : ℕ) (value : Option (List Request)) (before : List Actor) → ReadsSlot slot_bytes slot
     → ReadsContent content_bytes value → ReadsSigners before_bytes before → (statement : Statement) → IsStatement statement
     → HasParts slot_bytes content_bytes before_bytes statement → Link slot value before ≡ statement
 parts_link slot_bytes content_bytes before_bytes slot value before s v b (Ask request) h parts = absurd parts
@@ -142,7 +142,7 @@ parts_link slot_bytes content_bytes before_bytes slot value before s v b (Link s
     let same_before = same_Some before before' ((b before').1 (h.2, parts.2)) in
     ap (λ n. Link n value before) same_slot ∙ ap (λ content. Link slot' content before) same_value ∙ ap (Link slot' value') same_before
 
-pub reads_link : (slot_bytes content_bytes before_bytes : List ℕ) (slot : ℕ) (value : Option (List Issued)) (before : List Actor) → ReadsSlot slot_bytes slot
+pub reads_link : (slot_bytes content_bytes before_bytes : List ℕ) (slot : ℕ) (value : Option (List Request)) (before : List Actor) → ReadsSlot slot_bytes slot
     → ReadsContent content_bytes value → ReadsSigners before_bytes before → ReadsLink slot_bytes content_bytes before_bytes (Some (Link slot value before))
 reads_link slot_bytes content_bytes before_bytes slot value before s v b statement = (
   λ e.

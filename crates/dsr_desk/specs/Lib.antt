@@ -1,8 +1,6 @@
 pub mod ContentText
-pub mod KeyRing
-pub mod SignatureEq
-pub mod Signed
-pub mod SignersEq
+pub mod Keys
+pub mod Signature
 pub mod SignersText
-pub mod StatementEq
 pub mod StatementText
+pub mod Support

@@ -18,9 +18,9 @@ pub struct Keys {
 
 impl Model for Keys {
     ghost use Rattle.std.specs.Prelude.{◌≡◌, length};
-    ghost use Rattle.dsr_desk.specs.KeyRing.{KeyRing};
+    ghost use Rattle.dsr_desk.specs.Keys.{Keys};
 
-    ghost Value = { KeyRing };
+    ghost Value = { Keys };
 
     ghost view = { λ k. record { shape = k.shape; replicas = k.replicas.items; clients = k.clients.items } };
 
@@ -51,9 +51,9 @@ pub struct Signature {
 }
 
 impl Model for Signature {
-    ghost use Rattle.dsr_desk.specs.Signed.{Signed};
+    ghost use Rattle.dsr_desk.specs.Signature.{Signature};
 
-    ghost Value = { Signed };
+    ghost Value = { Signature };
 
     ghost view = { λ s. record { signer = s.signer; statement = s.statement } };
 
@@ -62,7 +62,7 @@ impl Model for Signature {
 
 impl Keys {
     ghost use Rattle.dsr_names.specs.Shape.{IsActor};
-    ghost use Rattle.dsr_desk.specs.KeyRing.{is_taken, IsWhole};
+    ghost use Rattle.dsr_desk.specs.Keys.{is_taken, IsWhole};
 
     /// All keys of the shape, none of them taken. `NoMemory` where a growth is refused.
     pub fn new(alloc: Global, shape: Shape) -> Result<Keys, Refusal>
@@ -116,7 +116,7 @@ impl Keys {
 }
 
 impl Key {
-    ghost use Rattle.dsr_desk.specs.Signed.{signed};
+    ghost use Rattle.dsr_desk.specs.Signature.{signed};
 
     /// Whose key it is.
     pub fn signer(&self) -> Actor

@@ -8,15 +8,15 @@ use Rattle.dsr_request.specs.declared.op.Op.{Op}
 use Rattle.dsr_request.specs.declared.answer.Answer.{Answer}
 use Rattle.dsr_register.specs.Values.{answer_after}
 use Rattle.dsr_ledger.specs.declared.reply.Reply.{Reply}
-use Rattle.dsr_ledger.specs.Kept.{kept_of, Acts}
-use Rattle.dsr_request.specs.Issued.{Issued}
+use Rattle.dsr_ledger.specs.LastReply.{last_reply, Acts}
+use Rattle.dsr_request.specs.Request.{Request}
 use Rattle.dsr_history.specs.History.{rises_above, acting, operations, answer_at, reply_in}
 use Rattle.dsr_register.specs.Table.{StandsFor}
-use Rattle.dsr_history.specs.Machine.{answers_of, IsMachine}
+use Rattle.dsr_history.specs.Support.Machine.{answers_of, IsMachine}
 use Rattle.dsr_history.specs.declared.machine.Machine.TheInside.{Inside}
 
 -- the client's greatest number among the requests, or 0
-top : List Issued → ℕ → ℕ
+top : List Request → ℕ → ℕ
 top [] client = 0
 top (r ∷ older) client = cond (nat_eq r.client client) (max r.number (top older client)) (top older client)
 
@@ -31,7 +31,7 @@ rises_step false below true number n t e h ih = ih refl
 rises_step false below false number n t e h ih = cc
 
 -- a request that rises has a number above the greatest
-above_top : (request : Issued) (older : List Issued) → rises_above request older ≡ true → (top older request.client < request.number) ⊎ (top older request.client ≡ 0)
+above_top : (request : Request) (older : List Request) → rises_above request older ≡ true → (top older request.client < request.number) ⊎ (top older request.client ≡ 0)
 unfolding top
 above_top request [] h = inr refl
 above_top request (r ∷ older) h =
@@ -48,7 +48,7 @@ falls_step false below true number n t e h ih = cc
 falls_step false below false number n t e h ih = ih refl
 
 -- one that does not has no greater number
-below_top : (request : Issued) (older : List Issued) → rises_above request older ≡ false → request.number ≤ top older request.client
+below_top : (request : Request) (older : List Request) → rises_above request older ≡ false → request.number ≤ top older request.client
 unfolding top
 below_top request [] h = cc
 below_top request (r ∷ older) h =
@@ -60,7 +60,7 @@ last : Option Reply → ℕ
 last None = 0
 last (Some r) = r.number
 
-last_step : (rises same : Bool) (request : Issued) (older : List Issued) (client : ℕ) → rises ≡ rises_above request older → same ≡ nat_eq request.client client
+last_step : (rises same : Bool) (request : Request) (older : List Request) (client : ℕ) → rises ≡ rises_above request older → same ≡ nat_eq request.client client
     → last (reply_in (acting older) client) ≡ top older client
     → last (reply_in (cond rises (request ∷ acting older) (acting older)) client) ≡ cond same (max request.number (top older client)) (top older client)
 unfolding last
@@ -77,7 +77,7 @@ last_step false true request older client e same ih =
 last_step false false request older client e same ih = ih
 
 -- the last reply has the greatest number
-last_is_top : (requests : List Issued) (client : ℕ) → last (reply_in (acting requests) client) ≡ top requests client
+last_is_top : (requests : List Request) (client : ℕ) → last (reply_in (acting requests) client) ≡ top requests client
 unfolding top last
 last_is_top [] client = refl
 last_is_top (r ∷ older) client =
@@ -93,35 +93,35 @@ unfolding last
 acts_from_last None number h = h
 acts_from_last (Some r) number h = h
 
-rises_cases : (b : Bool) (request : Issued) (older : List Issued) → b ≡ rises_above request older → top older request.client < request.number → rises_above request older ≡ true
+rises_cases : (b : Bool) (request : Request) (older : List Request) → b ≡ rises_above request older → top older request.client < request.number → rises_above request older ≡ true
 rises_cases true request older e h = sym e
 rises_cases false request older e h = absurd (let le : request.number ≤ top older request.client = below_top request older (sym e) in omega arith)
 
 -- the ledger tells of each request whether it is to act
-pub rises_from_acts : (request : Issued) (older : List Issued) (kept : Option Reply) → kept ≡ reply_in (acting older) request.client → Acts kept request.number
+pub rises_from_acts : (request : Request) (older : List Request) (kept : Option Reply) → kept ≡ reply_in (acting older) request.client → Acts kept request.number
     → rises_above request older ≡ true
 rises_from_acts request older kept is acts =
     let less : last kept < request.number = acts_by_last kept request.number acts in
     let same : last kept ≡ top older request.client = ap last is ∙ last_is_top older request.client in
     rises_cases (rises_above request older) request older refl (omega arith)
 
-falls_cases : (b : Bool) (request : Issued) (older : List Issued) (kept : Option Reply) → b ≡ rises_above request older → 0 < request.number
+falls_cases : (b : Bool) (request : Request) (older : List Request) (kept : Option Reply) → b ≡ rises_above request older → 0 < request.number
     → last kept ≡ top older request.client → (Acts kept request.number → ⊥) → rises_above request older ≡ false
 falls_cases true request older kept e some same idle =
     absurd (idle (acts_from_last kept request.number (elim (above_top request older (sym e)) [ inl less ↦ omega arith | inr none ↦ omega arith ])))
 falls_cases false request older kept e some same idle = sym e
 
-pub falls_from_idle : (request : Issued) (older : List Issued) (kept : Option Reply) → 0 < request.number → kept ≡ reply_in (acting older) request.client
+pub falls_from_idle : (request : Request) (older : List Request) (kept : Option Reply) → 0 < request.number → kept ≡ reply_in (acting older) request.client
     → (Acts kept request.number → ⊥) → rises_above request older ≡ false
 falls_from_idle request older kept some is idle =
     falls_cases (rises_above request older) request older kept refl some (ap last is ∙ last_is_top older request.client) idle
 
 -- the parts after a request that acted
 
-replies_step : (b : Bool) (ledger : List (Option Reply)) (h : List Issued) (request : Issued) (new : Reply) (client : ℕ) → b ≡ nat_eq request.client client
+replies_step : (b : Bool) (ledger : List (Option Reply)) (h : List Request) (request : Request) (new : Reply) (client : ℕ) → b ≡ nat_eq request.client client
     → request.client < length ledger → new ≡ record { number = request.number; place = length h; answer = answer_after (operations h) request.op }
-    → kept_of ledger client ≡ reply_in h client
-    → kept_of (set ledger request.client (Some new)) client
+    → last_reply ledger client ≡ reply_in h client
+    → last_reply (set ledger request.client (Some new)) client
     ≡ cond b (Some (record { number = request.number; place = length h; answer = answer_after (operations h) request.op })) (reply_in h client)
 replies_step true ledger h request new client e within is same =
     let here : client ≡ request.client = sym (eqb-true request.client client (sym e)) in
@@ -130,15 +130,15 @@ replies_step true ledger h request new client e within is same =
 replies_step false ledger h request new client e within is same =
     get_or-set_other ledger request.client client (Some new) None (λ here. eqb-false request.client client (sym e) (sym here)) ∙ same
 
-pub replies_after : (ledger : List (Option Reply)) (h : List Issued) (request : Issued) (new : Reply) (client : ℕ)
+pub replies_after : (ledger : List (Option Reply)) (h : List Request) (request : Request) (new : Reply) (client : ℕ)
     → request.client < length ledger
     → new ≡ record { number = request.number; place = length h; answer = answer_after (operations h) request.op }
-    → ((c : ℕ) → kept_of ledger c ≡ reply_in h c)
-    → kept_of (set ledger request.client (Some new)) client ≡ reply_in (request ∷ h) client
+    → ((c : ℕ) → last_reply ledger c ≡ reply_in h c)
+    → last_reply (set ledger request.client (Some new)) client ≡ reply_in (request ∷ h) client
 replies_after ledger h request new client within is same =
     replies_step (nat_eq request.client client) ledger h request new client refl within is (same client)
 
-pub reply_made : (number place : ℕ) (answer : Answer) (request : Issued) (h : List Issued) → number ≡ request.number → place ≡ length h
+pub reply_made : (number place : ℕ) (answer : Answer) (request : Request) (h : List Request) → number ≡ request.number → place ≡ length h
     → answer ≡ answer_after (operations h) request.op
     → ◌≡◌ {A = Reply} (record { number = number; place = place; answer = answer }) (record { number = request.number; place = length h; answer = answer_after (operations h) request.op })
 reply_made number place answer request h a b c = λ i. record { number = a i; place = b i; answer = c i }
@@ -148,7 +148,7 @@ pushed items new x e = ap reverse e ∙ reverse-append items (x ∷ [])
 
 -- the answer at a place
 
-length_answers : (h : List Issued) → length (answers_of h) ≡ length h
+length_answers : (h : List Request) → length (answers_of h) ≡ length h
 length_answers [] = refl
 length_answers (r ∷ older) = ap suc (length_answers older)
 
@@ -170,36 +170,36 @@ at_step true xs a n place rest e long same = get_here xs a place (long ∙ eqb-t
 at_step false xs a n place rest e long same =
     get_other xs a place (λ h. eqb-false n place (sym e) (sym long ∙ h)) ∙ same
 
-answer_in : (h : List Issued) (place : ℕ) → slice_get (reverse (answers_of h)) place ≡ answer_at h place
+answer_in : (h : List Request) (place : ℕ) → slice_get (reverse (answers_of h)) place ≡ answer_at h place
 answer_in [] place = refl
 answer_in (r ∷ older) place =
     ap (λ xs. slice_get xs place) (reverse-append (answer_after (operations older) r.op ∷ []) (answers_of older))
     ∙ at_step (nat_eq (length older) place) (reverse (answers_of older)) (answer_after (operations older) r.op) (length older) place (answer_at older place) refl
     (length-reverse (answers_of older) ∙ length_answers older) (answer_in older place)
 
-pub answer_kept_at : (items : List Answer) (h : List Issued) (place : ℕ) → reverse items ≡ answers_of h → slice_get items place ≡ answer_at h place
+pub answer_kept_at : (items : List Answer) (h : List Request) (place : ℕ) → reverse items ≡ answers_of h → slice_get items place ≡ answer_at h place
 answer_kept_at items h place e =
     ap (λ xs. slice_get xs place) (sym (reverse-reverse items) ∙ ap reverse e) ∙ answer_in h place
 
 -- the history that accepting one more request leaves
 
-pub acted_by : (request : Issued) (h older : List Issued) → h ≡ acting older → rises_above request older ≡ true
+pub acted_by : (request : Request) (h older : List Request) → h ≡ acting older → rises_above request older ≡ true
     → request ∷ h ≡ acting (request ∷ older)
 acted_by request h older e rises =
     ap (λ l. request ∷ l) e ∙ ap (λ b. cond b (request ∷ acting older) (acting older)) (sym rises)
 
-pub idle_by : (request : Issued) (h older : List Issued) → h ≡ acting older → rises_above request older ≡ false → h ≡ acting (request ∷ older)
+pub idle_by : (request : Request) (h older : List Request) → h ≡ acting older → rises_above request older ≡ false → h ≡ acting (request ∷ older)
 idle_by request h older e falls = e ∙ ap (λ b. cond b (request ∷ acting older) (acting older)) (sym falls)
 
 -- a machine after a request that acted
-pub machine_after : (a b : Inside) (request : Issued) (answer : Answer) (number place client : ℕ) → IsMachine a
+pub machine_after : (a b : Inside) (request : Request) (answer : Answer) (number place client : ℕ) → IsMachine a
     → number ≡ request.number → client ≡ request.client → request.client < length a.ledger → place ≡ length a.history.items
     → ((ops : List Op) → StandsFor a.directory ops → answer ≡ answer_after ops request.op)
     → ((ops : List Op) → StandsFor a.directory ops → StandsFor b.directory (request.op ∷ ops))
     → b.ledger ≡ set a.ledger client (Some (record { number = number; place = place; answer = answer }))
     → b.history.items ≡ a.history.items ++ request ∷ [] → b.answers.items ≡ a.answers.items ++ answer ∷ [] → IsMachine b
 machine_after a b request answer number place client m same_number same_client within same_place answers change ledger history kept =
-    let h : List Issued = reverse a.history.items in
+    let h : List Request = reverse a.history.items in
     let later : reverse b.history.items ≡ request ∷ h = pushed a.history.items b.history.items request history in
     let given : answer ≡ answer_after (operations h) request.op = answers (operations h) m.table in
     let noted : b.ledger ≡ set a.ledger request.client (Some (record { number = number; place = place; answer = answer })) =
@@ -208,8 +208,8 @@ machine_after a b request answer number place client m same_number same_client w
       table = subst (λ l. StandsFor b.directory (operations l)) (sym later) (change (operations h) m.table);
       replies =
           λ c.
-          subst (λ l. kept_of b.ledger c ≡ reply_in l c) (sym later)
-          (ap (λ l. kept_of l c) noted
+          subst (λ l. last_reply b.ledger c ≡ reply_in l c) (sym later)
+          (ap (λ l. last_reply l c) noted
           ∙ replies_after a.ledger h request (record { number = number; place = place; answer = answer }) c within
           (reply_made number place answer request h same_number (same_place ∙ sym (length-reverse a.history.items)) given) m.replies);
       answers =

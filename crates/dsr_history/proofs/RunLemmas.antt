@@ -1,19 +1,19 @@
 -- One more line of a run over lines of requests.
 use Rattle.std.proofs.Common.{◌≡◌, ◌≢◌, ℕ, ◌+◌, ◌<◌, List, [], ◌∷◌, ◌++◌, length, refl, sym, ◌∙◌, ap, subst, arith, append_assoc, length-append, zero-lt-suc}
-use Rattle.dsr_request.specs.Issued.{Issued}
+use Rattle.dsr_request.specs.Request.{Request}
 use Rattle.dsr_history.specs.History.{acted}
 use Rattle.dsr_request.specs.RequestText.{IsRequest}
 use Rattle.dsr_history.specs.Applied.{request_line, request_lines, values_of, applied, BeginsWith, IsNoLine, HasAnswered, HasAnsweredTo}
 
 -- the lines before the rest are answered
-pub record AnsweredSoFar (text rest : List ℕ) (line : ℕ) (history : List Issued) (answers : List ℕ) : Type 0 where
-  pub requests : List Issued
+pub record AnsweredSoFar (text rest : List ℕ) (line : ℕ) (history : List Request) (answers : List ℕ) : Type 0 where
+  pub requests : List Request
   pub begins : BeginsWith text requests rest
   pub stands : history ≡ acted (values_of requests)
   pub answered : answers ≡ applied requests
   pub counted : line ≡ length requests
 
-pub none_yet : (text : List ℕ) (history : List Issued) (answers : List ℕ) → history ≡ [] → answers ≡ [] → AnsweredSoFar text text 0 history answers
+pub none_yet : (text : List ℕ) (history : List Request) (answers : List ℕ) → history ≡ [] → answers ≡ [] → AnsweredSoFar text text 0 history answers
 none_yet text history answers new silent =
     record {
       requests = [];
@@ -23,9 +23,9 @@ none_yet text history answers new silent =
       counted = refl;
     }
 
-pub one_more : (text rest after : List ℕ) (line : ℕ) (history later : List Issued) (answers more : List ℕ) (request : Issued)
+pub one_more : (text rest after : List ℕ) (line : ℕ) (history later : List Request) (answers more : List ℕ) (request : Request)
     → AnsweredSoFar text rest line history answers → IsRequest request → rest ≡ request_line request ++ after
-    → ((older : List Issued) → history ≡ acted (values_of older) → answers ≡ applied older
+    → ((older : List Request) → history ≡ acted (values_of older) → answers ≡ applied older
     → (later ≡ acted (values_of (request ∷ older))) × (more ≡ applied (request ∷ older)))
     → AnsweredSoFar text after (line + 1) later more
 one_more text rest after line history later answers more request s h cut step =
@@ -44,7 +44,7 @@ one_more text rest after line history later answers more request s h cut step =
       counted = omega (arith, s.counted);
     }
 
-pub all_answered : (text rest : List ℕ) (line : ℕ) (history : List Issued) (answers : List ℕ) → AnsweredSoFar text rest line history answers → rest ≡ []
+pub all_answered : (text rest : List ℕ) (line : ℕ) (history : List Request) (answers : List ℕ) → AnsweredSoFar text rest line history answers → rest ≡ []
     → HasAnswered text answers
 all_answered text rest line history answers s e =
     record {
@@ -53,7 +53,7 @@ all_answered text rest line history answers s e =
       answered = s.answered;
     }
 
-pub answered_to : (text rest : List ℕ) (line : ℕ) (history : List Issued) (answers : List ℕ) → AnsweredSoFar text rest line history answers → rest ≢ [] → IsNoLine rest
+pub answered_to : (text rest : List ℕ) (line : ℕ) (history : List Request) (answers : List ℕ) → AnsweredSoFar text rest line history answers → rest ≢ [] → IsNoLine rest
     → HasAnsweredTo (line + 1) text answers
 answered_to text rest line history answers s some no_line =
     record {
@@ -70,6 +70,6 @@ answered_to text rest line history answers s some no_line =
 longer : (xs ys : List ℕ) → 0 < length xs → length ys < length (xs ++ ys)
 longer xs ys some = omega (arith, length-append xs ys)
 
-pub shorter : (rest after : List ℕ) (request : Issued) → rest ≡ request_line request ++ after → length after < length rest
+pub shorter : (rest after : List ℕ) (request : Request) → rest ≡ request_line request ++ after → length after < length rest
 shorter rest after request cut =
     subst (λ r. length after < length r) (sym cut) (longer (request_line request) after (zero-lt-suc _))

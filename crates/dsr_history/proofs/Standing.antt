@@ -6,7 +6,7 @@ use Rattle.std.proofs.lemmas.Option.{same_Some, none-some}
 use borrow.Author.Tests.{eqb-true}
 use Rattle.dsr_base.specs.Member.{In, here, there}
 use Rattle.dsr_base.proofs.MemberLemmas.{In-append_right, In-append_cases, In-one}
-use Rattle.dsr_request.specs.Issued.{Issued}
+use Rattle.dsr_request.specs.Request.{Request}
 use Rattle.dsr_request.specs.declared.answer.Answer.{Answer}
 use Rattle.dsr_register.specs.Values.{answer_after}
 use Rattle.dsr_ledger.specs.declared.reply.Reply.{Reply}
@@ -15,7 +15,7 @@ use Rattle.dsr_history.specs.History.{requests_of, rises_above, acting, acted, o
 
 -- what stands in a history was asked for
 
-In-reverse : (q : Issued) (rs : List Issued) → In q (reverse rs) → In q rs
+In-reverse : (q : Request) (rs : List Request) → In q (reverse rs) → In q rs
 In-reverse q [] h = h
 In-reverse q (r ∷ rs) h =
     elim (In-append_cases q (reverse rs) (r ∷ []) (subst (In q) (reverse-append (r ∷ []) rs) h)) [
@@ -23,16 +23,16 @@ In-reverse q (r ∷ rs) h =
       | inr first ↦ here (In-one q r first)
     ]
 
-acting_from : (b : Bool) (q r : Issued) (older : List Issued) → (In q (acting older) → In q older) → In q (cond b (r ∷ acting older) (acting older)) → In q (r ∷ older)
+acting_from : (b : Bool) (q r : Request) (older : List Request) → (In q (acting older) → In q older) → In q (cond b (r ∷ acting older) (acting older)) → In q (r ∷ older)
 acting_from true q r older rest (here e) = here e
 acting_from true q r older rest (there h) = there (rest h)
 acting_from false q r older rest h = there (rest h)
 
-pub In-acting : (q : Issued) (rs : List Issued) → In q (acting rs) → In q rs
+pub In-acting : (q : Request) (rs : List Request) → In q (acting rs) → In q rs
 In-acting q [] h = h
 In-acting q (r ∷ older) h = acting_from (rises_above r older) q r older (In-acting q older) h
 
-In-requests : (q : Issued) (values : List (List Issued)) → In q (requests_of values) → (requests : List Issued) × In requests values × In q requests
+In-requests : (q : Request) (values : List (List Request)) → In q (requests_of values) → (requests : List Request) × In requests values × In q requests
 In-requests q [] h = elim h [ ]
 In-requests q (v ∷ older) h =
     elim (In-append_cases q (reverse v) (requests_of older) h) [
@@ -41,11 +41,11 @@ In-requests q (v ∷ older) h =
     ]
 
 -- each request of the history stands in one of the values
-pub In-acted : (q : Issued) (values : List (List Issued)) → In q (acted values) → (requests : List Issued) × In requests values × In q requests
+pub In-acted : (q : Request) (values : List (List Request)) → In q (acted values) → (requests : List Request) × In requests values × In q requests
 In-acted q values h = In-requests q values (In-acting q (requests_of values) h)
 
 -- what stands in the history stands at a place of it
-pub In-stands : (q : Issued) (h : List Issued) → In q h → (place : ℕ) × (answer : Answer) × StandsAt h place q answer
+pub In-stands : (q : Request) (h : List Request) → In q h → (place : ℕ) × (answer : Answer) × StandsAt h place q answer
 In-stands q [] inside = elim inside [ ]
 In-stands q (r ∷ older) (here e) = (
   length older,
@@ -67,7 +67,7 @@ In-stands q (r ∷ older) (there inside) =
 
 -- the answer at the place is the answer there
 
-answer_past : (newer : List Issued) (q : Issued) (older : List Issued) → answer_at (newer ++ q ∷ older) (length older) ≡ Some (answer_after (operations older) q.op)
+answer_past : (newer : List Request) (q : Request) (older : List Request) → answer_at (newer ++ q ∷ older) (length older) ≡ Some (answer_after (operations older) q.op)
 answer_past [] q older =
     ap (λ same. cond same (Some (answer_after (operations older) q.op)) (answer_at older (length older))) (eq-eqb (length older) (length older) refl)
 answer_past (r ∷ newer) q older =
@@ -75,13 +75,13 @@ answer_past (r ∷ newer) q older =
     (ne_eqb (length (newer ++ q ∷ older)) (length older) (λ e. omega (arith, length-append newer (q ∷ older))))
     ∙ answer_past newer q older
 
-pub stands_answered : (h : List Issued) (place : ℕ) (q : Issued) (answer : Answer) → StandsAt h place q answer → answer_at h place ≡ Some answer
+pub stands_answered : (h : List Request) (place : ℕ) (q : Request) (answer : Answer) → StandsAt h place q answer → answer_at h place ≡ Some answer
 stands_answered h place q answer s =
     ap (λ xs. answer_at xs place) s.parts
     ∙ (ap (answer_at (s.newer ++ q ∷ s.older)) s.place_is ∙ (answer_past s.newer q s.older ∙ ap Some (sym s.answer_is)))
 
 -- what stands stays where it stands
-pub stands_later : (later earlier : List Issued) (place : ℕ) (q : Issued) (answer : Answer) → Extends later earlier → StandsAt earlier place q answer → StandsAt later place q answer
+pub stands_later : (later earlier : List Request) (place : ℕ) (q : Request) (answer : Answer) → Extends later earlier → StandsAt earlier place q answer → StandsAt later place q answer
 stands_later later earlier place q answer grew s =
     record {
       newer = grew.0 ++ s.newer;
@@ -92,8 +92,8 @@ stands_later later earlier place q answer grew s =
     }
 
 -- the part of a longer list up to a place below the shorter one's length
-before_parts : (more earlier newer older : List Issued) (q : Issued) → more ++ earlier ≡ newer ++ q ∷ older → length older < length earlier
-    → (front : List Issued) × (earlier ≡ front ++ q ∷ older)
+before_parts : (more earlier newer older : List Request) (q : Request) → more ++ earlier ≡ newer ++ q ∷ older → length older < length earlier
+    → (front : List Request) × (earlier ≡ front ++ q ∷ older)
 before_parts [] earlier newer older q e short = (newer, e)
 before_parts (m ∷ more) earlier [] older q e short =
     let tails : more ++ earlier ≡ older = cc in
@@ -103,7 +103,7 @@ before_parts (m ∷ more) earlier (n ∷ newer) older q e short =
     before_parts more earlier newer older q tails short
 
 -- what stands below the earlier length stood there before
-pub stood_before : (later earlier : List Issued) (place : ℕ) (q : Issued) (answer : Answer) → Extends later earlier → place < length earlier
+pub stood_before : (later earlier : List Request) (place : ℕ) (q : Request) (answer : Answer) → Extends later earlier → place < length earlier
     → StandsAt later place q answer → StandsAt earlier place q answer
 stood_before later earlier place q answer grew below s =
     let found = before_parts grew.0 earlier s.newer s.older q (sym grew.1 ∙ s.parts) (omega (arith, s.place_is)) in
@@ -111,7 +111,7 @@ stood_before later earlier place q answer grew below s =
 
 -- one client's number stands at one place alone
 
-one_part : (h newer older other before : List Issued) (q r : Issued) → IsLegal h → h ≡ newer ++ q ∷ older → h ≡ other ++ r ∷ before
+one_part : (h newer older other before : List Request) (q r : Request) → IsLegal h → h ≡ newer ++ q ∷ older → h ≡ other ++ r ∷ before
     → q.client ≡ r.client → q.number ≡ r.number → (q ≡ r) × (older ≡ before)
 one_part [] [] older other before q r legal e f client number = cc
 one_part [] (n ∷ newer) older other before q r legal e f client number = cc
@@ -133,7 +133,7 @@ one_part (x ∷ h) (n ∷ newer) older (o ∷ other) before q r legal e f client
     let more : h ≡ other ++ r ∷ before = cc in
     one_part h newer older other before q r legal.1 rest more client number
 
-pub stands_once : (h : List Issued) (place other : ℕ) (q r : Issued) (answer told : Answer) → IsLegal h → StandsAt h place q answer → StandsAt h other r told
+pub stands_once : (h : List Request) (place other : ℕ) (q r : Request) (answer told : Answer) → IsLegal h → StandsAt h place q answer → StandsAt h other r told
     → q.client ≡ r.client → q.number ≡ r.number → (q ≡ r) × (place ≡ other) × (answer ≡ told)
 stands_once h place other q r answer told legal s t client number =
     let same = one_part h s.newer s.older t.newer t.older q r legal s.parts t.parts client number in (
@@ -144,7 +144,7 @@ stands_once h place other q r answer told legal s t client number =
 
 -- the last reply is what a request of its client is answered where it stands
 
-reply_step : (b : Bool) (r : Issued) (older : List Issued) (client : ℕ) → b ≡ nat_eq r.client client
+reply_step : (b : Bool) (r : Request) (older : List Request) (client : ℕ) → b ≡ nat_eq r.client client
     → ((reply : Reply) → reply_in older client ≡ Some reply → IsReplyTo older client reply)
     → (reply : Reply) → cond b (Some (record { number = r.number; place = length older; answer = answer_after (operations older) r.op })) (reply_in older client) ≡ Some reply
     → IsReplyTo (r ∷ older) client reply
@@ -171,15 +171,15 @@ reply_step false r older client e rest reply is =
       number_is = found.number_is;
     }
 
-pub reply_stands : (h : List Issued) (client : ℕ) (reply : Reply) → reply_in h client ≡ Some reply → IsReplyTo h client reply
+pub reply_stands : (h : List Request) (client : ℕ) (reply : Reply) → reply_in h client ≡ Some reply → IsReplyTo h client reply
 reply_stands [] client reply is = absurd (none-some reply is)
 reply_stands (r ∷ older) client reply is = reply_step (nat_eq r.client client) r older client refl (reply_stands older client) reply is
 
-pub reply_if : (h : List Issued) (client : ℕ) (kept : Option Reply) → kept ≡ reply_in h client → IfSome kept (IsReplyTo h client)
+pub reply_if : (h : List Request) (client : ℕ) (kept : Option Reply) → kept ≡ reply_in h client → IfSome kept (IsReplyTo h client)
 reply_if h client None is = tt
 reply_if h client (Some reply) is = reply_stands h client reply (sym is)
 
-pub answered_if : (h : List Issued) (client : ℕ) (kept : Option Reply) → kept ≡ reply_in h client → IfSome kept (λ last. answer_at h last.place ≡ Some last.answer)
+pub answered_if : (h : List Request) (client : ℕ) (kept : Option Reply) → kept ≡ reply_in h client → IfSome kept (λ last. answer_at h last.place ≡ Some last.answer)
 answered_if h client None is = tt
 answered_if h client (Some reply) is =
     let found = reply_stands h client reply (sym is) in stands_answered h reply.place found.request reply.answer found.stands

@@ -1,4 +1,4 @@
 pub mod Applied
 pub mod History
 pub mod Machine
-pub mod MachineState
+pub mod Support

@@ -1,35 +1,16 @@
--- A machine as contracts see it, and how its parts hold that.
-use Rattle.std.specs.Prelude.{◌≡◌, ℕ, ◌-◌, min, List, [], ◌∷◌, length, reverse, vec_len, vec_capacity}
-use Rattle.dsr_request.specs.declared.answer.Answer.{Answer}
-use Rattle.dsr_register.specs.Values.{answer_after}
-use Rattle.dsr_register.specs.Table.{StandsFor}
-use Rattle.dsr_ledger.specs.Kept.{kept_of}
-use Rattle.dsr_request.specs.Issued.{Issued}
-use Rattle.dsr_history.specs.History.{operations, reply_in}
-use Rattle.dsr_history.specs.declared.machine.Machine.TheInside.{Inside}
-use Rattle.dsr_history.specs.MachineState.{MachineState}
+-- What contracts see of a machine (Schneider 1990: equal machines that process the same requests in the same order
+-- give the same replies).
+use Rattle.std.specs.Prelude.{◌≡◌, ℕ, List}
+use Rattle.dsr_request.specs.Request.{Request}
+use Rattle.dsr_history.specs.History.{acted}
 
--- the answers along a history
-abbrev pub answers_of : List Issued → List Answer
-answers_of [] = []
-answers_of (r ∷ older) = answer_after (operations older) r.op ∷ answers_of older
+-- the requests that acted, newest first; for how many clients it keeps replies; and how many more requests it can
+-- take before it needs memory
+pub record Machine : Type 0 where
+  pub history : List Request
+  pub clients : ℕ
+  pub room : ℕ
 
--- the history that the machine holds, newest first
-abbrev pub history_of : Inside → List Issued
-history_of a = reverse a.history.items
-
--- the state that the fields stand for: there is room where both lists have it
-abbrev pub state_of : Inside → MachineState
-state_of a =
-    record {
-      history = history_of a;
-      clients = length a.ledger;
-      room = min (vec_capacity a.history - vec_len a.history) (vec_capacity a.answers - vec_len a.answers);
-    }
-
--- the table stands for the history's operations, the ledger has each client's last reply, and the answers are those
--- along the history
-pub record IsMachine (a : Inside) : Type 0 where
-  pub table : StandsFor a.directory (operations (history_of a))
-  pub replies : (client : ℕ) → kept_of a.ledger client ≡ reply_in (history_of a) client
-  pub answers : reverse a.answers.items ≡ answers_of (history_of a)
+-- the machine stands for these values, newest first: its history is theirs
+abbrev pub StandsFor : Machine → List (List Request) → Type 0
+StandsFor machine values = machine.history ≡ acted values

@@ -1,8 +1,8 @@
 ghost use Rattle.std.specs.Prelude.{◌≡◌, ℕ, ◌+◌, ◌<◌, ◌≤◌, ◌^◌, List, ◌∷◌, ◌++◌, [], length, Option, Some, OnOk, IfOk, IfErr, IfSome, IfNone, IsErrOf, vec_len, IsOkUnless};
-ghost use Rattle.dsr_request.specs.Issued.{Issued};
-ghost use Rattle.dsr_history.specs.MachineState.{Stands};
+ghost use Rattle.dsr_request.specs.Request.{Request};
+ghost use Rattle.dsr_history.specs.Machine.{StandsFor};
 ghost use Rattle.dsr_request.specs.RequestText.{IsRequest};
-ghost use Rattle.dsr_history.specs.Applied.{request_line, values_of, applied, AppliedAll, StandsAfter, IsNoLine, HasAnswered, HasAnsweredTo};
+ghost use Rattle.dsr_history.specs.Applied.{request_line, values_of, applied, AppliedAll, WrittenAfter, IsNoLine, HasAnswered, HasAnsweredTo};
 
 use crate::machine::Machine;
 use dsr_base::split_once;
@@ -23,9 +23,9 @@ impl Run {
     fn answer(&mut self, request: &Request) -> Result<(), Refusal>
         requires client { request.now.client < self.old.machine.clients }
         requires short { length self.old.machine.history < 2 ^ 39 }
-        ensures done { OnOk result ((older : List Issued) → Stands self.old.machine (values_of older)
+        ensures done { OnOk result ((older : List Request) → StandsFor self.old.machine (values_of older)
             → self.old.answers.items ≡ applied older
-            → Stands self.new.machine (values_of (request.now ∷ older)) × (self.new.answers.items ≡ applied (request.now ∷ older))) }
+            → StandsFor self.new.machine (values_of (request.now ∷ older)) × (self.new.answers.items ≡ applied (request.now ∷ older))) }
         ensures refusal { IsOkUnless result Refusal.NoMemory }
         ensures clients { self.new.machine.clients ≡ self.old.machine.clients }
         ensures longer { length self.new.machine.history ≤ length self.old.machine.history + 1 }
@@ -103,7 +103,7 @@ pub fn run_apply<S: Source, K: Sink>(
     sink: &mut K,
 ) -> Result<(), Refusal>
     ensures done { OnOk result (AppliedAll (S.left source.old) (K.contents sink.old) (K.contents sink.new)) }
-    ensures refused { IfErr result (λ e. StandsAfter e (S.left source.old) (K.room sink.old) (K.contents sink.old) (K.contents sink.new)) }
+    ensures refused { IfErr result (λ e. WrittenAfter e (S.left source.old) (K.room sink.old) (K.contents sink.old) (K.contents sink.new)) }
     ensures in_memory { S.is_in_memory source.old → IsErrOf result Refusal.ReadFailed
         → IfSome (S.left source.old) (λ bytes. 16777216 < length bytes) }
 {

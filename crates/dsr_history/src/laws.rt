@@ -3,7 +3,7 @@
 ghost use Rattle.std.specs.Prelude.{◌≡◌, ℕ, ◌<◌, Some, List, ◌++◌, length};
 ghost use Rattle.dsr_base.specs.Growth.{Extends};
 ghost use Rattle.dsr_base.specs.Member.{In};
-ghost use Rattle.dsr_request.specs.Issued.{Issued};
+ghost use Rattle.dsr_request.specs.Request.{Request};
 ghost use Rattle.dsr_request.specs.declared.answer.Answer.{Answer};
 ghost use Rattle.dsr_ledger.specs.declared.reply.Reply.{Reply};
 ghost use Rattle.dsr_history.specs.History.{acted, answer_at, reply_in, IsLegal, StandsAt, IsReplyTo};
@@ -11,35 +11,35 @@ ghost use Rattle.dsr_history.specs.History.{acted, answer_at, reply_in, IsLegal,
 /// The history only grows: where some values came first and newer ones after them, the history of all is the
 /// history of the first with newer requests, and each of its places keeps its answer.
 pub fn history_only_grows()
-    ensures grows { (newer values : List (List Issued)) → Extends (acted (newer ++ values)) (acted values) }
-    ensures answers { (newer values : List (List Issued)) (place : ℕ) → place < length (acted values)
+    ensures grows { (newer values : List (List Request)) → Extends (acted (newer ++ values)) (acted values) }
+    ensures answers { (newer values : List (List Request)) (place : ℕ) → place < length (acted values)
         → answer_at (acted (newer ++ values)) place ≡ answer_at (acted values) place }
 {}
 
 /// Within each client the numbers of a history rise strictly, so none stands in it twice.
 pub fn history_is_legal()
-    ensures { (values : List (List Issued)) → IsLegal (acted values) }
+    ensures { (values : List (List Request)) → IsLegal (acted values) }
 {}
 
 /// What stands in a history: requests of the values alone. What stands at a place stays there as the history
 /// grows, and stood there before if the place did. A client's number stands at one place. And a
 /// client's last reply is the answer to a request of that client, at the place where it stands.
-pub fn requests_stand()
-    ensures from_values { (values : List (List Issued)) (request : Issued) → In request (acted values)
-        → (requests : List Issued) × In requests values × In request requests }
-    ensures somewhere { (history : List Issued) (request : Issued) → In request history
+pub fn requests_keep_their_places()
+    ensures from_values { (values : List (List Request)) (request : Request) → In request (acted values)
+        → (requests : List Request) × In requests values × In request requests }
+    ensures somewhere { (history : List Request) (request : Request) → In request history
         → (place : ℕ) × (answer : Answer) × StandsAt history place request answer }
-    ensures answered { (history : List Issued) (place : ℕ) (request : Issued) (answer : Answer)
+    ensures answered { (history : List Request) (place : ℕ) (request : Request) (answer : Answer)
         → StandsAt history place request answer → answer_at history place ≡ Some answer }
-    ensures stays { (later earlier : List Issued) (place : ℕ) (request : Issued) (answer : Answer)
+    ensures stays { (later earlier : List Request) (place : ℕ) (request : Request) (answer : Answer)
         → Extends later earlier → StandsAt earlier place request answer → StandsAt later place request answer }
-    ensures stood { (later earlier : List Issued) (place : ℕ) (request : Issued) (answer : Answer)
+    ensures stood { (later earlier : List Request) (place : ℕ) (request : Request) (answer : Answer)
         → Extends later earlier → place < length earlier
         → StandsAt later place request answer → StandsAt earlier place request answer }
-    ensures once { (history : List Issued) (place other : ℕ) (request again : Issued) (answer told : Answer)
+    ensures once { (history : List Request) (place other : ℕ) (request again : Request) (answer told : Answer)
         → IsLegal history → StandsAt history place request answer → StandsAt history other again told
         → request.client ≡ again.client → request.number ≡ again.number
         → (request ≡ again) × (place ≡ other) × (answer ≡ told) }
-    ensures replies { (history : List Issued) (client : ℕ) (reply : Reply)
+    ensures replies { (history : List Request) (client : ℕ) (reply : Reply)
         → reply_in history client ≡ Some reply → IsReplyTo history client reply }
 {}

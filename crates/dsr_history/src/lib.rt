@@ -11,5 +11,5 @@ mod tests;
 
 pub use apply::run_apply;
 pub use dsr_request::{MOST_REQUESTS, Request, Requests};
-pub use laws::{history_is_legal, history_only_grows, requests_stand};
+pub use laws::{history_is_legal, history_only_grows, requests_keep_their_places};
 pub use machine::Machine;

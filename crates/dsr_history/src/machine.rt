@@ -1,8 +1,8 @@
 ghost use Rattle.std.specs.Prelude.{◌≡◌, ℕ, ◌+◌, ◌<◌, ◌≤◌, ◌^◌, ◌↔◌, ◌∷◌, [], List, All, Option, length, map, reverse, if◌then◌else◌, Some, OnOk, OnErr, IsOk, IfSome, IfOk, IsTrue, IsOkUnless};
 ghost use Rattle.dsr_register.specs.Values.{value};
-ghost use Rattle.dsr_request.specs.Issued.{Issued};
+ghost use Rattle.dsr_request.specs.Request.{Request};
 ghost use Rattle.dsr_history.specs.History.{acted, acting, rises_above, operations, reply, reply_in, answer_at, IsReplyTo};
-ghost use Rattle.dsr_history.specs.MachineState.{Stands};
+ghost use Rattle.dsr_history.specs.Machine.{StandsFor};
 
 use dsr_ledger::{Ledger, Reply};
 use dsr_names::{ClientId, Refusal, Shape};
@@ -23,11 +23,11 @@ pub struct Machine {
 }
 
 impl Model for Machine {
-    ghost use Rattle.dsr_history.specs.MachineState.{MachineState};
+    ghost use Rattle.dsr_history.specs.Machine.{Machine};
 
-    ghost Value = { MachineState };
+    ghost Value = { Machine };
 
-    ghost use Rattle.dsr_history.specs.Machine.{state_of, IsMachine};
+    ghost use Rattle.dsr_history.specs.Support.Machine.{state_of, IsMachine};
 
     ghost view = { state_of };
 
@@ -83,7 +83,7 @@ impl Machine {
         requires few { length requests.now ≤ 8 }
         requires clients { All (λ r. r.client < self.old.clients) requests.now }
         requires short { length self.old.history < 2 ^ 39 }
-        ensures accepted { OnOk result ((values : List (List Issued)) → Stands self.old values → Stands self.new (requests.now ∷ values)) }
+        ensures accepted { OnOk result ((values : List (List Request)) → StandsFor self.old values → StandsFor self.new (requests.now ∷ values)) }
         ensures count { IfOk result (λ n. length self.new.history ≡ length self.old.history + n) }
         ensures most { IfOk result (λ n. n ≤ length requests.now) }
         ensures refusal { IsOkUnless result Refusal.NoMemory }
@@ -109,7 +109,7 @@ impl Machine {
     fn process(&mut self, request: &Request) -> bool
         requires room { 0 < self.old.room }
         requires client { request.now.client < self.old.clients }
-        ensures acted { (older : List Issued) → self.old.history ≡ acting older → self.new.history ≡ acting (request.now ∷ older) }
+        ensures acted { (older : List Request) → self.old.history ≡ acting older → self.new.history ≡ acting (request.now ∷ older) }
         ensures count { length self.new.history ≡ length self.old.history + (if result then 1 else 0) }
         ensures clients { self.new.clients ≡ self.old.clients }
         ensures room { self.old.room ≤ self.new.room + 1 }
@@ -139,7 +139,7 @@ impl Machine {
         ensures last { result ≡ reply_in self.now.history client }
         ensures stands { IfSome result (IsReplyTo self.now.history client) }
         ensures answer { IfSome result (λ last. answer_at self.now.history last.place ≡ Some last.answer) }
-        ensures reply { (values : List (List Issued)) → Stands self.now values → result ≡ reply values client }
+        ensures reply { (values : List (List Request)) → StandsFor self.now values → result ≡ reply values client }
     {
         self.ledger.kept(client)
     }
@@ -147,7 +147,7 @@ impl Machine {
     /// The requests that acted, in their order.
     pub fn history(&self) -> &[Request]
         ensures same { result.now ≡ reverse self.now.history }
-        ensures acted { (values : List (List Issued)) → Stands self.now values → result.now ≡ reverse (acted values) }
+        ensures acted { (values : List (List Request)) → StandsFor self.now values → result.now ≡ reverse (acted values) }
     {
         self.history.as_slice()
     }

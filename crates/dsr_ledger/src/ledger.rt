@@ -1,5 +1,5 @@
 ghost use Rattle.std.specs.Prelude.{◌≡◌, ◌<◌, ◌↔◌, None, Some, IfOk, IsTrue, length, replicate, slice_set, IsOkUnless};
-ghost use Rattle.dsr_ledger.specs.Kept.{kept_of, Acts};
+ghost use Rattle.dsr_ledger.specs.LastReply.{last_reply, Acts};
 
 use crate::reply::Reply;
 use dsr_names::{ClientId, Refusal};
@@ -36,7 +36,7 @@ impl Ledger {
     /// the one of the kept reply, or at least 1 where none is kept.
     pub fn acts(&self, client: ClientId, number: u64) -> bool
         requires { client < length self.now }
-        ensures { IsTrue result ↔ Acts (kept_of self.now client) number }
+        ensures { IsTrue result ↔ Acts (last_reply self.now client) number }
     {
         match self.kept(client) {
             Some(reply) => reply.number < number,
@@ -46,7 +46,7 @@ impl Ledger {
 
     /// The client's last reply; none for a client outside the shape.
     pub fn kept(&self, client: ClientId) -> Option<Reply>
-        ensures { result ≡ kept_of self.now client }
+        ensures { result ≡ last_reply self.now client }
     {
         let place = client.number() as usize;
         if place < self.replies.len() {
@@ -60,7 +60,7 @@ impl Ledger {
     /// number acts.
     pub fn note(&mut self, client: ClientId, reply: Reply)
         requires inside { client < length self.old }
-        requires acts { Acts (kept_of self.old client) reply.number }
+        requires acts { Acts (last_reply self.old client) reply.number }
         ensures { self.new ≡ slice_set self.old client (Some reply) }
     {
         self.replies[client.number() as usize] = Some(reply);

@@ -6,31 +6,31 @@ use Rattle.dsr_names.specs.declared.actor.Actor.{Actor}
 use Rattle.dsr_names.specs.declared.actor.Actor.TheVariants.{Replica, Client}
 
 -- n replicas, at most f traitors among them, m clients; bit i of `traitors` says that replica i is a traitor
-pub record Members : Type 0 where
+pub record Shape : Type 0 where
   pub n : ℕ
   pub f : ℕ
   pub m : ℕ
   pub traitors : ℕ
 
 -- the shape of these four
-abbrev pub shape_of : ℕ → ℕ → ℕ → ℕ → Members
+abbrev pub shape_of : ℕ → ℕ → ℕ → ℕ → Shape
 shape_of n f m traitors = record { n = n; f = f; m = m; traitors = traitors }
 
 -- whether the bits of a shape call this replica a traitor
-abbrev pub is_traitor : Members → ℕ → Bool
+abbrev pub is_traitor : Shape → ℕ → Bool
 is_traitor shape p = is_bit_set shape.traitors p
 
 -- the number of the replica that sends in a slot: the replicas send in turn (this project)
-abbrev pub sender : Members → ℕ → ℕ
+abbrev pub sender : Shape → ℕ → ℕ
 sender shape slot = slot % shape.n
 
 -- at most f of the replicas are traitors
-abbrev pub HasFewTraitors : Members → Type 0
+abbrev pub HasFewTraitors : Shape → Type 0
 HasFewTraitors shape = count_below (is_traitor shape) shape.n ≤ shape.f
 
 -- a shape within the limits: 1 to 16 replicas, more than twice as many as traitors are allowed; 1 to 32 clients;
 -- only replicas are traitors, and at most f of them
-pub record IsAllowed (shape : Members) : Type 0 where
+pub record IsAllowed (shape : Shape) : Type 0 where
   pub some_replica : 0 < shape.n
   pub few_replicas : shape.n ≤ 16
   pub most_loyal : 2 * shape.f < shape.n
@@ -40,17 +40,17 @@ pub record IsAllowed (shape : Members) : Type 0 where
   pub few_traitors : HasFewTraitors shape
 
 -- an actor of the shape: a replica below n, or a client below m
-abbrev pub IsActor : Members → Actor → Type 0
+abbrev pub IsActor : Shape → Actor → Type 0
 IsActor shape (Replica r) = r < shape.n
 IsActor shape (Client c) = c < shape.m
 
 -- an actor of the shape that is no traitor; clients are loyal
-abbrev pub IsLoyal : Members → Actor → Type 0
+abbrev pub IsLoyal : Shape → Actor → Type 0
 IsLoyal shape (Replica r) = (r < shape.n) × (is_traitor shape r ≡ false)
 IsLoyal shape (Client c) = c < shape.m
 
 -- two shapes agree in all but perhaps in who the traitors are (this project)
-pub record AgreeButForTraitors (shape other : Members) : Type 0 where
+pub record AgreeButForTraitors (shape other : Shape) : Type 0 where
   pub replicas : shape.n ≡ other.n
   pub most_traitors : shape.f ≡ other.f
   pub clients : shape.m ≡ other.m

@@ -4,7 +4,7 @@ use Rattle.std.specs.Fmt.{decimal}
 use Rattle.dsr_base.specs.Joined.{joined_or_dash}
 use Rattle.dsr_names.specs.Actor.{replica_text}
 use Rattle.dsr_base.specs.Bits.{is_bit_set}
-use Rattle.dsr_names.specs.Shape.{Members, IsAllowed}
+use Rattle.dsr_names.specs.Shape.{Shape, IsAllowed}
 use Rattle.dsr_names.specs.declared.refusal.Refusal.{Refusal}
 use Rattle.dsr_names.specs.declared.refusal.Refusal.TheVariants.{BadShape}
 
@@ -22,25 +22,25 @@ abbrev pub replicas_text : List ℕ → List ℕ
 replicas_text = joined_or_dash 43 replica_text
 
 -- the token of a shape
-abbrev pub shape_text : Members → List ℕ
+abbrev pub shape_text : Shape → List ℕ
 shape_text shape =
     decimal shape.n ++ (codes " " ++ (decimal shape.f ++ (codes " " ++ (decimal shape.m ++ (codes " " ++ replicas_text (replicas_of shape.traitors))))))
 
 -- a shape that a text can spell, within the limits or not
-pub record IsSpelled (shape : Members) : Type 0 where
+pub record IsSpelled (shape : Shape) : Type 0 where
   pub n_is_number : shape.n < 2 ^ 40
   pub f_is_number : shape.f < 2 ^ 40
   pub m_is_number : shape.m < 2 ^ 40
   pub replicas_exist : shape.traitors < 2 ^ 16
 
 -- what a spelled shape is read as: the shape itself where it is allowed, else the refusal
-abbrev pub IsVerdict : Members → Result Members Refusal → Type 0
+abbrev pub IsVerdict : Shape → Result Shape Refusal → Type 0
 IsVerdict shape (Ok read) = (read ≡ shape) × IsAllowed shape
 IsVerdict shape (Err e) = (e ≡ BadShape) × (¬ IsAllowed shape)
 
 -- the bytes are the token of some shape, and this is what it is read as
-pub record IsShapeReading (bytes : List ℕ) (answer : Result Members Refusal) : Type 0 where
-  pub shape : Members
+pub record IsShapeReading (bytes : List ℕ) (answer : Result Shape Refusal) : Type 0 where
+  pub shape : Shape
   pub spelled : IsSpelled shape
   pub text : bytes ≡ shape_text shape
   pub verdict : IsVerdict shape answer

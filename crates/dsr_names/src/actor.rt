@@ -161,7 +161,7 @@ impl Actor {
 }
 
 impl Exact for Actor {
-    ghost use Rattle.dsr_names.specs.ActorEq.{actor_eq-Decides};
+    ghost use Rattle.dsr_names.specs.Support.ActorEquality.{actor_eq-Decides};
 
     ghost decides = { actor_eq-Decides };
 }

@@ -1,7 +1,7 @@
 ghost use Rattle.std.specs.Prelude.{ℕ, ◌<◌, refl};
 ghost use Rattle.std.proofs.Common.{lit<};
 ghost use Rattle.dsr_names.specs.Actor.{IsNumbered, actor_text, replica_text};
-ghost use Rattle.dsr_names.specs.ActorToken.{replica_part, actor_part, actor_begun};
+ghost use Rattle.dsr_names.specs.Support.ActorToken.{replica_part, actor_part, actor_begun};
 
 use crate::actor::{Actor, ReplicaId};
 use dsr_base::Token;

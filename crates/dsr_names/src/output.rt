@@ -1,7 +1,7 @@
 ghost use Rattle.std.specs.Prelude.{◌≡◌, ℕ, ◌-◌, ◌≤◌, List, length, Option, None, Some, Ok, ◌<◌, IsOk, IsOkAnd, OnOk, IfSome, vec_len, vec_capacity, IsOkUnless};
 ghost use Rattle.std.specs.Io.{WritesAtMost};
 ghost use Rattle.std.specs.Io.KnownBytes.{Appends, WriteAppends};
-ghost use Rattle.dsr_names.specs.Output.{SentFront};
+ghost use Rattle.dsr_names.specs.Output.{SentPrefix};
 
 use crate::input::MOST_CALLS;
 use crate::outside::Outside;
@@ -54,7 +54,7 @@ impl<W: Write> Sink for Outside<W> {
 /// with known room for all of them, nor on a steady one where the bytes are at most `MOST_CALLS`.
 pub fn write_output<S: Sink>(sink: &mut S, bytes: &[u8]) -> Result<(), Refusal>
     ensures all { OnOk result (Appends (S.contents sink.old) (S.contents sink.new) bytes.now) }
-    ensures front { SentFront (S.contents sink.old) (S.contents sink.new) bytes.now }
+    ensures front { SentPrefix (S.contents sink.old) (S.contents sink.new) bytes.now }
     ensures refusal { IsOkUnless result Refusal.WriteFailed }
     ensures in_room { IfSome (S.room sink.old) (λ most. length bytes.now ≤ most → IsOk result) }
     ensures steady { S.is_steady sink.old → length bytes.now ≤ 33554432 → IsOk result }

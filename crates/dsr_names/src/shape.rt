@@ -16,9 +16,9 @@ pub struct Shape {
 }
 
 impl Model for Shape {
-    ghost use Rattle.dsr_names.specs.Shape.{Members, IsAllowed};
+    ghost use Rattle.dsr_names.specs.Shape.{Shape, IsAllowed};
 
-    ghost Value = { Members };
+    ghost Value = { Shape };
 
     ghost view = { λ s. record { n = s.n; f = s.f; m = s.m; traitors = s.traitors } };
 

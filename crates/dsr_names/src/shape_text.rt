@@ -1,6 +1,6 @@
 ghost use Rattle.std.specs.Prelude.{◌≡◌, ℕ, ◌<◌, ◌^◌, List, ◌∷◌, ◌++◌, codes, Some, IfSome, IfNone, IsSomeAnd};
 ghost use Rattle.std.specs.Fmt.{decimal};
-ghost use Rattle.dsr_names.specs.Shape.{Members, shape_of};
+ghost use Rattle.dsr_names.specs.Shape.{Shape, shape_of};
 ghost use Rattle.dsr_names.specs.ShapeText.{shape_text, replicas_of, replicas_text, IsSpelled, IsVerdict, IsShapeReading};
 ghost use Rattle.dsr_base.specs.Reads.{Reads};
 
@@ -17,7 +17,7 @@ impl Shape {
     /// exactly where they are one, but of a shape outside the limits.
     pub fn read(bytes: &[u8]) -> Option<Result<Shape, Refusal>>
         ensures spelled { IfSome result (IsShapeReading bytes.now) }
-        ensures read { (shape : Members) → IsSpelled shape → bytes.now ≡ shape_text shape → IsSomeAnd result (IsVerdict shape) }
+        ensures read { (shape : Shape) → IsSpelled shape → bytes.now ≡ shape_text shape → IsSomeAnd result (IsVerdict shape) }
     {
         let (n, rest) = read_field(bytes)?;
         let (f, rest) = read_field(rest)?;

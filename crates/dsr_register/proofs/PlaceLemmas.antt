@@ -10,7 +10,7 @@ use Rattle.std.proofs.lemmas.Bool.Decides.{nat_tests}
 use Rattle.std.proofs.lemmas.List.{take-append-drop, get_or_default}
 use Rattle.std.proofs.lemmas.Option.{slice_get-get_or, get_or_from_slice_get}
 use Rattle.dsr_request.specs.NameOrder.{compare_names, is_before}
-use Rattle.dsr_register.specs.Table.{content, IsBelowEach, IsAscending, IsEntryOf, IsGapFor}
+use Rattle.dsr_register.specs.Table.{held_in, IsBelowEach, IsAscending, IsEntryOf, IsGapFor}
 use Rattle.dsr_register.proofs.TableLemmas.{
   Entries,
   Misses,
@@ -59,21 +59,21 @@ module _ (table : Entries) (place : ℕ) (name : List ℕ) (number : ℕ) (rises
   backs = misses_back name number (take place table) (drop (suc place) table) parts
 
   -- every look-up in the table, by the rest of it
-  by_rest : (other : List ℕ) → content table other ≡ cond (bytes_eq name other) (Some number) (content (take place table ++ drop (suc place) table) other)
+  by_rest : (other : List ℕ) → held_in table other ≡ cond (bytes_eq name other) (Some number) (held_in (take place table ++ drop (suc place) table) other)
   by_rest other =
-      ap (λ t. content t other) (cut table place (name, number) at)
+      ap (λ t. held_in t other) (cut table place (name, number) at)
       ∙ content_with name number (take place table) (drop (suc place) table) other fronts
 
-  pub content_at : content table name ≡ Some number
-  content_at = by_rest name ∙ ap (λ b. cond b (Some number) (content (take place table ++ drop (suc place) table) name)) (name_itself name)
+  pub content_at : held_in table name ≡ Some number
+  content_at = by_rest name ∙ ap (λ b. cond b (Some number) (held_in (take place table ++ drop (suc place) table) name)) (name_itself name)
 
-  pub content_after_set : (new : ℕ) (other : List ℕ) → content (set table place (name, new)) other ≡ cond (bytes_eq name other) (Some new) (content table other)
+  pub content_after_set : (new : ℕ) (other : List ℕ) → held_in (set table place (name, new)) other ≡ cond (bytes_eq name other) (Some new) (held_in table other)
   content_after_set new other =
-      ap (λ t. content t other) (cut_set table place (name, number) (name, new) at)
+      ap (λ t. held_in t other) (cut_set table place (name, number) (name, new) at)
       ∙ (content_with name new (take place table) (drop (suc place) table) other fronts
       ∙ (written_twice (bytes_eq name other) ∙ ap (cond (bytes_eq name other) (Some new)) (sym (by_rest other))))
     where
-      written_twice : (b : Bool) → cond b (Some new) (content (take place table ++ drop (suc place) table) other) ≡ cond b (Some new) (cond b (Some number) (content (take place table ++ drop (suc place) table) other))
+      written_twice : (b : Bool) → cond b (Some new) (held_in (take place table ++ drop (suc place) table) other) ≡ cond b (Some new) (cond b (Some number) (held_in (take place table ++ drop (suc place) table) other))
       written_twice true = refl
       written_twice false = refl
 
@@ -83,13 +83,13 @@ module _ (table : Entries) (place : ℕ) (name : List ℕ) (number : ℕ) (rises
       (ascending_set name number new (take place table) (drop (suc place) table) parts)
 
   removed_step : (other : List ℕ) (b : Bool) → b ≡ bytes_eq name other
-      → content (take place table ++ drop (suc place) table) other ≡ cond b None (cond b (Some number) (content (take place table ++ drop (suc place) table) other))
+      → held_in (take place table ++ drop (suc place) table) other ≡ cond b None (cond b (Some number) (held_in (take place table ++ drop (suc place) table) other))
   removed_step other true e =
-      subst (λ x. content (take place table ++ drop (suc place) table) x ≡ None) (same_name name other (sym e))
+      subst (λ x. held_in (take place table ++ drop (suc place) table) x ≡ None) (same_name name other (sym e))
       (content_missed name (take place table ++ drop (suc place) table) (misses_both name (take place table) (drop (suc place) table) fronts backs))
   removed_step other false e = refl
 
-  pub content_after_remove : (other : List ℕ) → content (remove table place) other ≡ cond (bytes_eq name other) None (content table other)
+  pub content_after_remove : (other : List ℕ) → held_in (remove table place) other ≡ cond (bytes_eq name other) None (held_in table other)
   content_after_remove other =
       removed_step other (bytes_eq name other) refl ∙ ap (cond (bytes_eq name other) None) (sym (by_rest other))
 
@@ -105,16 +105,16 @@ module _ (table : Entries) (place : ℕ) (name : List ℕ) (gap : IsGapFor table
   gap_front : Misses name (take place table)
   gap_front = misses_below name (take place table) gap.below
 
-  pub content_at_gap : content table name ≡ None
+  pub content_at_gap : held_in table name ≡ None
   content_at_gap =
-      subst (λ t. content t name ≡ None) whole
+      subst (λ t. held_in t name ≡ None) whole
       (content_missed name (take place table ++ drop place table)
       (misses_both name (take place table) (drop place table) gap_front (misses_above name (drop place table) gap.above)))
 
-  pub content_after_insert : (number : ℕ) (other : List ℕ) → content (insert table place (name, number)) other ≡ cond (bytes_eq name other) (Some number) (content table other)
+  pub content_after_insert : (number : ℕ) (other : List ℕ) → held_in (insert table place (name, number)) other ≡ cond (bytes_eq name other) (Some number) (held_in table other)
   content_after_insert number other =
       content_with name number (take place table) (drop place table) other gap_front
-      ∙ ap (λ t. cond (bytes_eq name other) (Some number) (content t other)) whole
+      ∙ ap (λ t. cond (bytes_eq name other) (Some number) (held_in t other)) whole
 
   pub rises_after_insert : (number : ℕ) → IsAscending table → IsAscending (insert table place (name, number))
   rises_after_insert number rises =
@@ -227,9 +227,9 @@ gap_past inside table place name same rises within before after past =
 
 -- what the calls on a table get and leave: `inside` is the list that the table holds
 
--- what stands there is the content
+-- what stands there is the held_in
 pub entry_read : (inside table : Entries) (place : ℕ) (e : List ℕ × ℕ) (name : List ℕ) → inside ≡ table → IsAscending inside
-    → IsEntryOf table place name → e ≡ get_or inside place e → ◌≡◌ {A = Option ℕ} (Some e.1) (content table name)
+    → IsEntryOf table place name → e ≡ get_or inside place e → ◌≡◌ {A = Option ℕ} (Some e.1) (held_in table name)
 entry_read inside table place e name same rises there is =
     let read : get_or table place e ≡ (name, there.0) = get_or_from_slice_get table place (name, there.0) e there.1 in
     let found : e ≡ (name, there.0) = is ∙ (ap (λ t. get_or t place e) same ∙ read) in
@@ -238,53 +238,53 @@ entry_read inside table place e name same rises there is =
 -- an entry written over
 pub entry_set : (inside table : Entries) (place new : ℕ) (name : List ℕ) → inside ≡ table → IsAscending inside → IsEntryOf table place name
     → IsAscending (set inside place (name, new))
-    × ((other : List ℕ) → content (set inside place (name, new)) other ≡ cond (bytes_eq name other && true) (Some new) (content table other))
+    × ((other : List ℕ) → held_in (set inside place (name, new)) other ≡ cond (bytes_eq name other && true) (Some new) (held_in table other))
 entry_set inside table place new name same rises there =
     let rise : IsAscending table = subst IsAscending same rises in (
       subst (λ t. IsAscending (set t place (name, new))) (sym same) (rises_after_set table place name there.0 rise there.1 new),
       (λ other.
-          ap (λ t. content (set t place (name, new)) other) same
+          ap (λ t. held_in (set t place (name, new)) other) same
           ∙ (content_after_set table place name there.0 rise there.1 new other
-          ∙ ap (λ b. cond b (Some new) (content table other)) (sym (and_true (bytes_eq name other))))),
+          ∙ ap (λ b. cond b (Some new) (held_in table other)) (sym (and_true (bytes_eq name other))))),
     )
 
 -- an entry taken out
 pub entry_removed : (inside table after : Entries) (place : ℕ) (name : List ℕ) → inside ≡ table → IsAscending inside → IsEntryOf table place name
     → after ≡ remove inside place
-    → IsAscending after × ((other : List ℕ) → content after other ≡ cond (bytes_eq name other) None (content table other))
+    → IsAscending after × ((other : List ℕ) → held_in after other ≡ cond (bytes_eq name other) None (held_in table other))
 entry_removed inside table after place name same rises there is =
     let rise : IsAscending table = subst IsAscending same rises in
     let out : after ≡ remove table place = is ∙ ap (λ t. remove t place) same in (
       subst IsAscending (sym out) (rises_after_remove table place name there.0 rise there.1),
-      (λ other. ap (λ t. content t other) out ∙ content_after_remove table place name there.0 rise there.1 other),
+      (λ other. ap (λ t. held_in t other) out ∙ content_after_remove table place name there.0 rise there.1 other),
     )
 
 -- nothing taken out where nothing stands
 pub none_removed : (table : Entries) (place : ℕ) (name other : List ℕ) → IsGapFor table place name
-    → content table other ≡ cond (bytes_eq name other) None (content table other)
+    → held_in table other ≡ cond (bytes_eq name other) None (held_in table other)
 none_removed table place name other gap = step (bytes_eq name other) refl
   where
-    step : (b : Bool) → b ≡ bytes_eq name other → content table other ≡ cond b None (content table other)
-    step true e = subst (λ x. content table x ≡ None) (same_name name other (sym e)) (content_at_gap table place name gap)
+    step : (b : Bool) → b ≡ bytes_eq name other → held_in table other ≡ cond b None (held_in table other)
+    step true e = subst (λ x. held_in table x ≡ None) (same_name name other (sym e)) (content_at_gap table place name gap)
     step false e = refl
 
 -- an entry put in
 pub entry_inserted : (inside table after : Entries) (place new : ℕ) (name : List ℕ) (ok : Bool) → inside ≡ table → IsAscending inside → IsGapFor table place name
     → ok ≡ true → after ≡ cond ok (insert inside place (name, new)) inside
-    → IsAscending after × ((other : List ℕ) → content after other ≡ cond (bytes_eq name other && ok) (Some new) (content table other))
+    → IsAscending after × ((other : List ℕ) → held_in after other ≡ cond (bytes_eq name other && ok) (Some new) (held_in table other))
 entry_inserted inside table after place new name ok same rises gap done is =
     let rise : IsAscending table = subst IsAscending same rises in
     let put : after ≡ insert table place (name, new) = is ∙ (ap (λ b. cond b (insert inside place (name, new)) inside) done ∙ ap (λ t. insert t place (name, new)) same) in (
       subst IsAscending (sym put) (rises_after_insert table place name gap new rise),
       (λ other.
-          ap (λ t. content t other) put
+          ap (λ t. held_in t other) put
           ∙ (content_after_insert table place name gap new other
-          ∙ ap (λ b. cond b (Some new) (content table other)) (sym (ap (λ b. bytes_eq name other && b) done ∙ and_true (bytes_eq name other))))),
+          ∙ ap (λ b. cond b (Some new) (held_in table other)) (sym (ap (λ b. bytes_eq name other && b) done ∙ and_true (bytes_eq name other))))),
     )
 
 -- a register that holds a number may always be written
 pub may_write : (inside table : Entries) (place : ℕ) (name : List ℕ) (full : Bool) → inside ≡ table → IsAscending inside → IsEntryOf table place name
-    → true ≡ not (is_none (content table name) && full)
+    → true ≡ not (is_none (held_in table name) && full)
 may_write inside table place name full same rises there =
     ap (λ held. not (is_none held && full)) (sym (content_at table place name there.0 (subst IsAscending same rises) there.1))
 
@@ -293,7 +293,7 @@ below_or_full n = grind (arith, nat_tests)
 
 -- one that holds none only where there is room
 pub may_fill : (table : Entries) (place n : ℕ) (name : List ℕ) → n ≡ length table → IsGapFor table place name
-    → nat_lt n 1024 ≡ not (is_none (content table name) && nat_le 1024 (length table))
+    → nat_lt n 1024 ≡ not (is_none (held_in table name) && nat_le 1024 (length table))
 may_fill table place n name count gap =
     below_or_full n
     ∙ (ap (λ k. not (nat_le 1024 k)) count

@@ -9,7 +9,7 @@ use Rattle.std.proofs.lemmas.Cmp.{nat_list_cmp_total}
 use Rattle.std.proofs.lemmas.Map.Text.{is_eq-slice_cmp}
 use Rattle.std.proofs.lemmas.Slice.Eq.{bytes_eq-Decides}
 use Rattle.dsr_request.specs.NameOrder.{compare_names}
-use Rattle.dsr_register.specs.Table.{content, IsBelowEach, IsAscending}
+use Rattle.dsr_register.specs.Table.{held_in, IsBelowEach, IsAscending}
 
 abbrev pub Entries : Type 0
 Entries = List (List ℕ × ℕ)
@@ -70,7 +70,7 @@ pub misses_both : (name : List ℕ) (front back : Entries) → Misses name front
 misses_both name [] back h k = k
 misses_both name (e ∷ es) back h k = (h.0, misses_both name es back h.1 k)
 
-pub content_missed : (name : List ℕ) (table : Entries) → Misses name table → content table name ≡ None
+pub content_missed : (name : List ℕ) (table : Entries) → Misses name table → held_in table name ≡ None
 content_missed name [] h = refl
 content_missed name (e ∷ es) h = rw h.0 (content_missed name es h.1)
 
@@ -82,11 +82,11 @@ swap_tests false false x y z apart = refl
 
 -- an entry that no other before it shares a name with answers for its name, and for no other
 pub content_with : (name : List ℕ) (number : ℕ) (front back : Entries) (other : List ℕ) → Misses name front
-    → content (front ++ (name, number) ∷ back) other ≡ cond (bytes_eq name other) (Some number) (content (front ++ back) other)
-content_with name number [] back other h = ap (λ b. cond b (Some number) (content back other)) (bytes_eq-sym other name)
+    → held_in (front ++ (name, number) ∷ back) other ≡ cond (bytes_eq name other) (Some number) (held_in (front ++ back) other)
+content_with name number [] back other h = ap (λ b. cond b (Some number) (held_in back other)) (bytes_eq-sym other name)
 content_with name number (e ∷ es) back other h =
     ap (cond (bytes_eq other e.0) (Some e.1)) (content_with name number es back other h.1)
-    ∙ swap_tests (bytes_eq other e.0) (bytes_eq name other) (Some e.1) (Some number) (content (es ++ back) other)
+    ∙ swap_tests (bytes_eq other e.0) (bytes_eq name other) (Some e.1) (Some number) (held_in (es ++ back) other)
     (λ p q.
     let first : name ≡ other = same_name name other q in
     let second : other ≡ e.0 = same_name other e.0 p in

@@ -13,7 +13,7 @@ use Rattle.std.proofs.lemmas.Map.Views.{any-filter_same}
 use Rattle.dsr_request.specs.declared.op.Op.{Op}
 use Rattle.dsr_request.specs.Register.{register_of}
 use Rattle.dsr_register.specs.Values.{value, registers, count_held, is_full, left_by, answer_on, answer_after}
-use Rattle.dsr_register.specs.Table.{content, IsBelowEach, IsAscending, StandsFor}
+use Rattle.dsr_register.specs.Table.{held_in, IsBelowEach, IsAscending, StandsFor}
 use Rattle.dsr_register.proofs.TableLemmas.{Entries, same_name, name_itself, apart_below}
 
 abbrev Names : Type 0
@@ -147,7 +147,7 @@ at_most table ops rises h =
     let le : length (keys_of table) ≤ length (keyed (held_names ops)) =
     length-le_from_keys nat_list_eq_equiv (keys_of table) (keyed (held_names ops)) (keys_distinct table rises)
     (λ q among.
-    let some : IsSome (content table q) = is_some-lookup (bytes_eq q) table ∙ among in
+    let some : IsSome (held_in table q) = is_some-lookup (bytes_eq q) table ∙ among in
     let has : IsSome (value ops q) = subst IsSome (h q) some in
     is_some-lookup (bytes_eq q) (keyed (held_names ops)) ∙ ap (list_any (bytes_eq q)) (keys_of_keyed (held_names ops)) ∙ some_is_held ops q has) in
     omega (arith, length-keys_of table, length_keyed (held_names ops))
@@ -167,7 +167,7 @@ full_stands table ops rises h = ap (nat_le 1024) (count_stands table ops rises h
 
 -- the table that one more operation leaves
 pub stands_after : (old new : Entries) (op : Op) (ops : List Op) → IsAscending old → StandsFor old ops
-    → ((other : List ℕ) → content new other ≡ cond (bytes_eq (register_of op) other) (left_by op (content old other) (nat_le 1024 (length old))) (content old other))
+    → ((other : List ℕ) → held_in new other ≡ cond (bytes_eq (register_of op) other) (left_by op (held_in old other) (nat_le 1024 (length old))) (held_in old other))
     → StandsFor new (op ∷ ops)
 stands_after old new op ops rises h change name =
     change name
@@ -176,7 +176,7 @@ stands_after old new op ops rises h change name =
 
 -- and the answer that it gives
 pub answer_stands : (old : Entries) (op : Op) (ops : List Op) → IsAscending old → StandsFor old ops
-    → answer_on op (content old (register_of op)) (nat_le 1024 (length old)) ≡ answer_after ops op
+    → answer_on op (held_in old (register_of op)) (nat_le 1024 (length old)) ≡ answer_after ops op
 answer_stands old op ops rises h =
     ap (λ held. answer_on op held (nat_le 1024 (length old))) (h (register_of op))
     ∙ ap (answer_on op (value ops (register_of op))) (full_stands old ops rises h)

@@ -9,12 +9,12 @@ use Rattle.dsr_request.specs.declared.op.Op.{Op}
 use Rattle.dsr_register.specs.Values.{value}
 
 -- the register's number, or none where the table lacks its name
-abbrev pub content : List (List ℕ × ℕ) → List ℕ → Option ℕ
-content table name = lookup (bytes_eq name) table
+abbrev pub held_in : List (List ℕ × ℕ) → List ℕ → Option ℕ
+held_in table name = lookup (bytes_eq name) table
 
 -- the table stands for the operations: each register holds what they left there
 abbrev pub StandsFor : List (List ℕ × ℕ) → List Op → Type 0
-StandsFor table ops = (name : List ℕ) → content table name ≡ value ops name
+StandsFor table ops = (name : List ℕ) → held_in table name ≡ value ops name
 
 -- each entry's name comes after this one
 abbrev pub IsBelowEach : List ℕ → List (List ℕ × ℕ) → Type 0

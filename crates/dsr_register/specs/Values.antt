@@ -18,7 +18,7 @@ registers (op ∷ older) = if list_any (bytes_eq (register_of op)) (registers ol
 
 -- whether 1,024 of these registers hold a number
 abbrev pub is_full : (List ℕ → Option ℕ) → List (List ℕ) → Bool
-is_full content names = nat_le 1024 (count_by (λ name. is_some (content name)) names)
+is_full held_in names = nat_le 1024 (count_by (λ name. is_some (held_in name)) names)
 
 -- whether a write or a swap on a register that holds `held` is blocked: it would be one register too many
 abbrev pub is_blocked : Option ℕ → Bool → Bool

@@ -4,7 +4,7 @@ ghost use Rattle.std.specs.List.Sorted.{IsPartitionPoint};
 ghost use Rattle.dsr_request.specs.declared.op.Op.{Op};
 ghost use Rattle.dsr_request.specs.NameOrder.{is_before};
 ghost use Rattle.dsr_register.specs.Values.{value, is_blocked, count_held, answer_after, answer_on, left_by};
-ghost use Rattle.dsr_register.specs.Table.{content, StandsFor, IsEntryOf, IsGapFor, IsAscending};
+ghost use Rattle.dsr_register.specs.Table.{held_in, StandsFor, IsEntryOf, IsGapFor, IsAscending};
 
 use dsr_names::Refusal;
 use dsr_request::{Answer, Name, Op};
@@ -52,7 +52,7 @@ impl Directory {
 
     /// What the register holds; `None` where it holds nothing.
     pub fn get(&self, name: &Name) -> Option<u64>
-        ensures content { result ≡ content self.now name.now }
+        ensures held_in { result ≡ held_in self.now name.now }
         ensures value { (ops : List Op) → StandsFor self.now ops → result ≡ value ops name.now }
     {
         match self.find(name) {
@@ -101,9 +101,9 @@ impl Directory {
 
     /// Lets the register hold the value, if it holds one or not all 1,024 are taken.
     fn put(&mut self, name: Name, value: u64) -> bool
-        ensures done { result ≡ not (is_blocked (content self.old name) (nat_le 1024 (length self.old))) }
-        ensures contents { (other : List ℕ) → content self.new other
-            ≡ (if bytes_eq name other && result then Some value else content self.old other) }
+        ensures done { result ≡ not (is_blocked (held_in self.old name) (nat_le 1024 (length self.old))) }
+        ensures contents { (other : List ℕ) → held_in self.new other
+            ≡ (if bytes_eq name other && result then Some value else held_in self.old other) }
     {
         match self.find(&name) {
             Ok(place) => {
@@ -119,8 +119,8 @@ impl Directory {
 
     /// Takes the register's value out.
     fn take(&mut self, name: &Name) -> Option<u64>
-        ensures held { result ≡ content self.old name.now }
-        ensures contents { (other : List ℕ) → content self.new other ≡ (if bytes_eq name.now other then None else content self.old other) }
+        ensures held { result ≡ held_in self.old name.now }
+        ensures contents { (other : List ℕ) → held_in self.new other ≡ (if bytes_eq name.now other then None else held_in self.old other) }
     {
         match self.find(name) {
             Ok(place) => Some(self.entries.remove(place).1),
@@ -144,10 +144,10 @@ impl Directory {
     /// Lets the register hold the value, if it may hold one.
     fn write(&mut self, name: Name, value: u64) -> Answer
         ensures rises { IsAscending self.old }
-        ensures answer { result ≡ answer_on (Op.Write name value) (content self.old name) (nat_le 1024 (length self.old)) }
-        ensures contents { (other : List ℕ) → content self.new other ≡ (if bytes_eq name other
-            then left_by (Op.Write name value) (content self.old other) (nat_le 1024 (length self.old))
-            else content self.old other) }
+        ensures answer { result ≡ answer_on (Op.Write name value) (held_in self.old name) (nat_le 1024 (length self.old)) }
+        ensures contents { (other : List ℕ) → held_in self.new other ≡ (if bytes_eq name other
+            then left_by (Op.Write name value) (held_in self.old other) (nat_le 1024 (length self.old))
+            else held_in self.old other) }
     {
         // The contract speaks of the table's order, which is known where a field is used.
         let _ = &self.entries;
@@ -161,10 +161,10 @@ impl Directory {
     /// Lets the register hold `to`, if it holds `from` and may hold a value.
     fn swap(&mut self, name: Name, from: Option<u64>, to: u64) -> Answer
         ensures rises { IsAscending self.old }
-        ensures answer { result ≡ answer_on (Op.Swap name from to) (content self.old name) (nat_le 1024 (length self.old)) }
-        ensures contents { (other : List ℕ) → content self.new other ≡ (if bytes_eq name other
-            then left_by (Op.Swap name from to) (content self.old other) (nat_le 1024 (length self.old))
-            else content self.old other) }
+        ensures answer { result ≡ answer_on (Op.Swap name from to) (held_in self.old name) (nat_le 1024 (length self.old)) }
+        ensures contents { (other : List ℕ) → held_in self.new other ≡ (if bytes_eq name other
+            then left_by (Op.Swap name from to) (held_in self.old other) (nat_le 1024 (length self.old))
+            else held_in self.old other) }
     {
         // The contract speaks of the table's order, which is known where a field is used.
         let _ = &self.entries;

@@ -7,7 +7,7 @@ use Rattle.std.proofs.lemmas.List.{take_at}
 use Rattle.std.proofs.lemmas.List.Elements.{All-weaker}
 use Rattle.dsr_base.proofs.Padding.{items_over_blanks}
 use Rattle.dsr_request.specs.NameText.{IsName, is_name_byte}
-use Rattle.dsr_request.specs.Fields.Name.{IsNameFields}
+use Rattle.dsr_request.specs.Support.Name.{IsNameFields}
 
 pub written_name : (bytes written : List ℕ) → IsName bytes → written ≡ bytes
     → IsNameFields (record { bytes = written ++ drop (length bytes) (replicate 32 0); len = length bytes })

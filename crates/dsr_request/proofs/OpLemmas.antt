@@ -8,7 +8,7 @@ use Rattle.dsr_request.specs.NameText.{IsName, is_name_byte}
 use Rattle.dsr_request.specs.OpText.{IsOp, op_text, verb_of, operands_text}
 use Rattle.dsr_request.specs.declared.op.Op.{Op}
 use Rattle.dsr_request.specs.declared.op.Op.TheVariants.{Read, Write, Swap, Remove}
-use Rattle.dsr_request.specs.Fields.Texts.{name_without, old_without, verb_without}
+use Rattle.dsr_request.specs.Support.Texts.{name_without, old_without, verb_without}
 use Rattle.dsr_request.proofs.Words.{other_word}
 use Rattle.dsr_base.proofs.Marks.{one_cut, not_absent}
 

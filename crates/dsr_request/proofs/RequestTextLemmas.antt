@@ -8,9 +8,9 @@ use Rattle.dsr_names.specs.declared.actor.Actor.TheVariants.{Replica, Client}
 use Rattle.dsr_request.specs.NameText.{is_name_byte}
 use Rattle.dsr_request.specs.OpText.{op_text}
 use Rattle.dsr_base.proofs.Marks.{one_cut, not_absent}
-use Rattle.dsr_request.specs.Fields.Texts.{decimal_without}
+use Rattle.dsr_request.specs.Support.Texts.{decimal_without}
 use Rattle.std.proofs.lemmas.List.Elements.{All-cons}
-use Rattle.dsr_request.specs.Issued.{Issued}
+use Rattle.dsr_request.specs.Request.{Request}
 use Rattle.dsr_request.specs.RequestText.{request_text, IsRequest}
 
 -- a client among actors
@@ -61,26 +61,26 @@ client_without mark client m small =
     All-cons (λ b. b ≡ mark → ⊥) 99 (decimal client) (letter_is_no_mark mark m) (decimal_without mark client (mark_is_no_name_byte mark m) (omega arith))
 
 -- a text without the mark spells no request
-pub no_mark : (mark separator : ℕ) (bytes : List ℕ) (request : Issued) → IsAbsent mark bytes → bytes ≡ request_text mark separator request → ⊥
+pub no_mark : (mark separator : ℕ) (bytes : List ℕ) (request : Request) → IsAbsent mark bytes → bytes ≡ request_text mark separator request → ⊥
 no_mark mark separator bytes request whole e =
     not_absent mark (actor_text (Client request.client)) (decimal request.number ++ separator ∷ op_text separator request.op) (subst (IsAbsent mark) e whole)
 
 -- the cut at the mark is the one after the client
-pub cut_client : (mark separator : ℕ) (bytes client rest : List ℕ) (request : Issued) → IsMark mark → bytes ≡ client ++ mark ∷ rest → IsAbsent mark client
+pub cut_client : (mark separator : ℕ) (bytes client rest : List ℕ) (request : Request) → IsMark mark → bytes ≡ client ++ mark ∷ rest → IsAbsent mark client
     → IsRequest request → bytes ≡ request_text mark separator request
     → (client ≡ actor_text (Client request.client)) × (rest ≡ decimal request.number ++ separator ∷ op_text separator request.op)
 cut_client mark separator bytes client rest request m cut whole h e =
     one_cut mark client rest (actor_text (Client request.client)) (decimal request.number ++ separator ∷ op_text separator request.op) whole
     (client_without mark request.client m h.client_exists) (sym cut ∙ e)
 
-pub no_separator : (mark separator : ℕ) (bytes client rest : List ℕ) (request : Issued) → IsMark mark → bytes ≡ client ++ mark ∷ rest → IsAbsent mark client
+pub no_separator : (mark separator : ℕ) (bytes client rest : List ℕ) (request : Request) → IsMark mark → bytes ≡ client ++ mark ∷ rest → IsAbsent mark client
     → IsAbsent separator rest → IsRequest request → bytes ≡ request_text mark separator request → ⊥
 no_separator mark separator bytes client rest request m cut whole without h e =
     let parts = cut_client mark separator bytes client rest request m cut whole h e in
     not_absent separator (decimal request.number) (op_text separator request.op) (subst (IsAbsent separator) parts.1 without)
 
 -- the parts that both cuts give, where they are read exactly
-pub by_parts : (mark separator : ℕ) (bytes client rest number op : List ℕ) (r : Option Issued) (request : Issued) → IsMark mark → IsSeparator separator
+pub by_parts : (mark separator : ℕ) (bytes client rest number op : List ℕ) (r : Option Request) (request : Request) → IsMark mark → IsSeparator separator
     → bytes ≡ client ++ mark ∷ rest → IsAbsent mark client → rest ≡ number ++ separator ∷ op → IsAbsent separator number
     → (r ≡ Some request) ↔ (IsRequest request × (client ≡ actor_text (Client request.client)) × (number ≡ decimal request.number) × (op ≡ op_text separator request.op))
     → (r ≡ Some request) ↔ (IsRequest request × (bytes ≡ request_text mark separator request))

@@ -1,10 +1,9 @@
 pub mod AnswerText
-pub mod Fields
-pub mod Issued
 pub mod NameOrder
 pub mod NameText
 pub mod OpText
 pub mod Register
-pub mod RequestEq
+pub mod Request
 pub mod RequestText
 pub mod RequestsText
+pub mod Support

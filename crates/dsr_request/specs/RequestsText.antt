@@ -1,13 +1,13 @@
 -- How texts spell a list of requests (this project): `c0#7:write:a:5,c1#1:read:a`.
 use Rattle.std.specs.Prelude.{ℕ, List}
 use Rattle.dsr_base.specs.Joined.{joined, AreFew}
-use Rattle.dsr_request.specs.Issued.{Issued}
+use Rattle.dsr_request.specs.Request.{Request}
 use Rattle.dsr_request.specs.RequestText.{request_token, IsRequest}
 
 -- requests joined by commas
-abbrev pub requests_text : List Issued → List ℕ
+abbrev pub requests_text : List Request → List ℕ
 requests_text = joined 44 request_token
 
 -- at least one request that a text can spell, and at most so many
-abbrev pub IsRequests : ℕ → List Issued → Type 0
+abbrev pub IsRequests : ℕ → List Request → Type 0
 IsRequests = AreFew IsRequest

@@ -19,11 +19,11 @@ pub struct Name {
 
 impl Model for Name {
     ghost use Rattle.std.specs.Prelude.{List, ℕ, length, take};
-    ghost use Rattle.dsr_base.specs.Fields.Padded.{padded};
+    ghost use Rattle.dsr_base.specs.Support.Padded.{padded};
 
     ghost Value = { List ℕ };
 
-    ghost use Rattle.dsr_request.specs.Fields.Name.{IsNameFields, name_fields, fields_back};
+    ghost use Rattle.dsr_request.specs.Support.Name.{IsNameFields, name_fields, fields_back};
 
     ghost view = { λ name. take name.len name.bytes };
 

@@ -1,5 +1,5 @@
 ghost use Rattle.std.specs.Prelude.{◌≡◌, ◌<◌, ◌^◌, ◌↔◌, IsOk, IfOk, IsTrue, IsOkUnless};
-ghost use Rattle.dsr_request.specs.Issued.{issued};
+ghost use Rattle.dsr_request.specs.Request.{request_of};
 ghost use Rattle.dsr_request.specs.OpText.{IsOp};
 ghost use Rattle.dsr_request.specs.RequestText.{IsRequest};
 
@@ -18,9 +18,9 @@ pub struct Request {
 
 impl Model for Request {
     ghost use Rattle.std.specs.Prelude.{◌<◌, ◌^◌};
-    ghost use Rattle.dsr_request.specs.Issued.{Issued};
+    ghost use Rattle.dsr_request.specs.Request.{Request};
 
-    ghost Value = { Issued };
+    ghost Value = { Request };
 
     ghost view = { λ r. record { client = r.client; number = r.number; op = r.op } };
 
@@ -32,7 +32,7 @@ impl Model for Request {
 impl Request {
     /// The request of this client for the operation. `BadNumber` where the number is 0, or 2^40 or more.
     pub fn new(client: ClientId, number: u64, op: Op) -> Result<Request, Refusal>
-        ensures ok { IfOk result (λ request. request ≡ issued client number op) }
+        ensures ok { IfOk result (λ request. request ≡ request_of client number op) }
         ensures when { IsOk result ↔ ((0 < number) × (number < 2 ^ 40)) }
         ensures refusal { IsOkUnless result Refusal.BadNumber }
     {

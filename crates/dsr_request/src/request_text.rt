@@ -4,7 +4,7 @@ ghost use Rattle.dsr_base.specs.Reads.{Reads};
 ghost use Rattle.dsr_names.specs.Actor.{actor_text};
 ghost use Rattle.dsr_names.specs.declared.actor.Actor.TheVariants.{Client};
 ghost use Rattle.dsr_request.specs.OpText.{op_text};
-ghost use Rattle.dsr_request.specs.Issued.{Issued};
+ghost use Rattle.dsr_request.specs.Request.{Request};
 ghost use Rattle.dsr_request.specs.RequestText.{request_text, request_token, IsRequest};
 
 use crate::op::{Joined, Op};
@@ -55,7 +55,7 @@ fn read_request(bytes: &[u8], mark: u8, separator: u8) -> Option<Request>
 /// The request of this client with this number for this operation, each as bytes.
 fn read_parts(client: &[u8], number: &[u8], op: &[u8], separator: u8) -> Option<Request>
     requires { (separator ≡ 32) ⊎ (separator ≡ 58) }
-    ensures { (request : Issued) → (result ≡ Some request)
+    ensures { (request : Request) → (result ≡ Some request)
         ↔ (IsRequest request × (client.now ≡ actor_text (Client request.client)) × (number.now ≡ decimal request.number)
         × (op.now ≡ op_text separator request.op)) }
 {

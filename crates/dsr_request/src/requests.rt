@@ -1,8 +1,8 @@
 ghost use Rattle.std.specs.Prelude.{refl};
 ghost use Rattle.std.proofs.Common.{lit<};
-ghost use Rattle.dsr_request.specs.RequestEq.{request_eq-Decides};
+ghost use Rattle.dsr_request.specs.Support.RequestEquality.{request_eq-Decides};
 ghost use Rattle.dsr_request.specs.RequestText.{request_token, IsRequest};
-ghost use Rattle.dsr_request.specs.Fields.RequestToken.{request_part, request_begun};
+ghost use Rattle.dsr_request.specs.Support.RequestToken.{request_part, request_begun};
 
 use crate::request::Request;
 use dsr_base::{Exact, Few, Token};

@@ -22,9 +22,9 @@ pub struct Calendar {
 }
 
 impl Model for Calendar {
-    ghost use Rattle.dsr_names.specs.Shape.{Members};
+    ghost use Rattle.dsr_names.specs.Shape.{Shape};
 
-    ghost Value = { Members };
+    ghost Value = { Shape };
 
     ghost view = { λ c. c.shape };
 

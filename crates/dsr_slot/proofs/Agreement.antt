@@ -4,14 +4,14 @@ use Rattle.std.specs.Prelude.{◌==◌}
 use Rattle.std.proofs.lemmas.Bool.{cases_lt}
 use Rattle.std.proofs.lemmas.Bool.Decides.{Decides-eqb}
 use Rattle.dsr_base.specs.Member.{In, here, there}
-use Rattle.dsr_names.specs.Shape.{Members, HasFewTraitors, is_traitor, IsLoyal, sender}
+use Rattle.dsr_names.specs.Shape.{Shape, HasFewTraitors, is_traitor, IsLoyal, sender}
 use Rattle.dsr_names.specs.declared.actor.Actor.{Actor}
 use Rattle.dsr_names.specs.declared.actor.Actor.TheVariants.{Replica}
-use Rattle.dsr_request.specs.Issued.{Issued}
-use Rattle.dsr_desk.specs.Signed.{Signed, signed}
+use Rattle.dsr_request.specs.Request.{Request}
+use Rattle.dsr_desk.specs.Signature.{Signature, signed}
 use Rattle.dsr_desk.specs.declared.statement.Statement.{Statement}
 use Rattle.dsr_chain.specs.Content.{content}
-use Rattle.dsr_chain.specs.SignedValue.{SignedValue, link_after, extended, started}
+use Rattle.dsr_chain.specs.Chain.{Chain, link_after, extended, started}
 use Rattle.dsr_chain.specs.Proper.{IsProper, sender_of}
 use Rattle.dsr_chain.specs.ProperTest.{is_signer}
 use Rattle.dsr_chain.specs.declared.slot_value.SlotValue.{SlotValue}
@@ -36,7 +36,7 @@ one_of k l (inl h) = among h.0 h.1 h.2
     among z (there h) same = elim h [ ]
 one_of k l (inr full) = absurd (omega (arith, full))
 
-none_of : (wanted : Option (List Issued)) → ¬ Hears [] wanted
+none_of : (wanted : Option (List Request)) → ¬ Hears [] wanted
 none_of wanted (inl h) = elim h.1 [ ]
 none_of wanted (inr full) = omega (arith, full)
 
@@ -69,17 +69,17 @@ same_decision (k ∷ l ∷ more) (m ∷ n ∷ rest) apart apart_too heard heard_
 
 -- ---- the broadcast
 
-signed_is : (s : Signed) (signer : Actor) (statement : Statement) → s.signer ≡ signer → s.statement ≡ statement → s ≡ signed signer statement
+signed_is : (s : Signature) (signer : Actor) (statement : Statement) → s.signer ≡ signer → s.statement ≡ statement → s ≡ signed signer statement
 signed_is s signer statement signer_is statement_is = ap₂ signed signer_is statement_is
 
 replicas_differ : (i l : ℕ) → (i ≡ l → ⊥) → Replica l ≢ Replica i
 replicas_differ i l differ e = differ cc
 
-module _ (shape : Members) (slot : ℕ) (value : SlotValue) (given : Exchange) (broadcast : IsBroadcast shape slot value given) where
+module _ (shape : Shape) (slot : ℕ) (value : SlotValue) (given : Exchange) (broadcast : IsBroadcast shape slot value given) where
   abbrev kept : ℕ → ℕ → List Kept
   kept p r = kept_after shape slot (read_by shape given p) r
 
-  abbrev posts : ℕ → ℕ → List SignedValue
+  abbrev posts : ℕ → ℕ → List Chain
   posts l r = posted shape slot (Replica l) value (suc r) (kept l r)
 
   abbrev Loyal : ℕ → Type 0
@@ -90,7 +90,7 @@ module _ (shape : Members) (slot : ℕ) (value : SlotValue) (given : Exchange) (
   gives r l q within loyal inside = broadcast.loyal r l q within loyal inside
 
   -- so every loyal replica hears it
-  post_heard : (r l q : ℕ) (c : SignedValue) → r ≤ shape.f → Loyal l → Loyal q → In c (posts l r) → Hears (kept q (suc shape.f)) (content c.value)
+  post_heard : (r l q : ℕ) (c : Chain) → r ≤ shape.f → Loyal l → Loyal q → In c (posts l r) → Hears (kept q (suc shape.f)) (content c.value)
   post_heard r l q c within loyal loyal_too h =
       after_hears shape slot (read_by shape given q) r c
       (in_each c shape.n (λ i. given (suc r) i q) l loyal.0 (subst (In c) (sym (gives r l q within loyal loyal_too.0)) h))
@@ -108,16 +108,16 @@ module _ (shape : Members) (slot : ℕ) (value : SlotValue) (given : Exchange) (
 
   abbrev AllPosted : ℕ → Type 0
   AllPosted r =
-      (p l : ℕ) (c : SignedValue) (s : Signed) → Loyal p → Loyal l → In c (read_by shape given p (suc r)) → IsProper shape slot (suc r) c
+      (p l : ℕ) (c : Chain) (s : Signature) → Loyal p → Loyal l → In c (read_by shape given p (suc r)) → IsProper shape slot (suc r) c
       → In s c.signatures → s.signer ≡ Replica l → WasPosted shape given l s
 
-  from_traitor : (r i p l : ℕ) (c : SignedValue) (s : Signed) → r ≤ shape.f → i < shape.n → is_traitor shape i ≡ true → Loyal p → Loyal l
+  from_traitor : (r i p l : ℕ) (c : Chain) (s : Signature) → r ≤ shape.f → i < shape.n → is_traitor shape i ≡ true → Loyal p → Loyal l
       → In c (given (suc r) i p) → IsProper shape slot (suc r) c → In s c.signatures → s.signer ≡ Replica l → WasPosted shape given l s
   from_traitor r i p l c s within inside traitor loyal loyal_too h proper stands signer =
       let on = link_at shape slot (suc r) c s proper stands in
       broadcast.unforged r i p l c s within inside traitor loyal.0 h stands loyal_too signer (subst (IsLinkOf slot) (sym on.statement) refl)
 
-  from_loyal : (r i p l : ℕ) (c : SignedValue) (s : Signed) → r ≤ shape.f → Loyal i → Loyal p → Loyal l → In c (given (suc r) i p)
+  from_loyal : (r i p l : ℕ) (c : Chain) (s : Signature) → r ≤ shape.f → Loyal i → Loyal p → Loyal l → In c (given (suc r) i p)
       → In s c.signatures → s.signer ≡ Replica l → ((b : ℕ) → suc b ≡ r → AllPosted b) → WasPosted shape given l s
   from_loyal r i p l c s within poster loyal loyal_too h stands signer earlier = elim (holds_or_not (i == l) (Decides-eqb i l)) [
     | inl same ↦
@@ -137,7 +137,7 @@ module _ (shape : Members) (slot : ℕ) (value : SlotValue) (given : Exchange) (
         earlier was.before was.next i l was.chain s poster loyal_too was.read_then was.proper was.stands signer
   ]
 
-  by_poster : (r i p l : ℕ) (c : SignedValue) (s : Signed) → (b : Bool) → is_traitor shape i ≡ b → r ≤ shape.f → i < shape.n → Loyal p → Loyal l
+  by_poster : (r i p l : ℕ) (c : Chain) (s : Signature) → (b : Bool) → is_traitor shape i ≡ b → r ≤ shape.f → i < shape.n → Loyal p → Loyal l
       → In c (given (suc r) i p) → IsProper shape slot (suc r) c → In s c.signatures → s.signer ≡ Replica l
       → ((b : ℕ) → suc b ≡ r → AllPosted b) → WasPosted shape given l s
   by_poster r i p l c s true traitor within inside loyal loyal_too h proper stands signer earlier =
@@ -159,7 +159,7 @@ module _ (shape : Members) (slot : ℕ) (value : SlotValue) (given : Exchange) (
   -- ---- agreement
 
   -- the content of a proper chain that a loyal replica read, and that a loyal replica signed, is heard by all of them
-  signed_heard : (r p l q : ℕ) (c : SignedValue) (s : Signed) → r ≤ shape.f → Loyal p → Loyal l → Loyal q → In c (read_by shape given p (suc r))
+  signed_heard : (r p l q : ℕ) (c : Chain) (s : Signature) → r ≤ shape.f → Loyal p → Loyal l → Loyal q → In c (read_by shape given p (suc r))
       → IsProper shape slot (suc r) c → In s c.signatures → s.signer ≡ Replica l → Hears (kept q (suc shape.f)) (content c.value)
   signed_heard r p l q c s within loyal signer_loyal loyal_too h proper stands signer =
       let on = link_at shape slot (suc r) c s proper stands in

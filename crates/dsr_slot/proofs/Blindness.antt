@@ -1,11 +1,11 @@
 -- What a replica keeps, posts and decides of a slot does not depend on who is a traitor.
 use Rattle.std.proofs.Common.{◌≡◌, ℕ, zero, suc, ◌&&◌, ◌==◌, not, nat_lt, List, [], ◌∷◌, ◌++◌, length, if◌then◌else◌, refl, ap, ◌∙◌}
 use Rattle.std.specs.Prelude.{fold}
-use Rattle.dsr_names.specs.Shape.{Members, AgreeButForTraitors}
+use Rattle.dsr_names.specs.Shape.{Shape, AgreeButForTraitors}
 use Rattle.dsr_names.specs.declared.actor.Actor.{Actor}
-use Rattle.dsr_names.specs.ActorEq.{actor_eq}
+use Rattle.dsr_names.specs.Support.ActorEquality.{actor_eq}
 use Rattle.dsr_chain.specs.Content.{content}
-use Rattle.dsr_chain.specs.SignedValue.{SignedValue, started}
+use Rattle.dsr_chain.specs.Chain.{Chain, started}
 use Rattle.dsr_chain.specs.declared.slot_value.SlotValue.{SlotValue}
 use Rattle.dsr_chain.proofs.Lemmas.{sender_blind, is_proper_blind}
 use Rattle.dsr_slot.specs.declared.kept.Kept.{Kept}
@@ -13,18 +13,18 @@ use Rattle.dsr_slot.specs.Keeping.{kept_in, is_kept, is_news, keep_one, keep, ke
 use Rattle.dsr_slot.specs.Conduct.{relayed, posted}
 use Rattle.dsr_slot.specs.Decision.{decision, decided}
 
-module _ (shape other : Members) (agree : AgreeButForTraitors shape other) (slot : ℕ) where
-  news_blind : (round : ℕ) (kept : List Kept) (chain : SignedValue) → is_news shape slot round kept chain ≡ is_news other slot round kept chain
+module _ (shape other : Shape) (agree : AgreeButForTraitors shape other) (slot : ℕ) where
+  news_blind : (round : ℕ) (kept : List Kept) (chain : Chain) → is_news shape slot round kept chain ≡ is_news other slot round kept chain
   news_blind round kept chain =
       ap (λ b. b && (not (is_kept (content chain.value) kept) && nat_lt (length kept) 2)) (is_proper_blind shape other agree slot round chain)
 
-  one_blind : (round : ℕ) (kept : List Kept) (chain : SignedValue) → keep_one shape slot round kept chain ≡ keep_one other slot round kept chain
+  one_blind : (round : ℕ) (kept : List Kept) (chain : Chain) → keep_one shape slot round kept chain ≡ keep_one other slot round kept chain
   one_blind round kept chain = ap (λ b. if b then kept ++ kept_in round chain ∷ [] else kept) (news_blind round kept chain)
 
-  keep_blind : (round : ℕ) (kept : List Kept) (chains : List SignedValue) → keep shape slot round kept chains ≡ keep other slot round kept chains
+  keep_blind : (round : ℕ) (kept : List Kept) (chains : List Chain) → keep shape slot round kept chains ≡ keep other slot round kept chains
   keep_blind round kept chains = λ i. fold (λ ks c. one_blind round ks c i) kept chains
 
-  pub kept_blind : (read : ℕ → List SignedValue) (rounds : ℕ) → kept_after shape slot read rounds ≡ kept_after other slot read rounds
+  pub kept_blind : (read : ℕ → List Chain) (rounds : ℕ) → kept_after shape slot read rounds ≡ kept_after other slot read rounds
   kept_blind read zero = refl
   kept_blind read (suc r) =
       keep_blind (suc r) (kept_after shape slot read r) (read (suc r)) ∙ ap (λ ks. keep other slot (suc r) ks (read (suc r))) (kept_blind read r)
@@ -35,6 +35,6 @@ module _ (shape other : Members) (agree : AgreeButForTraitors shape other) (slot
       ap (λ sender. relayed me round kept ++ (if (round == 1) && actor_eq me sender then started slot value me ∷ [] else []))
       (sender_blind shape other agree slot)
 
-  pub decided_blind : (read : ℕ → List SignedValue) → decided shape slot read ≡ decided other slot read
+  pub decided_blind : (read : ℕ → List Chain) → decided shape slot read ≡ decided other slot read
   decided_blind read =
       ap decision (ap (λ f. kept_after shape slot read (suc f)) agree.most_traitors ∙ kept_blind read (suc other.f))

@@ -5,11 +5,11 @@ use Rattle.std.specs.Bool.{Decides}
 use Rattle.std.specs.Option.{option_to_list, is_some}
 use Rattle.std.proofs.lemmas.Bool.{false≢true}
 use Rattle.std.proofs.lemmas.Bool.Decides.{same_from_decides, Decides-eqb}
-use Rattle.dsr_names.specs.Shape.{Members}
+use Rattle.dsr_names.specs.Shape.{Shape}
 use Rattle.dsr_names.specs.declared.actor.Actor.{Actor}
 use Rattle.dsr_chain.specs.Content.{content}
 use Rattle.dsr_chain.specs.ProperTest.{is_proper, same_content, is_signer}
-use Rattle.dsr_chain.specs.SignedValue.{SignedValue}
+use Rattle.dsr_chain.specs.Chain.{Chain}
 use Rattle.dsr_chain.proofs.Lemmas.{same_content-Decides}
 use Rattle.dsr_slot.specs.declared.kept.Kept.{Kept}
 use Rattle.dsr_slot.specs.Keeping.{keep_one, kept_in, content_of, is_kept, is_news}
@@ -38,7 +38,7 @@ third_is_none true false = refl
 third_is_none false known = refl
 
 -- beside a chain with another content it is news exactly where it is proper
-pub news_beside_other : (shape : Members) (slot round : ℕ) (k : Kept) (chain : SignedValue) (proper same : Bool)
+pub news_beside_other : (shape : Shape) (slot round : ℕ) (k : Kept) (chain : Chain) (proper same : Bool)
     → proper ≡ is_proper shape slot round chain → (IsTrue same ↔ (content_of k ≡ content chain.value)) → same ≡ false
     → proper ≡ is_news shape slot round (k ∷ []) chain
 news_beside_other shape slot round k chain proper same is tells differs =
@@ -47,7 +47,7 @@ news_beside_other shape slot round k chain proper same is tells differs =
     is ∙ other_is_news (is_proper shape slot round chain) test (sym e ∙ differs)
 
 -- beside a chain with its content nothing is news
-pub no_news_beside_same : (shape : Members) (slot round : ℕ) (k : Kept) (chain : SignedValue) (same : Bool)
+pub no_news_beside_same : (shape : Shape) (slot round : ℕ) (k : Kept) (chain : Chain) (same : Bool)
     → (IsTrue same ↔ (content_of k ≡ content chain.value)) → same ≡ true → not same ≡ is_news shape slot round (k ∷ []) chain
 no_news_beside_same shape slot round k chain same tells agrees =
     let test = same_content (content_of k) (content chain.value) in
@@ -55,18 +55,18 @@ no_news_beside_same shape slot round k chain same tells agrees =
     ap not e ∙ same_is_none (is_proper shape slot round chain) test (sym e ∙ agrees)
 
 -- beside two chains nothing is news
-pub no_news_beside_two : (shape : Members) (slot round : ℕ) (k l : Kept) (chain : SignedValue) → is_news shape slot round (k ∷ l ∷ []) chain ≡ false
+pub no_news_beside_two : (shape : Shape) (slot round : ℕ) (k l : Kept) (chain : Chain) → is_news shape slot round (k ∷ l ∷ []) chain ≡ false
 no_news_beside_two shape slot round k l chain =
     third_is_none (is_proper shape slot round chain) (is_kept (content chain.value) (k ∷ l ∷ []))
 
 -- ---- what is kept
 
-keep_news : (shape : Members) (slot round : ℕ) (kept : List Kept) (chain : SignedValue) → is_news shape slot round kept chain ≡ true
+keep_news : (shape : Shape) (slot round : ℕ) (kept : List Kept) (chain : Chain) → is_news shape slot round kept chain ≡ true
     → kept ++ kept_in round chain ∷ [] ≡ keep_one shape slot round kept chain
 keep_news shape slot round kept chain news = sym (ap (λ b. if b then kept ++ kept_in round chain ∷ [] else kept) news)
 
 -- news goes to the second place where the first is taken
-pub news_comes_second : (shape : Members) (slot round : ℕ) (first second : Option Kept) (chain : SignedValue)
+pub news_comes_second : (shape : Shape) (slot round : ℕ) (first second : Option Kept) (chain : Chain)
     → is_news shape slot round (option_to_list first ++ option_to_list second) chain ≡ true → is_some first ≡ true
     → option_to_list first ++ kept_in round chain ∷ [] ≡ keep_one shape slot round (option_to_list first ++ option_to_list second) chain
 news_comes_second shape slot round None second chain news taken = absurd (false≢true taken)

@@ -5,7 +5,7 @@ use Rattle.std.specs.Bool.{Decides}
 use Rattle.std.proofs.lemmas.Bool.{cases_lt}
 use Rattle.dsr_base.specs.Member.{In, here, there}
 use Rattle.dsr_base.proofs.MemberLemmas.{In-append_left, In-append_right, In-append_cases}
-use Rattle.dsr_chain.specs.SignedValue.{SignedValue}
+use Rattle.dsr_chain.specs.Chain.{Chain}
 use Rattle.dsr_slot.specs.Broadcast.{from_each}
 
 -- what a test decides holds or not
@@ -58,7 +58,7 @@ module _ {X : Type 0} where
   from_map f y (x ∷ xs) (there h) = let found = from_map f y xs h in (found.0, there found.1, found.2)
 
 -- what one of the posters gave is read
-pub in_each : (c : SignedValue) (n : ℕ) (given : ℕ → List SignedValue) (i : ℕ) → i < n → In c (given i) → In c (from_each n given)
+pub in_each : (c : Chain) (n : ℕ) (given : ℕ → List Chain) (i : ℕ) → i < n → In c (given i) → In c (from_each n given)
 in_each c zero given i inside h = absurd (omega arith)
 in_each c (suc n) given i inside h = elim (cases_lt i n) [
   | inl lower ↦ In-append_left c (from_each n given) (given n) (in_each c n given i lower h)
@@ -68,7 +68,7 @@ in_each c (suc n) given i inside h = elim (cases_lt i n) [
 ]
 
 -- what is read was given by one of the posters
-pub from_one : (c : SignedValue) (n : ℕ) (given : ℕ → List SignedValue) → In c (from_each n given) → (i : ℕ) × (i < n) × In c (given i)
+pub from_one : (c : Chain) (n : ℕ) (given : ℕ → List Chain) → In c (from_each n given) → (i : ℕ) × (i < n) × In c (given i)
 from_one c zero given h = elim h [ ]
 from_one c (suc n) given h = elim (In-append_cases c (from_each n given) (given n) h) [
   | inl before ↦ let found = from_one c n given before in let lower = found.1 in (found.0, omega arith, found.2)

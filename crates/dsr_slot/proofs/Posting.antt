@@ -5,13 +5,13 @@ use Rattle.std.specs.Prelude.{Any, All, filter, ◌&&◌, ◌==◌, not}
 use Rattle.std.specs.Bool.{Decides}
 use Rattle.std.proofs.lemmas.Bool.Decides.{Decides-and, Decides-not, Decides-like, Decides-eqb}
 use Rattle.dsr_base.specs.Member.{In, here}
-use Rattle.dsr_names.specs.Shape.{Members}
+use Rattle.dsr_names.specs.Shape.{Shape}
 use Rattle.dsr_names.specs.declared.actor.Actor.{Actor}
 use Rattle.dsr_base.proofs.MemberLemmas.{In-append_left, In-append_right, In-append_cases, In-one}
-use Rattle.dsr_desk.specs.Signed.{Signed, signed}
-use Rattle.dsr_names.specs.ActorEq.{actor_eq, actor_eq-Decides}
+use Rattle.dsr_desk.specs.Signature.{Signature, signed}
+use Rattle.dsr_names.specs.Support.ActorEquality.{actor_eq, actor_eq-Decides}
 use Rattle.dsr_chain.specs.Content.{content, signed_in}
-use Rattle.dsr_chain.specs.SignedValue.{SignedValue, signed_value, link_after, extended, started}
+use Rattle.dsr_chain.specs.Chain.{Chain, chain_of, link_after, extended, started}
 use Rattle.dsr_chain.specs.Proper.{IsReplica, IsAsked, IsProper, sender_of}
 use Rattle.dsr_chain.specs.ProperTest.{is_signer}
 use Rattle.dsr_chain.specs.declared.slot_value.SlotValue.{SlotValue}
@@ -23,7 +23,7 @@ use Rattle.dsr_slot.proofs.Lists.{by_test, in_filter, from_filter, in_map, from_
 use Rattle.dsr_slot.proofs.Keeps.{after_from}
 
 -- whether an actor signed a chain
-abbrev pub HasSigned : Actor → SignedValue → Type 0
+abbrev pub HasSigned : Actor → Chain → Type 0
 HasSigned a chain = Any (λ s. s.signer ≡ a) chain.signatures
 
 -- what is relayed in a round: what was kept in the round before and is not signed yet
@@ -38,7 +38,7 @@ is_relayed-Decides me round k =
     (Decides-not (is_signer me k.chain) (is_signer-Decides me k.chain)))
 
 -- a chain that was kept in the round before and is not signed yet is posted
-pub relay_posted : (shape : Members) (slot : ℕ) (me : Actor) (value : SlotValue) (round : ℕ) (kept : List Kept) (k : Kept) → In k kept
+pub relay_posted : (shape : Shape) (slot : ℕ) (me : Actor) (value : SlotValue) (round : ℕ) (kept : List Kept) (k : Kept) → In k kept
     → IsRelayed me round k → In (extended k.chain me) (posted shape slot me value round kept)
 relay_posted shape slot me value round kept k h relay =
     In-append_left (extended k.chain me) (relayed me round kept) (begun shape slot me value round)
@@ -46,22 +46,22 @@ relay_posted shape slot me value round kept k h relay =
     (in_filter (is_relayed me round) k kept h ((is_relayed-Decides me round k).1 relay)))
 
 -- whether this replica starts its chain in this round
-abbrev Begins : Members → ℕ → Actor → ℕ → Type 0
+abbrev Begins : Shape → ℕ → Actor → ℕ → Type 0
 Begins shape slot me round = (round ≡ 1) × (me ≡ sender_of shape slot)
 
-begins-Decides : (shape : Members) (slot : ℕ) (me : Actor) (round : ℕ)
+begins-Decides : (shape : Shape) (slot : ℕ) (me : Actor) (round : ℕ)
     → Decides ((round == 1) && actor_eq me (sender_of shape slot)) (Begins shape slot me round)
 begins-Decides shape slot me round =
     Decides-and (round == 1) (actor_eq me (sender_of shape slot)) (Decides-eqb round 1) (actor_eq-Decides me (sender_of shape slot))
 
-begun_cases : (shape : Members) (slot : ℕ) (me : Actor) (value : SlotValue) (round : ℕ)
+begun_cases : (shape : Shape) (slot : ℕ) (me : Actor) (value : SlotValue) (round : ℕ)
     → (Begins shape slot me round × (begun shape slot me value round ≡ started slot value me ∷ []))
     ⊎ ((¬ Begins shape slot me round) × (begun shape slot me value round ≡ []))
 begun_cases shape slot me value round =
     by_test ((round == 1) && actor_eq me (sender_of shape slot)) (begins-Decides shape slot me round) (started slot value me ∷ []) []
 
 -- the sender posts the chain that it starts
-pub start_posted : (shape : Members) (slot : ℕ) (me : Actor) (value : SlotValue) (kept : List Kept) → me ≡ sender_of shape slot
+pub start_posted : (shape : Shape) (slot : ℕ) (me : Actor) (value : SlotValue) (kept : List Kept) → me ≡ sender_of shape slot
     → In (started slot value me) (posted shape slot me value 1 kept)
 start_posted shape slot me value kept sender =
     In-append_right (started slot value me) (relayed me 1 kept) (begun shape slot me value 1)
@@ -71,24 +71,24 @@ start_posted shape slot me value kept sender =
     ])
 
 -- where a posted chain is from: it extends one that was kept in the round before, or it is the one that the sender starts
-pub record IsRelay (me : Actor) (round : ℕ) (kept : List Kept) (c : SignedValue) : Type 0 where
+pub record IsRelay (me : Actor) (round : ℕ) (kept : List Kept) (c : Chain) : Type 0 where
   pub from : Kept
   pub kept_then : In from kept
   pub relay : IsRelayed me round from
   pub is : extended from.chain me ≡ c
 
-pub record IsStart (shape : Members) (slot : ℕ) (me : Actor) (value : SlotValue) (round : ℕ) (c : SignedValue) : Type 0 where
+pub record IsStart (shape : Shape) (slot : ℕ) (me : Actor) (value : SlotValue) (round : ℕ) (c : Chain) : Type 0 where
   pub first_round : round ≡ 1
   pub sender : me ≡ sender_of shape slot
   pub is : started slot value me ≡ c
 
-relayed_from : (me : Actor) (round : ℕ) (kept : List Kept) (c : SignedValue) → In c (relayed me round kept) → IsRelay me round kept c
+relayed_from : (me : Actor) (round : ℕ) (kept : List Kept) (c : Chain) → In c (relayed me round kept) → IsRelay me round kept c
 relayed_from me round kept c h =
     let mapped = from_map (λ z. extended z.chain me) c (filter (is_relayed me round) kept) h in
     let passed = from_filter (is_relayed me round) mapped.0 kept mapped.1 in
     record { from = mapped.0; kept_then = passed.0; relay = (is_relayed-Decides me round mapped.0).0 passed.1; is = mapped.2 }
 
-begun_from : (shape : Members) (slot : ℕ) (me : Actor) (value : SlotValue) (round : ℕ) (c : SignedValue) → In c (begun shape slot me value round)
+begun_from : (shape : Shape) (slot : ℕ) (me : Actor) (value : SlotValue) (round : ℕ) (c : Chain) → In c (begun shape slot me value round)
     → IsStart shape slot me value round c
 begun_from shape slot me value round c h = elim (begun_cases shape slot me value round) [
   | inl begins ↦
@@ -99,7 +99,7 @@ begun_from shape slot me value round c h = elim (begun_cases shape slot me value
     none : In c [] → IsStart shape slot me value round c
     none h = elim h [ ]
 
-pub posted_from : (shape : Members) (slot : ℕ) (me : Actor) (value : SlotValue) (round : ℕ) (kept : List Kept) (c : SignedValue)
+pub posted_from : (shape : Shape) (slot : ℕ) (me : Actor) (value : SlotValue) (round : ℕ) (kept : List Kept) (c : Chain)
     → In c (posted shape slot me value round kept) → IsRelay me round kept c ⊎ IsStart shape slot me value round c
 posted_from shape slot me value round kept c h = elim (In-append_cases c (relayed me round kept) (begun shape slot me value round) h) [
   | inl relays ↦ inl (relayed_from me round kept c relays)
@@ -108,20 +108,20 @@ posted_from shape slot me value round kept c h = elim (In-append_cases c (relaye
 
 -- ---- over what was kept
 
-module _ (shape : Members) (slot : ℕ) (read : ℕ → List SignedValue) (me : Actor) (value : SlotValue) where
+module _ (shape : Shape) (slot : ℕ) (read : ℕ → List Chain) (me : Actor) (value : SlotValue) where
   abbrev kept : ℕ → List Kept
   kept r = kept_after shape slot read r
 
   -- what a relay was before: kept in the very round before, where it was read and proper
-  pub record WasRelayed (r : ℕ) (c : SignedValue) : Type 0 where
-    pub chain : SignedValue
+  pub record WasRelayed (r : ℕ) (c : Chain) : Type 0 where
+    pub chain : Chain
     pub some : 0 < r
     pub read_then : In chain (read r)
     pub proper : IsProper shape slot r chain
     pub unsigned : ¬ HasSigned me chain
     pub is : extended chain me ≡ c
 
-  relay_was : (r : ℕ) (c : SignedValue) → IsRelay me (suc r) (kept r) c → WasRelayed r c
+  relay_was : (r : ℕ) (c : Chain) → IsRelay me (suc r) (kept r) c → WasRelayed r c
   relay_was r c h =
       let was = after_from shape slot read r h.from h.kept_then in
       let relay = h.relay.kept_before in
@@ -136,7 +136,7 @@ module _ (shape : Members) (slot : ℕ) (read : ℕ → List SignedValue) (me : 
         is = h.is;
       }
 
-  pub post_cases : (r : ℕ) (c : SignedValue) → In c (posted shape slot me value (suc r) (kept r))
+  pub post_cases : (r : ℕ) (c : Chain) → In c (posted shape slot me value (suc r) (kept r))
       → WasRelayed r c ⊎ IsStart shape slot me value (suc r) c
   post_cases r c h = elim (posted_from shape slot me value (suc r) (kept r) c h) [
     | inl relay ↦ inl (relay_was r c relay)
@@ -144,7 +144,7 @@ module _ (shape : Members) (slot : ℕ) (read : ℕ → List SignedValue) (me : 
   ]
 
   -- all that a replica of the shape posts is proper for its round
-  pub post_proper : IsReplica shape me → All (IsAsked shape) (signed_in value) → (r : ℕ) (c : SignedValue)
+  pub post_proper : IsReplica shape me → All (IsAsked shape) (signed_in value) → (r : ℕ) (c : Chain)
       → In c (posted shape slot me value (suc r) (kept r)) → IsProper shape slot (suc r) c
   post_proper replica asked r c h = elim (post_cases r c h) [
     | inl relay ↦ subst (IsProper shape slot (suc r)) relay.is (extended_proper shape slot r relay.chain me relay.proper replica relay.unsigned)
@@ -156,11 +156,11 @@ module _ (shape : Members) (slot : ℕ) (read : ℕ → List SignedValue) (me : 
   ]
 
   -- its own signature on what it posts is on a link of that content; on the link after no signers only where it starts
-  pub record IsOwn (r : ℕ) (c : SignedValue) (carried : SlotValue) (before : List Actor) : Type 0 where
+  pub record IsOwn (r : ℕ) (c : Chain) (carried : SlotValue) (before : List Actor) : Type 0 where
     pub same : content carried ≡ content c.value
     pub from_start : before ≡ [] → content carried ≡ content value
 
-  relay_own : (r : ℕ) (c : SignedValue) (carried : SlotValue) (before : List Actor) → WasRelayed r c
+  relay_own : (r : ℕ) (c : Chain) (carried : SlotValue) (before : List Actor) → WasRelayed r c
       → In (signed me (link_after slot carried before)) c.signatures → IsOwn r c carried before
   relay_own r c carried before relay h =
       let own = signed me (link_after slot carried before) in
@@ -173,7 +173,7 @@ module _ (shape : Members) (slot : ℕ) (read : ℕ → List SignedValue) (me : 
         from_start = λ e. let none : length before ≡ 0 = ap length e in let count = places.2 in absurd (omega arith);
       }
 
-  start_own : (r : ℕ) (c : SignedValue) (carried : SlotValue) (before : List Actor) → IsStart shape slot me value (suc r) c
+  start_own : (r : ℕ) (c : Chain) (carried : SlotValue) (before : List Actor) → IsStart shape slot me value (suc r) c
       → In (signed me (link_after slot carried before)) c.signatures → IsOwn r c carried before
   start_own r c carried before start h =
       let own = signed me (link_after slot carried before) in
@@ -181,7 +181,7 @@ module _ (shape : Members) (slot : ℕ) (read : ℕ → List SignedValue) (me : 
       let parts = link_parts slot slot carried value before [] (ap (λ s. s.statement) (sym e)) in
       record { same = parts.1 ∙ ap (λ d. content d.value) start.is; from_start = λ none. parts.1 }
 
-  pub post_own : (r : ℕ) (c : SignedValue) (carried : SlotValue) (before : List Actor) → In c (posted shape slot me value (suc r) (kept r))
+  pub post_own : (r : ℕ) (c : Chain) (carried : SlotValue) (before : List Actor) → In c (posted shape slot me value (suc r) (kept r))
       → In (signed me (link_after slot carried before)) c.signatures → IsOwn r c carried before
   post_own r c carried before h stands = elim (post_cases r c h) [
     | inl relay ↦ relay_own r c carried before relay stands
@@ -189,27 +189,27 @@ module _ (shape : Members) (slot : ℕ) (read : ℕ → List SignedValue) (me : 
   ]
 
   -- another's signature on what it posts stood in a chain that it had read the round before, proper then
-  pub record StoodBefore (r : ℕ) (s : Signed) : Type 0 where
+  pub record StoodBefore (r : ℕ) (s : Signature) : Type 0 where
     pub before : ℕ
     pub next : suc before ≡ r
-    pub chain : SignedValue
+    pub chain : Chain
     pub read_then : In chain (read (suc before))
     pub proper : IsProper shape slot (suc before) chain
     pub stands : In s chain.signatures
 
-  stood_at : (r : ℕ) (s : Signed) (chain : SignedValue) → 0 < r → In chain (read r) → IsProper shape slot r chain → In s chain.signatures
+  stood_at : (r : ℕ) (s : Signature) (chain : Chain) → 0 < r → In chain (read r) → IsProper shape slot r chain → In s chain.signatures
       → StoodBefore r s
   stood_at zero s chain some h proper stands = absurd (omega arith)
   stood_at (suc b) s chain some h proper stands =
       record { before = b; next = refl; chain = chain; read_then = h; proper = proper; stands = stands }
 
-  pub post_other : (r : ℕ) (c : SignedValue) (s : Signed) → In c (posted shape slot me value (suc r) (kept r)) → In s c.signatures
+  pub post_other : (r : ℕ) (c : Chain) (s : Signature) → In c (posted shape slot me value (suc r) (kept r)) → In s c.signatures
       → s.signer ≢ me → StoodBefore r s
   post_other r c s h stands other = elim (post_cases r c h) [
     | inl relay ↦
         stood_at r s relay.chain relay.some relay.read_then relay.proper
         (other_place relay.chain me s (subst (λ d. In s d.signatures) (sym relay.is) stands) other)
-    | inr start ↦ none (other_place (signed_value slot value []) me s (subst (λ d. In s d.signatures) (sym start.is) stands) other)
+    | inr start ↦ none (other_place (chain_of slot value []) me s (subst (λ d. In s d.signatures) (sym start.is) stands) other)
   ]
     where
       none : In s [] → StoodBefore r s

@@ -3,7 +3,7 @@ use Rattle.std.proofs.Common.{◌≡◌, ℕ, zero, suc, false, List, [], if◌t
 use Rattle.std.specs.Prelude.{All}
 use Rattle.std.proofs.lemmas.Bool.{cond-true, cond-false}
 use Rattle.dsr_base.specs.Member.{In}
-use Rattle.dsr_names.specs.Shape.{Members, is_traitor}
+use Rattle.dsr_names.specs.Shape.{Shape, is_traitor}
 use Rattle.dsr_names.specs.declared.actor.Actor.TheVariants.{Replica}
 use Rattle.dsr_chain.specs.Content.{signed_in}
 use Rattle.dsr_chain.specs.Proper.{IsAsked}
@@ -19,7 +19,7 @@ nothing_in_none {P = P} x xs none h = empty (subst (In x) none h)
     empty : In x [] → P
     empty h = elim h [ ]
 
-module _ (shape : Members) (slot : ℕ) (value : SlotValue) where
+module _ (shape : Shape) (slot : ℕ) (value : SlotValue) where
   -- what each replica keeps after the first rounds, where it reads what the loyal ones post alone
   abbrev kept_by : ℕ → ℕ → List Kept
   kept_by zero p = []

@@ -1,8 +1,8 @@
 -- What a replica decides of a slot after its round f+1 (Dolev and Strong 1983: the value where exactly one was extracted,
 -- else the default; that the default is idle is this project's).
 use Rattle.std.specs.Prelude.{ℕ, suc, List, [], ◌∷◌}
-use Rattle.dsr_names.specs.Shape.{Members}
-use Rattle.dsr_chain.specs.SignedValue.{SignedValue}
+use Rattle.dsr_names.specs.Shape.{Shape}
+use Rattle.dsr_chain.specs.Chain.{Chain}
 use Rattle.dsr_chain.specs.declared.slot_value.SlotValue.{SlotValue}
 use Rattle.dsr_chain.specs.declared.slot_value.SlotValue.TheVariants.{Idle}
 use Rattle.dsr_slot.specs.declared.kept.Kept.{Kept}
@@ -15,5 +15,5 @@ decision (k ∷ []) = k.chain.value
 decision (k ∷ l ∷ more) = Idle
 
 -- the decision over what is kept after the rounds 1 to f+1
-abbrev pub decided : Members → ℕ → (ℕ → List SignedValue) → SlotValue
+abbrev pub decided : Shape → ℕ → (ℕ → List Chain) → SlotValue
 decided shape slot read = decision (kept_after shape slot read (suc shape.f))

@@ -3,40 +3,40 @@
 -- values are enough is theirs too).
 use Rattle.std.specs.Prelude.{ℕ, zero, suc, List, [], ◌∷◌, ◌++◌, Option, Bool, ◌&&◌, not, length, nat_lt, fold, if◌then◌else◌}
 use Rattle.std.specs.List.{list_any}
-use Rattle.dsr_names.specs.Shape.{Members}
-use Rattle.dsr_request.specs.Issued.{Issued}
+use Rattle.dsr_names.specs.Shape.{Shape}
+use Rattle.dsr_request.specs.Request.{Request}
 use Rattle.dsr_chain.specs.Content.{content}
-use Rattle.dsr_chain.specs.SignedValue.{SignedValue}
+use Rattle.dsr_chain.specs.Chain.{Chain}
 use Rattle.dsr_chain.specs.ProperTest.{is_proper, same_content}
 use Rattle.dsr_slot.specs.declared.kept.Kept.{Kept}
 
 -- the chain, as kept in this round
-abbrev pub kept_in : ℕ → SignedValue → Kept
+abbrev pub kept_in : ℕ → Chain → Kept
 kept_in round chain = record { round = round; chain = chain }
 
 -- the content of a kept chain
-abbrev pub content_of : Kept → Option (List Issued)
+abbrev pub content_of : Kept → Option (List Request)
 content_of k = content k.chain.value
 
 -- whether one of the kept chains has this content
-abbrev pub is_kept : Option (List Issued) → List Kept → Bool
+abbrev pub is_kept : Option (List Request) → List Kept → Bool
 is_kept wanted kept = list_any (λ k. same_content (content_of k) wanted) kept
 
 -- whether a chain that is read in this round is to be kept beside these: it is proper for the round, none of them has
 -- its content, and they are fewer than two
-abbrev pub is_news : Members → ℕ → ℕ → List Kept → SignedValue → Bool
+abbrev pub is_news : Shape → ℕ → ℕ → List Kept → Chain → Bool
 is_news shape slot round kept chain =
     is_proper shape slot round chain && (not (is_kept (content chain.value) kept) && nat_lt (length kept) 2)
 
 -- what is kept after one more chain was read in this round
-abbrev pub keep_one : Members → ℕ → ℕ → List Kept → SignedValue → List Kept
+abbrev pub keep_one : Shape → ℕ → ℕ → List Kept → Chain → List Kept
 keep_one shape slot round kept chain = if is_news shape slot round kept chain then kept ++ kept_in round chain ∷ [] else kept
 
 -- what is kept after these chains were read in this round, in their order
-abbrev pub keep : Members → ℕ → ℕ → List Kept → List SignedValue → List Kept
+abbrev pub keep : Shape → ℕ → ℕ → List Kept → List Chain → List Kept
 keep shape slot round kept chains = fold (keep_one shape slot round) kept chains
 
 -- what is kept after the slot's first rounds, as many as the number says, where `read` gives the chains of each round
-abbrev pub kept_after : Members → ℕ → (ℕ → List SignedValue) → ℕ → List Kept
+abbrev pub kept_after : Shape → ℕ → (ℕ → List Chain) → ℕ → List Kept
 kept_after shape slot read zero = []
 kept_after shape slot read (suc r) = keep shape slot (suc r) (kept_after shape slot read r) (read (suc r))

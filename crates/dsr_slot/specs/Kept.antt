@@ -1,27 +1,23 @@
 -- What may be said of the chains that are kept (this project's words for what Dolev and Strong 1983 use).
 use Rattle.std.specs.Prelude.{◌≡◌, ◌⊎◌, ℕ, ◌<◌, ◌≤◌, List, ◌++◌, Option, length}
 use Rattle.dsr_base.specs.Member.{In}
-use Rattle.dsr_names.specs.Shape.{Members}
-use Rattle.dsr_request.specs.Issued.{Issued}
+use Rattle.dsr_names.specs.Shape.{Shape}
+use Rattle.dsr_request.specs.Request.{Request}
 use Rattle.dsr_chain.specs.Proper.{IsProper}
-use Rattle.dsr_chain.specs.SignedValue.{SignedValue}
+use Rattle.dsr_chain.specs.Chain.{Chain}
 use Rattle.dsr_slot.specs.declared.kept.Kept.{Kept}
 use Rattle.dsr_slot.specs.Keeping.{content_of}
 
 -- one of the kept chains has this content
-abbrev pub HasContent : Option (List Issued) → List Kept → Type 0
+abbrev pub HasContent : Option (List Request) → List Kept → Type 0
 HasContent wanted kept = (k : Kept) × In k kept × (content_of k ≡ wanted)
 
 -- the content is kept, or two chains are: where it is not among them, two others
-abbrev pub Hears : List Kept → Option (List Issued) → Type 0
+abbrev pub Hears : List Kept → Option (List Request) → Type 0
 Hears kept wanted = HasContent wanted kept ⊎ (2 ≤ length kept)
 
--- the later list begins with the earlier one
-abbrev pub GrewTo : List Kept → List Kept → Type 0
-GrewTo earlier later = (more : List Kept) × (later ≡ earlier ++ more)
-
 -- the chain was read in the round that stands with it, one of the slot's first rounds, and is proper for that round
-pub record CameFrom (shape : Members) (slot : ℕ) (read : ℕ → List SignedValue) (rounds : ℕ) (k : Kept) : Type 0 where
+pub record CameFrom (shape : Shape) (slot : ℕ) (read : ℕ → List Chain) (rounds : ℕ) (k : Kept) : Type 0 where
   pub counted : 0 < k.round
   pub within : k.round ≤ rounds
   pub was_read : In k.chain (read k.round)

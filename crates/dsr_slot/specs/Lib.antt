@@ -3,5 +3,5 @@ pub mod Conduct
 pub mod Decision
 pub mod Keeping
 pub mod Kept
-pub mod SlotFields
-pub mod SlotView
+pub mod SlotState
+pub mod Support

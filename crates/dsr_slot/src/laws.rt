@@ -1,20 +1,21 @@
 //! The laws of one slot, as the contracts of functions that do nothing.
 
 ghost use Rattle.std.specs.Prelude.{◌≡◌, ◌≢◌, ℕ, ◌<◌, ◌≤◌, List, All, AllPairs, length};
+ghost use Rattle.dsr_base.specs.Growth.{IsPrefixOf};
 ghost use Rattle.dsr_base.specs.Member.{In};
-ghost use Rattle.dsr_names.specs.Shape.{Members, IsLoyal, HasFewTraitors, AgreeButForTraitors};
+ghost use Rattle.dsr_names.specs.Shape.{Shape, IsLoyal, HasFewTraitors, AgreeButForTraitors};
 ghost use Rattle.dsr_names.specs.declared.actor.Actor.{Actor};
 ghost use Rattle.dsr_names.specs.declared.actor.Actor.TheVariants.{Replica};
 ghost use Rattle.dsr_chain.specs.Content.{content, signed_in};
 ghost use Rattle.dsr_chain.specs.Proper.{IsAsked, IsProper, sender_of};
-ghost use Rattle.dsr_chain.specs.SignedValue.{SignedValue};
+ghost use Rattle.dsr_chain.specs.Chain.{Chain};
 ghost use Rattle.dsr_chain.specs.declared.slot_value.SlotValue.{SlotValue};
 ghost use Rattle.dsr_slot.specs.declared.kept.Kept.{Kept};
 ghost use Rattle.dsr_slot.specs.Broadcast.{Exchange, IsBroadcast, AreTraitorsSilent, decided_by};
 ghost use Rattle.dsr_slot.specs.Conduct.{posted};
 ghost use Rattle.dsr_slot.specs.Decision.{decided};
 ghost use Rattle.dsr_slot.specs.Keeping.{content_of, kept_after};
-ghost use Rattle.dsr_slot.specs.Kept.{CameFrom, GrewTo, Hears};
+ghost use Rattle.dsr_slot.specs.Kept.{CameFrom, Hears};
 
 /// Agreement and validity of the broadcast (Dolev and Strong 1983). Whatever at most f traitors give to whom
 /// in the f+1 rounds of a slot, as long as each loyal replica gives every replica what its conduct asks for, no
@@ -24,47 +25,47 @@ ghost use Rattle.dsr_slot.specs.Kept.{CameFrom, GrewTo, Hears};
 ///
 /// The requests of what a replica decides were signed by clients of the shape, whatever it read. And there is such an
 /// exchange for every value whose requests were signed so: one in which traitors give nothing at all.
-pub fn one_slot()
-    ensures agreement { (shape : Members) (slot : ℕ) (value : SlotValue) (given : Exchange)
+pub fn agreement_and_validity()
+    ensures agreement { (shape : Shape) (slot : ℕ) (value : SlotValue) (given : Exchange)
         → HasFewTraitors shape → IsBroadcast shape slot value given
         → (p q : ℕ) → IsLoyal shape (Replica p) → IsLoyal shape (Replica q)
         → decided_by shape slot given p ≡ decided_by shape slot given q }
-    ensures validity { (shape : Members) (slot : ℕ) (value : SlotValue) (given : Exchange)
+    ensures validity { (shape : Shape) (slot : ℕ) (value : SlotValue) (given : Exchange)
         → IsBroadcast shape slot value given
         → IsLoyal shape (sender_of shape slot) → (p : ℕ) → IsLoyal shape (Replica p)
         → decided_by shape slot given p ≡ value }
-    ensures asked { (shape : Members) (slot : ℕ) (read : ℕ → List SignedValue)
+    ensures asked { (shape : Shape) (slot : ℕ) (read : ℕ → List Chain)
         → All (IsAsked shape) (signed_in (decided shape slot read)) }
-    ensures some { (shape : Members) (slot : ℕ) (value : SlotValue) → All (IsAsked shape) (signed_in value)
+    ensures some { (shape : Shape) (slot : ℕ) (value : SlotValue) → All (IsAsked shape) (signed_in value)
         → (given : Exchange) × IsBroadcast shape slot value given × AreTraitorsSilent shape given }
 {}
 
 /// The rules never look at who is a traitor. Two shapes that agree in all but that give the same: what a replica keeps
 /// in the first rounds of a slot, whatever it reads; what it posts, whatever it has kept; and what it decides.
 pub fn rules_are_blind()
-    ensures kept { (shape other : Members) → AgreeButForTraitors shape other
-        → (slot : ℕ) (read : ℕ → List SignedValue) (rounds : ℕ)
+    ensures kept { (shape other : Shape) → AgreeButForTraitors shape other
+        → (slot : ℕ) (read : ℕ → List Chain) (rounds : ℕ)
         → kept_after shape slot read rounds ≡ kept_after other slot read rounds }
-    ensures posted { (shape other : Members) → AgreeButForTraitors shape other
+    ensures posted { (shape other : Shape) → AgreeButForTraitors shape other
         → (slot : ℕ) (me : Actor) (value : SlotValue) (round : ℕ) (kept : List Kept)
         → posted shape slot me value round kept ≡ posted other slot me value round kept }
-    ensures decided { (shape other : Members) → AgreeButForTraitors shape other
-        → (slot : ℕ) (read : ℕ → List SignedValue) → decided shape slot read ≡ decided other slot read }
+    ensures decided { (shape other : Shape) → AgreeButForTraitors shape other
+        → (slot : ℕ) (read : ℕ → List Chain) → decided shape slot read ≡ decided other slot read }
 {}
 
 /// What a replica keeps in the first rounds of a slot, whatever it reads: at most two chains; no two of one
 /// content; each read in the round that stands with it, and proper for that round. What is kept stays, and what
 /// comes later stands behind it. And of each proper chain that it read, it keeps the content or two others.
-pub fn what_is_kept()
-    ensures few { (shape : Members) (slot : ℕ) (read : ℕ → List SignedValue) (rounds : ℕ)
+pub fn first_two_contents_are_kept()
+    ensures few { (shape : Shape) (slot : ℕ) (read : ℕ → List Chain) (rounds : ℕ)
         → length (kept_after shape slot read rounds) ≤ 2 }
-    ensures distinct { (shape : Members) (slot : ℕ) (read : ℕ → List SignedValue) (rounds : ℕ)
+    ensures distinct { (shape : Shape) (slot : ℕ) (read : ℕ → List Chain) (rounds : ℕ)
         → AllPairs (λ k l. content_of k ≢ content_of l) (kept_after shape slot read rounds) }
-    ensures came { (shape : Members) (slot : ℕ) (read : ℕ → List SignedValue) (rounds : ℕ) (k : Kept)
+    ensures came { (shape : Shape) (slot : ℕ) (read : ℕ → List Chain) (rounds : ℕ) (k : Kept)
         → In k (kept_after shape slot read rounds) → CameFrom shape slot read rounds k }
-    ensures stays { (shape : Members) (slot : ℕ) (read : ℕ → List SignedValue) (rounds later : ℕ) → rounds ≤ later
-        → GrewTo (kept_after shape slot read rounds) (kept_after shape slot read later) }
-    ensures heard { (shape : Members) (slot : ℕ) (read : ℕ → List SignedValue) (rounds round : ℕ) (chain : SignedValue)
+    ensures stays { (shape : Shape) (slot : ℕ) (read : ℕ → List Chain) (rounds later : ℕ) → rounds ≤ later
+        → IsPrefixOf (kept_after shape slot read rounds) (kept_after shape slot read later) }
+    ensures heard { (shape : Shape) (slot : ℕ) (read : ℕ → List Chain) (rounds round : ℕ) (chain : Chain)
         → 0 < round → round ≤ rounds → In chain (read round) → IsProper shape slot round chain
         → Hears (kept_after shape slot read rounds) (content chain.value) }
 {}

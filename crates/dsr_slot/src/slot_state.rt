@@ -1,13 +1,13 @@
 ghost use Rattle.std.specs.Prelude.{◌≡◌, ℕ, ◌+◌, ◌<◌, ◌≤◌, ◌↔◌, ◌++◌, ◌∷◌, List, [], Some, All, IfOk, IfSome, IsOk, IsSome, false, length, vec_capacity, IsOkUnless};
-ghost use Rattle.dsr_chain.specs.SignedValue.{SignedValue};
+ghost use Rattle.dsr_chain.specs.Chain.{Chain};
 ghost use Rattle.dsr_chain.specs.Content.{signed_in};
 ghost use Rattle.dsr_chain.specs.Proper.{IsAsked};
 ghost use Rattle.dsr_chain.specs.ProperTest.{is_proper};
 ghost use Rattle.dsr_slot.specs.Keeping.{kept_after, keep_one, is_news};
 ghost use Rattle.dsr_slot.specs.Conduct.{relayed, is_relayed};
-ghost use Rattle.dsr_slot.specs.SlotFields.{IsOfSomeRound};
+ghost use Rattle.dsr_slot.specs.Support.SlotState.{IsOfSomeRound};
 ghost use Rattle.dsr_slot.specs.Decision.{decided};
-ghost use Rattle.dsr_slot.specs.SlotView.{opened, with_round, decision_of, StandsFor};
+ghost use Rattle.dsr_slot.specs.SlotState.{opened, with_round, decision_of, StandsFor};
 
 use crate::kept::Kept;
 use dsr_chain::{Chain, SlotValue};
@@ -28,12 +28,12 @@ pub struct SlotState {
 }
 
 impl Model for SlotState {
-    ghost use Rattle.dsr_slot.specs.SlotView.{SlotView};
-    ghost use Rattle.dsr_slot.specs.SlotFields.{IsSlotFields, slot_view};
+    ghost use Rattle.dsr_slot.specs.SlotState.{SlotState};
+    ghost use Rattle.dsr_slot.specs.Support.SlotState.{IsSlotFields, slot_state_of};
 
-    ghost Value = { SlotView };
+    ghost Value = { SlotState };
 
-    ghost view = { slot_view };
+    ghost view = { slot_state_of };
 
     ghost invariant = { IsSlotFields };
 }
@@ -42,7 +42,7 @@ impl SlotState {
     /// The slot before any of its rounds is closed.
     pub fn new(shape: &Shape, slot: u64) -> SlotState
         ensures opened { result ≡ opened shape.now slot }
-        ensures stands { (read : ℕ → List SignedValue) → StandsFor result read }
+        ensures stands { (read : ℕ → List Chain) → StandsFor result read }
     {
         // that f is at most 7 is known from here on
         let _f = shape.f();
@@ -72,7 +72,7 @@ impl SlotState {
         requires next { round ≡ self.old.closed + 1 }
         requires within { round ≤ self.old.shape.f + 1 }
         ensures read { self.new ≡ with_round self.old round chains.old.items }
-        ensures stands { (read : ℕ → List SignedValue) → read round ≡ chains.old.items
+        ensures stands { (read : ℕ → List Chain) → read round ≡ chains.old.items
             → StandsFor self.old read → StandsFor self.new read }
         ensures emptied { chains.new.items ≡ [] }
         ensures room { vec_capacity chains.new ≡ vec_capacity chains.old }
@@ -90,7 +90,7 @@ impl SlotState {
     /// relaying nothing takes no memory.
     pub fn relays(&self, alloc: Global, round: u8, key: &Key) -> Result<Vec<Chain>, Refusal>
         ensures relayed { IfOk result (λ chains. chains.items ≡ relayed key.now round self.now.kept) }
-        ensures stands { (read : ℕ → List SignedValue) → StandsFor self.now read → IfOk result (λ chains.
+        ensures stands { (read : ℕ → List Chain) → StandsFor self.now read → IfOk result (λ chains.
             chains.items ≡ relayed key.now round (kept_after self.now.shape self.now.slot read self.now.closed)) }
         ensures few { IfOk result (λ chains. length chains.items ≤ 2) }
         ensures refusal { IsOkUnless result Refusal.NoMemory }
@@ -111,7 +111,7 @@ impl SlotState {
     pub fn decide(&self) -> Option<SlotValue>
         ensures decision { result ≡ decision_of self.now }
         ensures when { IsSome result ↔ (self.now.closed ≡ self.now.shape.f + 1) }
-        ensures stands { (read : ℕ → List SignedValue) → StandsFor self.now read
+        ensures stands { (read : ℕ → List Chain) → StandsFor self.now read
             → self.now.closed ≡ self.now.shape.f + 1 → result ≡ Some (decided self.now.shape self.now.slot read) }
         ensures asked { IfSome result (λ value. All (IsAsked self.now.shape) (signed_in value)) }
     {

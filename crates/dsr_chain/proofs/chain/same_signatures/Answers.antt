@@ -1,5 +1,5 @@
 use Rattle.std.proofs.lemmas.Slice.Eq.{slice_eq-Decides}
-use Rattle.dsr_desk.specs.SignatureEq.{signature_eq-Decides}
+use Rattle.dsr_desk.specs.Support.SignatureEquality.{signature_eq-Decides}
 use Rattle.dsr_chain.proofs.chain.same_signatures.Goals as goal
 
 pub returns : goal.returns

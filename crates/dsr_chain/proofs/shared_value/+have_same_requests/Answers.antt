@@ -1,6 +1,6 @@
 use Rattle.std.proofs.Common.{arith}
 use Rattle.std.specs.Prelude.{◌≡◌, ◌↔◌, IsTrue}
-use Rattle.dsr_request.specs.RequestEq.{request_eq-Decides}
+use Rattle.dsr_request.specs.Support.RequestEquality.{request_eq-Decides}
 use Rattle.dsr_chain.proofs.Contents.{decided_by_first, decided_by_rest}
 use Rattle.dsr_chain.proofs.shared_value.+have_same_requests.Goals as goal
 

@@ -1,5 +1,5 @@
 use Rattle.std.proofs.Common.{◌≡◌, take}
-use Rattle.dsr_chain.specs.SignedValue.{signers_of}
+use Rattle.dsr_chain.specs.Chain.{signers_of}
 use Rattle.dsr_chain.proofs.Fitting.{FitsBelow}
 use Rattle.dsr_chain.proofs.chain.Chain.has_misfit.Given as goal
 

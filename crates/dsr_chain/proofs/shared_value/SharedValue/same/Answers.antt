@@ -1,5 +1,5 @@
 use Rattle.std.proofs.Common.{ap, ◌∙◌}
-use Rattle.dsr_chain.specs.SignedLists.{value_of}
+use Rattle.dsr_chain.specs.Support.SignedLists.{value_of}
 use Rattle.dsr_chain.proofs.Sameness.{same_value-Decides}
 use Rattle.dsr_chain.proofs.shared_value.SharedValue.same.Goals as goal
 

@@ -1,4 +1,4 @@
-use Rattle.dsr_chain.specs.SignedRequestEq.{signed_request_eq-Decides}
+use Rattle.dsr_chain.specs.Support.SignedRequestEquality.{signed_request_eq-Decides}
 use Rattle.dsr_chain.proofs.signed_request.SignedRequest.same.Goals as goal
 
 pub returns : goal.returns

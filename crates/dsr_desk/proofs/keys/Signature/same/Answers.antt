@@ -1,4 +1,4 @@
-use Rattle.dsr_desk.specs.SignatureEq.{signature_eq-Decides}
+use Rattle.dsr_desk.specs.Support.SignatureEquality.{signature_eq-Decides}
 use Rattle.dsr_desk.proofs.keys.Signature.same.Goals as goal
 
 pub returns : goal.returns

@@ -1,4 +1,4 @@
-use Rattle.dsr_desk.specs.StatementEq.{statement_eq-Decides}
+use Rattle.dsr_desk.specs.Support.StatementEquality.{statement_eq-Decides}
 use Rattle.dsr_desk.proofs.statement.Statement.same.Goals as goal
 
 pub returns : goal.returns

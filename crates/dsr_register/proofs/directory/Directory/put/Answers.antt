@@ -1,6 +1,6 @@
 use Rattle.std.proofs.Common.{◌≡◌, ◌+◌, ◌<◌, ◌&&◌, true, is_ok, nat_le, Some, sym, ◌∙◌, ap, length, arith, length-set, vec_len, if◌then◌else◌}
 use Rattle.std.specs.Str.{bytes_eq}
-use Rattle.dsr_register.specs.Table.{content}
+use Rattle.dsr_register.specs.Table.{held_in}
 use Rattle.dsr_register.proofs.PlaceLemmas.{entry_set, entry_inserted, may_write, may_fill}
 use Rattle.dsr_register.proofs.directory.Directory.put.Goals as goal
 
@@ -40,7 +40,7 @@ returns-then-has_room-clause-contents c other =
     let ok : is_ok c.insert.result ≡ true = c.insert.ensures.succeeds (omega (arith, c.self.invariant.2, room, entries)) in
     (entry_inserted c.self.inside.entries.items c.args.self.now c.insert.new.self.items c.in-Err.place c.args.value c.args.name
     (is_ok c.insert.result) c.self.view_is c.self.invariant.0 c.in-Err.ensures.gap ok c.insert.ensures.items).1 other
-    ∙ ap (λ b. if bytes_eq c.args.name other && b then Some c.args.value else content c.args.self.now other) (sym c.is_ok.ensures.value)
+    ∙ ap (λ b. if bytes_eq c.args.name other && b then Some c.args.value else held_in c.args.self.now other) (sym c.is_ok.ensures.value)
 
 pub returns-else-has_room-clause-done : goal.returns-else-has_room-clause-done
 returns-else-has_room-clause-done c =

@@ -4,8 +4,8 @@ use Rattle.std.proofs.lemmas.Grind.{common_steps}
 use Rattle.std.proofs.lemmas.List.Sums.{fold-append}
 use Rattle.dsr_slot.proofs.Standing.{stands_on}
 use Rattle.dsr_slot.specs.Keeping.{keep_one}
-use Rattle.dsr_slot.specs.SlotFields.{slot_view}
-use Rattle.dsr_slot.specs.SlotView.{SlotView}
+use Rattle.dsr_slot.specs.Support.SlotState.{slot_state_of}
+use Rattle.dsr_slot.specs.SlotState.{SlotState}
 use Rattle.dsr_slot.specs.declared.kept.Kept.{Kept}
 use Rattle.dsr_slot.proofs.slot_state.SlotState.close_round.Goals as goal
 
@@ -14,7 +14,7 @@ returns-clause-stands c =
     let before = c.args.self.now in
     let all : c.loop-chain.yielded ≡ c.args.chains.now.items = grind (arith, common_steps) in
     λ read here stands.
-    stands_on before (slot_view c.self.inside) c.args.round c.args.chains.now.items read
+    stands_on before (slot_state_of c.self.inside) c.args.round c.args.chains.now.items read
     (c.self.view_is ∙ (rw all at c.loop-chain.invariant.2)) c.requires.next here stands
 
 -- one chain more is the fold over one item more
@@ -23,8 +23,8 @@ loop-chain-preserved c =
     let before = c.args.self.now in
     let step = keep_one before.shape before.slot c.args.round in
     let one_more = sym (fold-append step before.kept c.loop-chain.yielded (c.in-Some.chain ∷ [])) in
-    let keeps : SlotView → SlotView = λ s. record s { kept = keep_one s.shape s.slot c.args.round s.kept c.in-Some.chain } in
-    let whole : List Kept → SlotView = λ kept. record before { kept = kept } in
+    let keeps : SlotState → SlotState = λ s. record s { kept = keep_one s.shape s.slot c.args.round s.kept c.in-Some.chain } in
+    let whole : List Kept → SlotState = λ kept. record before { kept = kept } in
     let rest = drain_items c.next.new.self in
     let taken = append_assoc c.loop-chain.yielded (c.in-Some.chain ∷ []) rest ∙ ap (λ later. c.loop-chain.yielded ++ later) (sym c.in-Some.ensures.steps.0) in (
       tt,

@@ -1,0 +1,4 @@
+-- What `==` of signers, statements and signatures decides. These serve `==`, and tests that definitions branch on.
+pub mod SignatureEquality
+pub mod SignersEquality
+pub mod StatementEquality

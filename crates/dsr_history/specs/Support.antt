@@ -1,0 +1,2 @@
+-- How a machine stands in its fields. No public contract cites this: it serves `impl Model` alone.
+pub mod Machine

@@ -1,0 +1,35 @@
+-- A machine as contracts see it, and how its parts hold that.
+use Rattle.std.specs.Prelude.{◌≡◌, ℕ, ◌-◌, min, List, [], ◌∷◌, length, reverse, vec_len, vec_capacity}
+use Rattle.dsr_request.specs.declared.answer.Answer.{Answer}
+use Rattle.dsr_register.specs.Values.{answer_after}
+use Rattle.dsr_register.specs.Table.{StandsFor}
+use Rattle.dsr_ledger.specs.LastReply.{last_reply}
+use Rattle.dsr_request.specs.Request.{Request}
+use Rattle.dsr_history.specs.History.{operations, reply_in}
+use Rattle.dsr_history.specs.declared.machine.Machine.TheInside.{Inside}
+use Rattle.dsr_history.specs.Machine.{Machine}
+
+-- the answers along a history
+abbrev pub answers_of : List Request → List Answer
+answers_of [] = []
+answers_of (r ∷ older) = answer_after (operations older) r.op ∷ answers_of older
+
+-- the history that the machine holds, newest first
+abbrev pub history_of : Inside → List Request
+history_of a = reverse a.history.items
+
+-- the state that the fields stand for: there is room where both lists have it
+abbrev pub state_of : Inside → Machine
+state_of a =
+    record {
+      history = history_of a;
+      clients = length a.ledger;
+      room = min (vec_capacity a.history - vec_len a.history) (vec_capacity a.answers - vec_len a.answers);
+    }
+
+-- the table stands for the history's operations, the ledger has each client's last reply, and the answers are those
+-- along the history
+pub record IsMachine (a : Inside) : Type 0 where
+  pub table : StandsFor a.directory (operations (history_of a))
+  pub replies : (client : ℕ) → last_reply a.ledger client ≡ reply_in (history_of a) client
+  pub answers : reverse a.answers.items ≡ answers_of (history_of a)

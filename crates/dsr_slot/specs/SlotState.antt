@@ -1,0 +1,31 @@
+-- The state of one slot at one replica, as contracts see it (this project).
+use Rattle.std.specs.Prelude.{◌≡◌, ℕ, suc, ◌==◌, List, [], Option, None, Some, if◌then◌else◌}
+use Rattle.dsr_names.specs.Shape.{Shape}
+use Rattle.dsr_chain.specs.Chain.{Chain}
+use Rattle.dsr_chain.specs.declared.slot_value.SlotValue.{SlotValue}
+use Rattle.dsr_slot.specs.declared.kept.Kept.{Kept}
+use Rattle.dsr_slot.specs.Keeping.{keep, kept_after}
+use Rattle.dsr_slot.specs.Decision.{decision}
+
+-- the slot, how many of its rounds are closed, and what is kept
+pub record SlotState : Type 0 where
+  pub shape : Shape
+  pub slot : ℕ
+  pub closed : ℕ
+  pub kept : List Kept
+
+-- the state before any round is closed
+abbrev pub opened : Shape → ℕ → SlotState
+opened shape slot = record { shape = shape; slot = slot; closed = 0; kept = [] }
+
+-- the state after one more round, in which these chains were read
+abbrev pub with_round : SlotState → ℕ → List Chain → SlotState
+with_round state round chains = record state { closed = round; kept = keep state.shape state.slot round state.kept chains }
+
+-- the state stands for what `read` gives of each round, as far as the rounds are closed
+abbrev pub StandsFor : SlotState → (ℕ → List Chain) → Type 0
+StandsFor state read = state.kept ≡ kept_after state.shape state.slot read state.closed
+
+-- the decision, once round f+1 is closed
+abbrev pub decision_of : SlotState → Option SlotValue
+decision_of state = if state.closed == suc state.shape.f then Some (decision state.kept) else None

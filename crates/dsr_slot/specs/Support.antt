@@ -1,0 +1,2 @@
+-- How the state of a slot stands in its fields. No public contract cites this: it serves `impl Model` alone.
+pub mod SlotState
