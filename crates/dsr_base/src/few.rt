@@ -5,7 +5,7 @@ use crate::exact::Exact;
 use std::alloc::AllocError;
 use std::marker::Model;
 
-/// A list of 1 to `N` items, of fixed size: it is copied without taking memory.
+/// A list of 1 to `N` items, of fixed size: it is copied without allocating.
 // The length is a `usize`, so that no caller has to show that `N` fits into less. Beside items of 8-byte
 // alignment it takes no more room than a `u8`.
 #[derive(Copy, Debug)]

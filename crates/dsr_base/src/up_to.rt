@@ -5,7 +5,7 @@ use crate::few::Few;
 use std::alloc::AllocError;
 use std::marker::Model;
 
-/// A list of at most `N` items, of fixed size: it is copied without taking memory.
+/// A list of at most `N` items, of fixed size: it is copied without allocating.
 #[derive(Copy, Debug)]
 pub struct UpTo<T: Copy, const N: usize> {
     pub(crate) list: Option<Few<T, N>>,

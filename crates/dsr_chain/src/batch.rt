@@ -2,9 +2,10 @@ ghost use Rattle.dsr_chain.specs.Support.SignedRequestEquality.{signed_request_e
 
 use crate::signed_request::SignedRequest;
 use dsr_base::{Exact, Few};
+use dsr_request::MOST_REQUESTS;
 
-/// A list of 1 to 8 signed requests, of fixed size: it is copied without taking memory.
-pub type Batch = Few<SignedRequest, 8>;
+/// A list of 1 to 8 signed requests, of fixed size: it is copied without allocating.
+pub type Batch = Few<SignedRequest, MOST_REQUESTS>;
 
 impl Exact for SignedRequest {
     ghost decides = { signed_request_eq-Decides };

@@ -42,7 +42,7 @@ impl Chain {
     ghost use Rattle.dsr_chain.specs.Content.{content, signed_in};
     ghost use Rattle.dsr_chain.specs.Chain.{chain_of, started, extended};
 
-    /// The chain of this value with the key's signature alone. `NoMemory` where a growth is refused.
+    /// The chain of this value with the key's signature alone. `NoMemory` where memory runs out.
     pub fn start(alloc: Global, slot: u64, value: SlotValue, key: &Key) -> Result<Chain, Refusal>
         ensures started { IfOk result (λ chain. chain ≡ started slot value key.now) }
         ensures refusal { IsOkUnless result Refusal.NoMemory }
@@ -56,8 +56,8 @@ impl Chain {
         Chain::of(alloc, slot, value, signatures)
     }
 
-    /// The chain with the key's signature put at its end, on the link that fits there. Asks that it has
-    /// fewer than 16 signatures. The chain itself comes back with `NoMemory`, where a growth is refused.
+    /// The chain with the key's signature put at its end, on the link that fits there. Requires that it has
+    /// fewer than 16 signatures. The chain itself comes back with `NoMemory`, where memory runs out.
     pub fn extend(self, alloc: Global, key: &Key) -> Result<Chain, (Chain, Refusal)>
         requires { length self.signatures < 16 }
         ensures extended { IfOk result (λ chain. chain ≡ extended self key.now) }
@@ -70,8 +70,8 @@ impl Chain {
         }
     }
 
-    /// The chain of these parts, whatever they are. Asks that there are at most 16 signatures. `NoMemory` where a
-    /// growth is refused: then the list of signatures is gone.
+    /// The chain of these parts, whatever they are. Requires that there are at most 16 signatures. `NoMemory` where
+    /// memory runs out: then the list of signatures is gone.
     pub fn of(
         alloc: Global,
         slot: u64,

@@ -13,7 +13,7 @@ use dsr_request::Requests;
 
 impl Chain {
     /// Whether the chain is proper for this round of the slot. Otherwise the first fault that holds, in
-    /// the order of `ChainFault`. Asks that the round is one of the slot's, 1 to f+1.
+    /// the order of `ChainFault`. Requires that the round is one of the slot's, 1 to f+1.
     pub fn check(&self, shape: &Shape, slot: u64, round: u8) -> Result<(), ChainFault>
         requires some { 0 < round }
         requires within { round ≤ shape.now.f + 1 }

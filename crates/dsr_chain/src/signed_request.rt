@@ -4,7 +4,7 @@ use dsr_desk::{Key, Signature, Statement};
 use dsr_names::{Actor, Shape};
 use dsr_request::Request;
 
-/// A request, and the signature that stands beside it. It is copied without taking memory.
+/// A request, and the signature that stands beside it. It is copied without allocating.
 #[derive(Clone, Copy, Debug, PartialEq, Eq)]
 pub struct SignedRequest {
     /// The request.

@@ -5,7 +5,7 @@ use crate::batch::Batch;
 use crate::signed_request::SignedRequest;
 use dsr_request::{MOST_REQUESTS, Request, Requests};
 
-/// What a slot is given: nothing, or signed requests. It is copied without taking memory.
+/// What a slot is given: nothing, or signed requests. It is copied without allocating.
 #[derive(Clone, Copy, Debug, PartialEq, Eq)]
 pub enum SlotValue {
     /// No request.

@@ -288,7 +288,7 @@ fn compares_contents(rt: HostRuntime) -> Result<(), Fail> {
     Ok(())
 }
 
-/// A chain that is extended has one signature more. Where memory is refused, the same chain comes back.
+/// A chain that is extended has one signature more. Where memory runs out, the same chain comes back.
 #[test]
 fn gives_the_chain_back(rt: HostRuntime) -> Result<(), Fail> {
     let desk = open_desk(rt.alloc())?;
@@ -298,7 +298,7 @@ fn gives_the_chain_back(rt: HostRuntime) -> Result<(), Fail> {
     comes_back(&rt, rt.alloc(), chain, &equal, &desk.r1)
 }
 
-/// Whether the chain comes back, the same as the equal one, where the key's holder cannot sign it for want of memory.
+/// Whether the chain comes back, the same as the equal one, where the key's holder cannot sign it for lack of memory.
 fn comes_back(
     rt: &impl Abort,
     alloc: Global,

@@ -1,6 +1,7 @@
 -- What the program's exit status tells (this project).
 use Rattle.std.specs.Prelude.{◌≡◌, ◌⊎◌, ℕ, ◌<◌, List, length, Option, IfSome}
 use Rattle.std.specs.Io.KnownBytes.{Appends}
+use Rattle.dsr_names.specs.Limits.{most_bytes}
 use Rattle.dsr_names.specs.Output.{SentPrefix}
 use Rattle.dsr_names.specs.declared.refusal.Refusal.{Refusal}
 use Rattle.dsr_names.specs.declared.refusal.Refusal.TheVariants.{NoMemory, ReadFailed}
@@ -20,10 +21,10 @@ abbrev pub WhatApplyLeft : ℕ → Type 0 → Option (List ℕ) → Option ℕ �
 WhatApplyLeft status in_memory left room old new =
     ((status ≡ 0) × AppliedAll left old new)
     ⊎ ((refusal : Refusal) × (status ≡ status_of refusal)
-    × (in_memory → refusal ≡ ReadFailed → IfSome left (λ bytes. 16777216 < length bytes))
+    × (in_memory → refusal ≡ ReadFailed → IfSome left (λ bytes. most_bytes < length bytes))
     × WrittenAfter refusal left room old new)
 
--- after 0 the whole text went out; after 1 a front of it did, and a known room was too small for all of it
+-- after 0 the whole text went out; after 1 a prefix of it did, and a known room was too small for all of it
 abbrev pub WhatShowingLeft : List ℕ → ℕ → Option ℕ → Option (List ℕ) → Option (List ℕ) → Type 0
 WhatShowingLeft text status room old new =
     ((status ≡ 0) × Appends old new text) ⊎ ((status ≡ 1) × IfSome room (λ most. most < length text) × SentPrefix old new text)

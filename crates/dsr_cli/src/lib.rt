@@ -22,17 +22,17 @@ use std::io::Write;
 /// The exit status where all that was asked for was done.
 const DONE: u8 = 0;
 
-/// The exit status after a refusal other than want of memory.
+/// The exit status after a refusal other than running out of memory.
 const REFUSED: u8 = 1;
 
 /// The exit status after words that the program does not know, or that are no text.
 pub const USAGE_FAULT: u8 = 2;
 
-/// The exit status after want of memory.
+/// The exit status where memory ran out.
 pub const NO_MEMORY: u8 = 3;
 
 /// Does what the words ask for and answers the program's exit status: 0 where it was done, 1 after a refusal other
-/// than want of memory, 2 after words that the program does not know, and 3 after want of memory. The words are those
+/// than running out of memory, 2 after words that the program does not know, and 3 where memory ran out. The words are those
 /// after the program's own name; none means `apply`. A refusal is told on `errors` as `dsr: ` and its text, a usage
 /// fault by its text; the help goes to `output`. With 0 nothing is written on `errors`. Only `apply`
 /// reads the input.
@@ -97,7 +97,7 @@ fn apply<I: Source, O: Sink, E: Write>(
     }
 }
 
-/// Shows the help's text: 0 where all of it went out, and 1 where the sink failed, after a front of it.
+/// Shows the help's text: 0 where all of it went out, and 1 where the sink failed, after a prefix of it.
 fn show_help<O: Sink, E: Write>(text: &str, output: &mut O, errors: &mut E) -> u8
     ensures quiet { result ≡ 0 → errors.new ≡ errors.old }
     ensures left { WhatShowingLeft text.now result (O.room output.old) (O.contents output.old) (O.contents output.new) }

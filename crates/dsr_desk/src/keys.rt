@@ -64,7 +64,7 @@ impl Keys {
     ghost use Rattle.dsr_names.specs.Shape.{IsActor};
     ghost use Rattle.dsr_desk.specs.Keys.{is_taken, IsWhole};
 
-    /// All keys of the shape, none of them taken. `NoMemory` where a growth is refused.
+    /// All keys of the shape, none of them taken. `NoMemory` where memory runs out.
     pub fn new(alloc: Global, shape: Shape) -> Result<Keys, Refusal>
         ensures shape { IfOk result (λ keys. keys.shape ≡ shape) }
         ensures whole { IfOk result IsWhole }

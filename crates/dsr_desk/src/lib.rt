@@ -13,7 +13,7 @@ mod statement_text;
 
 pub use content_text::{Content, read_content};
 pub use keys::{Key, Keys, Signature};
-pub use signers::Signers;
+pub use signers::{MOST_SIGNERS, Signers};
 pub use statement::Statement;
 
 #[cfg(test)]

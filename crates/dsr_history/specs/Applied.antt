@@ -4,6 +4,7 @@ use Rattle.std.specs.Prelude.{◌≡◌, ◌≢◌, ◌⊎◌, ℕ, ◌+◌, ◌
 use Rattle.std.specs.List.{AllByRecursion}
 use Rattle.std.specs.Fmt.{decimal}
 use Rattle.std.specs.Io.KnownBytes.{Appends, Keeps}
+use Rattle.dsr_names.specs.Limits.{most_bytes}
 use Rattle.dsr_names.specs.Output.{SentPrefix}
 use Rattle.dsr_names.specs.declared.refusal.Refusal.{Refusal}
 use Rattle.dsr_names.specs.declared.refusal.Refusal.TheVariants.{BadText, NoMemory, ReadFailed, WriteFailed}
@@ -79,7 +80,7 @@ IsTextOf (Some bytes) text = text ≡ bytes
 -- all lines were good, and what they are answered with went out
 pub record AppliedAll (left old new : Option (List ℕ)) : Type 0 where
   pub text : List ℕ
-  pub short : length text ≤ 16777216
+  pub short : length text ≤ most_bytes
   pub requests : List Request
   pub given : IsTextOf left text
   pub begins : BeginsWith text requests []
@@ -88,7 +89,7 @@ pub record AppliedAll (left old new : Option (List ℕ)) : Type 0 where
 -- the lines before the bad one are answered, and it is counted from 1
 pub record AppliedToLine (line : ℕ) (left old new : Option (List ℕ)) : Type 0 where
   pub text : List ℕ
-  pub short : length text ≤ 16777216
+  pub short : length text ≤ most_bytes
   pub requests : List Request
   pub rest : List ℕ
   pub given : IsTextOf left text
@@ -97,10 +98,10 @@ pub record AppliedToLine (line : ℕ) (left old new : Option (List ℕ)) : Type 
   pub counted : line ≡ length requests + 1
   pub went_out : Appends old new (applied requests)
 
--- a front of the answers went out; a known room was too small for all of them
+-- a prefix of the answers went out; a known room was too small for all of them
 pub record AppliedPart (left : Option (List ℕ)) (room : Option ℕ) (old new : Option (List ℕ)) : Type 0 where
   pub text : List ℕ
-  pub short : length text ≤ 16777216
+  pub short : length text ≤ most_bytes
   pub requests : List Request
   pub rest : List ℕ
   pub given : IsTextOf left text
@@ -110,7 +111,7 @@ pub record AppliedPart (left : Option (List ℕ)) (room : Option ℕ) (old new :
   pub went_out : SentPrefix old new (applied requests)
 
 -- what stands after each refusal: after a bad line the lines before it are answered; with no memory, and where
--- reading failed, nothing was written; where writing failed, a front of the answers was; there is no other refusal
+-- reading failed, nothing was written; where writing failed, a prefix of the answers was; there is no other refusal
 abbrev pub WrittenAfter : Refusal → Option (List ℕ) → Option ℕ → Option (List ℕ) → Option (List ℕ) → Type 0
 WrittenAfter (BadText line) left room old new = AppliedToLine line left old new
 WrittenAfter NoMemory left room old new = Keeps old new

@@ -1,4 +1,5 @@
 ghost use Rattle.std.specs.Prelude.{◌≡◌, ℕ, ◌+◌, ◌<◌, ◌≤◌, ◌^◌, List, ◌∷◌, ◌++◌, [], length, Option, Some, OnOk, IfOk, IfErr, IfSome, IfNone, IsErrOf, vec_len, IsOkUnless};
+ghost use Rattle.dsr_names.specs.Limits.{most_bytes};
 ghost use Rattle.dsr_request.specs.Request.{Request};
 ghost use Rattle.dsr_history.specs.Machine.{StandsFor};
 ghost use Rattle.dsr_request.specs.RequestText.{IsRequest};
@@ -94,7 +95,7 @@ impl Run {
 /// is empty at first, and every line is one value of one request.
 ///
 /// `BadText` names the first line, counted from 1, that is no request's; the lines before it are answered. After
-/// `NoMemory` and `ReadFailed` nothing was written, and after `WriteFailed` a front of the answers was. What was
+/// `NoMemory` and `ReadFailed` nothing was written, and after `WriteFailed` a prefix of the answers was. What was
 /// read is gone. A source in memory answers `ReadFailed` only for too many bytes, and a sink never fails where its
 /// known room is enough.
 pub fn run_apply<S: Source, K: Sink>(
@@ -105,7 +106,7 @@ pub fn run_apply<S: Source, K: Sink>(
     ensures done { OnOk result (AppliedAll (S.left source.old) (K.contents sink.old) (K.contents sink.new)) }
     ensures refused { IfErr result (λ e. WrittenAfter e (S.left source.old) (K.room sink.old) (K.contents sink.old) (K.contents sink.new)) }
     ensures in_memory { S.is_in_memory source.old → IsErrOf result Refusal.ReadFailed
-        → IfSome (S.left source.old) (λ bytes. 16777216 < length bytes) }
+        → IfSome (S.left source.old) (λ bytes. most_bytes < length bytes) }
 {
     let text = read_input(alloc, source)?;
     let shape = Shape::new(1, 0, 32, 0)?;

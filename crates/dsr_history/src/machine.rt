@@ -52,7 +52,7 @@ impl Machine {
         })
     }
 
-    /// Makes room for the next value: `accept_value` then takes no memory. `NoMemory` where it is refused: then
+    /// Makes room for the next value: `accept_value` then allocates nothing. `NoMemory` where it is refused: then
     /// nothing changed, but that there may be more room.
     pub fn room(&mut self) -> Result<(), Refusal>
         ensures ok { OnOk result (8 ≤ self.new.room) }
@@ -76,7 +76,7 @@ impl Machine {
     }
 
     /// Processes the requests of a value in the order of its list, and says how many of them acted; the empty
-    /// list is the idle value. Asks for at most 8 requests, all of clients of the shape, and a history shorter
+    /// list is the idle value. Requires at most 8 requests, all of clients of the shape, and a history shorter
     /// than 2^39. `NoMemory` where there was no room and no memory for it: then nothing changed, but that there
     /// may be more room. Otherwise no more room goes than that of the requests.
     pub fn accept_value(&mut self, requests: &[Request]) -> Result<u8, Refusal>

@@ -24,7 +24,7 @@ fn machine_of(alloc: Global, clients: u8) -> Result<Machine, Fail>
     Ok(Machine::new(alloc, &shape)?)
 }
 
-// A value of this one request acts, or not, and then this is the last reply of its client. Where memory is refused, the
+// A value of this one request acts, or not, and then this is the last reply of its client. Where memory runs out, the
 // value is given again, and nothing else is then different.
 fn accepts(
     rt: &impl Abort,
@@ -124,7 +124,7 @@ fn a_list_with_one_request_twice(rt: HostRuntime) -> Result<(), Fail> {
     Ok(())
 }
 
-// Makes room, at the second try where memory is refused at the first: nothing is then different.
+// Makes room, at the second try where memory runs out at the first: nothing is then different.
 fn makes_room(rt: &impl Abort, machine: &mut Machine) -> Result<(), Fail>
     ensures { machine.new.clients ≡ machine.old.clients }
 {

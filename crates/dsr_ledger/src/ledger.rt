@@ -56,7 +56,7 @@ impl Ledger {
         }
     }
 
-    /// Keeps this reply as the last one of the client. Asks that it is one of the ledger's, and that the reply's
+    /// Keeps this reply as the last one of the client. Requires that it is one of the ledger's, and that the reply's
     /// number acts.
     pub fn note(&mut self, client: ClientId, reply: Reply)
         requires inside { client < length self.old }

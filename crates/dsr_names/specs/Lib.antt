@@ -1,4 +1,5 @@
 pub mod Actor
+pub mod Limits
 pub mod Output
 pub mod Refusal
 pub mod Shape

@@ -1,6 +1,7 @@
 ghost use Rattle.std.specs.Prelude.{◌≡◌, ℕ, ◌+◌, ◌++◌, ◌↔◌, ◌<◌, ◌≤◌, List, length, min, Option, None, Some, IfOk, IfErr, IfSome, OnOk, IsOkAnd, IsErrOf, vec_len, IsOkUnless};
 ghost use Rattle.std.specs.Io.{ReadsAtMost};
 ghost use Rattle.std.specs.Io.KnownBytes.{ReadConsumes, IsAtEnd};
+ghost use Rattle.dsr_names.specs.Limits.{most_bytes};
 ghost use Rattle.dsr_names.specs.Refusal.{IsReadRefusal};
 
 use crate::outside::Outside;
@@ -56,10 +57,10 @@ impl<R: Read> Source for Outside<R> {
 pub fn read_input<S: Source>(alloc: Global, source: &mut S) -> Result<Vec<u8>, Refusal>
     ensures all { IfOk result (λ text. IfSome (S.left source.old) (λ bytes. text.items ≡ bytes)) }
     ensures end { OnOk result (IsAtEnd (S.left source.new)) }
-    ensures fits { IfOk result (λ text. vec_len text ≤ 16777216) }
+    ensures fits { IfOk result (λ text. vec_len text ≤ most_bytes) }
     ensures refusals { IfErr result IsReadRefusal }
     ensures in_memory { S.is_in_memory source.old → IsErrOf result Refusal.ReadFailed
-        → IfSome (S.left source.old) (λ bytes. 16777216 < length bytes) }
+        → IfSome (S.left source.old) (λ bytes. most_bytes < length bytes) }
 {
     let mut text = Vec::new(alloc);
     let mut buffer = [0u8; 8192];
@@ -74,12 +75,12 @@ pub fn read_input<S: Source>(alloc: Global, source: &mut S) -> Result<Vec<u8>, R
 }
 
 /// Puts the bytes at the end of the text. `ReadFailed` exactly where it would then have more than `MOST_BYTES` bytes,
-/// else `NoMemory` where a growth is refused.
+/// else `NoMemory` where memory runs out.
 fn keep(text: &mut Vec<u8>, bytes: &[u8]) -> Result<(), Refusal>
-    requires { vec_len text.old ≤ 16777216 }
+    requires { vec_len text.old ≤ most_bytes }
     ensures kept { OnOk result (text.new.items ≡ text.old.items ++ bytes.now) }
-    ensures fits { OnOk result (vec_len text.new ≤ 16777216) }
-    ensures too_long { IsErrOf result Refusal.ReadFailed ↔ (16777216 < vec_len text.old + length bytes.now) }
+    ensures fits { OnOk result (vec_len text.new ≤ most_bytes) }
+    ensures too_long { IsErrOf result Refusal.ReadFailed ↔ (most_bytes < vec_len text.old + length bytes.now) }
     ensures refusals { IfErr result IsReadRefusal }
 {
     if bytes.len() > MOST_BYTES - text.len() {

@@ -1,6 +1,7 @@
 ghost use Rattle.std.specs.Prelude.{◌≡◌, ℕ, ◌-◌, ◌≤◌, List, length, Option, None, Some, Ok, ◌<◌, IsOk, IsOkAnd, OnOk, IfSome, vec_len, vec_capacity, IsOkUnless};
 ghost use Rattle.std.specs.Io.{WritesAtMost};
 ghost use Rattle.std.specs.Io.KnownBytes.{Appends, WriteAppends};
+ghost use Rattle.dsr_names.specs.Limits.{most_calls};
 ghost use Rattle.dsr_names.specs.Output.{SentPrefix};
 
 use crate::input::MOST_CALLS;
@@ -50,14 +51,14 @@ impl<W: Write> Sink for Outside<W> {
 }
 
 /// Writes all of the bytes, in at most `MOST_CALLS` calls. `WriteFailed` where the sink fails, takes none of a
-/// rest that is not empty, or the calls run out: then a front of the bytes went out. It never fails on a sink
+/// rest that is not empty, or the calls run out: then a prefix of the bytes went out. It never fails on a sink
 /// with known room for all of them, nor on a steady one where the bytes are at most `MOST_CALLS`.
 pub fn write_output<S: Sink>(sink: &mut S, bytes: &[u8]) -> Result<(), Refusal>
     ensures all { OnOk result (Appends (S.contents sink.old) (S.contents sink.new) bytes.now) }
-    ensures front { SentPrefix (S.contents sink.old) (S.contents sink.new) bytes.now }
+    ensures prefix { SentPrefix (S.contents sink.old) (S.contents sink.new) bytes.now }
     ensures refusal { IsOkUnless result Refusal.WriteFailed }
     ensures in_room { IfSome (S.room sink.old) (λ most. length bytes.now ≤ most → IsOk result) }
-    ensures steady { S.is_steady sink.old → length bytes.now ≤ 33554432 → IsOk result }
+    ensures steady { S.is_steady sink.old → length bytes.now ≤ most_calls → IsOk result }
 {
     let mut sent = 0;
     for _ in 0..MOST_CALLS {

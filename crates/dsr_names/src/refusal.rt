@@ -30,7 +30,7 @@ pub enum Refusal {
     Stopped,
     /// The turns ran out.
     Unanswered,
-    /// A growth was refused.
+    /// Memory ran out.
     NoMemory,
     /// The first line, counted from 1, that is not in the grammar.
     BadText { line: u64 },
@@ -44,11 +44,11 @@ pub enum Refusal {
     ReadFailed,
     /// The writer failed, took none of a rest that was not empty, or its calls ran out.
     WriteFailed,
-    /// A thread could not be started, for want of memory too.
+    /// A thread could not be started, for lack of memory too.
     NoThread,
 }
 
-/// A growth that was refused is `NoMemory`.
+/// Memory that ran out is `NoMemory`.
 impl From<AllocError> for Refusal {
     ghost from_gives = { λ _ e. e ≡ NoMemory };
 
@@ -57,7 +57,7 @@ impl From<AllocError> for Refusal {
     }
 }
 
-/// A growth that was refused is `NoMemory`, whatever was to be stored.
+/// Memory that ran out is `NoMemory`, whatever was to be stored.
 impl<T: Drop> From<AllocFailed<T>> for Refusal {
     ghost from_gives = { λ _ e. e ≡ NoMemory };
 

@@ -16,9 +16,13 @@ abbrev pub registers : List Op → List (List ℕ)
 registers [] = []
 registers (op ∷ older) = if list_any (bytes_eq (register_of op)) (registers older) then registers older else register_of op ∷ registers older
 
--- whether 1,024 of these registers hold a number
+-- the most registers that hold a number
+abbrev pub most_registers : ℕ
+most_registers = 1024
+
+-- whether as many of these registers hold a number as may
 abbrev pub is_full : (List ℕ → Option ℕ) → List (List ℕ) → Bool
-is_full held_in names = nat_le 1024 (count_by (λ name. is_some (held_in name)) names)
+is_full held_in names = nat_le most_registers (count_by (λ name. is_some (held_in name)) names)
 
 -- whether a write or a swap on a register that holds `held` is blocked: it would be one register too many
 abbrev pub is_blocked : Option ℕ → Bool → Bool

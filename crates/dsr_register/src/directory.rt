@@ -3,7 +3,7 @@ ghost use Rattle.std.specs.Str.{bytes_eq};
 ghost use Rattle.std.specs.List.Sorted.{IsPartitionPoint};
 ghost use Rattle.dsr_request.specs.declared.op.Op.{Op};
 ghost use Rattle.dsr_request.specs.NameOrder.{is_before};
-ghost use Rattle.dsr_register.specs.Values.{value, is_blocked, count_held, answer_after, answer_on, left_by};
+ghost use Rattle.dsr_register.specs.Values.{value, is_blocked, count_held, answer_after, answer_on, left_by, most_registers};
 ghost use Rattle.dsr_register.specs.Table.{held_in, StandsFor, IsEntryOf, IsGapFor, IsAscending};
 
 use dsr_names::Refusal;
@@ -14,8 +14,8 @@ use std::marker::Model;
 /// The most registers that hold a value.
 const MOST_REGISTERS: usize = 1024;
 
-/// The registers that hold a value, at most 1,024, by their names. Its memory is taken at once when it
-/// is made, and none after that.
+/// The registers that hold a value, at most 1,024, by their names. All its memory is allocated when it
+/// is made.
 #[derive(Drop)]
 pub struct Directory {
     entries: Vec<(Name, u64)>,
@@ -24,12 +24,13 @@ pub struct Directory {
 impl Model for Directory {
     ghost use Rattle.std.specs.Prelude.{List, ℕ, ◌≤◌, length, vec_capacity};
     ghost use Rattle.dsr_register.specs.Table.{IsAscending};
+    ghost use Rattle.dsr_register.specs.Values.{most_registers};
 
     ghost Value = { List (List ℕ × ℕ) };
 
     ghost view = { λ d. d.entries.items };
 
-    ghost invariant = { λ d. IsAscending d.entries.items × (length d.entries.items ≤ 1024) × (1024 ≤ vec_capacity d.entries) };
+    ghost invariant = { λ d. IsAscending d.entries.items × (length d.entries.items ≤ most_registers) × (most_registers ≤ vec_capacity d.entries) };
 }
 
 impl Directory {
@@ -65,7 +66,7 @@ impl Directory {
     pub fn len(&self) -> usize
         ensures entries { result ≡ length self.now }
         ensures count { (ops : List Op) → StandsFor self.now ops → result ≡ count_held ops }
-        ensures few { result ≤ 1024 }
+        ensures few { result ≤ most_registers }
     {
         self.entries.len()
     }
@@ -101,7 +102,7 @@ impl Directory {
 
     /// Lets the register hold the value, if it holds one or not all 1,024 are taken.
     fn put(&mut self, name: Name, value: u64) -> bool
-        ensures done { result ≡ not (is_blocked (held_in self.old name) (nat_le 1024 (length self.old))) }
+        ensures done { result ≡ not (is_blocked (held_in self.old name) (nat_le most_registers (length self.old))) }
         ensures contents { (other : List ℕ) → held_in self.new other
             ≡ (if bytes_eq name other && result then Some value else held_in self.old other) }
     {
@@ -128,7 +129,7 @@ impl Directory {
         }
     }
 
-    /// Does the operation and answers it. It takes no memory.
+    /// Does the operation and answers it. It allocates nothing.
     pub fn apply(&mut self, op: Op) -> Answer
         ensures answer { (ops : List Op) → StandsFor self.old ops → result ≡ answer_after ops op }
         ensures change { (ops : List Op) → StandsFor self.old ops → StandsFor self.new (op ∷ ops) }
@@ -144,9 +145,9 @@ impl Directory {
     /// Lets the register hold the value, if it may hold one.
     fn write(&mut self, name: Name, value: u64) -> Answer
         ensures rises { IsAscending self.old }
-        ensures answer { result ≡ answer_on (Op.Write name value) (held_in self.old name) (nat_le 1024 (length self.old)) }
+        ensures answer { result ≡ answer_on (Op.Write name value) (held_in self.old name) (nat_le most_registers (length self.old)) }
         ensures contents { (other : List ℕ) → held_in self.new other ≡ (if bytes_eq name other
-            then left_by (Op.Write name value) (held_in self.old other) (nat_le 1024 (length self.old))
+            then left_by (Op.Write name value) (held_in self.old other) (nat_le most_registers (length self.old))
             else held_in self.old other) }
     {
         // The contract speaks of the table's order, which is known where a field is used.
@@ -161,9 +162,9 @@ impl Directory {
     /// Lets the register hold `to`, if it holds `from` and may hold a value.
     fn swap(&mut self, name: Name, from: Option<u64>, to: u64) -> Answer
         ensures rises { IsAscending self.old }
-        ensures answer { result ≡ answer_on (Op.Swap name from to) (held_in self.old name) (nat_le 1024 (length self.old)) }
+        ensures answer { result ≡ answer_on (Op.Swap name from to) (held_in self.old name) (nat_le most_registers (length self.old)) }
         ensures contents { (other : List ℕ) → held_in self.new other ≡ (if bytes_eq name other
-            then left_by (Op.Swap name from to) (held_in self.old other) (nat_le 1024 (length self.old))
+            then left_by (Op.Swap name from to) (held_in self.old other) (nat_le most_registers (length self.old))
             else held_in self.old other) }
     {
         // The contract speaks of the table's order, which is known where a field is used.

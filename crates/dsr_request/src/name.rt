@@ -10,7 +10,7 @@ use std::{fmt, str};
 const MOST_NAME_BYTES: usize = 32;
 
 /// The name of a register: 1 to 32 bytes of `a-z`, `0-9`, `.`, `_` and `-`. A name is copied without
-/// taking memory.
+/// allocating.
 #[derive(Clone, Copy, Debug)]
 pub struct Name {
     bytes: [u8; 32],

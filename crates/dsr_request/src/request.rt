@@ -8,7 +8,7 @@ use dsr_names::{ClientId, NUMBER_END, Refusal};
 use std::marker::Model;
 
 /// An operation that a client wants, under a number of its own from 1 to 2^40-1. A request is copied
-/// without taking memory.
+/// without allocating.
 #[derive(Clone, Copy, Debug, PartialEq, Eq)]
 pub struct Request {
     client: ClientId,

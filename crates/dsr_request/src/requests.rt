@@ -10,9 +10,9 @@ use dsr_base::{Exact, Few, Token};
 /// The most requests of one value.
 pub const MOST_REQUESTS: usize = 8;
 
-/// A list of 1 to 8 requests, of fixed size: it is copied without taking memory. Its text has them joined by commas,
+/// A list of 1 to 8 requests, of fixed size: it is copied without allocating. Its text has them joined by commas,
 /// as `c0#7:write:a:5,c1#1:read:a`.
-pub type Requests = Few<Request, 8>;
+pub type Requests = Few<Request, MOST_REQUESTS>;
 
 impl Exact for Request {
     ghost decides = { request_eq-Decides };

@@ -64,7 +64,7 @@ impl SlotState {
         self.closed
     }
 
-    /// Closes the slot's round, in which these chains were read, in this order. Asks that it is the next one,
+    /// Closes the slot's round, in which these chains were read, in this order. Requires that it is the next one,
     /// `closed_rounds` and one, and at most f+1. It takes the chains out of the list, whose room stays, and keeps
     /// those that are proper and new as long as fewer than two are kept. A chain whose content is kept is dropped
     /// before its signatures are looked at.
@@ -86,8 +86,8 @@ impl SlotState {
     /// The chains that the key's holder relays in this round of the slot: those that were kept in the round
     /// before and that it has not signed, with its signature put at their end, in the order in which they were
     /// kept. So they are at most two. Any round may be asked for; but past round f+1, where what was kept in the
-    /// round before is still given, a loyal replica posts nothing of the slot. `NoMemory` where a growth is refused;
-    /// relaying nothing takes no memory.
+    /// round before is still given, a loyal replica posts nothing of the slot. `NoMemory` where memory runs out;
+    /// relaying nothing allocates nothing.
     pub fn relays(&self, alloc: Global, round: u8, key: &Key) -> Result<Vec<Chain>, Refusal>
         ensures relayed { IfOk result (λ chains. chains.items ≡ relayed key.now round self.now.kept) }
         ensures stands { (read : ℕ → List Chain) → StandsFor self.now read → IfOk result (λ chains.
