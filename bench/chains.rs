@@ -1,4 +1,4 @@
-// uses: dsr_names dsr_register dsr_history dsr_desk dsr_chain dsr_slot
+// uses: dsr_names dsr_request dsr_desk dsr_chain dsr_slot
 //! What calls on chains cost: for each number of requests and of signatures a line with both, and the nanoseconds that all
 //! copies, all copies that are extended, all checks, and all chains took that a slot drops since their content is kept.
 //! `bench/chains` runs it.
@@ -6,9 +6,8 @@
 
 use dsr_chain::{Batch, Chain, SignedRequest, SlotValue};
 use dsr_desk::{Key, Keys};
-use dsr_history::Request;
 use dsr_names::{Actor, ClientId, ReplicaId, Shape};
-use dsr_register::{Name, Op};
+use dsr_request::{Name, Op, Request};
 use dsr_slot::SlotState;
 use std::alloc::Global;
 use std::process::ExitCode;

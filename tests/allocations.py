@@ -24,7 +24,7 @@ PROGRAM = f"{TOP}/crates/dsr/out/dsr"
 EXAMPLES = ["first-lines", "swaps", "repeated-numbers", "full-table"]
 # The crates whose calls answer that memory was refused by an error. dsr_command and dsr_cli tell it otherwise: their calls
 # are in the runs of the program.
-CRATES = ["dsr_names", "dsr_register", "dsr_ledger", "dsr_history", "dsr_desk", "dsr_chain", "dsr_slot"]
+CRATES = ["dsr_base", "dsr_names", "dsr_request", "dsr_register", "dsr_ledger", "dsr_history", "dsr_desk", "dsr_chain", "dsr_slot"]
 MOST_RUNS = 20_000
 WANT_OF_MEMORY = re.compile(rb"^(?:[Ee]rror:|  left:) .*(NoMemory|AllocError|AllocFailed|WriteFailed)", re.M)
 

@@ -96,9 +96,11 @@ fn items_are_joined_by_their_mark(rt: HostRuntime) -> Result<(), Fail> {
 fn no_item_is_a_dash(rt: HostRuntime) -> Result<(), Fail> {
     let mut list = UpTo::<bool, 3>::new();
     assert!(rt; UpTo::read(b"-") == Some(list));
+    assert!(rt; list.fits());
     assert!(rt; list.to_string(rt.alloc())?.as_str() == "-");
     list.push(false);
     list.push(true);
+    assert!(rt; list.fits());
     assert!(rt; UpTo::read(b"false+true") == Some(list));
     assert!(rt; list.to_string(rt.alloc())?.as_str() == "false+true");
     assert!(rt; UpTo::<bool, 3>::read(b"").is_none());

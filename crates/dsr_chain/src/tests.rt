@@ -210,6 +210,17 @@ fn holds(rt: &impl Abort, two: &[SignedRequest]) -> Result<(), Fail> {
 }
 
 #[test]
+fn a_client_of_the_shape_asks_by_its_own_signature(rt: HostRuntime) -> Result<(), Fail> {
+    let desk = open_desk(rt.alloc())?;
+    let own = SignedRequest::by(request(1)?, &desk.c1);
+    let by_another = SignedRequest::by(request(1)?, &desk.c0);
+    assert!(rt; own.is_asked(&shape(2)?));
+    assert!(rt; !own.is_asked(&shape(1)?));
+    assert!(rt; !by_another.is_asked(&shape(2)?));
+    Ok(())
+}
+
+#[test]
 fn compares_signed_requests(rt: HostRuntime) -> Result<(), Fail> {
     let desk = open_desk(rt.alloc())?;
     let signed = SignedRequest::by(request(0)?, &desk.c0);
@@ -248,6 +259,13 @@ fn has_parts(rt: &impl Abort, chain: &Chain, act: SlotValue, request: Request) {
     assert_eq!(rt; chain.slot(), 7);
     assert!(rt; chain.value().same(&act));
     assert!(rt; chain.content() == Requests::of(&[request]));
+    assert_eq!(rt; chain.signed().len(), 1);
+    assert!(rt;
+        chain
+            .signed()
+            .iter()
+            .all(|signed| signed.request == request)
+    );
     assert_eq!(rt; chain.signatures().len(), 1);
     assert!(rt; chain.has_signer(R0));
     assert!(rt; !chain.has_signer(Actor::Client(ClientId::FIRST)));

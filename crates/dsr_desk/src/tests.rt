@@ -216,6 +216,21 @@ fn spells_statements(rt: HostRuntime) -> Result<(), Fail> {
 }
 
 #[test]
+fn a_link_fits_up_to_slot_2_to_the_40(rt: HostRuntime) -> Result<(), Fail> {
+    assert!(rt; Statement::Ask(read_a(1)?).fits());
+    assert!(rt;
+        link(
+            1_099_511_627_775,
+            Requests::of(&[read_a(1)?]),
+            two_signers()
+        )
+        .fits()
+    );
+    assert!(rt; !link(1_099_511_627_776, None, Signers::new()).fits());
+    Ok(())
+}
+
+#[test]
 fn reads_no_other_statement(rt: HostRuntime) {
     let others = [
         "",

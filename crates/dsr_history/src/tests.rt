@@ -159,6 +159,7 @@ fn a_machine_with_room_accepts_8_requests(rt: HostRuntime) -> Result<(), Fail> {
     let a = Name::read(b"a")?;
     let mut machine = machine_of(rt.alloc(), 1)?;
     makes_room(&rt, &mut machine)?;
+    assert!(rt; machine.spare() >= 8);
     accepts_8(&rt, &mut machine)?;
     assert_eq!(rt; machine.answer_at(7), Some(Answer::Removed(Some(7))));
     assert_eq!(rt; machine.get(&a), None);

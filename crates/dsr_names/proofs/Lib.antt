@@ -1,4 +1,5 @@
 pub mod BitLemmas
 mod OldLemmas
 mod ReplicaSets
+mod ReplicaTokens
 mod Sending

@@ -1,21 +1,20 @@
 -- Sets of replicas as the bits of a number, as lists that rise, and as texts.
-use Rattle.std.proofs.Common.{◌≡◌, ◌≢◌, ℕ, zero, suc, ◌+◌, ◌*◌, ◌%◌, ◌/◌, ◌^◌, ◌<◌, ◌≤◌, Bool, true, false, cond, eqb, List, [], ◌∷◌, ◌++◌, length, sym, ◌∙◌, ap, refl, Option, None, Some, add-one, arith, lit<, lit≤, inl, inr, bit_and, eq-eqb, length-append, w16}
+use Rattle.std.proofs.Common.{◌≡◌, ◌≢◌, ℕ, zero, suc, ◌+◌, ◌*◌, ◌%◌, ◌/◌, ◌^◌, ◌<◌, ◌≤◌, Bool, true, false, cond, eqb, List, [], ◌∷◌, ◌++◌, length, sym, ◌∙◌, ap, refl, Option, None, Some, add-one, arith, lit<, lit≤, bit_and, eq-eqb, length-append, le_refl}
 use Rattle.std.specs.Prelude.{All}
 use Rattle.std.specs.Int.{bit_at}
-use Rattle.std.specs.Int.Bits.{bit_or}
+use Rattle.std.specs.Int.Bits.{bit_or, or_add_and}
 use Rattle.std.specs.Fmt.{decimal}
 use Rattle.std.proofs.lemmas.List.{append-nil}
 use Rattle.std.proofs.lemmas.List.Elements.{All-nil, All-cons, All-append}
-use Rattle.std.proofs.lemmas.Bool.{cases_eq, cases_lt, eqb-true, ne_eqb, false≢true}
-use Rattle.std.proofs.lemmas.Nat.Bits.{bit_at-lt, bit_at-zero, bit_at_above, bit_at_set_same, bit_at_set_other, same_from_bits, shr_and_one}
+use Rattle.std.proofs.lemmas.Bool.{eqb-true, ne_eqb, false≢true}
+use Rattle.std.proofs.lemmas.Nat.{pow_pos, mod-pow-add, one_shl}
+use Rattle.std.proofs.Math.Nat.{mod-eq_of_lt, mod-lt}
+use Rattle.std.proofs.lemmas.Nat.Bits.{bit_at-lt, bit_at_above, and_pow, shr_and_one}
 use Rattle.dsr_base.specs.Reads.{Reads}
 use Rattle.dsr_base.specs.Joined.{AreUpTo}
 use Rattle.dsr_base.specs.Split.{IsAbsent}
 use Rattle.dsr_base.proofs.Marks.{one_cut, decimal_without_low}
 use Rattle.dsr_base.proofs.ReadsLemmas.{reads_none, reads_some, not_read, was_read, only_read}
-use Rattle.dsr_names.specs.declared.actor.Actor.{Actor}
-use Rattle.dsr_names.specs.declared.actor.Actor.TheVariants.{Replica, Client}
-use Rattle.dsr_names.specs.Actor.{IsNumbered, actor_text, replica_text}
 use Rattle.dsr_base.specs.Bits.{is_bit_set, bits_with}
 use Rattle.dsr_names.specs.Shape.{shape_of}
 use Rattle.dsr_names.specs.ShapeText.{numbers_below, replicas_of, replicas_text, shape_text}
@@ -61,78 +60,33 @@ with_append : (bits : ℕ) (is js : List ℕ) → bits_with bits (is ++ js) ≡ 
 with_append bits [] js = refl
 with_append bits (i ∷ is) js = with_append (bit_or bits (1 * 2 ^ i % 2 ^ 16)) is js
 
-above : (bits n : ℕ) → n ≤ 16 → (i : ℕ) → n ≤ i → bit_at (bits_with 0 (numbers_below (is_bit_set bits) n)) i ≡ 0
-above bits zero fits i high = bit_at-zero i
-above bits (suc n) fits i high =
-    let so_far = bits_with 0 (numbers_below (is_bit_set bits) n) in
-    let clear = above bits n (omega arith) i (omega arith) in
-    let other : i ≢ n = λ e. omega arith in
-    rw (with_append 0 (numbers_below (is_bit_set bits) n) (cond (is_bit_set bits n) (n ∷ []) []))
-    (elim (is_bit_set bits n) as (λ b. bit_at (bits_with so_far (cond b (n ∷ []) [])) i ≡ 0) [
-      | true ↦ bit_at_set_other w16 so_far n (omega arith) i other ∙ clear
-      | false ↦ clear
-    ])
+-- a number up to its next bit
+one_more : (bits n : ℕ) → bits % 2 ^ suc n ≡ bit_at bits n * 2 ^ n + bits % 2 ^ n
+one_more bits n = let same : suc n ≡ 1 + n = omega arith in ap (λ k. bits % 2 ^ k) same ∙ mod-pow-add bits 1 n
 
-last : (bits so_far n : ℕ) (b : Bool) → n < 16 → bit_at so_far n ≡ 0 → is_bit_set bits n ≡ b
-    → bit_at (bits_with so_far (cond b (n ∷ []) [])) n ≡ bit_at bits n
-last bits so_far n true room clear e = bit_at_set_same w16 so_far n room ∙ sym (eqb-true (bit_at bits n) 1 e)
-last bits so_far n false room clear e =
+next : (bits so_far n : ℕ) (b : Bool) → n < 16 → so_far ≡ bits % 2 ^ n → is_bit_set bits n ≡ b → bits_with so_far (cond b (n ∷ []) []) ≡ bits % 2 ^ suc n
+next bits so_far n true room is e =
+    let clear : bit_at so_far n ≡ 0 = bit_at_above so_far n n (rw is (mod-lt bits (pow_pos n))) (le_refl n) in
+    let none : bit_and so_far (2 ^ n) ≡ 0 * 2 ^ n = and_pow so_far n ∙ ap (λ v. v * 2 ^ n) clear in
+    let set : bit_at bits n * 2 ^ n ≡ 1 * 2 ^ n = ap (λ v. v * 2 ^ n) (eqb-true (bit_at bits n) 1 e) in
+    let sum : bit_or so_far (2 ^ n) ≡ bits % 2 ^ suc n = omega (arith, none, or_add_and so_far (2 ^ n), set, one_more bits n, is) in
+    ap (bit_or so_far) (one_shl n 16 room) ∙ sum
+next bits so_far n false room is e =
     let no : bit_at bits n ≡ 1 → ⊥ = λ one. false≢true (sym e ∙ eq-eqb (bit_at bits n) 1 one) in
-    omega (arith, clear, bit_at-lt bits n, no)
+    let zero_bit : bit_at bits n ≡ 0 = omega (arith, bit_at-lt bits n, no) in
+    let clear : bit_at bits n * 2 ^ n ≡ 0 * 2 ^ n = ap (λ v. v * 2 ^ n) zero_bit in
+    omega (arith, clear, one_more bits n, is)
 
-below : (bits n : ℕ) → n ≤ 16 → (i : ℕ) → i < n → bit_at (bits_with 0 (numbers_below (is_bit_set bits) n)) i ≡ bit_at bits i
-below bits zero fits i low = absurd (omega arith)
-below bits (suc n) fits i low =
-    let so_far = bits_with 0 (numbers_below (is_bit_set bits) n) in
-    rw (with_append 0 (numbers_below (is_bit_set bits) n) (cond (is_bit_set bits n) (n ∷ []) []))
-    (elim (cases_eq i n) [
-      | inl same ↦
-          rw same (last bits so_far n (is_bit_set bits n) (omega arith) (above bits n (omega arith) n (omega arith)) refl)
-      | inr other ↦
-          let here = below bits n (omega arith) i (omega (arith, other)) in
-          elim (is_bit_set bits n) as (λ b. bit_at (bits_with so_far (cond b (n ∷ []) [])) i ≡ bit_at bits i) [
-            | true ↦ bit_at_set_other w16 so_far n (omega arith) i other ∙ here
-            | false ↦ here
-          ]
-    ])
+set_below : (bits n : ℕ) → n ≤ 16 → bits_with 0 (numbers_below (is_bit_set bits) n) ≡ bits % 2 ^ n
+set_below bits zero fits = omega arith
+set_below bits (suc n) fits =
+    with_append 0 (numbers_below (is_bit_set bits) n) (cond (is_bit_set bits n) (n ∷ []) [])
+    ∙ next bits (bits_with 0 (numbers_below (is_bit_set bits) n)) n (is_bit_set bits n) (omega arith) (set_below bits n (omega arith)) refl
 
 -- a set of replicas is that of its list
 bits_of_replicas : (bits : ℕ) → bits < 2 ^ 16 → bits_with 0 (replicas_of bits) ≡ bits
 unfolding replicas_of
-bits_of_replicas bits small =
-    same_from_bits (bits_with 0 (numbers_below (is_bit_set bits) 16)) bits
-    (λ i. elim (cases_lt i 16) [
-      | inl low ↦ below bits 16 (lit≤ tt) i low
-      | inr high ↦ above bits 16 (lit≤ tt) i high ∙ sym (bit_at_above bits 16 i small high)
-    ])
-
--- ---- actors that are replicas
-
-abbrev pub ReadsActor : List ℕ → Option Actor → Type 0
-ReadsActor = Reads IsNumbered actor_text
-
-abbrev pub ReadsReplica : List ℕ → Option ℕ → Type 0
-ReadsReplica = Reads (λ (r : ℕ). r < 16) replica_text
-
-same_replica : (r s : ℕ) → Replica r ≡ Replica s → r ≡ s
-same_replica r s e = cc
-
-client_is_replica : (r s : ℕ) → Client r ≡ Replica s → ⊥
-client_is_replica r s e = cc
-
-pub no_actor : (bytes : List ℕ) → ReadsActor bytes None → ReadsReplica bytes None
-no_actor bytes reads = reads_none (λ (r : ℕ). r < 16) replica_text bytes (λ r small e. not_read IsNumbered actor_text bytes reads (Replica r) small e)
-
-pub a_client : (bytes : List ℕ) (c : ℕ) → ReadsActor bytes (Some (Client c)) → ReadsReplica bytes None
-a_client bytes c reads =
-    reads_none (λ (r : ℕ). r < 16) replica_text bytes
-    (λ r small e. client_is_replica c r (only_read IsNumbered actor_text bytes (Client c) reads (Replica r) small e))
-
-pub a_replica : (bytes : List ℕ) (r : ℕ) → ReadsActor bytes (Some (Replica r)) → ReadsReplica bytes (Some r)
-a_replica bytes r reads =
-    let read = was_read IsNumbered actor_text bytes (Replica r) reads in
-    reads_some (λ (s : ℕ). s < 16) replica_text bytes r read.0 read.1
-    (λ s small e. same_replica r s (only_read IsNumbered actor_text bytes (Replica r) reads (Replica s) small e))
+bits_of_replicas bits small = set_below bits 16 (lit≤ tt) ∙ mod-eq_of_lt small
 
 -- ---- texts
 

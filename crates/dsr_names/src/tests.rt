@@ -270,6 +270,7 @@ fn a_shape_tells_its_parts(rt: HostRuntime) -> Result<(), Refusal> {
     assert!(rt; shape.n() == 3);
     assert!(rt; shape.f() == 1);
     assert!(rt; shape.m() == 2);
+    assert!(rt; shape.traitors() == 2);
     Ok(())
 }
 

@@ -84,6 +84,16 @@ fn spells(rt: &impl Abort, alloc: Global, text: &str) -> Result<Requests, Fail> 
 }
 
 #[test]
+fn a_line_is_read_with_spaces(rt: HostRuntime) {
+    let request = Request::read(b"c0#7:write:a:5");
+    assert!(rt; request.is_some());
+    assert!(rt; Request::read_line(b"c0 7 write a 5") == request);
+    for text in ["", "c0#7:write:a:5", "c0 7 write a 5 ", "r0 7 write a 5"] {
+        assert!(rt; Request::read_line(text.as_bytes()).is_none(), "{text}");
+    }
+}
+
+#[test]
 fn spells_lists_of_requests(rt: HostRuntime) -> Result<(), Fail> {
     let texts = [
         "c0#7:write:a:5",

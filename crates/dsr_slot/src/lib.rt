@@ -6,7 +6,7 @@ mod kept;
 mod laws;
 mod slot_state;
 
-pub use laws::{agreement_and_validity, rules_are_blind, first_two_contents_are_kept};
+pub use laws::{agreement_and_validity, first_two_contents_are_kept, rules_are_blind};
 pub use slot_state::SlotState;
 
 #[cfg(test)]

@@ -1,5 +1,5 @@
 use Rattle.std.proofs.Common.{sym, subst}
-use Rattle.dsr_names.proofs.ReplicaSets.{ReadsReplica, no_actor, a_client, a_replica}
+use Rattle.dsr_names.proofs.ReplicaTokens.{ReadsReplica, no_actor, a_client, a_replica}
 use Rattle.dsr_names.proofs.actor.ReplicaId.read.Goals as goal
 
 pub returns-in_err-replica : goal.returns-in_err-replica
