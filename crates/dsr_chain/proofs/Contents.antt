@@ -1,5 +1,5 @@
 -- Lists of signed requests with the same requests, whatever signatures stand beside them.
-use Rattle.std.proofs.Common.{◌≡◌, ◌≤◌, ◌-◌, ◌↔◌, Bool, true, false, List, [], ◌∷◌, length, take, drop, get_or, map, arith, ap, ap₂, sym, ◌∙◌, refl, Option, None, Some}
+use Rattle.std.proofs.Common.{◌≡◌, ◌≤◌, ◌-◌, ◌↔◌, Bool, true, false, List, [], ◌∷◌, length, take, drop, get_or, map, arith, ap, ap₂, sym, ◌∙◌, refl, None, Some}
 use Rattle.std.specs.Prelude.{IsTrue}
 use Rattle.std.proofs.lemmas.Grind.{common_steps}
 use Rattle.dsr_request.specs.Request.{Request}

@@ -28,8 +28,8 @@ invariant_of-self c =
     let place : c.len-place.result ≡ length c.self.inside.history.items = search rules in
     machine_after c.self.inside _ c.args.request.now c.apply-answer.result c.number-number.result c.len-place.result c.client-client.result
     c.self.invariant c.number-number.ensures.same c.client-client.ensures (omega (arith, c.requires.client, ap (λ m. m.clients) c.self.view_is)) place
-    (λ ops stands. c.apply-answer.ensures.answer ops stands ∙ ap (answer_after ops) c.op.ensures)
-    (λ ops stands. subst (λ op. StandsFor c.apply-answer.new.self (op ∷ ops)) c.op.ensures (c.apply-answer.ensures.change ops stands))
+    (λ ops stands. c.apply-answer.ensures.answer ops stands ∙ ap (answer_after ops) c.op.ensures.same)
+    (λ ops stands. subst (λ op. StandsFor c.apply-answer.new.self (op ∷ ops)) c.op.ensures.same (c.apply-answer.ensures.change ops stands))
     c.note.ensures
     c.push_reserved.ensures.items
     c.push_reserved-2.ensures.items
