@@ -5,7 +5,7 @@ Runs the built program on some examples with its 1st, 2nd, 3rd .. allocation ref
 that met one must end with status 3, write nothing on standard output, and say so on standard error; the last one must do
 what it does with ample memory.
 
-Then it runs the tests of the crates below the command line whose calls can answer that memory was refused, one by one and
+Then it runs the tests of the crates below the command line whose calls can return that memory was refused, one by one and
 in the same way. A test that meets a refusal must pass, or end with that error, or with an assertion that got that error
 (`WriteFailed` where what is written goes to memory). One that ends otherwise got a wrong answer in its place.
 
@@ -22,8 +22,8 @@ import tempfile
 TOP = os.path.dirname(os.path.dirname(os.path.realpath(__file__)))
 PROGRAM = f"{TOP}/crates/dsr/out/dsr"
 EXAMPLES = ["first-lines", "swaps", "repeated-numbers", "full-table"]
-# The crates whose calls answer that memory was refused by an error. dsr_command and dsr_cli tell it otherwise: their calls
-# are in the runs of the program.
+# The crates whose tests end with an error where memory was refused; those of dsr_base and dsr_request allocate only what they
+# print. dsr_rotation allocates nothing. dsr_command and dsr_cli say it otherwise: their calls are in the runs of the program.
 CRATES = ["dsr_base", "dsr_names", "dsr_request", "dsr_register", "dsr_ledger", "dsr_history", "dsr_desk", "dsr_chain", "dsr_slot"]
 MOST_RUNS = 20_000
 WANT_OF_MEMORY = re.compile(rb"^(?:[Ee]rror:|  left:) .*(NoMemory|AllocError|AllocFailed|WriteFailed)", re.M)
