@@ -181,7 +181,7 @@ fn none_is_set(flags: &[bool]) -> bool
     flags.iter().all(|flag| !*flag)
 }
 
-/// Sets the flag at this place, and tells whether it stood there and was not set.
+/// Sets the flag at this place, and returns whether there is one that was not set.
 fn set_flag(flags: &mut Vec<bool>, place: u8) -> bool
     ensures first { IsTrue result ↔ (slice_get flags.old.items place ≡ Some false) }
     ensures set { OnTrue result (flags.new.items ≡ slice_set flags.old.items place true) }

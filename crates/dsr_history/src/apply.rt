@@ -66,7 +66,7 @@ fn first_line(text: &[u8]) -> Option<Line<'_>>
 }
 
 impl Run {
-    /// Answers the lines of the text up to the first that is no request's, and tells that line, counted from 1.
+    /// Answers the lines of the text up to the first that is no request's, and returns that line's number, counted from 1.
     fn answer_lines(&mut self, text: &[u8]) -> Result<Option<u64>, Refusal>
         requires clients { self.old.machine.clients ≡ 32 }
         requires new { self.old.machine.history ≡ [] }

@@ -22,8 +22,8 @@ impl Model for Ledger {
 }
 
 impl Ledger {
-    /// The ledger of `clients` clients, none of which had a reply. Its memory is taken here, and none
-    /// after that. `NoMemory` where it is refused.
+    /// The ledger of `clients` clients, none of which had a reply. All its memory is allocated here.
+    /// `NoMemory` where memory runs out.
     pub fn new(alloc: Global, clients: u8) -> Result<Ledger, Refusal>
         ensures empty { IfOk result (λ ledger. ledger ≡ replicate clients None) }
         ensures refusal { IsOkUnless result Refusal.NoMemory }

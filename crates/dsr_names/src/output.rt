@@ -22,7 +22,7 @@ pub trait Sink {
     // The sink never fails, and takes at least one byte where there is one.
     ghost is_steady: { Self → Type 0 } = { λ _. ⊥ };
 
-    /// Takes some bytes from the front and says how many.
+    /// Takes some of the first bytes and returns how many.
     fn take(&mut self, bytes: &[u8]) -> io::Result<usize>
         ensures bound { WritesAtMost result bytes.now }
         ensures appends { WriteAppends (contents self.old) (contents self.new) result bytes.now }

@@ -50,7 +50,7 @@ fn within_limits(n: u64, f: u64, m: u64, traitors: u16) -> Result<Shape, Refusal
     Shape::new(n as u8, f as u8, m as u8, traitors)
 }
 
-/// A number and the space after it at the front of the bytes, and what follows.
+/// A number and the space after it at the beginning of the bytes, and what follows.
 fn read_field(bytes: &[u8]) -> Option<(u64, &[u8])>
     ensures spelled { IfSome result (λ field. (field.0 < 2 ^ 40) × (bytes.now ≡ decimal field.0 ++ (codes " " ++ field.1.now))) }
     ensures read { (n : ℕ) (rest : List ℕ) → n < 2 ^ 40 → bytes.now ≡ decimal n ++ (codes " " ++ rest)
