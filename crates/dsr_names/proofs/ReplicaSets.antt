@@ -15,7 +15,8 @@ use Rattle.dsr_base.specs.Joined.{AreUpTo}
 use Rattle.dsr_base.specs.Split.{IsAbsent}
 use Rattle.dsr_base.proofs.Marks.{one_cut, decimal_without_low}
 use Rattle.dsr_base.proofs.ReadsLemmas.{reads_none, reads_some, not_read, was_read, only_read}
-use Rattle.dsr_base.specs.Bits.{is_bit_set, bits_with}
+use Rattle.dsr_base.specs.Bits.{is_bit_set}
+use Rattle.dsr_names.specs.Support.ReplicaSets.{bits_with}
 use Rattle.dsr_names.specs.Shape.{shape_of}
 use Rattle.dsr_names.specs.ShapeText.{numbers_below, replicas_of, replicas_text, shape_text}
 

@@ -1,6 +1,6 @@
 ghost use Rattle.std.specs.Prelude.{◌≡◌, ◌<◌, ◌^◌};
 ghost use Rattle.dsr_names.specs.ShapeText.{replicas_of};
-ghost use Rattle.dsr_base.specs.Bits.{bits_with};
+ghost use Rattle.dsr_names.specs.Support.ReplicaSets.{bits_with};
 
 use crate::actor::ReplicaId;
 use dsr_base::UpTo;

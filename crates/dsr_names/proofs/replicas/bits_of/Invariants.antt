@@ -1,5 +1,5 @@
 use Rattle.std.proofs.Common.{◌≡◌, drop}
-use Rattle.dsr_base.specs.Bits.{bits_with}
+use Rattle.dsr_names.specs.Support.ReplicaSets.{bits_with}
 use Rattle.dsr_names.proofs.replicas.bits_of.Given as goal
 
 -- with the replicas that are left it is the whole set

@@ -1,6 +1,6 @@
 use Rattle.std.proofs.Common.{◌∙◌, ap, sym, subst}
 use Rattle.std.proofs.lemmas.Bool.{false≢true}
-use Rattle.dsr_base.specs.Bits.{bits_with}
+use Rattle.dsr_names.specs.Support.ReplicaSets.{bits_with}
 use Rattle.dsr_names.specs.ShapeText.{replicas_of}
 use Rattle.dsr_names.proofs.ReplicaSets.{ReadsSet, no_list, its_list, another_list}
 use Rattle.dsr_names.proofs.shape_text.read_traitors.Goals as goal
