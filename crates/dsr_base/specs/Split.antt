@@ -1,4 +1,5 @@
 -- Parts of a text: what stands before a mark, within parentheses or without (this project).
+-- Parentheses are one level deep: the first `)` ends them.
 use Rattle.std.specs.Prelude.{◌≡◌, ◌≢◌, ℕ, Bool, true, false, ◌==◌, if◌then◌else◌, List, [], ◌∷◌, All}
 
 -- the byte stands nowhere in the text
@@ -19,7 +20,7 @@ abbrev pub IsFree : ℕ → Bool → List ℕ → Type 0
 IsFree mark inside [] = Unit {0}
 IsFree mark inside (b ∷ bs) = (inside ≡ false → b ≢ mark) × IsFree mark (is_inside_with inside b) bs
 
--- a text that the mark can follow: it has no such mark outside parentheses, and every parenthesis in it is closed
+-- a text that the mark can follow: it has no such mark outside parentheses, and ends outside them
 pub record IsPart (mark : ℕ) (bytes : List ℕ) : Type 0 where
   pub free : IsFree mark false bytes
   pub closed : is_inside_after false bytes ≡ false

@@ -121,7 +121,11 @@ impl<T: Exact, const N: usize> Few<T, N> {
 }
 
 impl<T: Copy, const N: usize> Clone for Few<T, N> {
+    ghost use Rattle.std.specs.Prelude.{⊤};
+
     ghost is_clone = { λ a b. a ≡ b };
+
+    ghost is_infallible = { λ _. ⊤ };
 
     fn clone(&self) -> Result<Self, AllocError> {
         Ok(*self)

@@ -27,10 +27,10 @@ pub trait Token: Copy + fmt::Display {
 
     ghost ascii: { MARK < 128 };
 
-    // no token has the mark in it, but in parentheses
+    // no token has the mark outside parentheses, and none ends inside them
     ghost apart: { (x : Self) → is x → IsPart MARK (text x) };
 
-    // every token begins with a digit or a letter, so that none is a dash
+    // every token begins with a byte above that of a dash, so that none is a dash or empty
     ghost begun: { (x : Self) → is x → 45 < get_or (text x) 0 0 };
 
     ghost shown: { (x : Self) → Self.output x ≡ Some (text x) };

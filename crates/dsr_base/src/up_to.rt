@@ -83,7 +83,11 @@ impl<T: Exact, const N: usize> UpTo<T, N> {
 }
 
 impl<T: Copy, const N: usize> Clone for UpTo<T, N> {
+    ghost use Rattle.std.specs.Prelude.{⊤};
+
     ghost is_clone = { λ a b. a ≡ b };
+
+    ghost is_infallible = { λ _. ⊤ };
 
     fn clone(&self) -> Result<Self, AllocError> {
         Ok(*self)

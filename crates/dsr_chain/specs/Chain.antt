@@ -17,7 +17,7 @@ pub record Chain : Type 0 where
 abbrev pub chain_of : ℕ → SlotValue → List Signature → Chain
 chain_of slot value signatures = record { slot = slot; value = value; signatures = signatures }
 
--- who signed, in the order in which they did
+-- the signers of these signatures, in the order of the list
 abbrev pub signers_of : List Signature → List Actor
 signers_of signatures = map (λ s. s.signer) signatures
 

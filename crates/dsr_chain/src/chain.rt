@@ -19,7 +19,7 @@ struct Body {
     signatures: Vec<Signature>,
 }
 
-/// The value of a slot with at most 16 signatures on it. A chain is never changed: copies share what
+/// The value of a slot with at most 16 signatures beside it. A chain is never changed: copies share what
 /// they hold, and chains made by `extend` share their value.
 #[derive(Drop)]
 pub struct Chain {
@@ -57,7 +57,8 @@ impl Chain {
     }
 
     /// The chain with the key's signature put at its end, on the link that fits there. Requires that it has
-    /// fewer than 16 signatures. The chain itself comes back with `NoMemory`, where memory runs out.
+    /// fewer than 16 signatures. The chain itself comes back with `NoMemory`, where memory runs out
+    /// or one handle more is refused.
     pub fn extend(self, alloc: Global, key: &Key) -> Result<Chain, (Chain, Refusal)>
         requires { length self.signatures < 16 }
         ensures extended { IfOk result (λ chain. chain ≡ extended self key.now) }

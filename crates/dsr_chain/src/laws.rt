@@ -20,7 +20,7 @@ pub fn proper_means_no_fault()
 {}
 
 /// The tests on which definitions branch tell what the facts say: `is_proper` holds exactly of proper chains,
-/// `is_asked` exactly where the client asked for the request, `same_content` exactly of equal contents, `is_signer`
+/// `is_asked` exactly of a request of a client of the shape that has that client's signature beside it, `same_content` exactly of equal contents, `is_signer`
 /// exactly where one of the signatures is the actor's, and `actor_eq` exactly of equal actors.
 pub fn tests_decide_the_facts()
     ensures proper { (shape : Shape) (slot round : ℕ) (chain : Chain)

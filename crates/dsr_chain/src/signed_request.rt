@@ -27,7 +27,7 @@ impl SignedRequest {
         }
     }
 
-    /// Whether the client asked for the request: it is a client of the shape, and the signature beside the request is its
+    /// Whether the request has its client's signature: the client is a client of the shape, and the signature beside the request is its
     /// own on that request.
     pub fn is_asked(&self, shape: &Shape) -> bool
         ensures { IsTrue result ↔ IsAsked shape.now self.now }

@@ -29,8 +29,7 @@ impl Statement {
         }
     }
 
-    /// Whether the statement has a text: a link's slot is below 2^40. All else of a statement in hand can be
-    /// spelled.
+    /// Whether the statement has a text. That only a link's slot from 2^40 on can prevent it is read in the code.
     pub fn fits(&self) -> bool
         ensures { IsTrue result ↔ IsStatement self.now }
     {

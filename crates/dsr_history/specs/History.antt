@@ -1,5 +1,5 @@
 -- Which requests act, and what each is answered. Values, requests and histories stand newest first: a place is the
--- number of older requests. A value is the list of requests that one slot decides, oldest first; the empty one is idle.
+-- number of older requests. A value is a list of requests, oldest first; the empty one is idle.
 use Rattle.std.specs.Prelude.{◌≡◌, ℕ, ◌<◌, Bool, true, not, ◌&&◌, ◌||◌, ◌==◌, nat_lt, if◌then◌else◌, List, [], ◌∷◌, ◌++◌, length, map, reverse, Option, None, Some}
 use Rattle.dsr_base.specs.Member.{In}
 use Rattle.dsr_request.specs.declared.op.Op.{Op}

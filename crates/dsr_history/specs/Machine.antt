@@ -4,8 +4,8 @@ use Rattle.std.specs.Prelude.{◌≡◌, ℕ, List}
 use Rattle.dsr_request.specs.Request.{Request}
 use Rattle.dsr_history.specs.History.{acted}
 
--- the requests that acted, newest first; for how many clients it keeps replies; and how many more requests it can
--- take before it needs memory
+-- the requests that acted, newest first; for how many clients it keeps replies; and for how many more
+-- requests its lists have room
 pub record Machine : Type 0 where
   pub history : List Request
   pub clients : ℕ

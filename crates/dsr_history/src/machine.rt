@@ -66,7 +66,8 @@ impl Machine {
         Ok(())
     }
 
-    /// For how many more requests there is room: so many can act before anything is allocated.
+    /// For how many more requests both lists have room. Where that is less than 8, `accept_value` makes more, however
+    /// few its requests are.
     pub fn spare(&self) -> usize
         ensures { result ≡ self.now.room }
     {
@@ -77,7 +78,7 @@ impl Machine {
 
     /// Processes the requests of a value in the order of its list, and says how many of them acted; the empty
     /// list is the idle value. Requires at most 8 requests, all of clients of the shape, and a history shorter
-    /// than 2^39. `NoMemory` where there was no room and memory ran out: then nothing changed, but that there
+    /// than 2^39. `NoMemory` where there was room for fewer than 8 requests and memory for more was refused: then nothing changed, but that there
     /// may be more room. Otherwise no more room goes than that of the requests.
     pub fn accept_value(&mut self, requests: &[Request]) -> Result<u8, Refusal>
         requires few { length requests.now ≤ 8 }

@@ -7,7 +7,7 @@ use Rattle.dsr_slot.specs.declared.kept.Kept.{Kept}
 use Rattle.dsr_slot.specs.Keeping.{keep, kept_after}
 use Rattle.dsr_slot.specs.Decision.{decision}
 
--- the slot, how many of its rounds are closed, and what is kept
+-- the shape, the slot, how many of its rounds are closed, and what is kept
 pub record SlotState : Type 0 where
   pub shape : Shape
   pub slot : ℕ
@@ -18,7 +18,7 @@ pub record SlotState : Type 0 where
 abbrev pub opened : Shape → ℕ → SlotState
 opened shape slot = record { shape = shape; slot = slot; closed = 0; kept = [] }
 
--- the state after one more round, in which these chains were read
+-- the state after this round is closed, in which these chains were read
 abbrev pub with_round : SlotState → ℕ → List Chain → SlotState
 with_round state round chains = record state { closed = round; kept = keep state.shape state.slot round state.kept chains }
 

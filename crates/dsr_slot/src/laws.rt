@@ -19,12 +19,13 @@ ghost use Rattle.dsr_slot.specs.Kept.{CameFrom, Hears};
 
 /// Agreement and validity of the broadcast (Dolev and Strong 1983). Whatever at most f traitors give to whom
 /// in the f+1 rounds of a slot, as long as each loyal replica gives every replica what its conduct asks for, no
-/// traitor gives a loyal replica's signature on a link of the slot that this replica did not post, and clients of
-/// the shape signed the requests of the value: all loyal replicas decide the same. And where the sender is loyal
+/// traitor gives a loyal replica's signature on a link of the slot that this replica did not post, and beside
+/// each request of the value stands the signature on it of its client, a client of the shape: all loyal replicas decide the same. And where the sender is loyal
 /// they decide the value, however many are traitors.
 ///
-/// The requests of what a replica decides were signed by clients of the shape, whatever it read. And there is such an
-/// exchange for every value whose requests were signed so: one in which traitors give nothing at all.
+/// Beside each request of what a replica decides stands the signature on it of its client, a client of the shape, whatever
+/// was read. And there is such an exchange for every value whose requests have such signatures: one in which traitors give
+/// nothing at all.
 pub fn agreement_and_validity()
     ensures agreement { (shape : Shape) (slot : ℕ) (value : SlotValue) (given : Exchange)
         → HasFewTraitors shape → IsBroadcast shape slot value given

@@ -86,7 +86,8 @@ impl SlotState {
     /// The chains that the key's holder relays in this round of the slot: those that were kept in the round
     /// before and that it has not signed, with its signature put at their end, in the order in which they were
     /// kept. So they are at most two. Any round may be asked for; but past round f+1, where what was kept in the
-    /// round before is still given, a loyal replica posts nothing of the slot. `NoMemory` where memory runs out;
+    /// round before is still given, a loyal replica posts nothing of the slot. `NoMemory` where memory runs out or
+    /// one handle more is refused;
     /// relaying nothing allocates nothing.
     pub fn relays(&self, alloc: Global, round: u8, key: &Key) -> Result<Vec<Chain>, Refusal>
         ensures relayed { IfOk result (λ chains. chains.items ≡ relayed key.now round self.now.kept) }
@@ -107,7 +108,8 @@ impl SlotState {
     }
 
     /// What is decided: the value of the one kept chain, idle where none or two are kept. `None` until round
-    /// f+1 is closed. Clients of the shape signed the requests of the value.
+    /// f+1 is closed. Beside each request of the value stands the signature on it of its
+    /// client, a client of the shape.
     pub fn decide(&self) -> Option<SlotValue>
         ensures decision { result ≡ decision_of self.now }
         ensures when { IsSome result ↔ (self.now.closed ≡ self.now.shape.f + 1) }
@@ -141,7 +143,7 @@ impl SlotState {
         }
     }
 
-    /// Whether the chain is to be kept. The test of its signatures, which is the dear one, comes last.
+    /// Whether the chain is to be kept. The test of its signatures, which costs most, comes last.
     fn is_news(&self, round: u8, chain: &Chain) -> bool
         requires some { 0 < round }
         requires within { round ≤ self.now.shape.f + 1 }
