@@ -78,8 +78,8 @@ impl Machine {
 
     /// Processes the requests of a value in the order of its list, and says how many of them acted; the empty
     /// list is the idle value. Requires at most 8 requests, all of clients of the shape, and a history shorter
-    /// than 2^39. `NoMemory` where there was room for fewer than 8 requests and memory for more was refused: then nothing changed, but that there
-    /// may be more room. Otherwise no more room goes than that of the requests.
+    /// than 2^39. `NoMemory` where there was room for fewer than 8 requests and memory for more was refused: then
+    /// nothing changed, but that there may be more room. Otherwise no more room goes than that of the requests.
     pub fn accept_value(&mut self, requests: &[Request]) -> Result<u8, Refusal>
         requires few { length requests.now ≤ 8 }
         requires clients { All (λ r. r.client < self.old.clients) requests.now }
