@@ -1,8 +1,9 @@
-ghost use Rattle.std.specs.Prelude.{◌≡◌, ℕ, ◌+◌, ◌++◌, ◌↔◌, ◌<◌, ◌≤◌, List, length, min, Option, None, Some, IfOk, IfErr, IfSome, OnOk, IsOkAnd, IsErrOf, vec_len, IsOkUnless};
+ghost use Rattle.std.specs.Prelude.{◌≡◌, ◌+◌, ◌++◌, ◌↔◌, ◌<◌, ◌≤◌, length, min, Some, Ok, IsOk, IfOk, IfErr, IfSome, OnOk, IsErrOf, vec_len, IsOkUnless};
 ghost use Rattle.std.specs.Io.{ReadsAtMost};
 ghost use Rattle.std.specs.Io.KnownBytes.{ReadConsumes, IsAtEnd};
-ghost use Rattle.dsr_names.specs.Limits.{most_bytes};
+ghost use Rattle.dsr_names.specs.Limits.{most_bytes, most_calls};
 ghost use Rattle.dsr_names.specs.Refusal.{IsReadRefusal};
+ghost use Rattle.dsr_names.specs.Streams.{Input, unknown_input, CanFailToGive};
 
 use crate::outside::Outside;
 use crate::refusal::Refusal;
@@ -16,51 +17,51 @@ pub const MOST_BYTES: usize = 16_777_216;
 /// The most calls of a reader or a writer for one text.
 pub const MOST_CALLS: usize = 33_554_432;
 
-/// What an input is read from. A source in memory gives its bytes as long as it has any, and never fails.
+/// What an input is read from. A source may be steady: then it never fails.
 pub trait Source {
-    // The bytes that are left to give, where they are known.
-    ghost left: { Self → Option (List ℕ) } = { λ _. None };
-
-    // The source gives its bytes from memory.
-    ghost is_in_memory: { Self → Type 0 } = { λ _. ⊥ };
+    // What contracts see of it.
+    ghost input: { Self → Input } = { λ _. unknown_input };
 
     /// Puts some of what is left into the buffer and says how many bytes; 0 at the end.
     fn give(&mut self, buffer: &mut [u8]) -> io::Result<usize>
         ensures bound { ReadsAtMost result buffer.new }
-        ensures bytes { ReadConsumes (left self.old) (left self.new) result buffer.new }
-        ensures stays { is_in_memory self.old → is_in_memory self.new }
-        ensures sure { is_in_memory self.old → IfSome (left self.old) (λ bytes.
-            IsOkAnd result (λ n. n ≡ min (length bytes) (length buffer.new))) };
+        ensures bytes { ReadConsumes (input self.old).left (input self.new).left result buffer.new }
+        ensures steady { (input self.old).is_steady → IsOk result }
+        ensures stays { (input self.old).is_steady → (input self.new).is_steady }
+        ensures counted { (input self.new).calls ≤ (input self.old).calls + 1 };
 }
 
+/// Bytes in memory: a steady source.
 impl Source for &[u8] {
-    ghost left = { λ s. Some s.now };
+    ghost input = { λ s. record unknown_input { left = Some s.now; is_steady = Unit {0} } };
 
-    ghost is_in_memory = { λ _. Unit {0} };
-
-    fn give(&mut self, buffer: &mut [u8]) -> io::Result<usize> {
+    fn give(&mut self, buffer: &mut [u8]) -> io::Result<usize>
+        ensures bound { ReadsAtMost result buffer.new }
+        ensures bytes { ReadConsumes (Some self.old.now) (Some self.new.now) result buffer.new }
+        ensures count { result ≡ Ok (min (length self.old.now) (length buffer.new)) }
+    {
         self.read(buffer)
     }
 }
 
 impl<R: Read> Source for Outside<R> {
-    ghost left = { λ s. R.remaining s.0 };
+    ghost input = { λ s. record unknown_input { left = R.remaining s.0 } };
 
     fn give(&mut self, buffer: &mut [u8]) -> io::Result<usize> {
         self.0.read(buffer)
     }
 }
 
-/// All bytes that the source gives. `ReadFailed` where it fails, or gives more than `MOST_BYTES` bytes, or
-/// takes more than `MOST_CALLS` calls; a source in memory answers it only for too many bytes. `NoMemory`
+/// All bytes that the source gives, in at most `MOST_CALLS` calls. `ReadFailed` where it fails, or gives more than
+/// `MOST_BYTES` bytes, or takes more than `MOST_CALLS` calls; of a steady source only for too many bytes. `NoMemory`
 /// where the text finds no room. After either, what was read is gone.
 pub fn read_input<S: Source>(alloc: Global, source: &mut S) -> Result<Vec<u8>, Refusal>
-    ensures all { IfOk result (λ text. IfSome (S.left source.old) (λ bytes. text.items ≡ bytes)) }
-    ensures end { OnOk result (IsAtEnd (S.left source.new)) }
+    ensures all { IfOk result (λ text. IfSome (S.input source.old).left (λ bytes. text.items ≡ bytes)) }
+    ensures end { OnOk result (IsAtEnd (S.input source.new).left) }
     ensures fits { IfOk result (λ text. vec_len text ≤ most_bytes) }
     ensures refusals { IfErr result IsReadRefusal }
-    ensures in_memory { S.is_in_memory source.old → IsErrOf result Refusal.ReadFailed
-        → IfSome (S.left source.old) (λ bytes. most_bytes < length bytes) }
+    ensures failed { IsErrOf result Refusal.ReadFailed → CanFailToGive (S.input source.old) }
+    ensures calls { (S.input source.new).calls ≤ (S.input source.old).calls + most_calls }
 {
     let mut text = Vec::new(alloc);
     let mut buffer = [0u8; 8192];
@@ -93,10 +94,10 @@ fn keep(text: &mut Vec<u8>, bytes: &[u8]) -> Result<(), Refusal>
 /// Puts the next bytes of the source into the buffer and says how many; 0 at the end. `ReadFailed` where it fails.
 fn next_bytes<S: Source>(source: &mut S, buffer: &mut [u8]) -> Result<usize, Refusal>
     ensures bound { ReadsAtMost result buffer.new }
-    ensures bytes { ReadConsumes (S.left source.old) (S.left source.new) result buffer.new }
-    ensures stays { S.is_in_memory source.old → S.is_in_memory source.new }
-    ensures sure { S.is_in_memory source.old → IfSome (S.left source.old) (λ bytes.
-        IsOkAnd result (λ n. n ≡ min (length bytes) (length buffer.new))) }
+    ensures bytes { ReadConsumes (S.input source.old).left (S.input source.new).left result buffer.new }
+    ensures steady { (S.input source.old).is_steady → IsOk result }
+    ensures stays { (S.input source.old).is_steady → (S.input source.new).is_steady }
+    ensures counted { (S.input source.new).calls ≤ (S.input source.old).calls + 1 }
     ensures refusal { IsOkUnless result Refusal.ReadFailed }
 {
     match source.give(buffer) {

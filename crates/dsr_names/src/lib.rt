@@ -15,6 +15,7 @@ mod shape_text;
 #[cfg(test)]
 mod tests;
 mod token;
+mod told;
 
 pub use actor::{Actor, ClientId, ReplicaId};
 pub use input::{MOST_BYTES, MOST_CALLS, Source, read_input};
@@ -23,3 +24,4 @@ pub use outside::Outside;
 pub use refusal::Refusal;
 pub use shape::Shape;
 pub use token::{NUMBER_END, Old, read_num, read_old};
+pub use told::{tell, tell_refusal};

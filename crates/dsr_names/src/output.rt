@@ -1,8 +1,8 @@
-ghost use Rattle.std.specs.Prelude.{◌≡◌, ℕ, ◌-◌, ◌≤◌, List, length, Option, None, Some, Ok, ◌<◌, IsOk, IsOkAnd, OnOk, IfSome, vec_len, vec_capacity, IsOkUnless};
+ghost use Rattle.std.specs.Prelude.{◌≡◌, ◌+◌, ◌-◌, ◌<◌, ◌≤◌, length, Some, Ok, IsOkAnd, OnOk, OnErr, IfSome, vec_len, vec_capacity, IsOkUnless};
 ghost use Rattle.std.specs.Io.{WritesAtMost};
-ghost use Rattle.std.specs.Io.KnownBytes.{Appends, WriteAppends};
+ghost use Rattle.std.specs.Io.KnownBytes.{WriteAppends};
 ghost use Rattle.dsr_names.specs.Limits.{most_calls};
-ghost use Rattle.dsr_names.specs.Output.{SentPrefix};
+ghost use Rattle.dsr_names.specs.Streams.{Output, unknown_output, CanFailToTake, SentAll, SentPrefix};
 
 use crate::input::MOST_CALLS;
 use crate::outside::Outside;
@@ -13,28 +13,22 @@ use std::io::Write;
 /// What an output is written to. A sink may have room that is known: it takes what fits there whole. Or it may be
 /// steady: it never fails, and takes at least one byte where there is one.
 pub trait Sink {
-    // The bytes that were taken, where they are known.
-    ghost contents: { Self → Option (List ℕ) } = { λ _. None };
-
-    // How many more bytes it takes without failing, where that is known.
-    ghost room: { Self → Option ℕ } = { λ _. None };
-
-    // The sink never fails, and takes at least one byte where there is one.
-    ghost is_steady: { Self → Type 0 } = { λ _. ⊥ };
+    // What contracts see of it.
+    ghost output: { Self → Output } = { λ _. unknown_output };
 
     /// Takes some of the first bytes and returns how many.
     fn take(&mut self, bytes: &[u8]) -> io::Result<usize>
         ensures bound { WritesAtMost result bytes.now }
-        ensures appends { WriteAppends (contents self.old) (contents self.new) result bytes.now }
-        ensures sure { IfSome (room self.old) (λ most. length bytes.now ≤ most → result ≡ Ok (length bytes.now)) }
-        ensures steady { is_steady self.old → IsOkAnd result (λ n. 0 < length bytes.now → 0 < n) }
-        ensures stays { is_steady self.old → is_steady self.new };
+        ensures appends { WriteAppends (output self.old).contents (output self.new).contents result bytes.now }
+        ensures sure { IfSome (output self.old).room (λ most. length bytes.now ≤ most → result ≡ Ok (length bytes.now)) }
+        ensures steady { (output self.old).is_steady → IsOkAnd result (λ n. 0 < length bytes.now → 0 < n) }
+        ensures stays { (output self.old).is_steady → (output self.new).is_steady }
+        ensures counted { (output self.new).calls ≤ (output self.old).calls + 1 };
 }
 
+/// A vector, which has known room, and grows where that is not enough.
 impl Sink for Vec<u8> {
-    ghost contents = { λ v. Some v.items };
-
-    ghost room = { λ v. Some (vec_capacity v - vec_len v) };
+    ghost output = { λ v. record unknown_output { contents = Some v.items; room = Some (vec_capacity v - vec_len v) } };
 
     fn take(&mut self, bytes: &[u8]) -> io::Result<usize> {
         self.extend_from_slice(bytes)?;
@@ -43,7 +37,7 @@ impl Sink for Vec<u8> {
 }
 
 impl<W: Write> Sink for Outside<W> {
-    ghost contents = { λ s. W.contents s.0 };
+    ghost output = { λ s. record unknown_output { contents = W.contents s.0 } };
 
     fn take(&mut self, bytes: &[u8]) -> io::Result<usize> {
         self.0.write(bytes)
@@ -54,11 +48,11 @@ impl<W: Write> Sink for Outside<W> {
 /// rest that is not empty, or the calls run out: then a prefix of the bytes went out. It never fails on a sink
 /// with known room for all of them, nor on a steady one where the bytes are at most `MOST_CALLS`.
 pub fn write_output<S: Sink>(sink: &mut S, bytes: &[u8]) -> Result<(), Refusal>
-    ensures all { OnOk result (Appends (S.contents sink.old) (S.contents sink.new) bytes.now) }
-    ensures prefix { SentPrefix (S.contents sink.old) (S.contents sink.new) bytes.now }
+    ensures all { OnOk result (SentAll bytes.now (S.output sink.old) (S.output sink.new)) }
+    ensures prefix { SentPrefix bytes.now (S.output sink.old) (S.output sink.new) }
     ensures refusal { IsOkUnless result Refusal.WriteFailed }
-    ensures in_room { IfSome (S.room sink.old) (λ most. length bytes.now ≤ most → IsOk result) }
-    ensures steady { S.is_steady sink.old → length bytes.now ≤ most_calls → IsOk result }
+    ensures failed { OnErr result (CanFailToTake (length bytes.now) (S.output sink.old)) }
+    ensures calls { (S.output sink.new).calls ≤ (S.output sink.old).calls + most_calls }
 {
     let mut sent = 0;
     for _ in 0..MOST_CALLS {

@@ -1,5 +1,6 @@
-ghost use Rattle.std.specs.Prelude.{◌≡◌};
-ghost use Rattle.dsr_names.specs.Refusal.{code_of, word_of};
+ghost use Rattle.std.specs.Prelude.{◌≡◌, ◌++◌, ◌≤◌, length};
+ghost use Rattle.dsr_names.specs.Refusal.{code_of, refusal_text, word_of};
+ghost use Rattle.dsr_names.specs.Support.RefusalText.{line_text};
 ghost use Rattle.dsr_names.specs.declared.refusal.Refusal.TheVariants.{NoMemory};
 
 use std::alloc::{AllocError, AllocFailed};
@@ -120,6 +121,34 @@ impl Refusal {
             Refusal::NoThread => "NoThread",
         }
     }
+
+    /// The words of this refusal's text, and the number of the line that it names after them.
+    pub(crate) fn parts(&self) -> (&'static str, Option<u64>)
+        ensures text { refusal_text self.now ≡ result.0.now ++ line_text result.1 }
+        ensures short { length result.0.now ≤ 26 }
+    {
+        match self {
+            Refusal::BadShape => ("the shape is not allowed", None),
+            Refusal::BadName => ("not a register name", None),
+            Refusal::BadNumber => ("number out of range", None),
+            Refusal::Busy => ("a request is outstanding", None),
+            Refusal::NotDue => ("not due", None),
+            Refusal::BoxFull => ("the box is full", None),
+            Refusal::BoxEmpty => ("the box is empty", None),
+            Refusal::Forged => ("a signature is forged", None),
+            Refusal::Exhausted => ("a counter is exhausted", None),
+            Refusal::Stopped => ("stopped by the gate", None),
+            Refusal::Unanswered => ("no answer within the turns", None),
+            Refusal::NoMemory => ("no memory", None),
+            Refusal::BadText { line } => ("bad text in line ", Some(*line)),
+            Refusal::NotARun { line } => ("not a run at line ", Some(*line)),
+            Refusal::NoActor => ("no such actor", None),
+            Refusal::WrongRole => ("not that actor's part", None),
+            Refusal::ReadFailed => ("reading failed", None),
+            Refusal::WriteFailed => ("writing failed", None),
+            Refusal::NoThread => ("no thread", None),
+        }
+    }
 }
 
 /// The text that a fault prints, without the program's name before it.
@@ -130,26 +159,10 @@ impl fmt::Display for Refusal {
     ghost output = { λ r. Some (refusal_text r) };
 
     fn fmt<W: fmt::Write>(&self, f: &mut fmt::Formatter<W>) -> fmt::Result {
-        match self {
-            Refusal::BadShape => f.write_str("the shape is not allowed"),
-            Refusal::BadName => f.write_str("not a register name"),
-            Refusal::BadNumber => f.write_str("number out of range"),
-            Refusal::Busy => f.write_str("a request is outstanding"),
-            Refusal::NotDue => f.write_str("not due"),
-            Refusal::BoxFull => f.write_str("the box is full"),
-            Refusal::BoxEmpty => f.write_str("the box is empty"),
-            Refusal::Forged => f.write_str("a signature is forged"),
-            Refusal::Exhausted => f.write_str("a counter is exhausted"),
-            Refusal::Stopped => f.write_str("stopped by the gate"),
-            Refusal::Unanswered => f.write_str("no answer within the turns"),
-            Refusal::NoMemory => f.write_str("no memory"),
-            Refusal::BadText { line } => write!(f, "bad text in line {line}"),
-            Refusal::NotARun { line } => write!(f, "not a run at line {line}"),
-            Refusal::NoActor => f.write_str("no such actor"),
-            Refusal::WrongRole => f.write_str("not that actor's part"),
-            Refusal::ReadFailed => f.write_str("reading failed"),
-            Refusal::WriteFailed => f.write_str("writing failed"),
-            Refusal::NoThread => f.write_str("no thread"),
+        let (words, line) = self.parts();
+        match line {
+            None => f.write_str(words),
+            Some(line) => write!(f, "{words}{line}"),
         }
     }
 }

@@ -1,11 +1,14 @@
+ghost use Rattle.dsr_names.specs.Streams.{unknown_output};
+
 use crate::{
     Actor, ClientId, MOST_BYTES, Old, Outside, Refusal, ReplicaId, Shape, Sink, Source, read_input,
-    read_num, read_old, write_output,
+    read_num, read_old, tell, tell_refusal, write_output,
 };
 use dsr_base::UpTo;
 use std::alloc::{AllocError, Global};
 use std::fmt::Display;
 use std::io;
+use std::io::{Read, Write};
 use std::process::Abort;
 use std::test::Fail;
 
@@ -495,16 +498,18 @@ impl Sink for Narrow {
     }
 }
 
-// A sink that takes one byte of each call, and never fails: it counts them.
+// A sink that takes one byte of each call, and never fails: it counts the calls and the bytes.
 #[derive(Drop)]
 struct Dripping {
+    calls: u64,
     taken: u64,
 }
 
 impl Sink for Dripping {
-    ghost is_steady = { λ _. Unit {0} };
+    ghost output = { λ s. record unknown_output { is_steady = Unit {0}; calls = s.calls } };
 
     fn take(&mut self, bytes: &[u8]) -> io::Result<usize> {
+        self.calls = self.calls.saturating_add(1);
         let count = bytes.len().min(1);
         self.taken = self.taken.saturating_add(count as u64);
         Ok(count)
@@ -513,11 +518,57 @@ impl Sink for Dripping {
 
 #[test]
 fn a_steady_sink_is_given_everything(rt: HostRuntime) {
-    let mut sink = Dripping { taken: 0 };
+    let mut sink = Dripping { calls: 0, taken: 0 };
     assert!(rt; write_output(&mut sink, b"hello, world") == Ok(()));
-    assert!(rt; sink.taken == 12);
+    assert!(rt; (sink.calls, sink.taken) == (12, 12));
     assert!(rt; write_output(&mut sink, b"") == Ok(()));
-    assert!(rt; sink.taken == 12);
+    assert!(rt; (sink.calls, sink.taken) == (12, 12));
+}
+
+// A reader and a writer whose first call fails, and no other.
+#[derive(Drop)]
+struct FailsOnce {
+    calls: usize,
+}
+
+impl FailsOnce {
+    // Counts a call, and fails at the first.
+    fn call(&mut self) -> io::Result<()> {
+        self.calls = self.calls.saturating_add(1);
+        if self.calls == 1 {
+            return Err(io::Error::from(io::ErrorKind::Interrupted));
+        }
+        Ok(())
+    }
+}
+
+impl Read for FailsOnce {
+    fn read(&mut self, _buffer: &mut [u8]) -> io::Result<usize> {
+        self.call()?;
+        Ok(0)
+    }
+}
+
+impl Write for FailsOnce {
+    fn write(&mut self, bytes: &[u8]) -> io::Result<usize> {
+        self.call()?;
+        Ok(bytes.len())
+    }
+
+    fn flush(&mut self) -> io::Result<()> {
+        Ok(())
+    }
+}
+
+#[test]
+fn a_failed_call_is_not_tried_again(rt: HostRuntime) {
+    let mut reader = Outside(FailsOnce { calls: 0 });
+    let read = read_input(rt.alloc(), &mut reader);
+    assert_eq!(rt; read.err(), Some(Refusal::ReadFailed));
+    assert!(rt; reader.0.calls == 1);
+    let mut writer = Outside(FailsOnce { calls: 0 });
+    assert!(rt; write_output(&mut writer, b"hello, world") == WRITE_FAILED);
+    assert!(rt; writer.0.calls == 1);
 }
 
 #[test]
@@ -566,5 +617,45 @@ fn each_write_fails_in_turn(rt: HostRuntime) -> Result<(), AllocError> {
         };
         takes(&rt, sink, end, taken);
     }
+    Ok(())
+}
+
+// Refusals, and the line that tells each.
+const REFUSAL_LINES: [(Refusal, &str); 3] = [
+    (Refusal::NoMemory, "dsr: no memory\n"),
+    (
+        Refusal::BadText { line: 70_000 },
+        "dsr: bad text in line 70000\n",
+    ),
+    (
+        Refusal::NotARun {
+            line: 18_446_744_073_709_551_615,
+        },
+        "dsr: not a run at line 18446744073709551615\n",
+    ),
+];
+
+#[test]
+fn refusals_are_told(rt: HostRuntime) -> Result<(), AllocError> {
+    for (refusal, line) in REFUSAL_LINES {
+        let mut errors = Vec::with_capacity(rt.alloc(), 64)?;
+        tell_refusal(&mut errors, refusal);
+        assert!(rt; errors.as_slice() == line.as_bytes(), "{line}");
+    }
+    Ok(())
+}
+
+#[test]
+fn a_text_is_told_as_far_as_it_goes(rt: HostRuntime) -> Result<(), AllocError> {
+    let mut errors = Narrow {
+        taken: Vec::with_capacity(rt.alloc(), 12)?,
+        most: 5,
+        calls: 0,
+        fails_at: 2,
+    };
+    tell(&mut errors, b"hello, world");
+    assert!(rt; errors.taken.as_slice() == b"hello".as_slice());
+    tell(&mut errors, b"");
+    assert!(rt; errors.taken.as_slice() == b"hello".as_slice());
     Ok(())
 }

@@ -18,11 +18,12 @@ loop-preserved g c =
     let joined : take sent bytes ++ take count (take (length bytes - sent) (drop sent bytes)) ≡ take (sent + count) bytes =
     ap (λ xs. take sent bytes ++ take count xs) whole ∙ sym (take-add sent count bytes) in (
       omega (arith, c.in-Ok.ensures.bound),
-      subst (Appends (g.S.Sink.contents c.args.sink.now) (g.S.Sink.contents c.take.new.self)) joined
+      subst (Appends (g.S.Sink.output c.args.sink.now).contents (g.S.Sink.output c.take.new.self).contents) joined
           (Appends-trans _ _ _ _ _ c.loop.invariant.1 c.in-Ok.ensures.appends),
       omega arith,
       (λ none. absurd (omega arith)),
-      sends_all _ (g.S.Sink.room c.args.sink.now) (g.S.Sink.room c.loop.sink) sent count (length bytes) _
-          c.loop.invariant.4 c.if-sent-bytes.false rest (λ none. ap g.S.Sink.room (c.loop.invariant.3 none)) c.in-Ok.ensures.sure,
+      sends_all _ (g.S.Sink.output c.args.sink.now).room (g.S.Sink.output c.loop.sink).room sent count (length bytes) _
+          c.loop.invariant.4 c.if-sent-bytes.false rest (λ none. ap (λ s. (g.S.Sink.output s).room) (c.loop.invariant.3 none)) c.in-Ok.ensures.sure,
       (λ steady. c.in-Ok.ensures.stays (c.loop.invariant.5 steady)),
+      omega (arith, c.loop.invariant.6, c.in-Ok.ensures.counted),
     )
