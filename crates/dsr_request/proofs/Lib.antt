@@ -1,4 +1,5 @@
 mod AnswerLemmas
+mod ByteOrder
 mod Names
 mod OpLemmas
 pub mod RequestTextLemmas

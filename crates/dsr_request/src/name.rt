@@ -1,4 +1,6 @@
-ghost use Rattle.std.specs.Prelude.{◌≡◌, ◌↔◌, ◌∷◌, [], Some, IsOk, IfOk, IsTrue, IsOkUnless};
+ghost use Rattle.std.specs.Prelude.{◌≡◌, ◌<◌, ◌↔◌, ◌∷◌, [], Some, All, IsOk, IfOk, IsTrue, IsOkUnless};
+ghost use Rattle.std.specs.Int.{w64, from_be_bytes};
+ghost use Rattle.dsr_request.specs.NameOrder.{is_before};
 ghost use Rattle.dsr_request.specs.NameText.{IsName, is_name_byte};
 
 use dsr_names::Refusal;
@@ -14,7 +16,7 @@ const MOST_NAME_BYTES: usize = 32;
 #[derive(Clone, Copy, Debug)]
 pub struct Name {
     bytes: [u8; 32],
-    len: u8,
+    len: usize,
 }
 
 impl Model for Name {
@@ -53,9 +55,35 @@ fn is_name(bytes: &[u8]) -> bool
     0 < len && len <= MOST_NAME_BYTES && bytes.iter().all(|byte| is_allowed(*byte))
 }
 
-impl Name {
-    ghost use Rattle.dsr_request.specs.NameOrder.{is_before};
+/// The number that the bytes spell, the first of them the most.
+fn number_of(bytes: &[u8; 8]) -> u64
+    ensures spelled { result ≡ from_be_bytes w64 bytes.now }
+    ensures bytes { All (λ b. b < 256) bytes.now }
+{
+    u64::from_be_bytes(*bytes)
+}
 
+/// Whether the first bytes come before the second in their order. Eight bytes are compared as one number.
+fn is_below(ours: &[u8], theirs: &[u8]) -> bool
+    ensures { result ≡ is_before ours.now theirs.now }
+{
+    match (
+        ours.split_first_chunk::<8>(),
+        theirs.split_first_chunk::<8>(),
+    ) {
+        (Some((our_word, our_rest)), Some((their_word, their_rest))) => {
+            let (our_number, their_number) = (number_of(our_word), number_of(their_word));
+            if our_number == their_number {
+                is_below(our_rest, their_rest)
+            } else {
+                our_number < their_number
+            }
+        }
+        _ => ours.cmp(theirs) == Ordering::Less,
+    }
+}
+
+impl Name {
     /// The name that the bytes spell. `BadName` exactly where they are empty, more than 32, or have
     /// another byte than a name's.
     pub fn read(bytes: &[u8]) -> Result<Name, Refusal>
@@ -69,10 +97,7 @@ impl Name {
         let len = bytes.len();
         let mut places = [0; MOST_NAME_BYTES];
         places[..len].copy_from_slice(bytes);
-        Ok(Name {
-            bytes: places,
-            len: len as u8,
-        })
+        Ok(Name { bytes: places, len })
     }
 
     /// The bytes of the name.
@@ -80,7 +105,7 @@ impl Name {
         ensures same { result.now ≡ self.now }
         ensures name { IsName self.now }
     {
-        &self.bytes[..self.len as usize]
+        &self.bytes[..self.len]
     }
 
     /// The name as text.
@@ -97,7 +122,8 @@ impl Name {
     pub fn is_before(&self, other: &Name) -> bool
         ensures { result ≡ is_before self.now other.now }
     {
-        self.as_bytes().cmp(other.as_bytes()) == Ordering::Less
+        // The bytes past a name's end are 0, below all that a name has, so the arrays stand in the order of the names.
+        is_below(&self.bytes, &other.bytes)
     }
 
     /// Whether two names are the same name.
