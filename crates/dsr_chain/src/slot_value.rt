@@ -29,6 +29,16 @@ impl SlotValue {
         }
     }
 
+    /// The same value once more. It goes through `clone`, so that a clone is the same value too.
+    pub fn copy(&self) -> SlotValue
+        ensures { result ≡ self.now }
+    {
+        match self.clone() {
+            Ok(value) => value,
+            Err(_) => *self,
+        }
+    }
+
     /// Whether two values have the same signed requests in the same order, or both have none.
     pub fn same(&self, other: &SlotValue) -> bool
         ensures { IsTrue result ↔ (self.now ≡ other.now) }

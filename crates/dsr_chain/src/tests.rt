@@ -242,7 +242,9 @@ fn tells_requests_apart(
     let batch = Batch::of(&[signed]).expect(rt, "a list");
     assert!(rt; batch.same(&Batch::of(&[equal]).expect(rt, "a list")));
     assert!(rt; !batch.same(&Batch::of(&[other]).expect(rt, "a list")));
-    assert!(rt; !SlotValue::Act(batch).same(&SlotValue::Idle));
+    let act = SlotValue::Act(batch);
+    assert!(rt; act.copy().same(&act));
+    assert!(rt; !act.same(&SlotValue::Idle));
 }
 
 #[test]
@@ -442,5 +444,30 @@ fn is_shared<T: Send + Sync>(_: &T) {}
 fn may_be_shared(rt: HostRuntime) -> Result<(), Fail> {
     let desk = open_desk(rt.alloc())?;
     is_shared(&Chain::start(rt.alloc(), 0, SlotValue::Idle, &desk.r0)?);
+    Ok(())
+}
+
+/// The last slot of all, 2^40 - 1, which 3 divides: its sender is replica 0 of three.
+const LATE: u64 = 1_099_511_627_775;
+
+#[test]
+fn a_late_slots_chain_is_copied_and_extended(rt: HostRuntime) -> Result<(), Fail> {
+    let desk = open_desk(rt.alloc())?;
+    goes_on_late(&rt, rt.alloc(), &desk)
+}
+
+/// A chain of the late slot, its copy, and the copy with one signature more.
+fn goes_on_late(rt: &impl Abort, alloc: Global, desk: &Desk) -> Result<(), Fail> {
+    let act = value(rt, &[SignedRequest::by(request(0)?, &desk.c0)]);
+    let chain = Chain::start(alloc, LATE, act, &desk.r0)?;
+    let copy = chain.try_copy()?;
+    assert!(rt; copy.same(&chain));
+    assert!(rt; copy.slot() == LATE);
+    let longer = extended(alloc, copy, &desk.r1)?;
+    assert!(rt; longer.slot() == LATE);
+    assert!(rt; longer.signatures().len() == 2);
+    let shape = shape(2)?;
+    assert!(rt; shape.f() == 1);
+    assert_eq!(rt; longer.check(&shape, LATE, 2), Ok(()));
     Ok(())
 }

@@ -151,11 +151,14 @@ impl Signature {
         &self.statement
     }
 
-    /// The same signature once more.
+    /// The same signature once more. It goes through `clone`, so that a clone is the same signature too.
     pub fn copy(&self) -> Signature
         ensures { result ≡ self.now }
     {
-        *self
+        match self.clone() {
+            Ok(signature) => signature,
+            Err(_) => *self,
+        }
     }
 
     /// Whether two signatures are by the same signer on the same statement.

@@ -20,6 +20,16 @@ pub enum Statement {
 }
 
 impl Statement {
+    /// The same statement once more. It goes through `clone`, so that a clone is the same statement too.
+    pub fn copy(&self) -> Statement
+        ensures { result ≡ self.now }
+    {
+        match self.clone() {
+            Ok(statement) => statement,
+            Err(_) => *self,
+        }
+    }
+
     /// Whether two statements are the same statement.
     pub fn same(&self, other: &Statement) -> bool
         ensures { IsTrue result ↔ (self.now ≡ other.now) }

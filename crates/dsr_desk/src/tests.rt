@@ -79,6 +79,7 @@ fn signs_a_request(rt: HostRuntime) -> Result<(), Fail> {
     assert!(rt; by_client.signer() == C0);
     assert!(rt; by_client.statement().same(&asked));
     assert!(rt; by_client.copy().same(&by_client));
+    assert!(rt; asked.copy().same(&asked));
     let by_replica = key_of(&rt, &mut keys, R0).sign(asked);
     assert!(rt; !by_replica.same(&by_client));
     assert!(rt; !by_replica.statement().same(&Statement::Ask(read_a(2)?)));
