@@ -3,4 +3,5 @@ pub mod Lemmas
 mod LineLemmas
 mod MachineLemmas
 mod RunLemmas
+mod ServiceLemmas
 mod Standing

@@ -1,11 +1,11 @@
 -- What lines of requests are answered with (this project). Requests stand newest first: the last line's request is
 -- the first of the list.
-use Rattle.std.specs.Prelude.{◌≡◌, ◌≢◌, ◌⊎◌, ℕ, ◌+◌, ◌<◌, ◌≤◌, nat_lt, if◌then◌else◌, List, [], ◌∷◌, ◌++◌, length, map, codes, Option, None, Some, IfSome}
+use Rattle.std.specs.Prelude.{◌≡◌, ◌≢◌, ◌⊎◌, ℕ, ◌+◌, ◌≤◌, nat_lt, if◌then◌else◌, List, [], ◌∷◌, ◌++◌, length, map, codes, Option, None, Some}
 use Rattle.std.specs.List.{AllByRecursion}
 use Rattle.std.specs.Fmt.{decimal}
-use Rattle.std.specs.Io.KnownBytes.{Appends, Keeps}
+use Rattle.std.specs.Io.KnownBytes.{Keeps}
 use Rattle.dsr_names.specs.Limits.{most_bytes}
-use Rattle.dsr_names.specs.Output.{SentPrefix}
+use Rattle.dsr_names.specs.Streams.{Streams, CanFailToGive, CanFailToTake, SentAll, SentPrefix}
 use Rattle.dsr_names.specs.declared.refusal.Refusal.{Refusal}
 use Rattle.dsr_names.specs.declared.refusal.Refusal.TheVariants.{BadText, NoMemory, ReadFailed, WriteFailed}
 use Rattle.dsr_request.specs.AnswerText.{answer_text}
@@ -78,43 +78,44 @@ IsTextOf None text = Unit {0}
 IsTextOf (Some bytes) text = text ≡ bytes
 
 -- all lines were good, and what they are answered with went out
-pub record AppliedAll (left old new : Option (List ℕ)) : Type 0 where
+pub record AppliedAll (s : Streams) : Type 0 where
   pub text : List ℕ
   pub short : length text ≤ most_bytes
   pub requests : List Request
-  pub given : IsTextOf left text
+  pub given : IsTextOf s.input.left text
   pub begins : BeginsWith text requests []
-  pub went_out : Appends old new (applied requests)
+  pub went_out : SentAll (applied requests) s.output s.written
 
 -- the lines before the bad one are answered, and it is counted from 1
-pub record AppliedToLine (line : ℕ) (left old new : Option (List ℕ)) : Type 0 where
+pub record AppliedToLine (line : ℕ) (s : Streams) : Type 0 where
   pub text : List ℕ
   pub short : length text ≤ most_bytes
   pub requests : List Request
   pub rest : List ℕ
-  pub given : IsTextOf left text
+  pub given : IsTextOf s.input.left text
   pub begins : BeginsWith text requests rest
   pub bad : IsBad rest
   pub counted : line ≡ length requests + 1
-  pub went_out : Appends old new (applied requests)
+  pub went_out : SentAll (applied requests) s.output s.written
 
--- a prefix of the answers went out; a known room was too small for all of them
-pub record AppliedPart (left : Option (List ℕ)) (room : Option ℕ) (old new : Option (List ℕ)) : Type 0 where
+-- a prefix of the answers went out; the sink was one that may not take them all
+pub record AppliedPart (s : Streams) : Type 0 where
   pub text : List ℕ
   pub short : length text ≤ most_bytes
   pub requests : List Request
   pub rest : List ℕ
-  pub given : IsTextOf left text
+  pub given : IsTextOf s.input.left text
   pub begins : BeginsWith text requests rest
   pub ended : (rest ≡ []) ⊎ IsBad rest
-  pub too_long : IfSome room (λ most. most < length (applied requests))
-  pub went_out : SentPrefix old new (applied requests)
+  pub too_many : CanFailToTake (length (applied requests)) s.output
+  pub went_out : SentPrefix (applied requests) s.output s.written
 
--- what stands after each refusal: after a bad line the lines before it are answered; with no memory, and where
--- reading failed, nothing was written; where writing failed, a prefix of the answers was; there is no other refusal
-abbrev pub WrittenAfter : Refusal → Option (List ℕ) → Option ℕ → Option (List ℕ) → Option (List ℕ) → Type 0
-WrittenAfter (BadText line) left room old new = AppliedToLine line left old new
-WrittenAfter NoMemory left room old new = Keeps old new
-WrittenAfter ReadFailed left room old new = Keeps old new
-WrittenAfter WriteFailed left room old new = AppliedPart left room old new
-WrittenAfter other left room old new = ⊥
+-- what stands after each refusal: after a bad line the lines before it are answered; with no memory nothing was written,
+-- nor where reading failed, which it does of a steady source only for too many bytes; where writing failed, a prefix of
+-- the answers was written; there is no other refusal
+abbrev pub WrittenAfter : Refusal → Streams → Type 0
+WrittenAfter (BadText line) s = AppliedToLine line s
+WrittenAfter NoMemory s = Keeps s.output.contents s.written.contents
+WrittenAfter ReadFailed s = CanFailToGive s.input × Keeps s.output.contents s.written.contents
+WrittenAfter WriteFailed s = AppliedPart s
+WrittenAfter other s = ⊥

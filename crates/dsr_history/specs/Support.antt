@@ -1,2 +1,3 @@
--- How a machine stands in its fields. No public contract cites this: it serves `impl Model` alone.
+-- What no public contract cites: the service that stands below the machine, and how a machine stands in its fields.
 pub mod Machine
+pub mod Service

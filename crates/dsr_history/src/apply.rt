@@ -1,38 +1,40 @@
-ghost use Rattle.std.specs.Prelude.{◌≡◌, ℕ, ◌+◌, ◌<◌, ◌≤◌, ◌^◌, List, ◌∷◌, ◌++◌, [], length, Option, Some, OnOk, IfOk, IfErr, IfSome, IfNone, IsErrOf, vec_len, IsOkUnless};
-ghost use Rattle.dsr_names.specs.Limits.{most_bytes};
+ghost use Rattle.std.specs.Prelude.{◌≡◌, ℕ, ◌+◌, ◌<◌, ◌≤◌, ◌^◌, List, ◌∷◌, ◌++◌, [], length, Option, Some, OnOk, IfOk, IfErr, IfSome, IfNone, IsOkUnless};
+ghost use Rattle.dsr_names.specs.Limits.{most_calls};
+ghost use Rattle.dsr_names.specs.Streams.{streams};
 ghost use Rattle.dsr_request.specs.Request.{Request};
-ghost use Rattle.dsr_history.specs.Machine.{StandsFor};
+ghost use Rattle.dsr_history.specs.History.{acted};
+ghost use Rattle.dsr_history.specs.Support.Service.{IsAfter};
 ghost use Rattle.dsr_request.specs.RequestText.{IsRequest};
 ghost use Rattle.dsr_history.specs.Applied.{request_line, values_of, applied, AppliedAll, WrittenAfter, IsNoLine, HasAnswered, HasAnsweredTo};
 
-use crate::machine::Machine;
+use crate::service::Service;
 use dsr_base::split_once;
 use dsr_names::{Refusal, Shape, Sink, Source, read_input, write_output};
 use dsr_request::Request;
 use std::alloc::Global;
 use std::io::Write;
 
-/// A machine, and the answers that it gave so far.
+/// A service, and the answers that it gave so far.
 #[derive(Drop)]
 struct Run {
-    machine: Machine,
+    service: Service,
     answers: Vec<u8>,
 }
 
 impl Run {
-    /// Lets the machine process the request as a value of its own, and writes the line that answers it.
+    /// Lets the service process the request, as a value of its own, and writes the line that answers it.
     fn answer(&mut self, request: &Request) -> Result<(), Refusal>
-        requires client { request.now.client < self.old.machine.clients }
-        requires short { length self.old.machine.history < 2 ^ 39 }
-        ensures done { OnOk result ((older : List Request) → StandsFor self.old.machine (values_of older)
+        requires client { request.now.client < length self.old.service.replies }
+        requires short { self.old.service.count < 2 ^ 39 }
+        ensures done { OnOk result ((older : List Request) → IsAfter self.old.service (acted (values_of older))
             → self.old.answers.items ≡ applied older
-            → StandsFor self.new.machine (values_of (request.now ∷ older)) × (self.new.answers.items ≡ applied (request.now ∷ older))) }
+            → IsAfter self.new.service (acted (values_of (request.now ∷ older))) × (self.new.answers.items ≡ applied (request.now ∷ older))) }
         ensures refusal { IsOkUnless result Refusal.NoMemory }
-        ensures clients { self.new.machine.clients ≡ self.old.machine.clients }
-        ensures longer { length self.new.machine.history ≤ length self.old.machine.history + 1 }
+        ensures clients { length self.new.service.replies ≡ length self.old.service.replies }
+        ensures count { self.new.service.count ≤ self.old.service.count + 1 }
     {
-        self.machine.accept_value(&[*request])?;
-        let kept = self.machine.kept(request.client());
+        self.service.process(request);
+        let kept = self.service.kept(request.client());
         let written = match kept {
             Some(reply) if request.number() < reply.number => writeln!(self.answers, "old"),
             Some(reply) => {
@@ -68,8 +70,8 @@ fn first_line(text: &[u8]) -> Option<Line<'_>>
 impl Run {
     /// Answers the lines of the text up to the first that is no request's, and returns that line's number, counted from 1.
     fn answer_lines(&mut self, text: &[u8]) -> Result<Option<u64>, Refusal>
-        requires clients { self.old.machine.clients ≡ 32 }
-        requires new { self.old.machine.history ≡ [] }
+        requires clients { length self.old.service.replies ≡ 32 }
+        requires new { IsAfter self.old.service [] }
         requires silent { self.old.answers.items ≡ [] }
         requires short { length text.now < 2 ^ 39 }
         ensures all { IfOk result (λ bad. IfNone bad (HasAnswered text.now self.new.answers.items)) }
@@ -96,22 +98,23 @@ impl Run {
 ///
 /// `BadText` names the first line, counted from 1, that is no request's; the lines before it are answered. After
 /// `NoMemory` and `ReadFailed` nothing was written, and after `WriteFailed` a prefix of the answers was. What was
-/// read is gone. A source in memory answers `ReadFailed` only for too many bytes, and a sink never fails where its
-/// known room is enough.
+/// read is gone. On a steady source `ReadFailed` comes only for too many bytes, and `WriteFailed` neither where the
+/// sink's known room is enough nor, for up to `MOST_CALLS` bytes of answers, where the sink is steady. Each of the two
+/// is called at most `MOST_CALLS` times.
 pub fn run_apply<S: Source, K: Sink>(
     alloc: Global,
     source: &mut S,
     sink: &mut K,
 ) -> Result<(), Refusal>
-    ensures done { OnOk result (AppliedAll (S.left source.old) (K.contents sink.old) (K.contents sink.new)) }
-    ensures refused { IfErr result (λ e. WrittenAfter e (S.left source.old) (K.room sink.old) (K.contents sink.old) (K.contents sink.new)) }
-    ensures in_memory { S.is_in_memory source.old → IsErrOf result Refusal.ReadFailed
-        → IfSome (S.left source.old) (λ bytes. most_bytes < length bytes) }
+    ensures done { OnOk result (AppliedAll (streams (S.input source.old) (K.output sink.old) (K.output sink.new))) }
+    ensures refused { IfErr result (λ e. WrittenAfter e (streams (S.input source.old) (K.output sink.old) (K.output sink.new))) }
+    ensures reads { (S.input source.new).calls ≤ (S.input source.old).calls + most_calls }
+    ensures writes { (K.output sink.new).calls ≤ (K.output sink.old).calls + most_calls }
 {
     let text = read_input(alloc, source)?;
     let shape = Shape::new(1, 0, 32, 0)?;
     let mut run = Run {
-        machine: Machine::new(alloc, &shape)?,
+        service: Service::new(alloc, &shape)?,
         answers: Vec::new(alloc),
     };
     let bad = run.answer_lines(text.as_slice())?;

@@ -6,6 +6,7 @@ mod apply;
 mod apply_tests;
 mod laws;
 mod machine;
+mod service;
 #[cfg(test)]
 mod tests;
 

@@ -4,9 +4,9 @@ ghost use Rattle.dsr_request.specs.Request.{Request};
 ghost use Rattle.dsr_history.specs.History.{acted, acting, rises_above, operations, reply, reply_in, answer_at, IsReplyTo};
 ghost use Rattle.dsr_history.specs.Machine.{StandsFor};
 
-use dsr_ledger::{Ledger, Reply};
+use crate::service::Service;
+use dsr_ledger::Reply;
 use dsr_names::{ClientId, Refusal, Shape};
-use dsr_register::Directory;
 use dsr_request::{Answer, MOST_REQUESTS, Name, Request};
 use std::alloc::Global;
 use std::marker::Model;
@@ -16,8 +16,7 @@ use std::marker::Model;
 /// up to date.
 #[derive(Drop)]
 pub struct Machine {
-    directory: Directory,
-    ledger: Ledger,
+    service: Service,
     history: Vec<Request>,
     answers: Vec<Answer>,
 }
@@ -42,11 +41,9 @@ impl Machine {
         ensures clients { IfOk result (λ machine. machine.clients ≡ shape.now.m) }
         ensures refusal { IsOkUnless result Refusal.NoMemory }
     {
-        let directory = Directory::new(alloc)?;
-        let ledger = Ledger::new(alloc, shape.m())?;
+        let service = Service::new(alloc, shape)?;
         Ok(Machine {
-            directory,
-            ledger,
+            service,
             history: Vec::new(alloc),
             answers: Vec::new(alloc),
         })
@@ -110,26 +107,15 @@ impl Machine {
     fn process(&mut self, request: &Request) -> bool
         requires room { 0 < self.old.room }
         requires client { request.now.client < self.old.clients }
+        requires short { length self.old.history < 2 ^ 40 }
         ensures acted { (older : List Request) → self.old.history ≡ acting older → self.new.history ≡ acting (request.now ∷ older) }
         ensures count { length self.new.history ≡ length self.old.history + (if result then 1 else 0) }
         ensures clients { self.new.clients ≡ self.old.clients }
         ensures room { self.old.room ≤ self.new.room + 1 }
     {
-        let client = request.client();
-        let number = request.number();
-        if !self.ledger.acts(client, number) {
+        let Some(answer) = self.service.process(request) else {
             return false;
-        }
-        let place = self.history.len() as u64;
-        let answer = self.directory.apply(request.op());
-        self.ledger.note(
-            client,
-            Reply {
-                number,
-                place,
-                answer,
-            },
-        );
+        };
         self.history.push_reserved(*request);
         self.answers.push_reserved(answer);
         true
@@ -142,7 +128,7 @@ impl Machine {
         ensures answer { IfSome result (λ last. answer_at self.now.history last.place ≡ Some last.answer) }
         ensures reply { (values : List (List Request)) → StandsFor self.now values → result ≡ reply values client }
     {
-        self.ledger.kept(client)
+        self.service.kept(client)
     }
 
     /// The requests that acted, in their order.
@@ -168,6 +154,6 @@ impl Machine {
     pub fn get(&self, name: &Name) -> Option<u64>
         ensures { result ≡ value (operations self.now.history) name.now }
     {
-        self.directory.get(name)
+        self.service.get(name)
     }
 }

@@ -1,11 +1,10 @@
 -- A machine as contracts see it, and how its parts hold that.
-use Rattle.std.specs.Prelude.{◌≡◌, ℕ, ◌-◌, min, List, [], ◌∷◌, length, reverse, vec_len, vec_capacity}
+use Rattle.std.specs.Prelude.{◌≡◌, ◌-◌, min, List, [], ◌∷◌, length, reverse, vec_len, vec_capacity}
 use Rattle.dsr_request.specs.declared.answer.Answer.{Answer}
 use Rattle.dsr_register.specs.Values.{answer_after}
-use Rattle.dsr_register.specs.Table.{StandsFor}
-use Rattle.dsr_ledger.specs.LastReply.{last_reply}
 use Rattle.dsr_request.specs.Request.{Request}
-use Rattle.dsr_history.specs.History.{operations, reply_in}
+use Rattle.dsr_history.specs.History.{operations}
+use Rattle.dsr_history.specs.Support.Service.{IsAfter}
 use Rattle.dsr_history.specs.declared.machine.Machine.TheInside.{Inside}
 use Rattle.dsr_history.specs.Machine.{Machine}
 
@@ -23,13 +22,11 @@ abbrev pub state_of : Inside → Machine
 state_of a =
     record {
       history = history_of a;
-      clients = length a.ledger;
+      clients = length a.service.replies;
       room = min (vec_capacity a.history - vec_len a.history) (vec_capacity a.answers - vec_len a.answers);
     }
 
--- the table stands for the history's operations, the ledger has each client's last reply, and the answers are those
--- along the history
+-- the service stands after the history, and the answers are those along it
 pub record IsMachine (a : Inside) : Type 0 where
-  pub table : StandsFor a.directory (operations (history_of a))
-  pub replies : (client : ℕ) → last_reply a.ledger client ≡ reply_in (history_of a) client
+  pub service : IsAfter a.service (history_of a)
   pub answers : reverse a.answers.items ≡ answers_of (history_of a)
