@@ -31,6 +31,11 @@ closed_stays shape t later after =
     let count_later = closed_slots_count shape later in
     omega (arith, count, count_later, after)
 
+-- a slot begins in the round of its number
+pub begins_at : (shape : Shape) (slot : ℕ) → first_round shape slot ≡ slot
+unfolding first_round
+begins_at shape slot = refl
+
 -- a slot begins no earlier than in the round of its number
 pub begins_no_earlier : (shape : Shape) (slot : ℕ) → slot ≤ first_round shape slot
 unfolding first_round
