@@ -85,6 +85,13 @@ module _ (shape : Shape) (slot round : ℕ) where
   one_cases kept chain =
       by_test (is_news shape slot round kept chain) (is_news-Decides shape slot round kept chain) (kept ++ kept_in round chain ∷ []) kept
 
+  -- a chain of another slot changes nothing
+  pub skips_other_slots : (kept : List Kept) (chain : Chain) → chain.slot ≢ slot → keep_one shape slot round kept chain ≡ kept
+  skips_other_slots kept chain other = elim (one_cases kept chain) [
+    | inl news ↦ absurd (other news.0.proper.of_slot)
+    | inr none ↦ none.1
+  ]
+
   one_stays : (kept : List Kept) (chain : Chain) (k : Kept) → In k kept → In k (keep_one shape slot round kept chain)
   one_stays kept chain k h = elim (one_cases kept chain) [
     | inl news ↦ subst (In k) (sym news.1) (In-append_left k kept (kept_in round chain ∷ []) h)

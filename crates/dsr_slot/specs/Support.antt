@@ -1,3 +1,4 @@
--- How the state of a slot stands in its fields. No public contract cites this: it serves
+-- How the state of a slot, and a decision, stand in their fields. No public contract cites this: it serves
 -- `impl Model` and private contracts.
+pub mod Decision
 pub mod SlotState

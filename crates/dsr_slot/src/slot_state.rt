@@ -1,4 +1,4 @@
-ghost use Rattle.std.specs.Prelude.{◌≡◌, ℕ, ◌+◌, ◌<◌, ◌≤◌, ◌↔◌, ◌++◌, ◌∷◌, List, [], Some, All, IfOk, IfSome, IsOk, IsSome, false, length, vec_capacity, IsOkUnless};
+ghost use Rattle.std.specs.Prelude.{◌≡◌, ℕ, suc, ◌+◌, ◌<◌, ◌≤◌, ◌↔◌, ◌++◌, ◌∷◌, List, [], Some, All, IfOk, IfSome, IsOk, IsSome, false, length, vec_capacity, IsOkUnless};
 ghost use Rattle.dsr_chain.specs.Chain.{Chain};
 ghost use Rattle.dsr_chain.specs.Content.{signed_in};
 ghost use Rattle.dsr_chain.specs.Proper.{IsAsked};
@@ -6,9 +6,10 @@ ghost use Rattle.dsr_chain.specs.ProperTest.{is_proper};
 ghost use Rattle.dsr_slot.specs.Keeping.{kept_after, keep_one, is_news};
 ghost use Rattle.dsr_slot.specs.Conduct.{relayed, is_relayed};
 ghost use Rattle.dsr_slot.specs.Support.SlotState.{IsOfSomeRound};
-ghost use Rattle.dsr_slot.specs.Decision.{decided};
-ghost use Rattle.dsr_slot.specs.SlotState.{opened, with_round, decision_of, StandsFor};
+ghost use Rattle.dsr_slot.specs.Decision.{decision, decided};
+ghost use Rattle.dsr_slot.specs.SlotState.{opened, with_chain, with_closed, with_round, decision_of, StandsFor, HasRead, IsOneChainMore};
 
+use crate::decision::Decision;
 use crate::kept::Kept;
 use dsr_chain::{Chain, SlotValue};
 use dsr_desk::Key;
@@ -16,8 +17,9 @@ use dsr_names::{Actor, Refusal, Shape};
 use std::alloc::Global;
 use std::marker::Model;
 
-/// What a replica knows of one slot: the first two chains with distinct contents among the proper chains of
-/// the rounds that are closed. It is of fixed size but for those chains, which were moved in.
+/// What a replica knows of one slot: the first two chains with distinct contents among the proper chains that
+/// it read, in the rounds that are closed and in the one after them. It is of fixed size but for those chains,
+/// which were moved in.
 #[derive(Drop)]
 pub struct SlotState {
     shape: Shape,
@@ -55,6 +57,20 @@ impl SlotState {
         }
     }
 
+    /// The shape in which the slot is broadcast.
+    pub fn shape(&self) -> Shape
+        ensures { result ≡ self.now.shape }
+    {
+        self.shape
+    }
+
+    /// The slot.
+    pub fn slot(&self) -> u64
+        ensures { result ≡ self.now.slot }
+    {
+        self.slot
+    }
+
     /// How many of the slot's rounds are closed: at most f+1, and f is at most 7.
     pub fn closed_rounds(&self) -> u8
         ensures same { result ≡ self.now.closed }
@@ -64,10 +80,31 @@ impl SlotState {
         self.closed
     }
 
-    /// Closes the slot's round, in which these chains were read, in this order. Requires that it is the next one,
-    /// `closed_rounds` and one, and at most f+1. It takes the chains out of the list, whose room stays, and keeps
-    /// those that are proper and new as long as fewer than two are kept. A chain whose content is kept is dropped
-    /// before its signatures are looked at.
+    /// Reads one more chain in the round after the closed ones. Requires that the slot has such a round: that at most f are
+    /// closed. It keeps the chain where that is proper for the round and new, and fewer than two are kept. A chain
+    /// whose content is kept is dropped before its signatures are looked at.
+    pub fn read(&mut self, chain: Chain)
+        requires within { self.old.closed ≤ self.old.shape.f }
+        ensures read { self.new ≡ with_chain self.old chain }
+        ensures stands { (earlier later : ℕ → List Chain) → IsOneChainMore earlier later (suc self.old.closed) chain
+            → HasRead self.old earlier → HasRead self.new later }
+    {
+        let round = self.closed + 1;
+        self.keep(round, chain);
+    }
+
+    /// Closes the round after the closed ones, with the chains that were read in it. Requires that the slot has such a
+    /// round: that at most f are closed.
+    pub fn close(&mut self)
+        requires within { self.old.closed ≤ self.old.shape.f }
+        ensures closed { self.new ≡ with_closed self.old }
+        ensures stands { (read : ℕ → List Chain) → HasRead self.old read → StandsFor self.new read }
+    {
+        self.closed += 1;
+    }
+
+    /// Reads these chains in the slot's round, in this order, and closes it. Requires that it is the next one,
+    /// `closed_rounds` and one, and at most f+1. It takes the chains out of the list, whose room stays.
     pub fn close_round(&mut self, round: u8, chains: &mut Vec<Chain>)
         requires next { round ≡ self.old.closed + 1 }
         requires within { round ≤ self.old.shape.f + 1 }
@@ -78,9 +115,9 @@ impl SlotState {
         ensures room { vec_capacity chains.new ≡ vec_capacity chains.old }
     {
         for chain in chains.drain(..) {
-            self.keep(round, chain);
+            self.read(chain);
         }
-        self.closed = round;
+        self.close();
     }
 
     /// The chains that the key's holder relays in this round of the slot: those that were kept in the round
@@ -123,6 +160,20 @@ impl SlotState {
         match (&self.first, &self.second) {
             (Some(kept), None) => Some(kept.chain.value()),
             _ => Some(SlotValue::Idle),
+        }
+    }
+
+    /// What is decided, as `decide` says, without a copy: it takes the kept chain along. Requires that round f+1 is
+    /// closed.
+    pub fn into_decision(self) -> Decision
+        requires last { self.closed ≡ self.shape.f + 1 }
+        ensures decision { result ≡ decision self.kept }
+        ensures stands { (read : ℕ → List Chain) → StandsFor self read → result ≡ decided self.shape self.slot read }
+        ensures asked { All (IsAsked self.shape) (signed_in result) }
+    {
+        match (self.first, self.second) {
+            (Some(kept), None) => Decision::of(kept.chain),
+            _ => Decision::idle(),
         }
     }
 

@@ -1,4 +1,4 @@
-use crate::SlotState;
+use crate::{Decision, SlotState};
 use dsr_chain::{Batch, Chain, SignedRequest, SlotValue};
 use dsr_desk::{Key, Keys};
 use dsr_names::{Actor, ClientId, ReplicaId, Shape};
@@ -104,6 +104,41 @@ fn close_next(rt: &impl Abort, state: &mut SlotState, chains: &mut Vec<Chain>) {
     assert!(rt; chains.is_empty());
 }
 
+/// Reads one chain more in the round after the closed ones.
+fn read_next(rt: &impl Abort, state: &mut SlotState, chain: Chain) {
+    // that at most f+1 rounds are closed is known from here on
+    let _closed = state.closed_rounds();
+    assert!(rt; state.decide().is_none());
+    state.read(chain);
+}
+
+/// Closes the round after the closed ones.
+fn close_read(rt: &impl Abort, state: &mut SlotState) {
+    let _closed = state.closed_rounds();
+    assert!(rt; state.decide().is_none());
+    state.close();
+}
+
+/// Whether the state decides this value.
+fn decides(rt: &impl Abort, state: &SlotState, wanted: SlotValue) {
+    assert!(rt; state.decide() == Some(wanted));
+}
+
+/// Whether the state's decision, taken out of it, is this value.
+fn is_taken_out(rt: &impl Abort, state: SlotState, wanted: SlotValue) {
+    assert!(rt; state.decide().is_some());
+    is_decision(rt, &state.into_decision(), wanted);
+}
+
+fn is_decision(rt: &impl Abort, decision: &Decision, wanted: SlotValue) {
+    assert!(rt; decision.value() == wanted);
+    assert!(rt; decision.content() == wanted.content());
+    match wanted {
+        SlotValue::Act(batch) => assert!(rt; decision.signed() == batch.as_slice()),
+        SlotValue::Idle => assert!(rt; decision.signed().is_empty()),
+    }
+}
+
 /// A slot as the replica with this key sees it.
 #[derive(Drop)]
 struct View<'a> {
@@ -129,6 +164,15 @@ impl View<'_> {
     fn reads(&mut self, rt: &impl Abort, plans: &[Plan]) -> Result<(), Fail> {
         let mut chains = chains_of(self.alloc, self.desk, self.slot, plans)?;
         close_next(rt, &mut self.state, &mut chains);
+        Ok(())
+    }
+
+    /// The same, chain by chain.
+    fn reads_each(&mut self, rt: &impl Abort, plans: &[Plan]) -> Result<(), Fail> {
+        for chain in chains_of(self.alloc, self.desk, self.slot, plans)? {
+            read_next(rt, &mut self.state, chain);
+        }
+        close_read(rt, &mut self.state);
         Ok(())
     }
 
@@ -165,7 +209,26 @@ fn holds(rt: &impl Abort, alloc: Global, desk: &Desk, row: &Row) -> Result<(), F
     slot.reads(rt, row.first)?;
     slot.relays(rt, 2, row.relayed)?;
     slot.reads(rt, row.second)?;
-    assert!(rt; slot.state.decide() == Some(decided));
+    decides(rt, &slot.state, decided_by(desk, row.decided)?);
+    let View { state, .. } = slot;
+    is_taken_out(rt, state, decided);
+    Ok(())
+}
+
+/// Whether it goes so where each chain is read alone.
+fn holds_chain_by_chain(
+    rt: &impl Abort,
+    alloc: Global,
+    desk: &Desk,
+    row: &Row,
+) -> Result<(), Fail> {
+    let decided = decided_by(desk, row.decided)?;
+    let mut slot = view_of(alloc, desk, 0, row.key)?;
+    slot.reads_each(rt, row.first)?;
+    slot.relays(rt, 2, row.relayed)?;
+    slot.reads_each(rt, row.second)?;
+    let View { state, .. } = slot;
+    is_taken_out(rt, state, decided);
     Ok(())
 }
 
@@ -235,6 +298,7 @@ fn keeps_relays_and_decides(rt: HostRuntime) -> Result<(), Fail> {
     let desk = open_desk(rt.alloc(), Shape::new(3, 1, 3, 0)?)?;
     for row in &ROWS {
         holds(&rt, rt.alloc(), &desk, row)?;
+        holds_chain_by_chain(&rt, rt.alloc(), &desk, row)?;
     }
     Ok(())
 }
@@ -250,6 +314,8 @@ fn relays_in_later_slots(rt: HostRuntime) -> Result<(), Fail> {
 /// Whether the replica 1 relays both chains that it kept in this slot's first round.
 fn relays_two(rt: &impl Abort, alloc: Global, desk: &Desk, number: u64) -> Result<(), Fail> {
     let mut slot = view_of(alloc, desk, number, 1)?;
+    assert_eq!(rt; slot.state.slot(), number);
+    assert!(rt; slot.state.shape() == desk.shape);
     slot.reads(rt, &[A, B])?;
     slot.relays(rt, 2, &[A_BY_1, B_BY_1])
 }
