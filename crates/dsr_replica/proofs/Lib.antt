@@ -1,0 +1,15 @@
+mod Asks
+mod Blindness
+mod Choosing
+mod Counting
+mod Distinct
+mod Growing
+mod InFlight
+mod Joining
+mod Later
+pub mod Lemmas
+mod Posting
+mod Posts
+mod Reading
+mod Sources
+mod Standing

@@ -1,0 +1,64 @@
+-- How a replica stands in its parts, and what they hold (this project).
+use Rattle.std.specs.Prelude.{◌≡◌, ℕ, suc, ◌^◌, ◌<◌, ◌≤◌, ◌==◌, List, ◌∷◌, ◌++◌, [], Option, None, Some, length, map, if◌then◌else◌}
+use Rattle.dsr_rotation.specs.Calendar.{closed_slots}
+use Rattle.dsr_chain.specs.declared.slot_value.SlotValue.{SlotValue}
+use Rattle.dsr_slot.specs.SlotState.{opened, with_closed}
+use Rattle.dsr_replica.specs.declared.envelope.Envelope.{Envelope}
+use Rattle.dsr_replica.specs.declared.replica.Replica.TheInside.{Inside}
+use Rattle.dsr_replica.specs.declared.step.Due.{Due}
+use Rattle.dsr_replica.specs.declared.step.Due.TheVariants.{Post as PostTo, Take as TakeFrom}
+use Rattle.dsr_replica.specs.Counts.{IsInside}
+use Rattle.dsr_replica.specs.Envelope.{chains_for}
+use Rattle.dsr_replica.specs.Replica.{Replica}
+use Rattle.dsr_replica.specs.Support.Flights.{with_chains, going_on, decided_with}
+
+-- the parts, one after the other
+abbrev pub replica_of : Inside → Replica
+replica_of a = record {
+  me = a.key;
+  shape = a.flights.shape;
+  next = a.due;
+  round = a.flights.round;
+  slots = a.flights.slots;
+  values = a.decisions.values;
+  proposed = a.proposed;
+  asks = a.asks;
+  requests = a.decisions.requests;
+  places = a.decisions.places;
+}
+
+-- no round from 2^36 on is begun
+abbrev pub IsWithin : Due → ℕ → Type 0
+IsWithin (PostTo q) round = round ≤ 2 ^ 36
+IsWithin (TakeFrom p) round = round < 2 ^ 36
+
+-- what is due is inside the shape; there are as many values as closed slots, and replies for the shape's clients and
+-- places for their asks
+pub record IsReplicaFields (a : Inside) : Type 0 where
+  pub inside : IsInside a.flights.shape.n a.due
+  pub counted : length a.decisions.values ≡ closed_slots a.flights.shape a.flights.round
+  pub clients : a.decisions.clients ≡ a.flights.shape.m
+  pub asks : length a.asks ≡ a.flights.shape.m
+  pub within : IsWithin a.due a.flights.round
+
+-- the replica after this envelope was read in the round in progress
+abbrev pub with_envelope : Replica → Envelope → Replica
+with_envelope r envelope = record r { slots = map (with_chains (chains_for r.round envelope)) r.slots }
+
+-- one more value, if one is decided
+abbrev pub with_decided : Option SlotValue → List SlotValue → List SlotValue
+with_decided None values = values
+with_decided (Some value) values = value ∷ values
+
+-- the replica after the round in progress was closed
+abbrev pub next_round : Replica → Replica
+next_round r = record r {
+  next = PostTo 0;
+  round = suc r.round;
+  slots = map with_closed (going_on r.shape r.round r.slots) ++ opened r.shape (suc r.round) ∷ [];
+  values = with_decided (decided_with r.shape r.round r.slots) r.values;
+}
+
+-- what is due after a post to this replica
+abbrev pub after_post_to : ℕ → ℕ → Due
+after_post_to n q = if suc q == n then TakeFrom 0 else PostTo (suc q)

@@ -1,0 +1,130 @@
+ghost use Rattle.std.specs.Prelude.{◌≡◌, ℕ, ◌+◌, ◌<◌, ◌≤◌, ◌^◌, ◌↔◌, ◌∷◌, [], List, All, length, reverse, OnOk, IfOk, IsTrue, IsOkUnless};
+ghost use Rattle.dsr_chain.specs.Content.{requests_in};
+ghost use Rattle.dsr_request.specs.Request.{Request};
+ghost use Rattle.dsr_history.specs.History.{acted, reply};
+ghost use Rattle.dsr_history.specs.Machine.{StandsFor};
+ghost use Rattle.dsr_replica.specs.Support.Decisions.{Decisions, HasRoom, processed};
+
+use dsr_history::Machine;
+use dsr_ledger::Reply;
+use dsr_names::{ClientId, Refusal, Shape};
+use dsr_request::Request;
+use dsr_slot::Decision;
+use std::alloc::Global;
+use std::marker::Model;
+
+/// What is decided of the closed slots, and the machine that processed the requests of it.
+#[derive(Drop)]
+pub(crate) struct Decisions {
+    machine: Machine,
+    list: Vec<Decision>,
+}
+
+impl Model for Decisions {
+    ghost use Rattle.dsr_replica.specs.Support.Decisions.{Decisions};
+    ghost use Rattle.dsr_replica.specs.Support.DecisionsFields.{IsDecisionsFields, decisions_of};
+
+    ghost Value = { Decisions };
+
+    ghost view = { decisions_of };
+
+    ghost invariant = { IsDecisionsFields };
+}
+
+impl Decisions {
+    /// Nothing decided, for the clients of the shape. `NoMemory` where the memory of the machine is refused.
+    pub(crate) fn new(alloc: Global, shape: &Shape) -> Result<Decisions, Refusal>
+        ensures none { IfOk result (λ decisions. decisions.values ≡ []) }
+        ensures clients { IfOk result (λ decisions. decisions.clients ≡ shape.now.m) }
+        ensures refusal { IsOkUnless result Refusal.NoMemory }
+    {
+        let machine = Machine::new(alloc, shape)?;
+        Ok(Decisions {
+            machine,
+            list: Vec::new(alloc),
+        })
+    }
+
+    /// Makes room for one more. `NoMemory` where it is refused: then nothing changed, but that there may be more room.
+    pub(crate) fn room(&mut self) -> Result<(), Refusal>
+        ensures ok { OnOk result (HasRoom self.new) }
+        ensures refusal { IsOkUnless result Refusal.NoMemory }
+        ensures values { self.new.values ≡ self.old.values }
+        ensures clients { self.new.clients ≡ self.old.clients }
+        ensures no_less { HasRoom self.old → HasRoom self.new }
+    {
+        self.machine.room()?;
+        self.list.reserve(1)?;
+        Ok(())
+    }
+
+    /// Whether there is room for one more.
+    pub(crate) fn has_room(&self) -> bool
+        ensures { IsTrue result ↔ HasRoom self.now }
+    {
+        8 <= self.machine.spare() && self.list.len() < self.list.capacity()
+    }
+
+    /// Adds what was decided of the next slot, and processes its requests. It allocates nothing. Requires room for it,
+    /// that its requests are of the shape's clients, and fewer than 2^36 decisions.
+    pub(crate) fn add(&mut self, decision: Decision)
+        requires room { HasRoom self.old }
+        requires clients { All (λ r. r.client < self.old.clients) (requests_in decision) }
+        requires short { length self.old.values < 2 ^ 36 }
+        ensures values { self.new.values ≡ decision ∷ self.old.values }
+        ensures clients { self.new.clients ≡ self.old.clients }
+    {
+        process(&mut self.machine, &decision);
+        self.list.push_reserved(decision);
+    }
+
+    /// The requests that acted, in their order.
+    pub(crate) fn history(&self) -> &[Request]
+        ensures { result.now ≡ reverse (acted (processed self.now)) }
+    {
+        self.machine.history()
+    }
+
+    /// The reply to the client's last request that acted.
+    pub(crate) fn kept(&self, client: ClientId) -> Option<Reply>
+        ensures { result ≡ reply (processed self.now) client }
+    {
+        self.machine.kept(client)
+    }
+
+    /// What was decided, by the numbers of the slots.
+    pub(crate) fn list(&self) -> &[Decision]
+        ensures { result.now ≡ reverse self.now.values }
+    {
+        self.list.as_slice()
+    }
+}
+
+/// Lets the machine process the requests of a decision. Requires room for them, that they are of its clients, and that
+/// the history is short.
+fn process(machine: &mut Machine, decision: &Decision)
+    requires room { 8 ≤ machine.old.room }
+    requires clients { All (λ r. r.client < machine.old.clients) (requests_in decision.now) }
+    requires short { length machine.old.history < 2 ^ 39 }
+    ensures stands { (values : List (List Request)) → StandsFor machine.old values → StandsFor machine.new (requests_in decision.now ∷ values) }
+    ensures few { length machine.new.history ≤ length machine.old.history + 8 }
+    ensures clients { machine.new.clients ≡ machine.old.clients }
+{
+    match decision.content() {
+        Some(requests) => accept(machine, requests.as_slice()),
+        None => accept(machine, &[]),
+    }
+}
+
+/// Lets the machine process these requests, for which it has room.
+fn accept(machine: &mut Machine, requests: &[Request])
+    requires room { 8 ≤ machine.old.room }
+    requires few { length requests.now ≤ 8 }
+    requires clients { All (λ r. r.client < machine.old.clients) requests.now }
+    requires short { length machine.old.history < 2 ^ 39 }
+    ensures stands { (values : List (List Request)) → StandsFor machine.old values → StandsFor machine.new (requests.now ∷ values) }
+    ensures few { length machine.new.history ≤ length machine.old.history + 8 }
+    ensures clients { machine.new.clients ≡ machine.old.clients }
+{
+    let _accepted = machine.accept_value(requests);
+}

@@ -1,0 +1,178 @@
+ghost use Rattle.std.specs.Prelude.{◌≡◌, ℕ, suc, ◌+◌, ◌<◌, ◌≤◌, ◌^◌, ◌∷◌, ◌++◌, [], All, map, false, None, IfOk, IfSome, IsOkUnless, vec_capacity, if◌then◌else◌};
+ghost use Rattle.dsr_names.specs.Shape.{Shape};
+ghost use Rattle.dsr_chain.specs.Content.{signed_in};
+ghost use Rattle.dsr_chain.specs.Proper.{IsAsked};
+ghost use Rattle.dsr_rotation.specs.Calendar.{closed_slots};
+ghost use Rattle.dsr_slot.specs.SlotState.{SlotState, opened, with_chain, with_closed};
+ghost use Rattle.dsr_replica.specs.Support.Flights.{AreInFlight, HasOpenRound, IsFirstLast, AreOf, with_chains, is_begun, slot_post, posts_of, rest_of, next_flights, first_decided, decided_with};
+
+use dsr_chain::{Chain, SlotValue};
+use dsr_desk::Key;
+use dsr_names::{Actor, Refusal, Shape};
+use dsr_rotation::Calendar;
+use dsr_slot::{Decision, SlotState};
+use std::alloc::Global;
+use std::marker::Model;
+
+/// The slots in flight in the round in progress, by their numbers: at most f+1 of them.
+#[derive(Drop)]
+pub(crate) struct Flights {
+    shape: Shape,
+    round: u64,
+    slots: Vec<SlotState>,
+}
+
+impl Model for Flights {
+    ghost use Rattle.dsr_replica.specs.Support.Flights.{Flights};
+    ghost use Rattle.dsr_replica.specs.Support.FlightsFields.{IsFlightsFields, flights_of};
+
+    ghost Value = { Flights };
+
+    ghost view = { flights_of };
+
+    ghost invariant = { IsFlightsFields };
+}
+
+impl Flights {
+    /// The slot that begins with round 0.
+    pub(crate) fn new(alloc: Global, shape: &Shape) -> Result<Flights, Refusal>
+        ensures opened { IfOk result (λ flights. flights ≡ record { shape = shape.now; round = 0; slots = opened shape.now 0 ∷ [] }) }
+        ensures refusal { IsOkUnless result Refusal.NoMemory }
+    {
+        let mut slots = Vec::with_capacity(alloc, shape.f() as usize + 1)?;
+        slots.push_reserved(SlotState::new(shape, 0));
+        Ok(Flights {
+            shape: *shape,
+            round: 0,
+            slots,
+        })
+    }
+
+    /// The shape.
+    pub(crate) fn shape(&self) -> Shape
+        ensures { result ≡ self.now.shape }
+    {
+        self.shape
+    }
+
+    /// The round in progress.
+    pub(crate) fn round(&self) -> u64
+        ensures same { result ≡ self.now.round }
+        ensures in_flight { AreInFlight self.now.shape self.now.round self.now.slots (closed_slots self.now.shape self.now.round) }
+    {
+        self.round
+    }
+
+    /// Reads a chain in the round in progress: in that of the slots in flight which it is of.
+    pub(crate) fn read(&mut self, chain: Chain)
+        ensures { self.new ≡ record self.old { slots = map (λ s. with_chain s chain) self.old.slots } }
+    {
+        let first = Calendar::new(&self.shape).slots_in(self.round).first;
+        let Some(place) = chain.slot().checked_sub(first) else {
+            return;
+        };
+        if place < self.slots.len() as u64 {
+            self.slots[place as usize].read(chain);
+        }
+    }
+
+    /// Reads these chains in the round in progress, in their order.
+    pub(crate) fn read_all(&mut self, mut chains: Vec<Chain>)
+        ensures { self.new ≡ record self.old { slots = map (with_chains chains.items) self.old.slots } }
+    {
+        for chain in chains.drain(..) {
+            self.read(chain);
+        }
+    }
+
+    /// Closes the round in progress, and returns what is decided of the slot that closes with it, if one does. The slot
+    /// of the next round begins. Requires that the round is below 2^36.
+    pub(crate) fn close(&mut self) -> Option<Decision>
+        requires { self.old.round < 2 ^ 36 }
+        ensures decided { result ≡ decided_with self.old.shape self.old.round self.old.slots }
+        ensures asked { IfSome result (λ value. All (IsAsked self.old.shape) (signed_in value)) }
+        ensures next { self.new ≡ next_flights self.old }
+        ensures in_flight { AreInFlight self.old.shape self.old.round self.old.slots (closed_slots self.old.shape self.old.round) }
+    {
+        let all_go_on = self.round < self.shape.f() as u64;
+        let decision = decide_first(&mut self.slots, all_go_on);
+        close_each(&mut self.slots);
+        self.round += 1;
+        self.slots
+            .push_reserved(SlotState::new(&self.shape, self.round));
+        decision
+    }
+
+    /// What the key's holder posts in the round in progress, where it proposes this value: for each slot in flight the
+    /// chains that it relays, and the one that it starts. `NoMemory` where memory runs out or one handle more
+    /// is refused.
+    pub(crate) fn posts(
+        &self,
+        alloc: Global,
+        key: &Key,
+        value: &SlotValue,
+    ) -> Result<Vec<Chain>, Refusal>
+        ensures posts { IfOk result (λ chains. chains.items ≡ posts_of key.now value.now self.now.slots) }
+        ensures refusal { IsOkUnless result Refusal.NoMemory }
+    {
+        let mut chains = Vec::new(alloc);
+        for slot in self.slots.as_slice() {
+            let mut part = slot_post(alloc, slot, key, value)?;
+            chains.append(&mut part)?;
+        }
+        Ok(chains)
+    }
+}
+
+/// Takes out the first slot and returns what is decided of it, unless all slots go on. Requires that otherwise there is a
+/// first slot, in its last round.
+fn decide_first(slots: &mut Vec<SlotState>, all_go_on: bool) -> Option<Decision>
+    requires last { all_go_on ≡ false → IsFirstLast slots.old.items }
+    ensures decided { result ≡ (if all_go_on then None else first_decided slots.old.items) }
+    ensures asked { (shape : Shape) → AreOf shape slots.old.items → IfSome result (λ value. All (IsAsked shape) (signed_in value)) }
+    ensures rest { slots.new.items ≡ (if all_go_on then slots.old.items else rest_of slots.old.items) }
+    ensures room { vec_capacity slots.new ≡ vec_capacity slots.old }
+{
+    if all_go_on {
+        return None;
+    }
+    let mut first = slots.remove(0);
+    first.close();
+    Some(first.into_decision())
+}
+
+/// Closes the round in progress of each slot.
+fn close_each(slots: &mut Vec<SlotState>)
+    requires { All HasOpenRound slots.old.items }
+    ensures closed { slots.new.items ≡ map with_closed slots.old.items }
+    ensures room { vec_capacity slots.new ≡ vec_capacity slots.old }
+{
+    for place in 0..slots.len() {
+        slots[place].close();
+    }
+}
+
+/// What the key's holder posts of the slot in the round after its closed ones, where it proposes this value.
+fn slot_post(
+    alloc: Global,
+    slot: &SlotState,
+    key: &Key,
+    value: &SlotValue,
+) -> Result<Vec<Chain>, Refusal>
+    ensures posts { IfOk result (λ chains. chains.items ≡ slot_post key.now value.now slot.now) }
+    ensures refusal { IsOkUnless result Refusal.NoMemory }
+{
+    let mut chains = slot.relays(alloc, slot.closed_rounds() + 1, key)?;
+    if begins(slot, key) {
+        chains.push(Chain::start(alloc, slot.slot(), *value, key)?)?;
+    }
+    Ok(chains)
+}
+
+/// Whether the key's holder is the sender of the slot, which is in its first round.
+fn begins(slot: &SlotState, key: &Key) -> bool
+    ensures { result ≡ is_begun key.now slot.now }
+{
+    let sender = Actor::Replica(slot.shape().sender(slot.slot()));
+    slot.closed_rounds() == 0 && key.signer() == sender
+}

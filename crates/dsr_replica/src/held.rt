@@ -1,0 +1,120 @@
+ghost use Rattle.std.specs.Prelude.{◌≡◌, ℕ, ◌<◌, ◌≤◌, ◌&&◌, None, IfOk, IsOkUnless, length, slice_index_or, slice_set};
+ghost use Rattle.dsr_chain.specs.declared.signed_request.SignedRequest.{SignedRequest};
+ghost use Rattle.dsr_replica.specs.declared.envelope.Envelope.TheVariants.{Ask};
+ghost use Rattle.dsr_replica.specs.Held.{is_own_ask, gives_way, held_with};
+ghost use Rattle.dsr_replica.specs.Replica.{ask_of, asks_of};
+ghost use Rattle.dsr_replica.specs.Support.Asks.{asks_with};
+
+use crate::envelope::Envelope;
+use dsr_base::Few;
+use dsr_chain::{Batch, SignedRequest};
+use dsr_names::{ClientId, Refusal, Shape};
+use std::alloc::Global;
+use std::marker::Model;
+
+/// The ask that is held of each client of a shape, if one is.
+#[derive(Drop)]
+pub(crate) struct Asks {
+    list: Vec<Option<SignedRequest>>,
+}
+
+impl Model for Asks {
+    ghost use Rattle.std.specs.Prelude.{List, Option};
+    ghost use Rattle.dsr_chain.specs.declared.signed_request.SignedRequest.{SignedRequest};
+
+    ghost Value = { List (Option SignedRequest) };
+
+    ghost view = { λ a. a.list.items };
+}
+
+impl Asks {
+    /// No ask of any client of the shape. `NoMemory` where the memory for them is refused.
+    pub(crate) fn new(alloc: Global, shape: &Shape) -> Result<Asks, Refusal>
+        ensures none { IfOk result (λ asks. (client : ℕ) → ask_of asks client ≡ None) }
+        ensures count { IfOk result (λ asks. length asks ≡ shape.now.m) }
+        ensures refusal { IsOkUnless result Refusal.NoMemory }
+    {
+        let mut list = Vec::with_capacity(alloc, shape.m() as usize)?;
+        for _ in 0..shape.m() {
+            list.push(None)?;
+        }
+        Ok(Asks { list })
+    }
+
+    /// The ask held of this client.
+    pub(crate) fn get(&self, client: ClientId) -> Option<SignedRequest>
+        ensures { result ≡ ask_of self.now client }
+    {
+        match self.list.as_slice().get(client.number() as usize) {
+            Some(ask) => *ask,
+            None => None,
+        }
+    }
+
+    /// Takes an envelope from the client: holds its ask, if it signed it as its own and no ask of a greater number is held.
+    pub(crate) fn take(&mut self, shape: &Shape, client: ClientId, envelope: Envelope)
+        requires { client < length self.old }
+        ensures { self.new ≡ asks_with shape.now client self.old envelope }
+    {
+        match &envelope {
+            Envelope::Ask(ask) => self.hold(shape, client, *ask),
+            _ => {}
+        }
+    }
+
+    /// Holds the client's ask, if it signed it as its own and no ask of a greater number is held.
+    fn hold(&mut self, shape: &Shape, client: ClientId, ask: SignedRequest)
+        requires { client < length self.old }
+        ensures { self.new ≡ asks_with shape.now client self.old (Ask ask) }
+    {
+        let place = client.number() as usize;
+        if is_to_be_held(shape, client, &self.list[place], &ask) {
+            self.list[place] = Some(ask);
+        }
+    }
+
+    /// The asks held of these clients, in this order. `None` where one of them has none. Requires 1 to 8 clients.
+    pub(crate) fn of(&self, clients: &[ClientId]) -> Option<Batch>
+        requires some { 0 < length clients.now }
+        requires few { length clients.now ≤ 8 }
+        ensures { result ≡ asks_of self.now clients.now }
+    {
+        match clients {
+            [] => None,
+            [first] => Some(Few::one(self.get(*first)?)),
+            [first, rest @ ..] => {
+                let ask = self.get(*first)?;
+                self.of(rest)?.after(ask)
+            }
+        }
+    }
+}
+
+/// Whether the client signed the ask as its own, and what is held gives way to it.
+fn is_to_be_held(
+    shape: &Shape,
+    client: ClientId,
+    held: &Option<SignedRequest>,
+    ask: &SignedRequest,
+) -> bool
+    ensures { result ≡ (is_own_ask shape.now client ask.now && gives_way held.now ask.now.request.number) }
+{
+    is_own_ask(shape, client, ask) && gives_way(held, ask.request.number())
+}
+
+/// Whether the client signed the ask as its own.
+fn is_own_ask(shape: &Shape, client: ClientId, ask: &SignedRequest) -> bool
+    ensures { result ≡ is_own_ask shape.now client ask.now }
+{
+    ask.request.client() == client && ask.is_asked(shape)
+}
+
+/// Whether what is held gives way to an ask of this number.
+fn gives_way(held: &Option<SignedRequest>, number: u64) -> bool
+    ensures { result ≡ gives_way held.now number }
+{
+    match held {
+        Some(ask) => ask.request.number() <= number,
+        None => true,
+    }
+}

@@ -1,0 +1,84 @@
+//! The laws of one loyal replica's log, as the contracts of functions that do nothing.
+
+ghost use Rattle.std.specs.Prelude.{◌≡◌, ◌⊎◌, ℕ, ◌+◌, ◌<◌, ◌≤◌, List, ◌∷◌, Some, slice_get};
+ghost use Rattle.dsr_base.specs.Growth.{Extends};
+ghost use Rattle.dsr_base.specs.Member.{In};
+ghost use Rattle.dsr_names.specs.Shape.{Shape, AgreeButForTraitors};
+ghost use Rattle.dsr_names.specs.declared.actor.Actor.{Actor};
+ghost use Rattle.dsr_names.specs.declared.actor.Actor.TheVariants.{Replica};
+ghost use Rattle.dsr_history.specs.History.{acted};
+ghost use Rattle.dsr_rotation.specs.Calendar.{first_round};
+ghost use Rattle.dsr_desk.specs.Signature.{Signature};
+ghost use Rattle.dsr_chain.specs.Chain.{Chain};
+ghost use Rattle.dsr_chain.specs.Proper.{IsReplica};
+ghost use Rattle.dsr_replica.specs.declared.envelope.Envelope.{Envelope};
+ghost use Rattle.dsr_replica.specs.declared.entry.Entry.{Entry};
+ghost use Rattle.dsr_replica.specs.declared.entry.Entry.TheVariants.{Post};
+ghost use Rattle.dsr_replica.specs.declared.step.Pick.{Pick};
+ghost use Rattle.dsr_replica.specs.Conduct.{envelope_to, IsNext, IsLoyalLog};
+ghost use Rattle.dsr_replica.specs.Counts.{HasCounts};
+ghost use Rattle.dsr_replica.specs.Decided.{read_in, slot_kept, decided_values, decided_requests};
+ghost use Rattle.dsr_replica.specs.Envelope.{chains_for, Carries};
+ghost use Rattle.dsr_replica.specs.Held.{held};
+ghost use Rattle.dsr_replica.specs.Log.{posted_to, due, rounds};
+ghost use Rattle.dsr_replica.specs.Posts.{IsOfRound, IsPosted, WasTaken};
+
+/// At each point of a round a loyal replica has posted to each replica and taken from each as often as rounds are closed,
+/// and once more where the post or the take of this round was made already.
+pub fn posts_and_takes_keep_step()
+    ensures { (shape : Shape) (me : Actor) (log : List Entry) → 0 < shape.n → IsLoyalLog shape me log
+        → HasCounts shape log (rounds shape log) }
+{}
+
+/// A loyal replica posts the same to all in a round: its envelope of that round by the log that it has now. Each chain in it
+/// is the replica's part in a round of some slot, and proper for that round: so is each that has a link with the replica's own
+/// signature.
+pub fn posts_follow_the_log()
+    ensures equal { (shape : Shape) (me : Actor) (log : List Entry) → 0 < shape.n → IsLoyalLog shape me log
+        → (q : ℕ) → q < shape.n → (round : ℕ) (envelope : Envelope) → slice_get (posted_to (Replica q) log) round ≡ Some envelope
+        → slice_get (posted_to (Replica 0) log) round ≡ Some envelope }
+    ensures lawful { (shape : Shape) (me : Actor) (log : List Entry) → 0 < shape.n → IsLoyalLog shape me log
+        → (q : ℕ) → q < shape.n → (round : ℕ) (envelope : Envelope) → slice_get (posted_to (Replica q) log) round ≡ Some envelope
+        → IsOfRound shape me log round envelope }
+    ensures chains { (shape : Shape) (me : Actor) (log : List Entry) → 0 < shape.n → IsReplica shape me → IsLoyalLog shape me log
+        → (q : ℕ) → q < shape.n → (round : ℕ) (envelope : Envelope) → slice_get (posted_to (Replica q) log) round ≡ Some envelope
+        → (chain : Chain) → In chain (chains_for round envelope) → IsPosted shape me log round chain }
+{}
+
+/// Each signature in an envelope that a loyal replica posts is its own, or stands in an envelope that it took before: on a
+/// chain, beside a request of a chain's value, or beside a request that was asked.
+pub fn signatures_are_own_or_taken()
+    ensures { (shape : Shape) (me : Actor) (log : List Entry) → 0 < shape.n → IsLoyalLog shape me log
+        → (to : Actor) (envelope : Envelope) → IsNext shape me log (Post to envelope)
+        → (s : Signature) → Carries envelope s → (s.signer ≡ me) ⊎ WasTaken log s }
+{}
+
+/// A loyal log that goes on says the same of its closed rounds: what was read and kept in them stays, what was decided stays
+/// decided, with later values before it, and the history only grows.
+pub fn closed_rounds_stay()
+    ensures read { (shape : Shape) (me : Actor) (later log : List Entry) → 0 < shape.n → IsLoyalLog shape me later
+        → Extends later log → (round : ℕ) → round < rounds shape log → read_in shape later round ≡ read_in shape log round }
+    ensures kept { (shape : Shape) (me : Actor) (later log : List Entry) → 0 < shape.n → IsLoyalLog shape me later
+        → Extends later log → (slot closed : ℕ) → first_round shape slot + closed ≤ rounds shape log
+        → slot_kept shape later slot closed ≡ slot_kept shape log slot closed }
+    ensures decided { (shape : Shape) (me : Actor) (later log : List Entry) → 0 < shape.n → IsLoyalLog shape me later
+        → Extends later log → Extends (decided_values shape later) (decided_values shape log) }
+    ensures history { (shape : Shape) (me : Actor) (later log : List Entry) → 0 < shape.n → IsLoyalLog shape me later
+        → Extends later log → Extends (acted (decided_requests shape later)) (acted (decided_requests shape log)) }
+{}
+
+/// A loyal replica never looks at who is a traitor. Under two shapes that agree in all but that, the same is due, kept, decided and
+/// held; the same envelopes are posted; and the same logs are loyal.
+pub fn conduct_is_blind()
+    ensures due { (shape other : Shape) → AgreeButForTraitors shape other → (log : List Entry) → due shape log ≡ due other log }
+    ensures kept { (shape other : Shape) → AgreeButForTraitors shape other → (log : List Entry) (slot closed : ℕ)
+        → slot_kept shape log slot closed ≡ slot_kept other log slot closed }
+    ensures decided { (shape other : Shape) → AgreeButForTraitors shape other → (log : List Entry)
+        → decided_values shape log ≡ decided_values other log }
+    ensures held { (shape other : Shape) → AgreeButForTraitors shape other → (client : ℕ) (log : List Entry)
+        → held shape client log ≡ held other client log }
+    ensures posted { (shape other : Shape) → AgreeButForTraitors shape other → (me : Actor) (log : List Entry) (to : ℕ) (pick : Pick)
+        → envelope_to shape me log to pick ≡ envelope_to other me log to pick }
+    ensures conduct { (shape other : Shape) → AgreeButForTraitors shape other → (me : Actor) (log : List Entry)
+        → IsLoyalLog shape me log → IsLoyalLog other me log }
+{}

@@ -1,0 +1,430 @@
+ghost use Rattle.std.specs.Prelude.{◌≡◌, ℕ, suc, ◌+◌, ◌<◌, ◌≤◌, ◌^◌, ◌↔◌, ◌∷◌, [], List, Some, All, length, map, reverse, OnOk, IfOk, IsSome, IsTrue, IsOkUnless, None, Err, IfErr};
+ghost use Rattle.std.specs.Option.{option_map};
+ghost use Rattle.dsr_names.specs.Shape.{Shape, IsActor};
+ghost use Rattle.dsr_chain.specs.Content.{requests_in};
+ghost use Rattle.dsr_chain.specs.declared.slot_value.SlotValue.{SlotValue};
+ghost use Rattle.dsr_history.specs.History.{acted};
+ghost use Rattle.dsr_rotation.specs.Calendar.{closed_slots};
+ghost use Rattle.dsr_names.specs.declared.actor.Actor.TheVariants.{Replica as ReplicaNumber, Client as ClientNumber};
+ghost use Rattle.dsr_replica.specs.declared.entry.Entry.{Entry};
+ghost use Rattle.dsr_replica.specs.declared.entry.Entry.TheVariants.{Post, Take};
+ghost use Rattle.dsr_replica.specs.declared.step.Due.TheVariants.{Post as PostTo, Take as TakeFrom};
+ghost use Rattle.dsr_replica.specs.declared.step.Pick.TheVariants.{From};
+ghost use Rattle.dsr_replica.specs.declared.envelope.Envelope.{Envelope};
+ghost use Rattle.dsr_replica.specs.Conduct.{envelope_to, is_due, reply_to};
+ghost use Rattle.dsr_replica.specs.Decided.{decided_values, decided_requests};
+ghost use Rattle.dsr_replica.specs.Envelope.{chains_for, round_envelope};
+ghost use Rattle.dsr_replica.specs.Held.{held};
+ghost use Rattle.dsr_replica.specs.Log.{due, rounds};
+ghost use Rattle.dsr_replica.specs.Pick.{IsPick};
+ghost use Rattle.dsr_replica.specs.Replica.{Replica, HasRoom, StandsFor, ask_of, value_of, value_for, Allows, IsPostRefusal};
+ghost use Rattle.dsr_replica.specs.Support.Flights.{AreInFlight, with_chains, posts_of};
+ghost use Rattle.dsr_replica.specs.Support.Decisions.{HasRoom as HasPlaces};
+ghost use Rattle.dsr_replica.specs.Support.ReplicaFields.{with_envelope, with_decided, next_round, after_post_to};
+
+use crate::chains::Chains;
+use crate::clients::Clients;
+use crate::decided::Decisions;
+use crate::envelope::Envelope;
+use crate::flights::Flights;
+use crate::held::Asks;
+use crate::step::{Due, Pick};
+use dsr_chain::{Chain, SlotValue};
+use dsr_desk::Key;
+use dsr_names::{Actor, ClientId, Refusal, ReplicaId, Shape};
+use dsr_request::Request;
+use dsr_slot::Decision;
+use std::alloc::Global;
+use std::marker::Model;
+
+/// The end of rounds: none from 2^36 on is begun.
+const ROUND_END: u64 = 1 << 36;
+
+/// A loyal replica, over its log of what it posted and took. It keeps no log: contracts say for which log it stands.
+#[derive(Drop)]
+pub struct Replica {
+    key: Key,
+    due: Due,
+    flights: Flights,
+    decisions: Decisions,
+    proposed: SlotValue,
+    asks: Asks,
+}
+
+impl Model for Replica {
+    ghost use Rattle.dsr_replica.specs.Replica.{Replica};
+    ghost use Rattle.dsr_replica.specs.Support.ReplicaFields.{IsReplicaFields, replica_of};
+
+    ghost Value = { Replica };
+
+    ghost view = { replica_of };
+
+    ghost invariant = { IsReplicaFields };
+}
+
+impl Replica {
+    /// The replica that holds this key, with an empty log. Requires that the key is that of a replica of the shape. `NoMemory`
+    /// where memory runs out: then the key is gone.
+    pub fn new(alloc: Global, key: Key, shape: &Shape) -> Result<Replica, Refusal>
+        requires { IsActor shape.now key }
+        ensures stands { IfOk result (λ replica. StandsFor replica []) }
+        ensures me { IfOk result (λ replica. replica.me ≡ key) }
+        ensures shape { IfOk result (λ replica. replica.shape ≡ shape.now) }
+        ensures refusal { IsOkUnless result Refusal.NoMemory }
+    {
+        let _n = shape.n();
+        let flights = Flights::new(alloc, shape)?;
+        let decisions = Decisions::new(alloc, shape)?;
+        let asks = Asks::new(alloc, shape)?;
+        Ok(Replica {
+            key,
+            due: Due::Post(ReplicaId::FIRST),
+            flights,
+            decisions,
+            proposed: SlotValue::Idle,
+            asks,
+        })
+    }
+
+    /// The shape of which it is a replica.
+    pub fn shape(&self) -> Shape
+        ensures { result ≡ self.now.shape }
+    {
+        self.flights.shape()
+    }
+
+    /// What it does next with the other replicas.
+    pub fn due(&self) -> Due
+        ensures same { result ≡ self.now.next }
+        ensures stands { (log : List Entry) → StandsFor self.now log → result ≡ due self.now.shape log }
+        ensures round { (log : List Entry) → StandsFor self.now log → rounds self.now.shape log ≡ self.now.round }
+        ensures most { self.now.round ≤ 2 ^ 36 }
+    {
+        self.due
+    }
+
+    /// Whether it may post to this replica by this choice: the post is due, there is such an envelope, and the round is below
+    /// 2^36.
+    pub fn allows(&self, to: ReplicaId, pick: Pick) -> bool
+        ensures allowed { IsTrue result ↔ Allows self.now to pick }
+        ensures stands { (log : List Entry) → StandsFor self.now log
+            → IsTrue result ↔ (IsSome (envelope_to self.now.shape self.now.me log to pick) × (rounds self.now.shape log < 2 ^ 36)) }
+        ensures pick { IsPick pick }
+    {
+        look_at(&pick);
+        self.is_allowed(to, pick)
+    }
+
+    /// The envelope that it posts to this replica by this choice. `NotDue` exactly where there is none: the post is not due, or the
+    /// choice not allowed there. Else `Exhausted` exactly in round 2^36; else `NoMemory` where memory runs out or one handle more
+    /// is refused.
+    pub fn envelope_for(
+        &self,
+        alloc: Global,
+        to: ReplicaId,
+        pick: Pick,
+    ) -> Result<Envelope, Refusal>
+        ensures given { (log : List Entry) → StandsFor self.now log
+            → IfOk result (λ envelope. envelope_to self.now.shape self.now.me log to pick ≡ Some envelope) }
+        ensures not_due { (log : List Entry) → StandsFor self.now log
+            → (result ≡ Err Refusal.NotDue) ↔ (envelope_to self.now.shape self.now.me log to pick ≡ None) }
+        ensures exhausted { (log : List Entry) → StandsFor self.now log → (result ≡ Err Refusal.Exhausted)
+            ↔ (IsSome (envelope_to self.now.shape self.now.me log to pick) × (rounds self.now.shape log ≡ 2 ^ 36)) }
+        ensures refusal { IfErr result IsPostRefusal }
+        ensures pick { IsPick pick }
+    {
+        look_at(&pick);
+        let Some(value) = self.value_for(to, pick) else {
+            return Err(Refusal::NotDue);
+        };
+        if self.flights.round() >= ROUND_END {
+            return Err(Refusal::Exhausted);
+        }
+        self.made(alloc, &value)
+    }
+
+    /// Posts to this replica by this choice. Requires that it is allowed.
+    pub fn posted(&mut self, to: ReplicaId, pick: Pick)
+        requires { Allows self.old to pick }
+        ensures stands { (log : List Entry) (envelope : Envelope) → StandsFor self.old log
+            → envelope_to self.old.shape self.old.me log to pick ≡ Some envelope → StandsFor self.new (Post (ReplicaNumber to) envelope ∷ log) }
+        ensures room { HasRoom self.old → HasRoom self.new }
+        ensures me { self.new.me ≡ self.old.me }
+        ensures shape { self.new.shape ≡ self.old.shape }
+    {
+        let Some(value) = self.value_for(to, pick) else {
+            return;
+        };
+        self.post(to, value);
+    }
+
+    /// Makes room for what the next take may decide. `NoMemory` where it is refused: then nothing changed, but that there may
+    /// be more room.
+    pub fn room(&mut self) -> Result<(), Refusal>
+        ensures ok { OnOk result (HasRoom self.new) }
+        ensures refusal { IsOkUnless result Refusal.NoMemory }
+        ensures same { self.new ≡ record self.old { requests = self.new.requests; places = self.new.places } }
+        ensures stands { (log : List Entry) → StandsFor self.old log → StandsFor self.new log }
+        ensures no_less { HasRoom self.old → HasRoom self.new }
+    {
+        self.decisions.room()
+    }
+
+    /// Whether there is room for what the next take may decide.
+    pub fn has_room(&self) -> bool
+        ensures { IsTrue result ↔ HasRoom self.now }
+    {
+        self.decisions.has_room()
+    }
+
+    /// What was decided of the closed slots, by their numbers.
+    pub fn decided(&self) -> &[Decision]
+        ensures same { result.now ≡ reverse self.now.values }
+        ensures stands { (log : List Entry) → StandsFor self.now log → result.now ≡ reverse (decided_values self.now.shape log) }
+    {
+        self.decisions.list()
+    }
+
+    /// The requests that acted, in their order.
+    pub fn history(&self) -> &[Request]
+        ensures same { result.now ≡ reverse (acted (map requests_in self.now.values)) }
+        ensures stands { (log : List Entry) → StandsFor self.now log → result.now ≡ reverse (acted (decided_requests self.now.shape log)) }
+    {
+        self.decisions.history()
+    }
+
+    /// The envelope with the reply to the client's last request that acted; `None` where none did.
+    pub fn reply_for(&self, client: ClientId) -> Option<Envelope>
+        ensures stands { (log : List Entry) → StandsFor self.now log → result ≡ reply_to self.now.shape log client }
+    {
+        self.decisions.kept(client).map(Envelope::Reply)
+    }
+
+    /// Takes the envelope from this replica. The last take of a round closes it. It allocates nothing. Requires that the take
+    /// is due, and room for what it may decide. An envelope of another kind or round counts as no chains.
+    pub fn taken(&mut self, from: ReplicaId, envelope: Envelope)
+        requires due { self.old.next ≡ TakeFrom from }
+        requires room { HasRoom self.old }
+        ensures stands { (log : List Entry) → StandsFor self.old log → StandsFor self.new (Take (ReplicaNumber from) envelope ∷ log) }
+        ensures me { self.new.me ≡ self.old.me }
+        ensures shape { self.new.shape ≡ self.old.shape }
+    {
+        self.read(envelope);
+        let next = from.number() + 1;
+        if next < self.flights.shape().n() {
+            self.take_next_from(next);
+        } else {
+            self.close();
+        }
+    }
+
+    /// Takes the envelope from this client. It allocates nothing. Requires that the client is one of the shape. An ask that the
+    /// client did not sign as its own is dropped; so is one where an ask of a greater number is held.
+    pub fn ask_taken(&mut self, client: ClientId, envelope: Envelope)
+        requires { client < self.old.shape.m }
+        ensures stands { (log : List Entry) → StandsFor self.old log → StandsFor self.new (Take (ClientNumber client) envelope ∷ log) }
+        ensures rest { self.new ≡ record self.old { asks = self.new.asks } }
+    {
+        let shape = self.flights.shape();
+        self.asks.take(&shape, client, envelope);
+    }
+
+    /// The request that is held of this client.
+    pub fn held(&self, client: ClientId) -> Option<Request>
+        ensures same { result ≡ option_map (λ ask. ask.request) (ask_of self.now.asks client) }
+        ensures stands { (log : List Entry) → StandsFor self.now log → result ≡ option_map (λ ask. ask.request) (held self.now.shape client log) }
+    {
+        match self.asks.get(client) {
+            Some(ask) => Some(ask.request),
+            None => None,
+        }
+    }
+
+    /// The envelope of the round in progress with the chains that are posted where this value is proposed.
+    fn made(&self, alloc: Global, value: &SlotValue) -> Result<Envelope, Refusal>
+        ensures made { IfOk result (λ envelope. envelope ≡ round_envelope self.now.round (posts_of self.now.me value.now self.now.slots)) }
+        ensures refusal { IsOkUnless result Refusal.NoMemory }
+        ensures in_flight { AreInFlight self.now.shape self.now.round self.now.slots (closed_slots self.now.shape self.now.round) }
+    {
+        let round = self.flights.round();
+        let chains = self.flights.posts(alloc, &self.key, value)?;
+        Ok(envelope_of(round, chains))
+    }
+
+    /// Whether the post is due, the choice allowed, and the round below 2^36.
+    fn is_allowed(&self, to: ReplicaId, pick: Pick) -> bool
+        ensures { IsTrue result ↔ Allows self.now to pick }
+    {
+        self.value_for(to, pick).is_some() && self.flights.round() < ROUND_END
+    }
+
+    /// The value with which the envelope to this replica is made, where the post is due and the choice is allowed.
+    fn value_for(&self, to: ReplicaId, pick: Pick) -> Option<SlotValue>
+        ensures { result ≡ value_for self.now to pick }
+    {
+        if !is_due(self.due, to) {
+            return None;
+        }
+        if to.number() == 0 {
+            return self.value_of(pick);
+        }
+        match pick {
+            Pick::Plain => Some(self.proposed),
+            Pick::From(_) => None,
+            Pick::Begin(_) => None,
+        }
+    }
+
+    /// The value that the choice proposes at the post to replica 0.
+    fn value_of(&self, pick: Pick) -> Option<SlotValue>
+        ensures { result ≡ value_of self.now pick }
+    {
+        match pick {
+            Pick::Plain => Some(SlotValue::Idle),
+            Pick::From(clients) => self.value_from(clients),
+            Pick::Begin(_) => None,
+        }
+    }
+
+    /// The asks held of these clients as a value, where the replica is the sender of the slot that begins with the round.
+    fn value_from(&self, clients: Clients) -> Option<SlotValue>
+        ensures { result ≡ value_of self.now (From clients) }
+    {
+        let sender = Actor::Replica(self.flights.shape().sender(self.flights.round()));
+        if self.key.signer() != sender {
+            return None;
+        }
+        match self.asks.of(clients.as_slice()) {
+            Some(batch) => Some(SlotValue::Act(batch)),
+            None => None,
+        }
+    }
+
+    /// Posts to this replica with this value. Requires that the post is due, and the round below 2^36.
+    fn post(&mut self, to: ReplicaId, value: SlotValue)
+        requires due { self.old.next ≡ PostTo to }
+        requires below { self.old.round < 2 ^ 36 }
+        ensures { self.new ≡ record self.old { next = after_post_to self.old.shape.n to; proposed = value } }
+    {
+        self.proposed = value;
+        self.due = due_after(to, self.flights.shape().n());
+    }
+
+    /// Goes on to the take from this replica. Requires that it is one of the shape, and that the round is below 2^36.
+    fn take_next_from(&mut self, number: u8)
+        requires inside { number < self.old.shape.n }
+        requires below { self.old.round < 2 ^ 36 }
+        ensures { self.new ≡ record self.old { next = TakeFrom number } }
+    {
+        let _n = self.flights.shape().n();
+        self.due = Due::Take(replica_of(number));
+    }
+
+    /// Reads the envelope in the round in progress.
+    fn read(&mut self, envelope: Envelope)
+        ensures read { self.new ≡ with_envelope self.old envelope }
+        ensures in_flight { AreInFlight self.old.shape self.old.round self.old.slots (closed_slots self.old.shape self.old.round) }
+    {
+        read_envelope(&mut self.flights, envelope);
+    }
+
+    /// Closes the round in progress. Requires room for what it decides, and that the round is below 2^36.
+    fn close(&mut self)
+        requires room { HasRoom self.old }
+        requires below { self.old.round < 2 ^ 36 }
+        ensures { self.new ≡ record (next_round self.old) { requests = self.new.requests; places = self.new.places } }
+    {
+        let decision = self.flights.close();
+        add_decided(&mut self.decisions, decision);
+        self.due = Due::Post(ReplicaId::FIRST);
+    }
+}
+
+/// The envelope of a round with these chains: the empty one where there is none.
+fn envelope_of(round: u64, chains: Vec<Chain>) -> Envelope
+    ensures { result ≡ round_envelope round chains.items }
+{
+    if chains.is_empty() {
+        return Envelope::Empty;
+    }
+    Envelope::Round {
+        round,
+        chains: Chains::of(chains),
+    }
+}
+
+/// Looks at the choice, from which on it is known that its clients are 1 to 8 different ones.
+fn look_at(pick: &Pick)
+    ensures { IsPick pick.now }
+{
+    match pick {
+        Pick::From(clients) => {
+            let _clients = clients.as_slice();
+        }
+        Pick::Plain | Pick::Begin(_) => {}
+    }
+}
+
+/// Whether the post to this replica is due.
+fn is_due(due: Due, to: ReplicaId) -> bool
+    ensures { result ≡ is_due due to }
+{
+    match due {
+        Due::Post(next) => next == to,
+        Due::Take(_) => false,
+    }
+}
+
+/// What is due after a post to this replica, one of n.
+fn due_after(to: ReplicaId, n: u8) -> Due
+    requires { n ≤ 16 }
+    ensures { to < n → result ≡ after_post_to n to }
+{
+    let next = to.number() + 1;
+    if next < n {
+        Due::Post(replica_of(next))
+    } else {
+        Due::Take(ReplicaId::FIRST)
+    }
+}
+
+/// The replica of this number, which is below 16.
+fn replica_of(number: u8) -> ReplicaId
+    requires { number < 16 }
+    ensures { result ≡ number }
+{
+    match ReplicaId::new(number) {
+        Ok(replica) => replica,
+        Err(_) => ReplicaId::FIRST,
+    }
+}
+
+/// Reads the envelope's chains in the round in progress, if it is of that round.
+fn read_envelope(flights: &mut Flights, envelope: Envelope)
+    ensures read { flights.new ≡ record flights.old { slots = map (with_chains (chains_for flights.old.round envelope)) flights.old.slots } }
+    ensures in_flight { AreInFlight flights.old.shape flights.old.round flights.old.slots (closed_slots flights.old.shape flights.old.round) }
+{
+    let current = flights.round();
+    match envelope {
+        Envelope::Round { round, chains } => {
+            if round == current {
+                flights.read_all(chains.into_vec());
+            }
+        }
+        _ => {}
+    }
+}
+
+/// Adds what was decided, if something was.
+fn add_decided(decisions: &mut Decisions, decision: Option<Decision>)
+    requires room { HasPlaces decisions.old }
+    requires clients { (value : SlotValue) → decision ≡ Some value → All (λ r. r.client < decisions.old.clients) (requests_in value) }
+    requires short { length decisions.old.values < 2 ^ 36 }
+    ensures values { decisions.new.values ≡ with_decided decision decisions.old.values }
+    ensures clients { decisions.new.clients ≡ decisions.old.clients }
+{
+    match decision {
+        Some(decision) => decisions.add(decision),
+        None => {}
+    }
+}

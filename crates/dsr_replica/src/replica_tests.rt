@@ -1,0 +1,127 @@
+ghost use Rattle.std.specs.Prelude.{◌≡◌, ◌∷◌, [], IfOk};
+ghost use Rattle.dsr_replica.specs.declared.step.Pick.TheVariants.{From};
+
+use crate::{Clients, Due, Envelope, Pick, Replica};
+use dsr_chain::SignedRequest;
+use dsr_desk::{Key, Keys};
+use dsr_names::{Actor, ClientId, Refusal, ReplicaId, Shape};
+use dsr_request::{Answer, Name, Op, Request};
+use std::alloc::Global;
+use std::process::Abort;
+use std::test::Fail;
+
+/// The replica of shape (1,0,1,0), and the key of its client.
+#[derive(Drop)]
+struct Alone {
+    replica: Replica,
+    client: Key,
+}
+
+fn key_of(keys: &mut Keys, actor: Actor) -> Result<Key, Fail> {
+    Ok(keys.take(actor).ok_or("a key that is gone")?)
+}
+
+fn begin_alone(alloc: Global) -> Result<Alone, Fail> {
+    let shape = Shape::new(1, 0, 1, 0)?;
+    let mut keys = Keys::new(alloc, shape)?;
+    let client = key_of(&mut keys, Actor::Client(ClientId::FIRST))?;
+    let key = key_of(&mut keys, Actor::Replica(ReplicaId::FIRST))?;
+    if !shape.has(key.signer()) {
+        return Err("no replica of the shape")?;
+    }
+    let replica = Replica::new(alloc, key, &shape)?;
+    Ok(Alone { replica, client })
+}
+
+/// Client 0's request of this number: to write it to `a`.
+fn request(number: u64) -> Result<Request, Fail> {
+    let name = Name::read(b"a")?;
+    let op = Op::Write {
+        name,
+        value: number,
+    };
+    Ok(Request::new(ClientId::FIRST, number, op)?)
+}
+
+/// The choice of client 0's held request.
+fn from_client() -> Result<Pick, Fail>
+    ensures { IfOk result (λ pick. pick ≡ From (0 ∷ [])) }
+{
+    let clients = Clients::of(&[ClientId::FIRST]).ok_or("no clients")?;
+    Ok(Pick::From(clients))
+}
+
+/// Lets the replica take client 0's request of this number.
+fn ask(one: &mut Alone, number: u64) -> Result<(), Fail> {
+    if one.replica.shape().m() == 0 {
+        return Err("a shape without clients")?;
+    }
+    let envelope = Envelope::Ask(SignedRequest::by(request(number)?, &one.client));
+    one.replica.ask_taken(ClientId::FIRST, envelope);
+    Ok(())
+}
+
+/// Posts client 0's held request to replica 0, and returns the envelope.
+fn propose(alloc: Global, replica: &mut Replica) -> Result<Envelope, Fail> {
+    let envelope = replica.envelope_for(alloc, ReplicaId::FIRST, from_client()?)?;
+    if !replica.allows(ReplicaId::FIRST, from_client()?) {
+        return Err("a post that is not allowed")?;
+    }
+    replica.posted(ReplicaId::FIRST, from_client()?);
+    Ok(envelope)
+}
+
+/// Takes the envelope, with room made for it.
+fn take(replica: &mut Replica, envelope: Envelope) -> Result<(), Fail> {
+    replica.room()?;
+    if !replica.has_room() || replica.due() != Due::Take(ReplicaId::FIRST) {
+        return Err("no take is due, or there is no room")?;
+    }
+    replica.taken(ReplicaId::FIRST, envelope);
+    Ok(())
+}
+
+/// Whether the replica decided request 1 alone, and replies that it is written, at place 0.
+fn has_decided(rt: &impl Abort, replica: &Replica) -> Result<(), Fail> {
+    assert_eq!(rt; replica.decided().len(), 1);
+    let first = replica.history().first().ok_or("an empty history")?;
+    assert!(rt; *first == request(1)?);
+    let Some(Envelope::Reply(reply)) = replica.reply_for(ClientId::FIRST) else {
+        return Err("no reply")?;
+    };
+    assert_eq!(rt; reply.number, 1);
+    assert_eq!(rt; reply.place, 0);
+    assert!(rt; reply.answer == Answer::Written);
+    Ok(())
+}
+
+#[test]
+fn a_request_that_is_not_held_is_not_proposed(rt: HostRuntime) -> Result<(), Fail> {
+    let one = begin_alone(rt.alloc())?;
+    let refused = one
+        .replica
+        .envelope_for(rt.alloc(), ReplicaId::FIRST, from_client()?);
+    assert!(rt; refused.err() == Some(Refusal::NotDue));
+    assert!(rt; one.replica.held(ClientId::FIRST).is_none());
+    assert!(rt; one.replica.reply_for(ClientId::FIRST).is_none());
+    assert!(rt; one.replica.due() == Due::Post(ReplicaId::FIRST));
+    Ok(())
+}
+
+#[test]
+fn the_ask_of_the_greatest_number_is_held(rt: HostRuntime) -> Result<(), Fail> {
+    let mut one = begin_alone(rt.alloc())?;
+    ask(&mut one, 2)?;
+    ask(&mut one, 1)?;
+    assert!(rt; one.replica.held(ClientId::FIRST) == Some(request(2)?));
+    Ok(())
+}
+
+#[test]
+fn one_replica_decides_and_replies(rt: HostRuntime) -> Result<(), Fail> {
+    let mut one = begin_alone(rt.alloc())?;
+    ask(&mut one, 1)?;
+    let envelope = propose(rt.alloc(), &mut one.replica)?;
+    take(&mut one.replica, envelope)?;
+    has_decided(&rt, &one.replica)
+}
