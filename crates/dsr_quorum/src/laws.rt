@@ -1,0 +1,26 @@
+//! The laws of voting, as the contracts of functions that do nothing.
+
+ghost use Rattle.std.specs.Prelude.{◌≡◌, ℕ, ◌+◌, ◌*◌, ◌<◌, ◌≤◌, List, None, Some};
+ghost use Rattle.dsr_names.specs.Shape.{Shape, IsLoyal, HasFewTraitors};
+ghost use Rattle.dsr_names.specs.declared.actor.Actor.TheVariants.{Replica};
+ghost use Rattle.dsr_ledger.specs.declared.reply.Reply.{Reply};
+ghost use Rattle.dsr_quorum.specs.Votes.{Note, first_of, votes, winner};
+
+/// Where at most f replicas are traitors, a reply with more than f votes was given by a loyal replica: it is the first reply
+/// of one. The winner has more than f votes, and where there is none, no reply has.
+pub fn enough_votes_have_a_loyal_one()
+    ensures loyal { (shape : Shape) (notes : List Note) (reply : Reply) → HasFewTraitors shape
+        → shape.f < votes shape.n notes reply
+        → (p : ℕ) × IsLoyal shape (Replica p) × (first_of p notes ≡ Some reply) }
+    ensures winner { (f n : ℕ) (notes : List Note) (reply : Reply) → winner f n notes ≡ Some reply → f < votes n notes reply }
+    ensures none { (f n : ℕ) (notes : List Note) (reply : Reply) → winner f n notes ≡ None → votes n notes reply ≤ f }
+{}
+
+/// Where more than twice as many replicas are there as may be traitors, and the first reply of each loyal one is the same,
+/// that reply has more than f votes and wins.
+pub fn loyal_replicas_are_enough()
+    ensures votes { (shape : Shape) (notes : List Note) (reply : Reply) → HasFewTraitors shape → 2 * shape.f < shape.n
+        → ((p : ℕ) → IsLoyal shape (Replica p) → first_of p notes ≡ Some reply) → shape.f < votes shape.n notes reply }
+    ensures winner { (shape : Shape) (notes : List Note) (reply : Reply) → HasFewTraitors shape → 2 * shape.f < shape.n
+        → ((p : ℕ) → IsLoyal shape (Replica p) → first_of p notes ≡ Some reply) → winner shape.f shape.n notes ≡ Some reply }
+{}
