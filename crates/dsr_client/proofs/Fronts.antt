@@ -1,0 +1,40 @@
+-- The seen front never falls, and is above the place of each accepted reply; only an accepted reply and what another client tells
+-- raise it.
+use Rattle.std.proofs.Common.{◌<◌, ◌≤◌, List, [], ◌∷◌, ◌++◌, ap, sym, subst, arith}
+use Rattle.dsr_base.specs.Growth.{Extends}
+use Rattle.dsr_base.specs.Member.{In, here, there}
+use Rattle.dsr_names.specs.Shape.{Shape}
+use Rattle.dsr_names.specs.declared.actor.Actor.TheVariants.{Replica, Client}
+use Rattle.dsr_ledger.specs.declared.reply.Reply.{Reply as AReply}
+use Rattle.dsr_replica.specs.declared.entry.Entry.{Entry}
+use Rattle.dsr_replica.specs.declared.entry.Entry.TheVariants.{Post, Take}
+use Rattle.dsr_client.specs.State.{accepted, front_of, told, seen}
+use Rattle.dsr_client.proofs.Answering.{accepted_grow}
+
+front_above : (w : AReply) (replies : List AReply) → In w replies → w.place < front_of replies
+front_above w [] inside = elim inside [ ]
+front_above w (x ∷ older) (here e) = let at = ap (λ r. r.place) e in omega (arith, at)
+front_above w (x ∷ older) (there inside) = let before = front_above w older inside in omega (arith, before)
+
+front_grows : (newer older : List AReply) → front_of older ≤ front_of (newer ++ older)
+front_grows [] older = omega arith
+front_grows (x ∷ newer) older = let before = front_grows newer older in omega (arith, before)
+
+front_extends : (later earlier : List AReply) → Extends later earlier → front_of earlier ≤ front_of later
+front_extends later earlier grown = subst (λ l. front_of earlier ≤ front_of l) (sym grown.1) (front_grows grown.0 earlier)
+
+told_grows : (entry : Entry) (log : List Entry) → told log ≤ told (entry ∷ log)
+told_grows (Post to envelope) log = omega arith
+told_grows (Take (Replica p) envelope) log = omega arith
+told_grows (Take (Client c) envelope) log = omega arith
+
+-- an accepted reply's place is below the front
+pub seen_above : (shape : Shape) (log : List Entry) (w : AReply) → In w (accepted shape log) → w.place < seen shape log
+seen_above shape log w inside = let front = front_above w (accepted shape log) inside in omega (arith, front)
+
+-- the front never falls
+pub seen_grows : (shape : Shape) (entry : Entry) (log : List Entry) → seen shape log ≤ seen shape (entry ∷ log)
+seen_grows shape entry log =
+    let front = front_extends (accepted shape (entry ∷ log)) (accepted shape log) (accepted_grow shape entry log) in
+    let more = told_grows entry log in
+    omega (arith, front, more)

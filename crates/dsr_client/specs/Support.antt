@@ -1,0 +1,2 @@
+-- How a client stands in its fields. No public contract cites this: it serves `impl Model`.
+pub mod Client

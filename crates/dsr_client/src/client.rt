@@ -1,0 +1,258 @@
+ghost use Rattle.std.specs.Prelude.{◌≡◌, ◌≢◌, ◌⊎◌, ◌↔◌, ℕ, suc, ◌+◌, ◌^◌, ◌<◌, ◌≤◌, ◌∷◌, [], List, None, Some, IsSome, IsNone, IfOk, IfErr, IfSome, OnOk, OnErr, IsErrOf, IfNone, IsTrue};
+ghost use Rattle.std.specs.Option.{option_map};
+ghost use Rattle.dsr_names.specs.Shape.{IsActor};
+ghost use Rattle.dsr_names.specs.declared.actor.Actor.{Actor};
+ghost use Rattle.dsr_names.specs.declared.actor.Actor.TheVariants.{Replica, Client as AClient};
+ghost use Rattle.dsr_replica.specs.Limits.{IsEnvelope};
+ghost use Rattle.dsr_replica.specs.declared.envelope.Envelope.TheVariants.{Ask, Reply as AReply, Seen};
+ghost use Rattle.dsr_replica.specs.declared.entry.Entry.{Entry};
+ghost use Rattle.dsr_replica.specs.declared.entry.Entry.TheVariants.{Post, Take};
+ghost use Rattle.dsr_client.specs.Client.{StandsFor, MayBegin, IsClientOf};
+ghost use Rattle.dsr_client.specs.Conduct.{ask_of};
+ghost use Rattle.dsr_client.specs.State.{outstanding, accepted, seen};
+
+use dsr_chain::SignedRequest;
+use dsr_desk::Key;
+use dsr_ledger::Reply;
+use dsr_names::{Actor, ClientId, NUMBER_END, Refusal, ReplicaId, Shape};
+use dsr_quorum::Tally;
+use dsr_replica::Envelope;
+use dsr_request::{Op, Request};
+use std::marker::Model;
+
+/// A client of a shape. It has at most one request outstanding, and believes what more than f replicas reply alike. It
+/// is of fixed size.
+#[derive(Drop)]
+pub struct Client {
+    key: Key,
+    me: ClientId,
+    shape: Shape,
+    outstanding: Option<SignedRequest>,
+    accepted: u64,
+    tally: Tally,
+    seen: u64,
+}
+
+impl Model for Client {
+    ghost use Rattle.dsr_client.specs.Client.{Client};
+    ghost use Rattle.dsr_client.specs.Support.Client.{client_of, IsClientFields};
+
+    ghost Value = { Client };
+
+    ghost view = { client_of };
+
+    ghost invariant = { IsClientFields };
+}
+
+impl Client {
+    /// A client that holds this key, before its first request. Requires that the key is a client's of the shape.
+    pub fn new(key: Key, shape: &Shape) -> Client
+        requires { IsClientOf shape.now key }
+        ensures me { key ≡ AClient result.me }
+        ensures shape { result.shape ≡ shape.now }
+        ensures stands { StandsFor result [] }
+    {
+        let me = client_of(key.signer(), shape);
+        Client {
+            key,
+            me,
+            shape: *shape,
+            outstanding: None,
+            accepted: 0,
+            tally: Tally::new(shape.f(), shape.n()),
+            seen: 0,
+        }
+    }
+
+    /// The number of the outstanding request; `None` where nothing is outstanding.
+    pub fn outstanding(&self) -> Option<u64>
+        ensures same { result ≡ option_map (λ ask. ask.request.number) self.now.outstanding }
+        ensures stands { (log : List Entry) → StandsFor self.now log
+            → result ≡ option_map (λ ask. ask.request.number) (outstanding self.now.shape log) }
+    {
+        let ask = self.outstanding.as_ref()?;
+        Some(ask.request.number())
+    }
+
+    /// The ask that `begin` would make of this operation; `None` where `begin` would refuse.
+    pub fn first_ask(&self, op: Op) -> Option<Envelope>
+        ensures ask { IfSome result (λ envelope. envelope ≡ Ask (ask_of self.now.me (suc self.now.accepted) op)) }
+        ensures when { IsSome result ↔ MayBegin self.now }
+    {
+        let ask = self.next_ask(op)?;
+        Some(Envelope::Ask(ask))
+    }
+
+    /// Makes a request of this operation the outstanding one, and returns its number: one more than the count of accepted
+    /// replies. This stands for the first post of the request, to whichever replica. `Busy` where a request is outstanding,
+    /// else `Exhausted` where the number would be 2^40: then nothing changed.
+    pub fn begin(&mut self, op: Op) -> Result<u64, Refusal>
+        ensures busy { IsErrOf result Refusal.Busy ↔ IsSome self.old.outstanding }
+        ensures exhausted { IsErrOf result Refusal.Exhausted ↔ ((self.old.outstanding ≡ None) × (2 ^ 40 ≤ suc self.old.accepted)) }
+        ensures refusals { IfErr result (λ e. (e ≡ Refusal.Busy) ⊎ (e ≡ Refusal.Exhausted)) }
+        ensures unchanged { OnErr result (self.new ≡ self.old) }
+        ensures number { IfOk result (λ number. number ≡ suc self.old.accepted) }
+        ensures me { self.new.me ≡ self.old.me }
+        ensures shape { self.new.shape ≡ self.old.shape }
+        ensures stands { OnOk result ((log : List Entry) (q : ℕ) → StandsFor self.old log
+            → StandsFor self.new (Post (Replica q) (Ask (ask_of self.old.me (suc self.old.accepted) op)) ∷ log)) }
+    {
+        if self.outstanding.is_some() {
+            return Err(Refusal::Busy);
+        }
+        let Some(ask) = self.next_ask(op) else {
+            return Err(Refusal::Exhausted);
+        };
+        self.outstanding = Some(ask);
+        self.tally.clear();
+        Ok(ask.request.number())
+    }
+
+    /// The ask of the outstanding request, to be posted to this replica; `None` where nothing is outstanding.
+    pub fn ask_for(&self, _replica: ReplicaId) -> Option<Envelope>
+        ensures same { result ≡ option_map Ask self.now.outstanding }
+        ensures stands { (log : List Entry) → StandsFor self.now log
+            → result ≡ option_map Ask (outstanding self.now.shape log) }
+    {
+        let ask = self.outstanding.as_ref()?;
+        Some(Envelope::Ask(*ask))
+    }
+
+    /// Takes the envelope, and returns the reply that is accepted by it. Requires that it comes from another actor of the
+    /// shape, and is within the limits. A reply of a replica counts where its number is outstanding, and a seen front of a
+    /// client; all else is dropped.
+    pub fn taken(&mut self, from: Actor, envelope: Envelope) -> Option<Reply>
+        requires actor { IsActor self.old.shape from }
+        requires other { from ≢ AClient self.old.me }
+        requires fits { IsEnvelope envelope }
+        ensures me { self.new.me ≡ self.old.me }
+        ensures shape { self.new.shape ≡ self.old.shape }
+        ensures stands { (log : List Entry) → StandsFor self.old log → StandsFor self.new (Take from envelope ∷ log) }
+        ensures accepted { (log : List Entry) → StandsFor self.old log → IfSome result (λ reply.
+            accepted self.old.shape (Take from envelope ∷ log) ≡ reply ∷ accepted self.old.shape log) }
+        ensures none { (log : List Entry) → StandsFor self.old log → IfNone result
+            (accepted self.old.shape (Take from envelope ∷ log) ≡ accepted self.old.shape log) }
+    {
+        match from {
+            Actor::Replica(replica) => self.taken_from_replica(replica, &envelope),
+            Actor::Client(_) => {
+                self.taken_from_client(&envelope);
+                None
+            }
+        }
+    }
+
+    /// The seen front: how many of the history's first places the client knows to be there, at most 2^40.
+    pub fn seen(&self) -> u64
+        ensures same { result ≡ self.now.seen }
+        ensures most { result ≤ 2 ^ 40 }
+        ensures stands { (log : List Entry) → StandsFor self.now log → result ≡ seen self.now.shape log }
+    {
+        self.seen
+    }
+
+    /// Notes the seen front that another client told, as taking `Seen` of it does. Requires that it is below 2^40.
+    pub fn told(&mut self, front: u64)
+        requires { front < 2 ^ 40 }
+        ensures me { self.new.me ≡ self.old.me }
+        ensures shape { self.new.shape ≡ self.old.shape }
+        ensures stands { (log : List Entry) (c : ℕ) → StandsFor self.old log
+            → StandsFor self.new (Take (AClient c) (Seen front) ∷ log) }
+    {
+        self.seen = self.seen.max(front);
+    }
+
+    /// The next request, of this operation, with the client's signature; `None` where one is outstanding, or the next number
+    /// would be 2^40.
+    fn next_ask(&self, op: Op) -> Option<SignedRequest>
+        ensures ask { IfSome result (λ ask. ask ≡ ask_of self.now.me (suc self.now.accepted) op) }
+        ensures when { IsSome result ↔ MayBegin self.now }
+    {
+        if self.outstanding.is_some() {
+            return None;
+        }
+        let request = Request::new(self.me, self.accepted + 1, op).ok()?;
+        Some(SignedRequest::by(request, &self.key))
+    }
+
+    /// Takes the envelope of a replica: a reply may count.
+    fn taken_from_replica(&mut self, replica: ReplicaId, envelope: &Envelope) -> Option<Reply>
+        requires inside { replica < self.old.shape.n }
+        requires fits { IsEnvelope envelope.now }
+        ensures me { self.new.me ≡ self.old.me }
+        ensures shape { self.new.shape ≡ self.old.shape }
+        ensures stands { (log : List Entry) → StandsFor self.old log → StandsFor self.new (Take (Replica replica) envelope.now ∷ log) }
+        ensures accepted { (log : List Entry) → StandsFor self.old log → IfSome result (λ reply.
+            accepted self.old.shape (Take (Replica replica) envelope.now ∷ log) ≡ reply ∷ accepted self.old.shape log) }
+        ensures none { (log : List Entry) → StandsFor self.old log → IfNone result
+            (accepted self.old.shape (Take (Replica replica) envelope.now ∷ log) ≡ accepted self.old.shape log) }
+    {
+        match envelope {
+            Envelope::Reply(reply) => self.replied(replica, *reply),
+            _ => None,
+        }
+    }
+
+    /// Takes the envelope of another client: a seen front counts.
+    fn taken_from_client(&mut self, envelope: &Envelope)
+        requires fits { IsEnvelope envelope.now }
+        ensures me { self.new.me ≡ self.old.me }
+        ensures shape { self.new.shape ≡ self.old.shape }
+        ensures stands { (log : List Entry) (c : ℕ) → StandsFor self.old log
+            → StandsFor self.new (Take (AClient c) envelope.now ∷ log) }
+    {
+        if let Envelope::Seen(front) = envelope {
+            self.told(*front);
+        }
+    }
+
+    /// Notes the reply where its number is outstanding, and returns it where it is accepted by that.
+    fn replied(&mut self, replica: ReplicaId, reply: Reply) -> Option<Reply>
+        requires inside { replica < self.old.shape.n }
+        requires place { reply.place < 2 ^ 40 }
+        ensures me { self.new.me ≡ self.old.me }
+        ensures shape { self.new.shape ≡ self.old.shape }
+        ensures stands { (log : List Entry) → StandsFor self.old log → StandsFor self.new (Take (Replica replica) (AReply reply) ∷ log) }
+        ensures accepted { (log : List Entry) → StandsFor self.old log → IfSome result (λ w.
+            accepted self.old.shape (Take (Replica replica) (AReply reply) ∷ log) ≡ w ∷ accepted self.old.shape log) }
+        ensures none { (log : List Entry) → StandsFor self.old log → IfNone result
+            (accepted self.old.shape (Take (Replica replica) (AReply reply) ∷ log) ≡ accepted self.old.shape log) }
+    {
+        if !self.is_outstanding(reply.number) {
+            return None;
+        }
+        self.tally.note(replica, reply);
+        self.tally.winner()?;
+        self.outstanding = None;
+        self.accepted += 1;
+        self.tally.clear();
+        self.seen = self.seen.max(reply.place + 1);
+        Some(reply)
+    }
+
+    /// Whether the outstanding request has this number.
+    fn is_outstanding(&self, number: u64) -> bool
+        ensures same { IsTrue result ↔ (option_map (λ ask. ask.request.number) self.now.outstanding ≡ Some number) }
+        ensures more { IsTrue result → suc self.now.accepted < 2 ^ 40 }
+        ensures unanswered { IsTrue result → self.now.tally.winner ≡ None }
+        ensures tally_f { self.now.tally.f ≡ self.now.shape.f }
+        ensures tally_n { self.now.tally.n ≡ self.now.shape.n }
+    {
+        match &self.outstanding {
+            Some(ask) => ask.request.number() == number,
+            None => false,
+        }
+    }
+}
+
+/// The client that this actor is, as it is known to be one of the shape.
+fn client_of(actor: Actor, shape: &Shape) -> ClientId
+    requires { IsClientOf shape.now actor }
+    ensures same { actor ≡ AClient result }
+    ensures inside { result < shape.now.m }
+{
+    match actor {
+        Actor::Client(client) => client,
+        Actor::Replica(_) => ClientId::FIRST,
+    }
+}

@@ -1,0 +1,14 @@
+//! A client over its log: what it asks for, which replies it accepts, and what it has seen of the history.
+#![tactic(auto)]
+
+mod client;
+mod laws;
+
+pub use client::Client;
+pub use laws::{
+    accepted_replies_have_enough_votes, clients_are_blind, loyal_replies_are_accepted,
+    numbers_name_one_request, seen_fronts_only_grow,
+};
+
+#[cfg(test)]
+mod tests;
