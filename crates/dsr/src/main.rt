@@ -36,7 +36,7 @@ fn main(rt: HostRuntime) -> io::Result<ExitCode> {
         words.as_slice(),
         &mut Outside(rt.stdin()),
         &mut Outside(rt.stdout()),
-        &mut rt.stderr(),
+        &mut Outside(rt.stderr()),
     );
     Ok(ExitCode::from(status))
 }

@@ -1,46 +1,83 @@
--- What the program's exit status tells (this project).
-use Rattle.std.specs.Prelude.{◌≡◌, ◌⊎◌, ℕ, ◌<◌, List, length, Option, IfSome}
-use Rattle.std.specs.Io.KnownBytes.{Appends}
-use Rattle.dsr_names.specs.Limits.{most_bytes}
-use Rattle.dsr_names.specs.Output.{SentPrefix}
+-- What the program's exit status says (this project).
+use Rattle.std.specs.Prelude.{◌≡◌, ◌⊎◌, ℕ, List, length}
+use Rattle.dsr_names.specs.Streams.{Output, Streams, CanFailToTake, SentAll, SentPrefix, Sent}
+use Rattle.dsr_names.specs.Refusal.{refusal_line}
 use Rattle.dsr_names.specs.declared.refusal.Refusal.{Refusal}
-use Rattle.dsr_names.specs.declared.refusal.Refusal.TheVariants.{NoMemory, ReadFailed}
+use Rattle.dsr_names.specs.declared.refusal.Refusal.TheVariants.{NoMemory, WriteFailed}
 use Rattle.dsr_history.specs.Applied.{AppliedAll, WrittenAfter}
 use Rattle.dsr_command.specs.Asked.{Asked, task, help, unknown}
-use Rattle.dsr_command.specs.HelpText.{IsHelp}
+use Rattle.dsr_command.specs.ShownTexts.{IsHelp, IsUsage}
 use Rattle.dsr_command.specs.declared.Task.TheVariants.{Apply}
+
+-- what a run of the program had and left: its input and output, and its error stream before and after
+pub record Run : Type 1 where
+  pub io : Streams
+  pub errors : Output
+  pub told : Output
+
+-- these three
+abbrev pub run_of : Streams → Output → Output → Run
+run_of io errors told = record { io = io; errors = errors; told = told }
+
+-- this was told on the error stream, and nothing else
+abbrev pub Told : List ℕ → Run → Type 0
+Told text run = Sent text run.errors run.told
+
+-- nothing was written on the output
+abbrev pub IsUnwritten : Run → Type 0
+IsUnwritten run = run.io.written.contents ≡ run.io.output.contents
 
 -- the status of a refusal
 abbrev pub status_of : Refusal → ℕ
 status_of NoMemory = 3
 status_of other = 1
 
--- after 0 all lines were answered; after another status some refusal with that status came, and what stands after it
--- does; a source in memory fails only where it gives too many bytes
-abbrev pub WhatApplyLeft : ℕ → Type 0 → Option (List ℕ) → Option ℕ → Option (List ℕ) → Option (List ℕ) → Type 0
-WhatApplyLeft status in_memory left room old new =
-    ((status ≡ 0) × AppliedAll left old new)
-    ⊎ ((refusal : Refusal) × (status ≡ status_of refusal)
-    × (in_memory → refusal ≡ ReadFailed → IfSome left (λ bytes. most_bytes < length bytes))
-    × WrittenAfter refusal left room old new)
+-- the status is that of a refusal, which was told, and what stands after that refusal does
+pub record EndedBy (After : Refusal → Streams → Type 0) (status : ℕ) (run : Run) : Type 0 where
+  pub refusal : Refusal
+  pub status_is : status ≡ status_of refusal
+  pub told : Told (refusal_line refusal) run
+  pub left : After refusal run.io
 
--- after 0 the whole text went out; after 1 a prefix of it did, and a known room was too small for all of it
-abbrev pub WhatShowingLeft : List ℕ → ℕ → Option ℕ → Option (List ℕ) → Option (List ℕ) → Type 0
-WhatShowingLeft text status room old new =
-    ((status ≡ 0) × Appends old new text) ⊎ ((status ≡ 1) × IfSome room (λ most. most < length text) × SentPrefix old new text)
+-- after 0 all lines were answered, and after another status some were, up to a refusal
+abbrev pub WhatApplyLeft : ℕ → Run → Type 0
+WhatApplyLeft status run = ((status ≡ 0) × AppliedAll run.io) ⊎ EndedBy WrittenAfter status run
+
+-- the status is 1, and that writing failed was told: a prefix of the text went out, to a sink that may not take all of it
+pub record ShowedPart (text : List ℕ) (status : ℕ) (run : Run) : Type 0 where
+  pub status_is : status ≡ 1
+  pub told : Told (refusal_line WriteFailed) run
+  pub too_many : CanFailToTake (length text) run.io.output
+  pub went_out : SentPrefix text run.io.output run.io.written
+
+-- after 0 the whole text went out, and after 1 a prefix of it
+abbrev pub WhatShowingLeft : List ℕ → ℕ → Run → Type 0
+WhatShowingLeft text status run = ((status ≡ 0) × SentAll text run.io.output run.io.written) ⊎ ShowedPart text status run
+
+-- memory ran out before anything was written
+abbrev pub RanOut : ℕ → Run → Type 0
+RanOut status run = (status ≡ 3) × Told (refusal_line NoMemory) run × IsUnwritten run
 
 -- a help's text was shown, or could not be
-pub record ShowedHelp (status : ℕ) (room : Option ℕ) (old new : Option (List ℕ)) : Type 0 where
+pub record ShowedHelp (status : ℕ) (run : Run) : Type 0 where
   pub text : List ℕ
   pub is : IsHelp text
-  pub left : WhatShowingLeft text status room old new
+  pub left : WhatShowingLeft text status run
 
--- the status for what was asked: `apply` was done or refused, help was shown or could not be, or nothing was asked that
--- the program knows; in each case memory may have run out before anything was written
-abbrev pub StatusFor : Asked → ℕ → Type 0 → Option (List ℕ) → Option ℕ → Option (List ℕ) → Option (List ℕ) → Type 0
-StatusFor (task Apply) status in_memory left room old new = WhatApplyLeft status in_memory left room old new ⊎ ((status ≡ 3) × (new ≡ old))
-StatusFor help status in_memory left room old new = ShowedHelp status room old new ⊎ ((status ≡ 3) × (new ≡ old))
-StatusFor unknown status in_memory left room old new = ((status ≡ 2) ⊎ (status ≡ 3)) × (new ≡ old)
+-- the status is 2, and a text for unknown words was told
+pub record ToldUsage (status : ℕ) (run : Run) : Type 0 where
+  pub text : List ℕ
+  pub is : IsUsage text
+  pub status_is : status ≡ 2
+  pub told : Told text run
+  pub unwritten : IsUnwritten run
+
+-- what the status says, by what was asked: `apply` was done or refused, help was shown or could not be, or nothing was
+-- asked that the program knows; in each case memory may have run out before anything was written
+abbrev pub StatusFor : Asked → ℕ → Run → Type 0
+StatusFor (task Apply) status run = WhatApplyLeft status run ⊎ RanOut status run
+StatusFor help status run = ShowedHelp status run ⊎ RanOut status run
+StatusFor unknown status run = ToldUsage status run ⊎ RanOut status run
 
 -- P, where no task is asked for
 abbrev pub IfNoTask : Asked → Type 0 → Type 0

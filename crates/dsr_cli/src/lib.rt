@@ -4,20 +4,20 @@
 #[cfg(test)]
 mod tests;
 
-ghost use Rattle.std.specs.Prelude.{◌≡◌, ◌<◌, ◌++◌, OnOk, codes, map};
-ghost use Rattle.std.specs.Io.KnownBytes.{Appends};
-ghost use Rattle.dsr_names.specs.Refusal.{refusal_text};
+ghost use Rattle.std.specs.Prelude.{◌≡◌, ◌+◌, ◌<◌, ◌≤◌, length, map};
+ghost use Rattle.dsr_names.specs.Limits.{most_calls};
+ghost use Rattle.dsr_names.specs.Refusal.{refusal_line};
+ghost use Rattle.dsr_names.specs.declared.refusal.Refusal.TheVariants.{WriteFailed};
+ghost use Rattle.dsr_names.specs.Streams.{CanFailToTake, Sent, SentAll, SentPrefix, streams};
 ghost use Rattle.dsr_command.specs.Asked.{asked_of};
-ghost use Rattle.dsr_command.specs.Readings.{IfDo, IfHelp, OnNoMemory, OnNoTask, OnUsage};
-ghost use Rattle.dsr_cli.specs.Status.{StatusFor, WhatApplyLeft, WhatShowingLeft, IfNoTask, status_of};
+ghost use Rattle.dsr_command.specs.Readings.{IfDo, IfHelp, IfUsage, OnNoMemory, OnNoTask};
+ghost use Rattle.dsr_cli.specs.Status.{StatusFor, RanOut, WhatApplyLeft, WhatShowingLeft, IfNoTask, run_of, status_of};
 
 use dsr_command::{Reading, Task, read_words};
 use dsr_history::run_apply;
-use dsr_names::{Refusal, Sink, Source, write_output};
+use dsr_names::{Refusal, Sink, Source, tell, tell_refusal, write_output};
 use std::alloc::Global;
 use std::convert::AsStr;
-use std::io;
-use std::io::Write;
 
 /// The exit status where all that was asked for was done.
 const DONE: u8 = 0;
@@ -35,45 +35,53 @@ pub const NO_MEMORY: u8 = 3;
 /// than running out of memory, 2 after words that the program does not know, and 3 where memory ran out. The words are those
 /// after the program's own name; none means `apply`. A refusal is told on `errors` as `dsr: ` and its text, a usage
 /// fault by its text; the help goes to `output`. With 0 nothing is written on `errors`. Only `apply`
-/// reads the input.
-pub fn run<S: AsStr, I: Source, O: Sink, E: Write>(
+/// reads the input. Each of the three is called at most `MOST_CALLS` times.
+pub fn run<S: AsStr, I: Source, O: Sink, E: Sink>(
     alloc: Global,
     words: &[S],
     input: &mut I,
     output: &mut O,
     errors: &mut E,
 ) -> u8
-    ensures status { StatusFor (asked_of (map S.text words.now)) result (I.is_in_memory input.old) (I.left input.old)
-        (O.room output.old) (O.contents output.old) (O.contents output.new) }
+    ensures status { StatusFor (asked_of (map S.text words.now)) result
+        (run_of (streams (I.input input.old) (O.output output.old) (O.output output.new)) (E.output errors.old) (E.output errors.new)) }
     ensures unread { IfNoTask (asked_of (map S.text words.now)) (input.new ≡ input.old) }
     ensures quiet { result ≡ 0 → errors.new ≡ errors.old }
+    ensures reads { (I.input input.new).calls ≤ (I.input input.old).calls + most_calls }
+    ensures writes { (O.output output.new).calls ≤ (O.output output.old).calls + most_calls }
+    ensures tells { (E.output errors.new).calls ≤ (E.output errors.old).calls + most_calls }
 {
     let reading = read_words(alloc, words);
     obey(alloc, reading, input, output, errors)
 }
 
 /// Does what was read in the words, and answers the status.
-fn obey<I: Source, O: Sink, E: Write>(
+fn obey<I: Source, O: Sink, E: Sink>(
     alloc: Global,
     reading: Reading,
     input: &mut I,
     output: &mut O,
     errors: &mut E,
 ) -> u8
-    ensures task { IfDo reading (λ _. WhatApplyLeft result (I.is_in_memory input.old) (I.left input.old) (O.room output.old)
-        (O.contents output.old) (O.contents output.new)) }
-    ensures help { IfHelp reading (λ text. WhatShowingLeft text result (O.room output.old) (O.contents output.old)
-        (O.contents output.new)) }
-    ensures usage { OnUsage reading ((result ≡ 2) × (O.contents output.new ≡ O.contents output.old)) }
-    ensures no_memory { OnNoMemory reading ((result ≡ 3) × (O.contents output.new ≡ O.contents output.old)) }
+    ensures task { IfDo reading (λ _. WhatApplyLeft result
+        (run_of (streams (I.input input.old) (O.output output.old) (O.output output.new)) (E.output errors.old) (E.output errors.new))) }
+    ensures help { IfHelp reading (λ text. WhatShowingLeft text result
+        (run_of (streams (I.input input.old) (O.output output.old) (O.output output.new)) (E.output errors.old) (E.output errors.new))) }
+    ensures usage { IfUsage reading (λ text. (result ≡ 2) × (O.output output.new).contents ≡ (O.output output.old).contents
+        × Sent text (E.output errors.old) (E.output errors.new)) }
+    ensures no_memory { OnNoMemory reading (RanOut result
+        (run_of (streams (I.input input.old) (O.output output.old) (O.output output.new)) (E.output errors.old) (E.output errors.new))) }
     ensures unread { OnNoTask reading (input.new ≡ input.old) }
     ensures quiet { result ≡ 0 → errors.new ≡ errors.old }
+    ensures reads { (I.input input.new).calls ≤ (I.input input.old).calls + most_calls }
+    ensures writes { (O.output output.new).calls ≤ (O.output output.old).calls + most_calls }
+    ensures tells { (E.output errors.new).calls ≤ (E.output errors.old).calls + most_calls }
 {
     match reading {
         Reading::Do(Task::Apply) => apply(alloc, input, output, errors),
         Reading::Help(text) => show_help(text.as_str(), output, errors),
         Reading::Usage(text) => {
-            let _ = errors.write_all(text.as_bytes());
+            tell(errors, text.as_bytes());
             USAGE_FAULT
         }
         Reading::NoMemory => report(errors, Refusal::NoMemory),
@@ -81,15 +89,18 @@ fn obey<I: Source, O: Sink, E: Write>(
 }
 
 /// Answers the request lines of the input on the output.
-fn apply<I: Source, O: Sink, E: Write>(
+fn apply<I: Source, O: Sink, E: Sink>(
     alloc: Global,
     input: &mut I,
     output: &mut O,
     errors: &mut E,
 ) -> u8
+    ensures left { WhatApplyLeft result
+        (run_of (streams (I.input input.old) (O.output output.old) (O.output output.new)) (E.output errors.old) (E.output errors.new)) }
     ensures quiet { result ≡ 0 → errors.new ≡ errors.old }
-    ensures left { WhatApplyLeft result (I.is_in_memory input.old) (I.left input.old) (O.room output.old)
-        (O.contents output.old) (O.contents output.new) }
+    ensures reads { (I.input input.new).calls ≤ (I.input input.old).calls + most_calls }
+    ensures writes { (O.output output.new).calls ≤ (O.output output.old).calls + most_calls }
+    ensures tells { (E.output errors.new).calls ≤ (E.output errors.old).calls + most_calls }
 {
     match run_apply(alloc, input, output) {
         Ok(()) => DONE,
@@ -98,9 +109,14 @@ fn apply<I: Source, O: Sink, E: Write>(
 }
 
 /// Shows the help's text: 0 where all of it went out, and 1 where the sink failed, after a prefix of it.
-fn show_help<O: Sink, E: Write>(text: &str, output: &mut O, errors: &mut E) -> u8
+fn show_help<O: Sink, E: Sink>(text: &str, output: &mut O, errors: &mut E) -> u8
+    ensures whole { result ≡ 0 → SentAll text.now (O.output output.old) (O.output output.new) }
+    ensures part { 0 < result → (result ≡ 1) × CanFailToTake (length text.now) (O.output output.old)
+        × SentPrefix text.now (O.output output.old) (O.output output.new)
+        × Sent (refusal_line WriteFailed) (E.output errors.old) (E.output errors.new) }
     ensures quiet { result ≡ 0 → errors.new ≡ errors.old }
-    ensures left { WhatShowingLeft text.now result (O.room output.old) (O.contents output.old) (O.contents output.new) }
+    ensures writes { (O.output output.new).calls ≤ (O.output output.old).calls + most_calls }
+    ensures tells { (E.output errors.new).calls ≤ (E.output errors.old).calls + most_calls }
 {
     match write_output(output, text.as_bytes()) {
         Ok(()) => DONE,
@@ -109,22 +125,15 @@ fn show_help<O: Sink, E: Write>(text: &str, output: &mut O, errors: &mut E) -> u
 }
 
 /// Tells the refusal, and gives the status that it ends the program with.
-fn report<E: Write>(errors: &mut E, refusal: Refusal) -> u8
+fn report<E: Sink>(errors: &mut E, refusal: Refusal) -> u8
     ensures status { result ≡ status_of refusal }
     ensures some { 0 < result }
+    ensures told { Sent (refusal_line refusal) (E.output errors.old) (E.output errors.new) }
+    ensures tells { (E.output errors.new).calls ≤ (E.output errors.old).calls + most_calls }
 {
-    // Where this cannot be written either, the status alone tells.
-    let _ = tell(errors, refusal);
+    tell_refusal(errors, refusal);
     match refusal {
         Refusal::NoMemory => NO_MEMORY,
         _ => REFUSED,
     }
-}
-
-/// Writes `dsr: `, the refusal's text and a line feed.
-fn tell<E: Write>(errors: &mut E, refusal: Refusal) -> io::Result<()>
-    ensures { OnOk result (Appends (E.contents errors.old) (E.contents errors.new)
-        (codes "dsr: " ++ (refusal_text refusal ++ codes "\n"))) }
-{
-    writeln!(errors, "dsr: {refusal}")
 }

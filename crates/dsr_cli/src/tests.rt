@@ -151,3 +151,17 @@ fn failing_streams_are_told(rt: HostRuntime) -> Result<(), Fail> {
     assert_eq!(rt; err.as_slice(), b"dsr: writing failed\n".as_slice());
     Ok(())
 }
+
+#[test]
+fn where_the_fault_cannot_be_told_the_status_tells(rt: HostRuntime) {
+    let alloc = rt.alloc();
+    for (words, status) in [([].as_slice(), 1), (&["fly"], 2)] {
+        let mut out = Outside(Vec::new(alloc));
+        let mut input = b"c0 1 read a".as_slice();
+        assert_eq!(rt;
+            run(alloc, words, &mut input, &mut out, &mut Broken),
+            status
+        );
+        assert!(rt; out.0.is_empty());
+    }
+}

@@ -1,4 +1,4 @@
 pub mod Asked
 pub mod CommandLine
-pub mod HelpText
 pub mod Readings
+pub mod ShownTexts

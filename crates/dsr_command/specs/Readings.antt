@@ -14,6 +14,11 @@ abbrev pub IfHelp : Reading → (List ℕ → Type 0) → Type 0
 IfHelp (Help text) P = P (string_bytes text)
 IfHelp _ P = Unit {0}
 
+-- P of the text, where the reading is a usage fault
+abbrev pub IfUsage : Reading → (List ℕ → Type 0) → Type 0
+IfUsage (Usage text) P = P (string_bytes text)
+IfUsage _ P = Unit {0}
+
 -- P, where the reading is the help
 abbrev pub OnHelp : Reading → Type 0 → Type 0
 OnHelp (Help text) P = P

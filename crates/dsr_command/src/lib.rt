@@ -1,14 +1,14 @@
 //! The command line of the program `dsr`, read by `clap`.
 #![tactic(auto)]
 
-ghost use Rattle.std.specs.Prelude.{◌≡◌, ◌≢◌, ◌++◌, IfOk, codes, false, map};
+ghost use Rattle.std.specs.Prelude.{◌≡◌, ◌≢◌, ◌++◌, ◌≤◌, IfOk, codes, false, length, map};
 ghost use Rattle.clap.specs.Words.{FailsBy, app_of, fault_of, kind_of, new_app};
 ghost use Rattle.clap.specs.declared.builder.command.Command.TheViews.{out-Command as fields_of};
 ghost use Rattle.clap.specs.declared.error.kind.ErrorKind.TheVariants.{DisplayHelp, OutOfMemory, UnknownArgument};
 ghost use Rattle.dsr_command.specs.Asked.{asked_of, has_two_hyphens, help, task, unknown};
 ghost use Rattle.dsr_command.specs.CommandLine.{command_line, program};
-ghost use Rattle.dsr_command.specs.HelpText.{IsHelp, title};
-ghost use Rattle.dsr_command.specs.Readings.{IfDo, IfHelp, OnHelp, OnUsage};
+ghost use Rattle.dsr_command.specs.ShownTexts.{IsHelp, IsUsage, title, usage_title};
+ghost use Rattle.dsr_command.specs.Readings.{IfDo, IfHelp, IfUsage, OnHelp, OnUsage};
 
 use clap::error::ErrorKind;
 use clap::{Command, Error};
@@ -43,6 +43,15 @@ $ printf 'c0 1 write a 5\\nc0 2 read a\\n' | dsr apply\n  \
 0 written\n  \
 1 held 5";
 
+/// What a text for unknown words begins with.
+const USAGE_TITLE: &str = "error: ";
+
+/// The most bytes of what `clap` says that are shown.
+const MOST_SAID: usize = 4_000;
+
+/// What is shown in the place of a text that has more.
+const TOO_LONG: &str = "what is to be said of these words is too long to be shown\n";
+
 /// What the program was asked to do.
 #[derive(Clone, Copy, Debug, PartialEq, Eq)]
 pub enum Task {
@@ -72,6 +81,7 @@ pub fn read_words<S: AsStr>(alloc: Global, words: &[S]) -> Reading
     ensures help { OnHelp result (asked_of (map S.text words.now) ≡ help) }
     ensures usage { OnUsage result (asked_of (map S.text words.now) ≡ unknown) }
     ensures shown { IfHelp result IsHelp }
+    ensures told { IfUsage result IsUsage }
 {
     match parse(alloc, words) {
         Ok(()) if has_separator(words) => separator_refused(alloc),
@@ -106,6 +116,7 @@ fn separator_refused(alloc: Global) -> Reading
     ensures task { IfDo result (λ _. ⊥) }
     ensures help { OnHelp result ⊥ }
     ensures shown { IfHelp result IsHelp }
+    ensures told { IfUsage result IsUsage }
 {
     match separator_error(alloc) {
         Ok(error) => reading_of(alloc, &error),
@@ -127,6 +138,7 @@ fn reading_of(alloc: Global, error: &Error) -> Reading
     ensures usage { OnUsage result ((kind_of error.now ≢ DisplayHelp)
         × (kind_of error.now ≢ OutOfMemory)) }
     ensures shown { IfHelp result IsHelp }
+    ensures told { IfUsage result IsUsage }
 {
     let Ok(text) = error.to_string(alloc) else {
         return Reading::NoMemory;
@@ -134,7 +146,20 @@ fn reading_of(alloc: Global, error: &Error) -> Reading
     match error.kind() {
         ErrorKind::OutOfMemory => Reading::NoMemory,
         ErrorKind::DisplayHelp => titled(alloc, text.as_str()),
-        _ => Reading::Usage(text),
+        _ => usage_of(alloc, text.as_str()),
+    }
+}
+
+/// The usage fault that says this, after its title.
+fn usage_of(alloc: Global, text: &str) -> Reading
+    ensures task { IfDo result (λ _. ⊥) }
+    ensures help { OnHelp result ⊥ }
+    ensures told { IfUsage result IsUsage }
+{
+    let said = shortened(text.strip_prefix(USAGE_TITLE).unwrap_or(text));
+    match format!(in alloc; "{USAGE_TITLE}{said}") {
+        Ok(usage) => Reading::Usage(usage),
+        Err(_) => Reading::NoMemory,
     }
 }
 
@@ -143,11 +168,24 @@ fn titled(alloc: Global, text: &str) -> Reading
     ensures task { IfDo result (λ _. ⊥) }
     ensures usage { OnUsage result ⊥ }
     ensures shown { IfHelp result IsHelp }
-    ensures whole { IfHelp result (λ shown. shown ≡ title ++ (codes "\n\n" ++ text.now)) }
+    ensures whole { length text.now ≤ 4000 → IfHelp result (λ shown. shown ≡ title ++ (codes "\n\n" ++ text.now)) }
 {
-    match format!(in alloc; "{TITLE}\n\n{text}") {
+    let said = shortened(text);
+    match format!(in alloc; "{TITLE}\n\n{said}") {
         Ok(help) => Reading::Help(help),
         Err(_) => Reading::NoMemory,
+    }
+}
+
+/// The text where it is not too long to be shown, else a line that says so.
+fn shortened(text: &str) -> &str
+    ensures same { length text.now ≤ 4000 → result.now ≡ text.now }
+    ensures short { length result.now ≤ 4000 }
+{
+    if text.len() <= MOST_SAID {
+        text
+    } else {
+        TOO_LONG
     }
 }
 
