@@ -18,15 +18,16 @@ use std::convert::AsStr;
 /// The sentence that each help begins with.
 const TITLE: &str = "dsr keeps a directory of named registers, each free or holding a number.";
 
-const ABOUT: &str = "Clients send it numbered requests, and it answers each of them.\n\
+const ABOUT: &str =
+    "Clients send it numbered requests: read, write, swap (compare-and-set), remove. It answers each of them.\n\
 Without a command it does what `dsr apply` does.";
 
-const EXAMPLES: &str = "Examples:\n  \
-$ printf 'c0 1 write a 5\\n' | dsr\n  \
-0 written\n\n  \
-$ printf 'c0 1 write a 5\\nc0 2 read a\\n' | dsr apply\n  \
+const EXAMPLES: &str = "Example:\n  \
+$ printf 'c0 1 write a 5\\nc1 1 swap a 5 6\\nc0 2 read a\\n' | dsr apply\n  \
 0 written\n  \
-1 held 5\n\n\
+1 swapped\n  \
+2 held 6\n\n\
+`dsr apply --help` says how a request is written, and what its answer means.\n\n\
 Exit status:\n  \
 0  the whole input was answered, or help was shown\n  \
 1  the input was refused, or reading or writing failed\n  \
@@ -36,18 +37,44 @@ Exit status:\n  \
 const APPLY_ABOUT: &str = "Read request lines from standard input, and write one line for each";
 
 const APPLY_EXAMPLE: &str =
-    "A request line has a client, the number of its request, and an operation.\n\
-The line written for it has the place of the request and its answer.\n\n\
+    "A line of the input is a request: CLIENT NUMBER OPERATION, with one space between them.\n\
+Each line ends with a line feed, the last one too.\n\n  \
+CLIENT     c0 to c31\n  \
+NUMBER     1 to 1099511627775; a client numbers its own requests, in rising order\n  \
+OPERATION  read NAME            answers what the register holds\n             \
+write NAME VALUE     lets it hold VALUE\n             \
+swap NAME OLD VALUE  compare-and-set: lets it hold VALUE if it holds OLD\n             \
+remove NAME          lets it hold nothing\n  \
+NAME       1 to 32 of the characters a-z 0-9 . _ -\n  \
+VALUE      0 to 18446744073709551615\n  \
+OLD        a VALUE, or none: the register holds nothing\n\n\
+For each line one line is written: PLACE ANSWER, where PLACE counts the requests before that acted.\n\n  \
+held OLD, removed OLD  what the register held\n  \
+written, swapped       it was done\n  \
+kept OLD               the register held OLD, which is not what the swap asked for\n  \
+full                   1,024 registers hold a value already\n\n\
+A client's latest number again gets its answer again and changes nothing; a lower one gets `old`.\n\n\
 Example:\n  \
-$ printf 'c0 1 write a 5\\nc0 2 read a\\n' | dsr apply\n  \
+$ printf 'c0 1 write a 5\\nc0 2 swap a none 6\\nc0 2 swap a none 6\\nc0 1 read a\\n' | dsr apply\n  \
 0 written\n  \
-1 held 5";
+1 kept 5\n  \
+1 kept 5\n  \
+old\n\n\
+Nothing is answered before the end of the input, which has at most 16,777,216 bytes. At the first bad line N\n\
+the lines before it are answered, `dsr: bad text in line N` is printed on standard error, and the exit status\n\
+is 1. Most often the last line feed is missing, the line ends with CRLF, it has a tab or two spaces, a number\n\
+has a leading zero, or the request's number is 0.";
 
 /// What a text for unknown words begins with.
 const USAGE_TITLE: &str = "error: ";
 
+/// What a text for unknown words ends with.
+const TIPS: &str = "\n  \
+tip: to answer the requests in a file, run `dsr apply < FILE`\n  \
+tip: to see what a request looks like, run `dsr apply --help`\n";
+
 /// The most bytes of what `clap` says that are shown.
-const MOST_SAID: usize = 4_000;
+const MOST_SAID: usize = 3_800;
 
 /// What is shown in the place of a text that has more.
 const TOO_LONG: &str = "what is to be said of these words is too long to be shown\n";
@@ -150,14 +177,14 @@ fn reading_of(alloc: Global, error: &Error) -> Reading
     }
 }
 
-/// The usage fault that says this, after its title.
+/// The usage fault that says this, after its title, and before the tips.
 fn usage_of(alloc: Global, text: &str) -> Reading
     ensures task { IfDo result (λ _. ⊥) }
     ensures help { OnHelp result ⊥ }
     ensures told { IfUsage result IsUsage }
 {
     let said = shortened(text.strip_prefix(USAGE_TITLE).unwrap_or(text));
-    match format!(in alloc; "{USAGE_TITLE}{said}") {
+    match format!(in alloc; "{USAGE_TITLE}{said}{TIPS}") {
         Ok(usage) => Reading::Usage(usage),
         Err(_) => Reading::NoMemory,
     }
@@ -168,7 +195,7 @@ fn titled(alloc: Global, text: &str) -> Reading
     ensures task { IfDo result (λ _. ⊥) }
     ensures usage { OnUsage result ⊥ }
     ensures shown { IfHelp result IsHelp }
-    ensures whole { length text.now ≤ 4000 → IfHelp result (λ shown. shown ≡ title ++ (codes "\n\n" ++ text.now)) }
+    ensures whole { length text.now ≤ 3800 → IfHelp result (λ shown. shown ≡ title ++ (codes "\n\n" ++ text.now)) }
 {
     let said = shortened(text);
     match format!(in alloc; "{TITLE}\n\n{said}") {
@@ -179,8 +206,8 @@ fn titled(alloc: Global, text: &str) -> Reading
 
 /// The text where it is not too long to be shown, else a line that says so.
 fn shortened(text: &str) -> &str
-    ensures same { length text.now ≤ 4000 → result.now ≡ text.now }
-    ensures short { length result.now ≤ 4000 }
+    ensures same { length text.now ≤ 3800 → result.now ≡ text.now }
+    ensures short { length result.now ≤ 3800 }
 {
     if text.len() <= MOST_SAID {
         text

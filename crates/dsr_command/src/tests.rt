@@ -60,7 +60,7 @@ fn refuses_other_words(rt: HostRuntime) {
 const HELP: &str = "\
 dsr keeps a directory of named registers, each free or holding a number.
 
-Clients send it numbered requests, and it answers each of them.
+Clients send it numbered requests: read, write, swap (compare-and-set), remove. It answers each of them.
 Without a command it does what `dsr apply` does.
 
 Usage: dsr [COMMAND]
@@ -71,13 +71,13 @@ Commands:
 Options:
   -h, --help  Print help
 
-Examples:
-  $ printf 'c0 1 write a 5\\n' | dsr
+Example:
+  $ printf 'c0 1 write a 5\\nc1 1 swap a 5 6\\nc0 2 read a\\n' | dsr apply
   0 written
+  1 swapped
+  2 held 6
 
-  $ printf 'c0 1 write a 5\\nc0 2 read a\\n' | dsr apply
-  0 written
-  1 held 5
+`dsr apply --help` says how a request is written, and what its answer means.
 
 Exit status:
   0  the whole input was answered, or help was shown
@@ -96,13 +96,50 @@ Usage: dsr apply
 Options:
   -h, --help  Print help
 
-A request line has a client, the number of its request, and an operation.
-The line written for it has the place of the request and its answer.
+A line of the input is a request: CLIENT NUMBER OPERATION, with one space between them.
+Each line ends with a line feed, the last one too.
+
+  CLIENT     c0 to c31
+  NUMBER     1 to 1099511627775; a client numbers its own requests, in rising order
+  OPERATION  read NAME            answers what the register holds
+             write NAME VALUE     lets it hold VALUE
+             swap NAME OLD VALUE  compare-and-set: lets it hold VALUE if it holds OLD
+             remove NAME          lets it hold nothing
+  NAME       1 to 32 of the characters a-z 0-9 . _ -
+  VALUE      0 to 18446744073709551615
+  OLD        a VALUE, or none: the register holds nothing
+
+For each line one line is written: PLACE ANSWER, where PLACE counts the requests before that acted.
+
+  held OLD, removed OLD  what the register held
+  written, swapped       it was done
+  kept OLD               the register held OLD, which is not what the swap asked for
+  full                   1,024 registers hold a value already
+
+A client's latest number again gets its answer again and changes nothing; a lower one gets `old`.
 
 Example:
-  $ printf 'c0 1 write a 5\\nc0 2 read a\\n' | dsr apply
+  $ printf 'c0 1 write a 5\\nc0 2 swap a none 6\\nc0 2 swap a none 6\\nc0 1 read a\\n' | dsr apply
   0 written
-  1 held 5
+  1 kept 5
+  1 kept 5
+  old
+
+Nothing is answered before the end of the input, which has at most 16,777,216 bytes. At the first bad line N
+the lines before it are answered, `dsr: bad text in line N` is printed on standard error, and the exit status
+is 1. Most often the last line feed is missing, the line ends with CRLF, it has a tab or two spaces, a number
+has a leading zero, or the request's number is 0.
+";
+
+const NO_SUCH_WORD: &str = "\
+error: unrecognized subcommand 'help'
+
+Usage: dsr [COMMAND]
+
+For more information, try '--help'.
+
+  tip: to answer the requests in a file, run `dsr apply < FILE`
+  tip: to see what a request looks like, run `dsr apply --help`
 ";
 
 // The whole of each help: what the program is for, its one task, its examples and its statuses.
@@ -117,6 +154,13 @@ fn shows_each_help(rt: HostRuntime) {
     }
 }
 
+// The whole of a usage fault: the word, the usage, and where to look.
+#[test]
+fn tells_of_an_unknown_word(rt: HostRuntime) {
+    let reading = read_words(rt.alloc(), &["help"]);
+    assert!(rt; text_of(&reading) == NO_SUCH_WORD, "{}", text_of(&reading));
+}
+
 #[test]
 fn a_long_word_is_no_long_text(rt: HostRuntime) -> Result<(), AllocError> {
     let mut word = String::new(rt.alloc());
@@ -126,7 +170,9 @@ fn a_long_word_is_no_long_text(rt: HostRuntime) -> Result<(), AllocError> {
     let reading = read_words(rt.alloc(), &[word.as_str()]);
     assert!(rt; matches!(&reading, Reading::Usage(_)));
     assert!(rt;
-        text_of(&reading) == "error: what is to be said of these words is too long to be shown\n"
+        text_of(&reading).starts_with(
+            "error: what is to be said of these words is too long to be shown\n"
+        )
     );
     Ok(())
 }
