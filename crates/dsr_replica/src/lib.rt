@@ -33,4 +33,6 @@ mod exchange_tests;
 #[cfg(test)]
 mod logged;
 #[cfg(test)]
+mod memory_tests;
+#[cfg(test)]
 mod replica_tests;
