@@ -8,6 +8,7 @@ mod InFlight
 mod Joining
 mod Later
 pub mod Lemmas
+mod LoyalLogs
 mod Posting
 mod Posts
 mod Reading

@@ -28,7 +28,7 @@ use Rattle.dsr_slot.proofs.Lemmas.{from_map, after_same}
 use Rattle.dsr_replica.specs.declared.envelope.Envelope.{Envelope}
 use Rattle.dsr_replica.specs.declared.envelope.Envelope.TheVariants.{Empty, Round, Ask, Reply, Seen}
 use Rattle.dsr_replica.specs.declared.entry.Entry.{Entry}
-use Rattle.dsr_replica.specs.declared.entry.Entry.TheVariants.{Take}
+use Rattle.dsr_replica.specs.declared.entry.Entry.TheVariants.{Post, Take}
 use Rattle.dsr_replica.specs.declared.step.Due.{Due}
 use Rattle.dsr_replica.specs.declared.step.Due.TheVariants.{Post as PostTo, Take as TakeFrom}
 use Rattle.dsr_replica.specs.Counts.{IsInside, takes_at, HasCounts}
@@ -330,3 +330,18 @@ stands_ask r log client envelope asks inside is stands =
         get_or-set_other r.asks client c (held_with r.shape client (ask_of r.asks client) envelope) None
         (λ same. let yes' = (Decides-eqb client c).1 (sym same) in absurd (false≢true (sym e ∙ yes')))
         ∙ stands.asks_are c
+
+-- an envelope that is posted to a client
+pub stands_reply : (r : Replica) (log : List Entry) (client : ℕ) (envelope : Envelope) → StandsFor r log
+    → StandsFor r (Post (ClientNumber client) envelope ∷ log)
+stands_reply r log client envelope stands =
+    let entry = Post (ClientNumber client) envelope in
+    let unmoved : (p : ℕ) → taken_from (ReplicaNumber p) (entry ∷ log) ≡ taken_from (ReplicaNumber p) log = λ p. refl in
+    record {
+      due_is = stands.due_is;
+      counts = record { inside = stands.counts.inside; posts = stands.counts.posts; takes = stands.counts.takes };
+      read = λ s i. stands.read s i ∙ sym (kept_unmoved s.shape entry log unmoved s.slot (suc s.closed));
+      values_are = stands.values_are ∙ values_unmoved r.shape entry log unmoved;
+      asks_are = stands.asks_are;
+      posted = λ later. stands.posted later ∙ ap Some (envelope_unmoved r.shape entry log unmoved r.me r.proposed r.round stands.counts);
+    }

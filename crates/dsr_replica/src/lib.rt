@@ -29,4 +29,10 @@ pub use step::{Due, Pick};
 #[cfg(test)]
 mod envelope_tests;
 #[cfg(test)]
+mod exchange_tests;
+#[cfg(test)]
+mod logged;
+#[cfg(test)]
+mod memory_tests;
+#[cfg(test)]
 mod replica_tests;

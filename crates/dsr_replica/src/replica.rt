@@ -193,9 +193,12 @@ impl Replica {
         self.decisions.history()
     }
 
-    /// The envelope with the reply to the client's last request that acted; `None` where none did.
+    /// The envelope with the reply to the client's last request that acted; `None` where none did. It may be posted to the client
+    /// at any time, which changes nothing of the replica.
     pub fn reply_for(&self, client: ClientId) -> Option<Envelope>
         ensures stands { (log : List Entry) → StandsFor self.now log → result ≡ reply_to self.now.shape log client }
+        ensures posted { (log : List Entry) (envelope : Envelope) → StandsFor self.now log
+            → result ≡ Some envelope → StandsFor self.now (Post (ClientNumber client) envelope ∷ log) }
     {
         self.decisions.kept(client).map(Envelope::Reply)
     }
