@@ -92,6 +92,33 @@ impl Run {
     }
 }
 
+/// What the lines of a text are answered with, up to the first that is no request's, and that line's number, counted
+/// from 1, where there is one.
+#[derive(Drop)]
+struct Answered {
+    answers: Vec<u8>,
+    bad: Option<u64>,
+}
+
+/// Answers the lines of a text as a service does that has processed no request.
+fn answer_text(alloc: Global, text: &[u8]) -> Result<Answered, Refusal>
+    requires { length text.now < 2 ^ 39 }
+    ensures all { IfOk result (λ answered. IfNone answered.bad (HasAnswered text.now answered.answers.items)) }
+    ensures bad { IfOk result (λ answered. IfSome answered.bad (λ line. HasAnsweredTo line text.now answered.answers.items)) }
+    ensures refusal { IsOkUnless result Refusal.NoMemory }
+{
+    let shape = Shape::new(1, 0, 32, 0)?;
+    let mut run = Run {
+        service: Service::new(alloc, &shape)?,
+        answers: Vec::new(alloc),
+    };
+    let bad = run.answer_lines(text)?;
+    Ok(Answered {
+        answers: run.answers,
+        bad,
+    })
+}
+
 /// Reads lines of requests, `CLIENT NUMBER OPERATION`, and writes the line that answers each: the place and the
 /// answer of the reply that its client has after it, or `old` where that reply has a greater number. The directory
 /// is empty at first, and every line is one value of one request.
@@ -112,14 +139,9 @@ pub fn run_apply<S: Source, K: Sink>(
     ensures writes { (K.output sink.new).calls ≤ (K.output sink.old).calls + most_calls }
 {
     let text = read_input(alloc, source)?;
-    let shape = Shape::new(1, 0, 32, 0)?;
-    let mut run = Run {
-        service: Service::new(alloc, &shape)?,
-        answers: Vec::new(alloc),
-    };
-    let bad = run.answer_lines(text.as_slice())?;
-    write_output(sink, run.answers.as_slice())?;
-    match bad {
+    let answered = answer_text(alloc, text.as_slice())?;
+    write_output(sink, answered.answers.as_slice())?;
+    match answered.bad {
         None => Ok(()),
         Some(line) => Err(Refusal::BadText { line }),
     }

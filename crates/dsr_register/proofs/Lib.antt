@@ -1,3 +1,2 @@
-mod PlaceLemmas
-mod TableLemmas
+mod EntryLemmas
 mod ValueLemmas

@@ -13,8 +13,8 @@ use Rattle.std.proofs.lemmas.Map.Views.{any-filter_same}
 use Rattle.dsr_request.specs.declared.op.Op.{Op}
 use Rattle.dsr_request.specs.Register.{register_of}
 use Rattle.dsr_register.specs.Values.{value, registers, count_held, is_full, left_by, answer_on, answer_after}
-use Rattle.dsr_register.specs.Table.{held_in, IsBelowEach, IsAscending, StandsFor}
-use Rattle.dsr_register.proofs.TableLemmas.{Entries, same_name, name_itself, apart_below}
+use Rattle.dsr_register.specs.Table.{held_in, StandsFor}
+use Rattle.dsr_register.proofs.EntryLemmas.{Registers, same_name, name_itself}
 
 abbrev Names : Type 0
 Names = List (List ℕ)
@@ -45,15 +45,7 @@ registers_distinct [] = distinct_none
 registers_distinct (op ∷ older) =
     distinct_step (list_any (bytes_eq (register_of op)) (registers older)) (register_of op) (registers older) refl (registers_distinct older)
 
--- the names of a table are different ones
-
-apart_from_above : (name : List ℕ) (table : Entries) → IsBelowEach name table → AllByRecursion (λ other. bytes_eq name other ≡ false) (keys_of table)
-apart_from_above name [] h = tt
-apart_from_above name (e ∷ es) h = (apart_below name e.0 h.0, apart_from_above name es h.1)
-
-keys_distinct : (table : Entries) → IsAscending table → IsDistinct bytes_eq (keys_of table)
-keys_distinct [] h = distinct_none
-keys_distinct (e ∷ es) h = IsDistinct-cons bytes_eq e.0 (keys_of es) (apart_from_above e.0 es h.0) (keys_distinct es h.1)
+-- and so are some of them
 
 filter_apart : (p : List ℕ → Bool) (name : List ℕ) (names : Names) → AllByRecursion (λ other. bytes_eq name other ≡ false) names
     → AllByRecursion (λ other. bytes_eq name other ≡ false) (filter p names)
@@ -142,41 +134,41 @@ length_held : (ops : List Op) → length (held_names ops) ≡ count_held ops
 unfolding held_names
 length_held ops = length-filter (λ name. is_some (value ops name)) (registers ops)
 
-at_most : (table : Entries) (ops : List Op) → IsAscending table → StandsFor table ops → length table ≤ length (held_names ops)
-at_most table ops rises h =
+at_most : (table : Registers) (ops : List Op) → IsDistinct bytes_eq (keys_of table) → StandsFor table ops → length table ≤ length (held_names ops)
+at_most table ops distinct h =
     let le : length (keys_of table) ≤ length (keyed (held_names ops)) =
-    length-le_from_keys nat_list_eq_equiv (keys_of table) (keyed (held_names ops)) (keys_distinct table rises)
+    length-le_from_keys nat_list_eq_equiv (keys_of table) (keyed (held_names ops)) distinct
     (λ q among.
     let some : IsSome (held_in table q) = is_some-lookup (bytes_eq q) table ∙ among in
     let has : IsSome (value ops q) = subst IsSome (h q) some in
     is_some-lookup (bytes_eq q) (keyed (held_names ops)) ∙ ap (list_any (bytes_eq q)) (keys_of_keyed (held_names ops)) ∙ some_is_held ops q has) in
     omega (arith, length-keys_of table, length_keyed (held_names ops))
 
-at_least : (table : Entries) (ops : List Op) → StandsFor table ops → length (held_names ops) ≤ length table
+at_least : (table : Registers) (ops : List Op) → StandsFor table ops → length (held_names ops) ≤ length table
 at_least table ops h =
     length-le_from_keys nat_list_eq_equiv (held_names ops) table (held_distinct ops)
     (λ q among. subst IsSome (sym (h q)) (held_is_some ops q (is_some (value ops q)) refl among))
 
 -- a table that stands for operations has an entry for each register that holds a number
-pub count_stands : (table : Entries) (ops : List Op) → IsAscending table → StandsFor table ops → length table ≡ count_held ops
-count_stands table ops rises h = le_antisymm (at_most table ops rises h) (at_least table ops h) ∙ length_held ops
+pub count_stands : (table : Registers) (ops : List Op) → IsDistinct bytes_eq (keys_of table) → StandsFor table ops → length table ≡ count_held ops
+count_stands table ops distinct h = le_antisymm (at_most table ops distinct h) (at_least table ops h) ∙ length_held ops
 
 -- and so it is full where they are
-pub full_stands : (table : Entries) (ops : List Op) → IsAscending table → StandsFor table ops → nat_le 1024 (length table) ≡ is_full (λ name. value ops name) (registers ops)
-full_stands table ops rises h = ap (nat_le 1024) (count_stands table ops rises h)
+pub full_stands : (table : Registers) (ops : List Op) → IsDistinct bytes_eq (keys_of table) → StandsFor table ops → nat_le 1024 (length table) ≡ is_full (λ name. value ops name) (registers ops)
+full_stands table ops distinct h = ap (nat_le 1024) (count_stands table ops distinct h)
 
 -- the table that one more operation leaves
-pub stands_after : (old new : Entries) (op : Op) (ops : List Op) → IsAscending old → StandsFor old ops
+pub stands_after : (old new : Registers) (op : Op) (ops : List Op) → IsDistinct bytes_eq (keys_of old) → StandsFor old ops
     → ((other : List ℕ) → held_in new other ≡ cond (bytes_eq (register_of op) other) (left_by op (held_in old other) (nat_le 1024 (length old))) (held_in old other))
     → StandsFor new (op ∷ ops)
-stands_after old new op ops rises h change name =
+stands_after old new op ops distinct h change name =
     change name
     ∙ (ap (λ held. cond (bytes_eq (register_of op) name) (left_by op held (nat_le 1024 (length old))) held) (h name)
-    ∙ ap (λ full. cond (bytes_eq (register_of op) name) (left_by op (value ops name) full) (value ops name)) (full_stands old ops rises h))
+    ∙ ap (λ full. cond (bytes_eq (register_of op) name) (left_by op (value ops name) full) (value ops name)) (full_stands old ops distinct h))
 
 -- and the answer that it gives
-pub answer_stands : (old : Entries) (op : Op) (ops : List Op) → IsAscending old → StandsFor old ops
+pub answer_stands : (old : Registers) (op : Op) (ops : List Op) → IsDistinct bytes_eq (keys_of old) → StandsFor old ops
     → answer_on op (held_in old (register_of op)) (nat_le 1024 (length old)) ≡ answer_after ops op
-answer_stands old op ops rises h =
+answer_stands old op ops distinct h =
     ap (λ held. answer_on op held (nat_le 1024 (length old))) (h (register_of op))
-    ∙ ap (answer_on op (value ops (register_of op))) (full_stands old ops rises h)
+    ∙ ap (answer_on op (value ops (register_of op))) (full_stands old ops distinct h)

@@ -2,6 +2,7 @@
 #![tactic(auto)]
 
 mod directory;
+mod table;
 #[cfg(test)]
 mod tests;
 

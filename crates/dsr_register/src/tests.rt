@@ -95,3 +95,44 @@ fn a_directory_is_full_at_1024_registers(rt: HostRuntime) -> Result<(), Fail> {
     fill(&rt, rt.alloc(), &mut directory)?;
     answers(&rt, &mut directory, &[("write z 1", "full")])
 }
+
+// The register holds 7 from now on.
+fn comes(rt: &impl Abort, directory: &mut Directory, name: &Name) -> Result<(), Fail> {
+    let answered = directory.apply(Op::Write {
+        name: *name,
+        value: 7,
+    });
+    assert_eq!(rt; answered, Answer::Written, "{name}");
+    Ok(())
+}
+
+// The register held 7, and holds nothing from now on.
+fn goes(rt: &impl Abort, directory: &mut Directory, name: &Name) -> Result<(), Fail> {
+    let answered = directory.apply(Op::Remove { name: *name });
+    assert_eq!(rt; answered, Answer::Removed(Some(7)), "{name}");
+    Ok(())
+}
+
+// More registers come than a table has entries for, and two of three go again.
+#[test]
+fn registers_come_and_go(rt: HostRuntime) -> Result<(), Fail> {
+    let mut directory = Directory::new(rt.alloc())?;
+    for number in 0..2100 {
+        let name = numbered(rt.alloc(), number)?;
+        comes(&rt, &mut directory, &name)?;
+        if number % 3 != 0 {
+            goes(&rt, &mut directory, &name)?;
+        }
+    }
+    assert_eq!(rt; directory.len(), 700);
+    let left = [
+        ("read k0", "held 7"),
+        ("read k1", "held none"),
+        ("read k2046", "held 7"),
+        ("read k2048", "held none"),
+        ("read k2097", "held 7"),
+        ("write k2099 8", "written"),
+        ("read k2099", "held 8"),
+    ];
+    answers(&rt, &mut directory, &left)
+}

@@ -1,5 +1,4 @@
 mod AnswerLemmas
-mod ByteOrder
 mod Names
 mod OpLemmas
 pub mod RequestTextLemmas

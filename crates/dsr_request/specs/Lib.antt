@@ -1,5 +1,4 @@
 pub mod AnswerText
-pub mod NameOrder
 pub mod NameText
 pub mod OpText
 pub mod Register

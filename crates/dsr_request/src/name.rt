@@ -1,10 +1,8 @@
-ghost use Rattle.std.specs.Prelude.{◌≡◌, ◌<◌, ◌↔◌, ◌∷◌, [], Some, All, IsOk, IfOk, IsTrue, IsOkUnless};
-ghost use Rattle.std.specs.Int.{w64, from_be_bytes};
-ghost use Rattle.dsr_request.specs.NameOrder.{is_before};
+ghost use Rattle.std.specs.Prelude.{◌≡◌, ◌↔◌, IsOk, IfOk, IsTrue, IsOkUnless};
 ghost use Rattle.dsr_request.specs.NameText.{IsName, is_name_byte};
 
 use dsr_names::Refusal;
-use std::cmp::Ordering;
+use std::hash::{Hash, Hasher};
 use std::marker::Model;
 use std::{fmt, str};
 
@@ -55,34 +53,6 @@ fn is_name(bytes: &[u8]) -> bool
     0 < len && len <= MOST_NAME_BYTES && bytes.iter().all(|byte| is_allowed(*byte))
 }
 
-/// The number that the bytes spell, the first of them the most.
-fn number_of(bytes: &[u8; 8]) -> u64
-    ensures spelled { result ≡ from_be_bytes w64 bytes.now }
-    ensures bytes { All (λ b. b < 256) bytes.now }
-{
-    u64::from_be_bytes(*bytes)
-}
-
-/// Whether the first bytes come before the second in their order. Eight bytes are compared as one number.
-fn is_below(ours: &[u8], theirs: &[u8]) -> bool
-    ensures { result ≡ is_before ours.now theirs.now }
-{
-    match (
-        ours.split_first_chunk::<8>(),
-        theirs.split_first_chunk::<8>(),
-    ) {
-        (Some((our_word, our_rest)), Some((their_word, their_rest))) => {
-            let (our_number, their_number) = (number_of(our_word), number_of(their_word));
-            if our_number == their_number {
-                is_below(our_rest, their_rest)
-            } else {
-                our_number < their_number
-            }
-        }
-        _ => ours.cmp(theirs) == Ordering::Less,
-    }
-}
-
 impl Name {
     /// The name that the bytes spell. `BadName` exactly where they are empty, more than 32, or have
     /// another byte than a name's.
@@ -118,14 +88,6 @@ impl Name {
         }
     }
 
-    /// Whether this name comes before the other in the order of their bytes.
-    pub fn is_before(&self, other: &Name) -> bool
-        ensures { result ≡ is_before self.now other.now }
-    {
-        // The bytes past a name's end are 0, below all that a name has, so the arrays stand in the order of the names.
-        is_below(&self.bytes, &other.bytes)
-    }
-
     /// Whether two names are the same name.
     pub fn same(&self, other: &Name) -> bool
         ensures { IsTrue result ↔ (self.now ≡ other.now) }
@@ -153,6 +115,21 @@ impl Eq for Name {
     ghost use Rattle.std.specs.Cmp.Rules.{comparing};
 
     ghost laws = { Prim.search (comparing, rules) };
+}
+
+// What is hashed is the bytes of the name.
+impl Hash for Name {
+    ghost use Rattle.std.proofs.Common.{rules};
+    ghost use Rattle.std.specs.Cmp.Rules.{hashing};
+    ghost use Rattle.std.specs.Hash as fed;
+
+    ghost hash_input = { fed.slice fed.u8 };
+
+    ghost respects_eq = { Prim.search (hashing, rules) };
+
+    fn hash<H: Hasher>(&self, state: &mut H) {
+        self.as_bytes().hash(state);
+    }
 }
 
 impl fmt::Display for Name {

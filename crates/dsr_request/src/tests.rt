@@ -50,8 +50,6 @@ fn names_are_the_same_by_their_bytes(rt: HostRuntime) -> Result<(), Refusal> {
     assert!(rt; a.same(&Name::read(b"a")?));
     assert!(rt; !a.same(&Name::read(b"b")?));
     assert!(rt; !a.same(&Name::read(b"aa")?));
-    assert!(rt; a.is_before(&Name::read(b"aa")?));
-    assert!(rt; !a.is_before(&a));
     Ok(())
 }
 

@@ -1,0 +1,187 @@
+ghost use Rattle.std.specs.Prelude.{◌≡◌, ℕ, ◌+◌, ◌<◌, ◌≤◌, ◌&&◌, ◌↔◌, [], List, Option, None, Some, not, nat_le, length, if◌then◌else◌, IfOk, IfSome, IfNone, IsOkUnless};
+ghost use Rattle.std.specs.List.{IsDistinct};
+ghost use Rattle.std.specs.Map.{keys_of};
+ghost use Rattle.std.specs.Str.{bytes_eq};
+ghost use Rattle.indexmap.specs.IndexMap.{get, index_map_len, IsUnchanged};
+ghost use Rattle.dsr_register.specs.Values.{is_blocked, most_registers};
+ghost use Rattle.dsr_register.specs.Table.{held_in};
+ghost use Rattle.dsr_register.specs.Support.Table.{held_entries, Changes, IsRoomy, most_entries};
+
+use dsr_names::Refusal;
+use dsr_request::Name;
+use indexmap::IndexMap;
+use std::alloc::Global;
+use std::marker::Model;
+use std::mem::replace;
+
+/// The most registers that hold a value.
+const MOST_REGISTERS: usize = 1024;
+
+/// The most entries of a table: twice as many as can hold a value.
+const MOST_ENTRIES: usize = 2 * MOST_REGISTERS;
+
+/// Registers by their names, each with its value, if it holds one.
+type Entries = IndexMap<Name, Option<u64>>;
+
+/// The registers that hold a value, at most 1,024, by their names. All its memory is allocated when it is made.
+///
+/// A register whose value is taken out keeps its entry, since no hash map promises that a removed entry gives its room
+/// back. Where a register needs an entry and all are there, the table is swept: the entries that hold a value move to
+/// the front, and the others are cut off, at least half of all. A map promises to give back the room of so many.
+#[derive(Drop)]
+pub(crate) struct Table {
+    entries: Entries,
+    held: usize,
+}
+
+impl Model for Table {
+    ghost use Rattle.std.specs.Prelude.{List, ℕ};
+    ghost use Rattle.dsr_register.specs.Support.Table.{held_entries};
+    ghost use Rattle.dsr_register.specs.Support.TableFields.{IsTable};
+
+    ghost Value = { List (List ℕ × ℕ) };
+
+    ghost view = { λ t. held_entries t.entries.entries };
+
+    ghost invariant = { IsTable };
+}
+
+/// Lets the register hold this, or nothing, if it has an entry, and returns what it held.
+fn write(entries: &mut Entries, name: &Name, held: Option<u64>) -> Option<Option<u64>>
+    requires { IsRoomy entries.old }
+    ensures changes { IfSome result (λ before. Changes (held_entries entries.old.entries) (held_entries entries.new.entries) name.now before held) }
+    ensures absent { IfNone result (get bytes_eq entries.old name.now ≡ None) }
+    ensures unchanged { IfNone result (IsUnchanged entries.old entries.new) }
+    ensures nothing { IfNone result (Changes (held_entries entries.old.entries) (held_entries entries.new.entries) name.now None None) }
+    ensures roomy { IsRoomy entries.new }
+{
+    match entries.get_mut(name) {
+        Some(place) => Some(replace(place, held)),
+        None => None,
+    }
+}
+
+/// Leaves the entries that hold a value, and no other.
+fn sweep(entries: &mut Entries)
+    requires few { length (held_entries entries.old.entries) < most_registers }
+    requires many { most_entries ≤ index_map_len entries.old }
+    requires roomy { IsRoomy entries.old }
+    ensures held { held_entries entries.new.entries ≡ held_entries entries.old.entries }
+    ensures absent { (name : List ℕ) → get bytes_eq entries.old name ≡ None → get bytes_eq entries.new name ≡ None }
+    ensures len { index_map_len entries.new < most_registers }
+    ensures roomy { IsRoomy entries.new }
+{
+    let mut kept = 0;
+    for place in 0..entries.len() {
+        if entries[place].is_some() {
+            entries.swap_indices(kept, place);
+            kept += 1;
+        }
+    }
+    entries.truncate(kept);
+}
+
+/// Makes room for an entry. It allocates nothing.
+fn make_room(entries: &mut Entries)
+    requires few { length (held_entries entries.old.entries) < most_registers }
+    requires roomy { IsRoomy entries.old }
+    ensures held { held_entries entries.new.entries ≡ held_entries entries.old.entries }
+    ensures absent { (name : List ℕ) → get bytes_eq entries.old name ≡ None → get bytes_eq entries.new name ≡ None }
+    ensures len { index_map_len entries.new < most_entries }
+    ensures roomy { IsRoomy entries.new }
+{
+    if entries.len() >= MOST_ENTRIES {
+        sweep(entries);
+    }
+}
+
+/// Gives the register, which has none, an entry that holds the value.
+fn add(entries: &mut Entries, name: Name, value: u64)
+    requires absent { get bytes_eq entries.old name ≡ None }
+    requires len { index_map_len entries.old < most_entries }
+    requires roomy { IsRoomy entries.old }
+    ensures changes { Changes (held_entries entries.old.entries) (held_entries entries.new.entries) name None (Some value) }
+    ensures roomy { IsRoomy entries.new }
+{
+    entries.insert(name, Some(value)).unwrap();
+}
+
+impl Table {
+    /// A table in which no register holds a value. `NoMemory` where its room is refused.
+    pub(crate) fn new(alloc: Global) -> Result<Table, Refusal>
+        ensures empty { IfOk result (λ table. table ≡ []) }
+        ensures refusal { IsOkUnless result Refusal.NoMemory }
+    {
+        let entries = IndexMap::with_capacity(alloc, MOST_ENTRIES)?;
+        Ok(Table { entries, held: 0 })
+    }
+
+    /// Takes every value out, and keeps the room.
+    pub(crate) fn clear(&mut self)
+        ensures { self.new ≡ [] }
+    {
+        self.entries.clear();
+        self.held = 0;
+    }
+
+    /// What the register holds.
+    pub(crate) fn get(&self, name: &Name) -> Option<u64>
+        ensures held { result ≡ held_in self.now name.now }
+        ensures distinct { IsDistinct bytes_eq (keys_of self.now) }
+    {
+        self.entries.get(name).copied().flatten()
+    }
+
+    /// How many registers hold a value.
+    pub(crate) fn len(&self) -> usize
+        ensures count { result ≡ length self.now }
+        ensures few { result ≤ most_registers }
+        ensures distinct { IsDistinct bytes_eq (keys_of self.now) }
+    {
+        self.held
+    }
+
+    /// Whether the register may hold a value: it holds one, or not all 1,024 are taken.
+    fn may_hold(&self, name: &Name) -> bool
+        ensures may { result ≡ not (is_blocked (held_in self.now name.now) (nat_le most_registers (length self.now))) }
+        ensures distinct { IsDistinct bytes_eq (keys_of self.now) }
+    {
+        self.len() < MOST_REGISTERS || self.get(name).is_some()
+    }
+
+    /// Lets the register hold the value, if it holds one or not all 1,024 are taken. It allocates nothing.
+    pub(crate) fn put(&mut self, name: Name, value: u64) -> bool
+        ensures done { result ≡ not (is_blocked (held_in self.old name) (nat_le most_registers (length self.old))) }
+        ensures contents { (other : List ℕ) → held_in self.new other
+            ≡ (if bytes_eq name other && result then Some value else held_in self.old other) }
+        ensures distinct { IsDistinct bytes_eq (keys_of self.old) }
+    {
+        if !self.may_hold(&name) {
+            return false;
+        }
+        let before = match write(&mut self.entries, &name, Some(value)) {
+            Some(before) => before,
+            None => {
+                make_room(&mut self.entries);
+                add(&mut self.entries, name, value);
+                None
+            }
+        };
+        if before.is_none() {
+            self.held += 1;
+        }
+        true
+    }
+
+    /// Takes the register's value out.
+    pub(crate) fn take(&mut self, name: &Name) -> Option<u64>
+        ensures held { result ≡ held_in self.old name.now }
+        ensures contents { (other : List ℕ) → held_in self.new other ≡ (if bytes_eq name.now other then None else held_in self.old other) }
+    {
+        let before = write(&mut self.entries, name, None)?;
+        if before.is_some() {
+            self.held -= 1;
+        }
+        before
+    }
+}
