@@ -34,9 +34,9 @@ pub fn accepted_replies_have_enough_votes()
         × (outstanding shape (Take (Replica p) (Reply reply) ∷ log) ≡ outstanding shape log) }
 {}
 
-/// A client that took, while its request was outstanding, one and the same reply to it from every loyal replica, and in its
-/// whole log no other reply of that number from any of them, has accepted that reply, where more than twice as many replicas
-/// are there as may be traitors. What traitors reply, and when, plays no part.
+/// Where at most f replicas are traitors, and n is at least 2f+1: a client that took, while its request was outstanding, one and
+/// the same reply to it from every loyal replica, and in its whole log no other reply of that number from any of them, has
+/// accepted that reply. What traitors reply, and when, plays no part.
 pub fn loyal_replies_are_accepted()
     ensures { (shape : Shape) (older newer : List Entry) (ask : SignedRequest) (reply : AReply)
         → HasFewTraitors shape → 2 * shape.f < shape.n

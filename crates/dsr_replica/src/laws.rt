@@ -1,11 +1,11 @@
 //! The laws of one loyal replica's log, as the contracts of functions that do nothing.
 
-ghost use Rattle.std.specs.Prelude.{◌≡◌, ◌⊎◌, ℕ, ◌+◌, ◌<◌, ◌≤◌, List, ◌∷◌, Some, slice_get};
+ghost use Rattle.std.specs.Prelude.{◌≡◌, ◌⊎◌, ℕ, ◌+◌, ◌<◌, ◌≤◌, List, [], ◌∷◌, Some, slice_get};
 ghost use Rattle.dsr_base.specs.Growth.{Extends};
 ghost use Rattle.dsr_base.specs.Member.{In};
 ghost use Rattle.dsr_names.specs.Shape.{Shape, AgreeButForTraitors};
 ghost use Rattle.dsr_names.specs.declared.actor.Actor.{Actor};
-ghost use Rattle.dsr_names.specs.declared.actor.Actor.TheVariants.{Replica};
+ghost use Rattle.dsr_names.specs.declared.actor.Actor.TheVariants.{Replica, Client};
 ghost use Rattle.dsr_history.specs.History.{acted};
 ghost use Rattle.dsr_rotation.specs.Calendar.{first_round};
 ghost use Rattle.dsr_desk.specs.Signature.{Signature};
@@ -13,15 +13,33 @@ ghost use Rattle.dsr_chain.specs.Chain.{Chain};
 ghost use Rattle.dsr_chain.specs.Proper.{IsReplica};
 ghost use Rattle.dsr_replica.specs.declared.envelope.Envelope.{Envelope};
 ghost use Rattle.dsr_replica.specs.declared.entry.Entry.{Entry};
-ghost use Rattle.dsr_replica.specs.declared.entry.Entry.TheVariants.{Post};
+ghost use Rattle.dsr_replica.specs.declared.entry.Entry.TheVariants.{Post, Take};
+ghost use Rattle.dsr_replica.specs.declared.step.Due.TheVariants.{Take as TakeFrom};
 ghost use Rattle.dsr_replica.specs.declared.step.Pick.{Pick};
-ghost use Rattle.dsr_replica.specs.Conduct.{envelope_to, IsNext, IsLoyalLog};
+ghost use Rattle.dsr_replica.specs.Conduct.{envelope_to, reply_to, IsNext, IsLoyalLog};
 ghost use Rattle.dsr_replica.specs.Counts.{HasCounts};
 ghost use Rattle.dsr_replica.specs.Decided.{read_in, slot_kept, decided_values, decided_requests};
 ghost use Rattle.dsr_replica.specs.Envelope.{chains_for, Carries};
 ghost use Rattle.dsr_replica.specs.Held.{held};
 ghost use Rattle.dsr_replica.specs.Log.{posted_to, due, rounds};
+ghost use Rattle.dsr_replica.specs.Pick.{IsPick};
 ghost use Rattle.dsr_replica.specs.Posts.{IsOfRound, IsPosted, WasTaken};
+
+/// The log of a `Replica` is a loyal one: the empty log is, and so is a loyal log with the entry that a call adds. That is a post to
+/// a replica by an allowed choice, the reply posted to a client, a take that is due, or a take from a client.
+pub fn calls_keep_a_log_loyal()
+    ensures empty { (shape : Shape) (me : Actor) → IsLoyalLog shape me [] }
+    ensures posted { (shape : Shape) (me : Actor) (log : List Entry) → IsLoyalLog shape me log
+        → (q : ℕ) (pick : Pick) → IsPick pick → (envelope : Envelope) → envelope_to shape me log q pick ≡ Some envelope
+        → IsLoyalLog shape me (Post (Replica q) envelope ∷ log) }
+    ensures replied { (shape : Shape) (me : Actor) (log : List Entry) → IsLoyalLog shape me log
+        → (c : ℕ) → c < shape.m → (envelope : Envelope) → reply_to shape log c ≡ Some envelope
+        → IsLoyalLog shape me (Post (Client c) envelope ∷ log) }
+    ensures taken { (shape : Shape) (me : Actor) (log : List Entry) → IsLoyalLog shape me log
+        → (p : ℕ) → due shape log ≡ TakeFrom p → (envelope : Envelope) → IsLoyalLog shape me (Take (Replica p) envelope ∷ log) }
+    ensures asked { (shape : Shape) (me : Actor) (log : List Entry) → IsLoyalLog shape me log
+        → (c : ℕ) → c < shape.m → (envelope : Envelope) → IsLoyalLog shape me (Take (Client c) envelope ∷ log) }
+{}
 
 /// At each point of a round a loyal replica has posted to each replica and taken from each as often as rounds are closed,
 /// and once more where the post or the take of this round was made already.
