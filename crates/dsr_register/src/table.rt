@@ -1,4 +1,4 @@
-ghost use Rattle.std.specs.Prelude.{◌≡◌, ℕ, ◌+◌, ◌<◌, ◌≤◌, ◌&&◌, ◌↔◌, [], List, Option, None, Some, not, nat_le, length, if◌then◌else◌, IfOk, IfSome, IfNone, IsOkUnless};
+ghost use Rattle.std.specs.Prelude.{◌≡◌, ℕ, ◌<◌, ◌≤◌, ◌&&◌, [], List, None, Some, not, nat_le, length, if◌then◌else◌, IfOk, IfSome, IfNone, IsOkUnless};
 ghost use Rattle.std.specs.List.{IsDistinct};
 ghost use Rattle.std.specs.Map.{keys_of};
 ghost use Rattle.std.specs.Str.{bytes_eq};
@@ -49,10 +49,12 @@ impl Model for Table {
 /// Lets the register hold this, or nothing, if it has an entry, and returns what it held.
 fn write(entries: &mut Entries, name: &Name, held: Option<u64>) -> Option<Option<u64>>
     requires { IsRoomy entries.old }
-    ensures changes { IfSome result (λ before. Changes (held_entries entries.old.entries) (held_entries entries.new.entries) name.now before held) }
+    ensures changes { IfSome result (λ before.
+        Changes (held_entries entries.old.entries) (held_entries entries.new.entries) name.now before held) }
     ensures absent { IfNone result (get bytes_eq entries.old name.now ≡ None) }
     ensures unchanged { IfNone result (IsUnchanged entries.old entries.new) }
-    ensures nothing { IfNone result (Changes (held_entries entries.old.entries) (held_entries entries.new.entries) name.now None None) }
+    ensures nothing { IfNone result
+        (Changes (held_entries entries.old.entries) (held_entries entries.new.entries) name.now None None) }
     ensures roomy { IsRoomy entries.new }
 {
     match entries.get_mut(name) {
@@ -176,7 +178,8 @@ impl Table {
     /// Takes the register's value out.
     pub(crate) fn take(&mut self, name: &Name) -> Option<u64>
         ensures held { result ≡ held_in self.old name.now }
-        ensures contents { (other : List ℕ) → held_in self.new other ≡ (if bytes_eq name.now other then None else held_in self.old other) }
+        ensures contents { (other : List ℕ) → held_in self.new other
+            ≡ (if bytes_eq name.now other then None else held_in self.old other) }
     {
         let before = write(&mut self.entries, name, None)?;
         if before.is_some() {
