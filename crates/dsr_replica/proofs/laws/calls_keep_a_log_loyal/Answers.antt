@@ -4,7 +4,7 @@ pub returns-clause-empty : goal.returns-clause-empty
 returns-clause-empty c shape me = tt
 
 pub returns-clause-posted : goal.returns-clause-posted
-returns-clause-posted c shape me log loyal q pick picked envelope given = (loyal, (pick, (picked, given)))
+returns-clause-posted c shape me log loyal q pick picked envelope given = (loyal, (pick, picked, given))
 
 pub returns-clause-replied : goal.returns-clause-replied
 returns-clause-replied c shape me log loyal client inside envelope given = (loyal, (inside, given))
