@@ -14,3 +14,6 @@ pub use building::build;
 pub use draft::Draft;
 pub use known::Known;
 pub use laws::nobody_forges;
+
+#[cfg(test)]
+mod tests;
