@@ -63,8 +63,8 @@ impl Model for Replica {
 }
 
 impl Replica {
-    /// The replica that holds this key, with an empty log. Requires that the key's holder is an actor of the shape; a client's key
-    /// makes one that starts no chain and whose chains are not proper. `NoMemory` where memory runs out: then the key is gone.
+    /// The replica that holds this key, with an empty log. Requires that the key's holder is an actor of the shape; the law of the
+    /// chains that it posts speaks of a replica. `NoMemory` where memory runs out: then the key is gone.
     pub fn new(alloc: Global, key: Key, shape: &Shape) -> Result<Replica, Refusal>
         requires { IsActor shape.now key }
         ensures stands { IfOk result (λ replica. StandsFor replica []) }

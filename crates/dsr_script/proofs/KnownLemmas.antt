@@ -1,0 +1,163 @@
+-- What is known after signatures were noted.
+use Rattle.std.proofs.Common.{◌≡◌, ◌↔◌, Bool, true, false, List, [], ◌∷◌, Some, ◌⊎◌, inl, inr, refl, ap, sym, subst, ◌∙◌}
+use Rattle.std.specs.Prelude.{flat_map, IsSome, IfSome, cond, if◌then◌else◌}
+use Rattle.std.specs.Map.{keys_of, lookup}
+use Rattle.dsr_base.specs.Member.{In, here, there}
+use Rattle.dsr_base.proofs.MemberLemmas.{In-append_cases, In-append_left, In-append_right, In-one}
+use Rattle.indexmap.specs.IndexMap.{insert_entry}
+use Rattle.dsr_desk.specs.Signature.{Signature}
+use Rattle.dsr_chain.specs.Chain.{Chain}
+use Rattle.dsr_chain.specs.Content.{signed_in}
+use Rattle.dsr_replica.specs.Envelope.{Carries, IsOn}
+use Rattle.dsr_replica.specs.declared.envelope.Envelope.{Envelope}
+use Rattle.dsr_replica.specs.declared.envelope.Envelope.TheVariants.{Empty, Round, Ask, Reply, Seen}
+use Rattle.dsr_script.specs.Known.{StandFor}
+use Rattle.dsr_script.specs.Support.Carried.{carried, on_chain}
+use Rattle.dsr_script.specs.Support.Noted.{noted, noted_all, beside, AreOwn}
+use Rattle.dsr_script.specs.Support.SaidEquality.{said_eq, said_eq-Decides}
+
+-- ---- an entry for a signature
+
+-- the keys after an entry was put
+pub keys_noted : (es : List (Signature × Signature)) (s v : Signature) → keys_of (insert_entry said_eq es s v) ≡ noted (keys_of es) s
+keys_noted [] s v = refl
+keys_noted (e ∷ es) s v = by (said_eq s e.0) (keys_noted es s v)
+  where
+    by : (b : Bool) → keys_of (insert_entry said_eq es s v) ≡ noted (keys_of es) s
+        → keys_of (if b then (e.0, v) ∷ es else e ∷ insert_entry said_eq es s v) ≡ (if b then e.0 ∷ keys_of es else e.0 ∷ noted (keys_of es) s)
+    by true rest = refl
+    by false rest = ap (λ ks. e.0 ∷ ks) rest
+
+-- each entry has its own signature still
+pub own_noted : (es : List (Signature × Signature)) (s : Signature) → AreOwn es → AreOwn (insert_entry said_eq es s s)
+own_noted [] s own = (refl, tt)
+own_noted (e ∷ es) s own = by (said_eq s e.0) refl (own_noted es s own.1)
+  where
+    by : (b : Bool) → said_eq s e.0 ≡ b → AreOwn (insert_entry said_eq es s s) → AreOwn (if b then (e.0, s) ∷ es else e ∷ insert_entry said_eq es s s)
+    by true same rest = ((said_eq-Decides s e.0).0 same, own.1)
+    by false other rest = (own.0, rest)
+
+-- what is found at a key is the signature that it says
+pub found_own : (es : List (Signature × Signature)) (s : Signature) → AreOwn es → IfSome (lookup (said_eq s) es) (λ x. x ≡ s)
+found_own [] s own = tt
+found_own (e ∷ es) s own = by (said_eq s e.0) refl (found_own es s own.1)
+  where
+    by : (b : Bool) → said_eq s e.0 ≡ b → IfSome (lookup (said_eq s) es) (λ x. x ≡ s) → IfSome (cond b (Some e.1) (lookup (said_eq s) es)) (λ x. x ≡ s)
+    by true same rest = own.0 ∙ sym ((said_eq-Decides s e.0).0 same)
+    by false other rest = rest
+
+-- and something is found exactly where the key stands
+pub found_in : (es : List (Signature × Signature)) (s : Signature) → IsSome (lookup (said_eq s) es) ↔ In s (keys_of es)
+found_in [] s = (λ h. absurd cc, λ h. elim h [ ])
+found_in (e ∷ es) s = by (said_eq s e.0) refl (found_in es s)
+  where
+    by : (b : Bool) → said_eq s e.0 ≡ b → (IsSome (lookup (said_eq s) es) ↔ In s (keys_of es))
+        → IsSome (cond b (Some e.1) (lookup (said_eq s) es)) ↔ In s (e.0 ∷ keys_of es)
+    by true same rest = (λ h. here (sym ((said_eq-Decides s e.0).0 same)), λ h. refl)
+    by false other rest = (
+      λ h. there (rest.0 h),
+      λ h. elim h [
+        | here is ↦ absurd (let yes : said_eq s e.0 ≡ true = (said_eq-Decides s e.0).1 (sym is) in cc)
+        | there later ↦ rest.1 later
+      ],
+    )
+
+-- ---- what is known then
+
+-- after one signature was noted
+pub In-noted : (xs : List Signature) (y s : Signature) → In s (noted xs y) ↔ (In s xs ⊎ (y ≡ s))
+In-noted [] y s = (λ h. inr (In-one s y h), λ h. elim h [ inl old ↦ elim old [ ] | inr is ↦ here is ])
+In-noted (x ∷ xs) y s = by (said_eq y x) refl (In-noted xs y s)
+  where
+    by : (b : Bool) → said_eq y x ≡ b → (In s (noted xs y) ↔ (In s xs ⊎ (y ≡ s))) → In s (if b then x ∷ xs else x ∷ noted xs y) ↔ (In s (x ∷ xs) ⊎ (y ≡ s))
+    by true same rest = (λ h. inl h, λ h. elim h [ inl old ↦ old | inr is ↦ here (sym ((said_eq-Decides y x).0 same) ∙ is) ])
+    by false other rest = (
+      λ h. elim h [
+        | here is ↦ inl (here is)
+        | there later ↦ elim (rest.0 later) [ inl old ↦ inl (there old) | inr is ↦ inr is ]
+      ],
+      λ h. elim h [
+        | inl old ↦ elim old [ here is ↦ here is | there later ↦ there (rest.1 (inl later)) ]
+        | inr is ↦ there (rest.1 (inr is))
+      ],
+    )
+
+-- after all of a list were noted
+pub In-noted_all : (xs ys : List Signature) (s : Signature) → In s (noted_all xs ys) ↔ (In s xs ⊎ In s ys)
+In-noted_all xs [] s = (λ h. inl h, λ h. elim h [ inl old ↦ old | inr none ↦ elim none [ ] ])
+In-noted_all xs (y ∷ ys) s =
+    let rest = In-noted_all (noted xs y) ys s in
+    let one = In-noted xs y s in (
+      λ h. elim (rest.0 h) [
+        | inl old ↦ elim (one.0 old) [ inl before ↦ inl before | inr is ↦ inr (here is) ]
+        | inr later ↦ inr (there later)
+      ],
+      λ h. elim h [
+        | inl old ↦ rest.1 (inl (one.1 (inl old)))
+        | inr new ↦ elim new [ here is ↦ rest.1 (inl (one.1 (inr is))) | there later ↦ rest.1 (inr later) ]
+      ],
+    )
+
+-- ---- what an envelope carries
+
+pub on_chain_is : (chain : Chain) (s : Signature) → In s (on_chain chain) ↔ IsOn s chain
+on_chain_is chain s = (
+  λ h. In-append_cases s chain.signatures (beside (signed_in chain.value)) h,
+  λ h. elim h [
+    | inl link ↦ In-append_left s chain.signatures (beside (signed_in chain.value)) link
+    | inr ask ↦ In-append_right s chain.signatures (beside (signed_in chain.value)) ask
+  ],
+)
+
+-- on one of the chains
+abbrev OnOne : List Chain → Signature → Type 0
+OnOne chains s = (chain : Chain) × In chain chains × IsOn s chain
+
+on_chains : (chains : List Chain) (s : Signature) → In s (flat_map on_chain chains) ↔ OnOne chains s
+on_chains [] s = (λ h. elim h [ ], λ h. elim h.1 [ ])
+on_chains (c ∷ cs) s = (
+  λ h. elim (In-append_cases s (on_chain c) (flat_map on_chain cs) h) [
+    | inl first ↦ (c, here refl, (on_chain_is c s).0 first)
+    | inr later ↦ let found = (on_chains cs s).0 later in (found.0, there found.1, found.2)
+  ],
+  λ h. elim h.1 [
+    | here is ↦ In-append_left s (on_chain c) (flat_map on_chain cs) ((on_chain_is c s).1 (subst (IsOn s) (sym is) h.2))
+    | there later ↦ In-append_right s (on_chain c) (flat_map on_chain cs) ((on_chains cs s).1 (h.0, later, h.2))
+  ],
+)
+
+-- the list has exactly the signatures that the envelope carries
+pub carried_is : (envelope : Envelope) (s : Signature) → In s (carried envelope) ↔ Carries envelope s
+carried_is Empty s = (λ h. elim h [ ], λ h. absurd h)
+carried_is (Round round chains) s = on_chains chains s
+carried_is (Ask ask) s = (λ h. In-one s ask.signature h, λ h. here h)
+carried_is (Reply reply) s = (λ h. elim h [ ], λ h. absurd h)
+carried_is (Seen front) s = (λ h. elim h [ ], λ h. absurd h)
+
+-- ---- after an envelope was learned
+
+pub learned_is : (known : List Signature) (envelope : Envelope) (s : Signature)
+    → In s (noted_all known (carried envelope)) ↔ (In s known ⊎ Carries envelope s)
+learned_is known envelope s =
+    let all = In-noted_all known (carried envelope) s in
+    let is = carried_is envelope s in (
+      λ h. elim (all.0 h) [ inl old ↦ inl old | inr new ↦ inr (is.0 new) ],
+      λ h. elim h [
+        | inl old ↦ all.1 (inl old)
+        | inr new ↦ all.1 (inr (is.1 new))
+      ],
+    )
+
+pub stands_learned : (known : List Signature) (envelope : Envelope) (envelopes : List Envelope) → StandFor known envelopes
+    → StandFor (noted_all known (carried envelope)) (envelope ∷ envelopes)
+stands_learned known envelope envelopes stands s =
+    let is = learned_is known envelope s in (
+      λ h. elim (is.0 h) [
+        | inl old ↦ let was = (stands s).0 old in (was.0, there was.1, was.2)
+        | inr new ↦ (envelope, here refl, new)
+      ],
+      λ h. elim h.1 [
+        | here same ↦ is.1 (inr (subst (λ e. Carries e s) (sym same) h.2))
+        | there later ↦ is.1 (inl ((stands s).1 (h.0, later, h.2)))
+      ],
+    )

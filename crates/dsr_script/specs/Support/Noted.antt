@@ -1,0 +1,23 @@
+-- Signatures noted in turn, each once.
+use Rattle.std.specs.Prelude.{◌≡◌, List, [], ◌∷◌, fold, map, if◌then◌else◌}
+use Rattle.dsr_desk.specs.Signature.{Signature}
+use Rattle.dsr_chain.specs.declared.signed_request.SignedRequest.{SignedRequest}
+use Rattle.dsr_script.specs.Support.SaidEquality.{said_eq}
+
+-- these signatures and this one: as they are where it stands among them, with it at the end where not
+abbrev pub noted : List Signature → Signature → List Signature
+noted [] s = s ∷ []
+noted (x ∷ xs) s = if said_eq s x then x ∷ xs else x ∷ noted xs s
+
+-- these signatures and those
+abbrev pub noted_all : List Signature → List Signature → List Signature
+noted_all known signatures = fold noted known signatures
+
+-- the signatures beside these requests
+abbrev pub beside : List SignedRequest → List Signature
+beside asks = map (λ ask. ask.signature) asks
+
+-- each entry has the signature that its key says
+abbrev pub AreOwn : List (Signature × Signature) → Type 0
+AreOwn [] = Unit {0}
+AreOwn (e ∷ es) = (e.1 ≡ e.0) × AreOwn es

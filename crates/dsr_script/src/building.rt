@@ -1,0 +1,201 @@
+ghost use Rattle.std.specs.Prelude.{◌≡◌, ◌≤◌, ◌↔◌, ◌⊎◌, All, Any, Err, length, IfOk, IfErr, IfSome, IsSome, IsTrue, IsOkUnless};
+ghost use Rattle.dsr_chain.specs.Support.SignedLists.{value_of as value_in};
+ghost use Rattle.dsr_script.specs.Held.{IsHeldOrKnown, IsUnforged};
+ghost use Rattle.dsr_script.specs.Support.Described.{described};
+ghost use Rattle.dsr_script.specs.Support.Carried.{IsHeldRequest, IsHeldChain, IsHeldEnvelope};
+
+use crate::draft::Draft;
+use crate::known::Known;
+use crate::plan::Plan;
+use crate::said::{Said, SaidRequest};
+use crate::said_chain::SaidChain;
+use dsr_chain::{Batch, Chain, SignedRequest, SlotValue};
+use dsr_desk::{Key, Signature};
+use dsr_names::{Actor, Refusal};
+use dsr_replica::{Chains, Envelope};
+use std::alloc::Global;
+
+/// The envelope that the draft describes. A signature by the holder of one of the keys is made; any other is taken from those that are
+/// known. `Forged` where one is neither by the holder of one of the keys nor known; `NoMemory` where memory runs out.
+pub fn build(alloc: Global, draft: &Draft, keys: &[Key], known: &Known) -> Result<Envelope, Refusal>
+    ensures same { IfOk result (λ envelope. envelope ≡ draft.now) }
+    ensures unforged { IfOk result (λ envelope. IsUnforged keys.now known.now.signatures envelope) }
+    ensures forged { (result ≡ Err Refusal.Forged) ↔ (¬ IsUnforged keys.now known.now.signatures draft.now) }
+    ensures refusal { IfErr result (λ refusal. (refusal ≡ Refusal.Forged) ⊎ (refusal ≡ Refusal.NoMemory)) }
+{
+    let plan = draft.plan();
+    if is_unforged(plan, keys, known) {
+        envelope_of(alloc, plan, keys, known)
+    } else {
+        Err(Refusal::Forged)
+    }
+}
+
+/// Whether each signature of the plan is by the holder of one of the keys, or is known.
+fn is_unforged(plan: &Plan, keys: &[Key], known: &Known) -> bool
+    ensures { IsTrue result ↔ IsHeldEnvelope keys.now known.now.signatures (described plan.now) }
+{
+    match plan {
+        Plan::Round { chains, .. } => are_chains_held(chains.as_slice(), keys, known),
+        Plan::Ask(ask) => is_held(ask.said(), keys, known),
+        Plan::Empty | Plan::Reply(_) | Plan::Seen(_) => true,
+    }
+}
+
+/// The envelope that the plan describes, none of whose signatures is forged.
+fn envelope_of(alloc: Global, plan: &Plan, keys: &[Key], known: &Known) -> Result<Envelope, Refusal>
+    requires { IsHeldEnvelope keys.now known.now.signatures (described plan.now) }
+    ensures same { IfOk result (λ envelope. envelope ≡ described plan.now) }
+    ensures refusal { IsOkUnless result Refusal.NoMemory }
+{
+    Ok(match plan {
+        Plan::Empty => Envelope::Empty,
+        Plan::Round { round, chains } => {
+            let chains = chains_of(alloc, chains.as_slice(), keys, known)?;
+            Envelope::Round {
+                round: *round,
+                chains: Chains::of(chains),
+            }
+        }
+        Plan::Ask(ask) => Envelope::Ask(request_of(ask, keys, known)),
+        Plan::Reply(reply) => Envelope::Reply(*reply),
+        Plan::Seen(front) => Envelope::Seen(*front),
+    })
+}
+
+/// Whether no signature of the chains is forged.
+fn are_chains_held(chains: &[SaidChain], keys: &[Key], known: &Known) -> bool
+    ensures { IsTrue result ↔ All (IsHeldChain keys.now known.now.signatures) chains.now }
+{
+    for chain in chains {
+        if !is_chain_held(chain, keys, known) {
+            return false;
+        }
+    }
+    true
+}
+
+/// Whether no signature of the chain is forged.
+fn is_chain_held(chain: &SaidChain, keys: &[Key], known: &Known) -> bool
+    ensures { IsTrue result ↔ IsHeldChain keys.now known.now.signatures chain.now }
+{
+    chain
+        .signatures()
+        .iter()
+        .all(|said| is_held(said, keys, known))
+        && chain
+            .asks()
+            .iter()
+            .all(|ask| is_held(ask.said(), keys, known))
+}
+
+/// Whether the signature is by the holder of one of the keys, or is known.
+fn is_held(said: &Said, keys: &[Key], known: &Known) -> bool
+    ensures { IsTrue result ↔ IsHeldOrKnown keys.now known.now.signatures said.now }
+{
+    key_of(keys, said.signer()).is_some() || known.find(said).is_some()
+}
+
+/// The key of this signer, where one of the keys is.
+fn key_of(keys: &[Key], signer: Actor) -> Option<&Key>
+    ensures signer { IfSome result (λ key. key.now ≡ signer) }
+    ensures when { IsSome result ↔ Any (λ holder. holder ≡ signer) keys.now }
+{
+    for key in keys {
+        if key.signer() == signer {
+            return Some(key);
+        }
+    }
+    None
+}
+
+/// The chains that these describe.
+fn chains_of(
+    alloc: Global,
+    said: &[SaidChain],
+    keys: &[Key],
+    known: &Known,
+) -> Result<Vec<Chain>, Refusal>
+    requires { All (IsHeldChain keys.now known.now.signatures) said.now }
+    ensures same { IfOk result (λ chains. chains.items ≡ said.now) }
+    ensures refusal { IsOkUnless result Refusal.NoMemory }
+{
+    let mut chains = Vec::with_capacity(alloc, said.len())?;
+    for chain in said {
+        chains.push(chain_of(alloc, chain, keys, known)?)?;
+    }
+    Ok(chains)
+}
+
+/// The chain that this describes.
+fn chain_of(alloc: Global, said: &SaidChain, keys: &[Key], known: &Known) -> Result<Chain, Refusal>
+    requires { IsHeldChain keys.now known.now.signatures said.now }
+    ensures same { IfOk result (λ chain. chain ≡ said.now) }
+    ensures refusal { IsOkUnless result Refusal.NoMemory }
+{
+    let value = value_of(alloc, said.asks(), keys, known)?;
+    let signatures = signatures_of(alloc, said.signatures(), keys, known)?;
+    Chain::of(alloc, said.slot(), value, signatures)
+}
+
+/// The value with the requests that these describe.
+fn value_of(
+    alloc: Global,
+    said: &[SaidRequest],
+    keys: &[Key],
+    known: &Known,
+) -> Result<SlotValue, Refusal>
+    requires held { All (IsHeldRequest keys.now known.now.signatures) said.now }
+    requires few { length said.now ≤ 8 }
+    ensures same { IfOk result (λ value. value ≡ value_in said.now) }
+    ensures refusal { IsOkUnless result Refusal.NoMemory }
+{
+    let mut asks = Vec::with_capacity(alloc, said.len())?;
+    for ask in said {
+        asks.push(request_of(ask, keys, known))?;
+    }
+    Ok(match Batch::of(asks.as_slice()) {
+        Some(batch) => SlotValue::Act(batch),
+        None => SlotValue::Idle,
+    })
+}
+
+/// The signatures that these describe.
+fn signatures_of(
+    alloc: Global,
+    said: &[Said],
+    keys: &[Key],
+    known: &Known,
+) -> Result<Vec<Signature>, Refusal>
+    requires { All (IsHeldOrKnown keys.now known.now.signatures) said.now }
+    ensures same { IfOk result (λ signatures. signatures.items ≡ said.now) }
+    ensures refusal { IsOkUnless result Refusal.NoMemory }
+{
+    let mut signatures = Vec::with_capacity(alloc, said.len())?;
+    for one in said {
+        signatures.push(signature_of(one, keys, known))?;
+    }
+    Ok(signatures)
+}
+
+/// The signed request that this describes.
+fn request_of(said: &SaidRequest, keys: &[Key], known: &Known) -> SignedRequest
+    requires { IsHeldOrKnown keys.now known.now.signatures said.now.signature }
+    ensures { result ≡ said.now }
+{
+    SignedRequest {
+        request: said.request(),
+        signature: signature_of(said.said(), keys, known),
+    }
+}
+
+/// The signature that says this: made, where one of the keys is its signer's, and taken from those that are known where none is.
+fn signature_of(said: &Said, keys: &[Key], known: &Known) -> Signature
+    requires { IsHeldOrKnown keys.now known.now.signatures said.now }
+    ensures { result ≡ said.now }
+{
+    match key_of(keys, said.signer()) {
+        Some(key) => key.sign(said.statement().copy()),
+        None => known.find(said).unwrap(),
+    }
+}

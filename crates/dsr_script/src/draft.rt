@@ -1,0 +1,57 @@
+ghost use Rattle.std.specs.Prelude.{◌≡◌, IfOk, IsOkUnless};
+ghost use Rattle.dsr_script.specs.Support.Described.{described};
+
+use crate::plan::Plan;
+use crate::said::SaidRequest;
+use crate::said_chain::SaidChains;
+use dsr_names::Refusal;
+use dsr_replica::Envelope;
+use std::alloc::Global;
+use std::marker::Model;
+
+/// An envelope as data: where an envelope has a signature, a draft has its signer and its statement alone. Anybody can
+/// make a draft; only `build` makes an envelope of it. Contracts see a draft as the envelope that it describes.
+#[derive(Drop)]
+pub struct Draft {
+    plan: Plan,
+}
+
+impl Model for Draft {
+    ghost use Rattle.dsr_replica.specs.declared.envelope.Envelope.{Envelope};
+
+    ghost Value = { Envelope };
+
+    ghost use Rattle.dsr_script.specs.Support.Described.{described};
+
+    ghost view = { λ d. described d.plan };
+}
+
+impl Draft {
+    /// The draft of an envelope. `NoMemory` where memory runs out.
+    pub fn of(alloc: Global, envelope: &Envelope) -> Result<Draft, Refusal>
+        ensures same { IfOk result (λ draft. draft ≡ envelope.now) }
+        ensures refusal { IsOkUnless result Refusal.NoMemory }
+    {
+        let plan = match envelope {
+            Envelope::Empty => Plan::Empty,
+            Envelope::Round { round, chains } => {
+                let chains = SaidChains::of(alloc, chains.as_slice())?;
+                Plan::Round {
+                    round: *round,
+                    chains,
+                }
+            }
+            Envelope::Ask(ask) => Plan::Ask(SaidRequest::of(ask)),
+            Envelope::Reply(reply) => Plan::Reply(*reply),
+            Envelope::Seen(front) => Plan::Seen(*front),
+        };
+        Ok(Draft { plan })
+    }
+
+    /// The cases of the draft.
+    pub(crate) fn plan(&self) -> &Plan
+        ensures { described result.now ≡ self.now }
+    {
+        &self.plan
+    }
+}

@@ -1,0 +1,194 @@
+ghost use Rattle.std.specs.Prelude.{◌≡◌, ℕ, ◌≤◌, ◌<◌, ◌+◌, ◌*◌, ◌↔◌, ◌⊎◌, [], ◌∷◌, List, length, flat_map, IsOk, IfOk, OnOk, OnErr, IfSome, IsSome, IsTrue, IsOkUnless};
+ghost use Rattle.dsr_base.specs.Member.{In};
+ghost use Rattle.dsr_desk.specs.Signature.{Signature};
+ghost use Rattle.dsr_replica.specs.declared.envelope.Envelope.{Envelope};
+ghost use Rattle.dsr_chain.specs.Content.{signed_in};
+ghost use Rattle.dsr_script.specs.Support.Carried.{carried, on_chain};
+ghost use Rattle.dsr_script.specs.Support.Noted.{noted, noted_all, beside};
+
+use crate::said::Said;
+use dsr_chain::{Chain, SignedRequest, SlotValue};
+use dsr_desk::Signature;
+use dsr_names::Refusal;
+use dsr_replica::Envelope;
+use indexmap::IndexMap;
+use std::alloc::Global;
+use std::marker::Model;
+
+/// The most signatures of a chain: 16 of its own, and 8 beside the requests of its value.
+const MOST_ON_CHAIN: usize = 24;
+
+/// The most signatures of an envelope: 24 on each of its 32 chains.
+const MOST_CARRIED: usize = 768;
+
+/// The signatures that were seen, which can be sent on: a set, in which each is found without looking at the others.
+#[derive(Drop)]
+pub struct Known {
+    seen: IndexMap<Said, Signature>,
+}
+
+impl Model for Known {
+    ghost use Rattle.indexmap.specs.IndexMap.{keys, spare};
+    ghost use Rattle.dsr_script.specs.Known.{Known};
+
+    ghost Value = { Known };
+
+    ghost use Rattle.dsr_script.specs.Support.Noted.{AreOwn};
+
+    ghost view = { λ k. record { signatures = keys k.seen; room = spare k.seen } };
+
+    ghost invariant = { λ k. AreOwn k.seen.entries };
+}
+
+impl Known {
+    ghost use Rattle.dsr_replica.specs.Envelope.{Carries};
+    ghost use Rattle.dsr_script.specs.Known.{StandFor, most_carried};
+
+    /// No signature. It takes no memory.
+    pub fn new(alloc: Global) -> Known
+        ensures none { result.signatures ≡ [] }
+    {
+        Known {
+            seen: IndexMap::new(alloc),
+        }
+    }
+
+    /// Adds the signatures that the envelope carries: those of its chains, those beside the requests of its chains' values, and
+    /// the one beside the request that is asked. `NoMemory` where memory runs out: then what is known stays the same. An
+    /// envelope of at most 32 chains takes no memory where there is room for it.
+    pub fn learn(&mut self, envelope: &Envelope) -> Result<(), Refusal>
+        ensures learned { (s : Signature)
+            → OnOk result (In s self.new.signatures ↔ (In s self.old.signatures ⊎ Carries envelope.now s)) }
+        ensures stands { (envelopes : List Envelope)
+            → StandFor self.old.signatures envelopes → OnOk result (StandFor self.new.signatures (envelope.now ∷ envelopes)) }
+        ensures stays { OnErr result (self.new.signatures ≡ self.old.signatures) }
+        ensures room { most_carried envelope.now ≤ 768 → most_carried envelope.now ≤ self.old.room → IsOk result }
+        ensures refusal { IsOkUnless result Refusal.NoMemory }
+    {
+        self.take_in(envelope)
+    }
+
+    /// Makes room for the signatures of one more envelope of at most 32 chains. `NoMemory` where memory runs out. What is known stays
+    /// the same.
+    pub fn room(&mut self) -> Result<(), Refusal>
+        ensures same { self.new.signatures ≡ self.old.signatures }
+        ensures room { OnOk result (768 ≤ self.new.room) }
+        ensures stays { self.old.room ≤ self.new.room }
+        ensures had { 768 ≤ self.old.room → IsOk result }
+        ensures refusal { IsOkUnless result Refusal.NoMemory }
+    {
+        self.reserve(MOST_CARRIED)
+    }
+
+    /// The signature that says this, where it is known.
+    pub(crate) fn find(&self, said: &Said) -> Option<Signature>
+        ensures found { IfSome result (λ signature. signature ≡ said.now) }
+        ensures when { IsSome result ↔ In said.now self.now.signatures }
+    {
+        self.seen.get(said).copied()
+    }
+
+    /// Notes the signatures of the envelope, after there is room for all of them.
+    fn take_in(&mut self, envelope: &Envelope) -> Result<(), Refusal>
+        ensures noted { OnOk result (self.new.signatures ≡ noted_all self.old.signatures (carried envelope.now)) }
+        ensures stays { OnErr result (self.new.signatures ≡ self.old.signatures) }
+        ensures room { most_carried envelope.now ≤ 768 → most_carried envelope.now ≤ self.old.room → IsOk result }
+        ensures refusal { IsOkUnless result Refusal.NoMemory }
+    {
+        match envelope {
+            Envelope::Round { chains, .. } => {
+                let chains = chains.as_slice();
+                let Some(most) = chains.len().checked_mul(MOST_ON_CHAIN) else {
+                    return Err(Refusal::NoMemory);
+                };
+                self.reserve(most)?;
+                self.note_chains(chains);
+                Ok(())
+            }
+            Envelope::Ask(ask) => {
+                self.reserve(1)?;
+                self.note(&ask.signature);
+                Ok(())
+            }
+            Envelope::Empty | Envelope::Reply(_) | Envelope::Seen(_) => Ok(()),
+        }
+    }
+
+    /// Makes room for this many more.
+    fn reserve(&mut self, count: usize) -> Result<(), Refusal>
+        ensures same { self.new.signatures ≡ self.old.signatures }
+        ensures room { OnOk result (count ≤ self.new.room) }
+        ensures stays { self.old.room ≤ self.new.room }
+        ensures had { count ≤ self.old.room → IsOk result }
+        ensures refusal { IsOkUnless result Refusal.NoMemory }
+    {
+        match self.seen.reserve(count) {
+            Ok(()) => Ok(()),
+            Err(_) => Err(Refusal::NoMemory),
+        }
+    }
+
+    /// Notes the signatures on each chain.
+    fn note_chains(&mut self, chains: &[Chain])
+        requires { length chains.now * 24 ≤ self.old.room }
+        ensures { self.new.signatures ≡ noted_all self.old.signatures (flat_map on_chain chains.now) }
+    {
+        for chain in chains {
+            self.note_chain(chain);
+        }
+    }
+
+    /// Notes the signatures on a chain.
+    fn note_chain(&mut self, chain: &Chain)
+        requires { 24 ≤ self.old.room }
+        ensures noted { self.new.signatures ≡ noted_all self.old.signatures (on_chain chain.now) }
+        ensures room { self.old.room ≤ self.new.room + 24 }
+    {
+        self.note_all(chain.signatures());
+        self.note_value(&chain.value());
+    }
+
+    /// Notes the signatures beside the requests of a value.
+    fn note_value(&mut self, value: &SlotValue)
+        requires { 8 ≤ self.old.room }
+        ensures noted { self.new.signatures ≡ noted_all self.old.signatures (beside (signed_in value.now)) }
+        ensures room { self.old.room ≤ self.new.room + 8 }
+    {
+        match value {
+            SlotValue::Idle => {}
+            SlotValue::Act(batch) => self.note_beside(batch.as_slice()),
+        }
+    }
+
+    /// Notes these signatures.
+    fn note_all(&mut self, signatures: &[Signature])
+        requires { length signatures.now ≤ self.old.room }
+        ensures noted { self.new.signatures ≡ noted_all self.old.signatures signatures.now }
+        ensures room { self.old.room ≤ self.new.room + length signatures.now }
+    {
+        for signature in signatures {
+            self.note(signature);
+        }
+    }
+
+    /// Notes the signatures beside these requests.
+    fn note_beside(&mut self, asks: &[SignedRequest])
+        requires { length asks.now ≤ self.old.room }
+        ensures noted { self.new.signatures ≡ noted_all self.old.signatures (beside asks.now) }
+        ensures room { self.old.room ≤ self.new.room + length asks.now }
+    {
+        for ask in asks {
+            self.note(&ask.signature);
+        }
+    }
+
+    /// Notes a signature.
+    fn note(&mut self, signature: &Signature)
+        requires { 0 < self.old.room }
+        ensures noted { self.new.signatures ≡ noted self.old.signatures signature.now }
+        ensures room { self.old.room ≤ self.new.room + 1 }
+    {
+        let said = Said::of(signature);
+        self.seen.insert(said, signature.copy()).unwrap();
+    }
+}

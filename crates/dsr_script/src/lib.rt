@@ -1,0 +1,19 @@
+//! Envelopes as data: what a traitor is to post, and the one place that makes envelopes of it. What is posted is made of held keys
+//! and of signatures that were seen, so nobody's signature is forged.
+#![tactic(auto)]
+
+mod building;
+mod draft;
+mod known;
+mod laws;
+mod plan;
+mod said;
+mod said_chain;
+
+pub use building::build;
+pub use draft::Draft;
+pub use known::Known;
+pub use laws::nobody_forges;
+
+#[cfg(test)]
+mod tests;

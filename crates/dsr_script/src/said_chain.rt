@@ -1,0 +1,143 @@
+ghost use Rattle.std.specs.Prelude.{◌≡◌, ◌≤◌, length, IfOk, IsOkUnless};
+ghost use Rattle.dsr_chain.specs.Support.SignedLists.{value_of};
+
+use crate::said::{Said, SaidRequest};
+use dsr_chain::{Chain, SignedRequest, SlotValue};
+use dsr_desk::Signature;
+use dsr_names::Refusal;
+use std::alloc::Global;
+use std::marker::Model;
+
+/// A chain as data: at most 8 requests and at most 16 signatures.
+#[derive(Drop)]
+pub(crate) struct SaidChain {
+    slot: u64,
+    asks: Vec<SaidRequest>,
+    signatures: Vec<Said>,
+}
+
+impl Model for SaidChain {
+    ghost use Rattle.std.specs.Prelude.{length, ◌≤◌};
+    ghost use Rattle.dsr_chain.specs.Chain.{Chain, chain_of};
+    ghost use Rattle.dsr_chain.specs.Support.SignedLists.{value_of};
+
+    ghost Value = { Chain };
+
+    ghost view = { λ c. chain_of c.slot (value_of c.asks.items) c.signatures.items };
+
+    ghost invariant = { λ c. (length c.asks.items ≤ 8) × (length c.signatures.items ≤ 16) };
+}
+
+impl SaidChain {
+    ghost use Rattle.dsr_chain.specs.Content.{signed_in};
+
+    /// The chain as data. `NoMemory` where memory runs out.
+    pub(crate) fn of(alloc: Global, chain: &Chain) -> Result<SaidChain, Refusal>
+        ensures same { IfOk result (λ said. said ≡ chain.now) }
+        ensures refusal { IsOkUnless result Refusal.NoMemory }
+    {
+        let asks = said_value(alloc, &chain.value())?;
+        let signatures = all_said(alloc, chain.signatures())?;
+        Ok(SaidChain {
+            slot: chain.slot(),
+            asks,
+            signatures,
+        })
+    }
+
+    /// The slot that the chain is for.
+    pub(crate) fn slot(&self) -> u64
+        ensures { result ≡ self.now.slot }
+    {
+        self.slot
+    }
+
+    /// The signed requests of its value, none where that is idle.
+    pub(crate) fn asks(&self) -> &[SaidRequest]
+        ensures same { result.now ≡ signed_in self.now.value }
+        ensures few { length (signed_in self.now.value) ≤ 8 }
+        ensures value { value_of (signed_in self.now.value) ≡ self.now.value }
+    {
+        self.asks.as_slice()
+    }
+
+    /// Its signatures in their order.
+    pub(crate) fn signatures(&self) -> &[Said]
+        ensures same { result.now ≡ self.now.signatures }
+        ensures few { length self.now.signatures ≤ 16 }
+    {
+        self.signatures.as_slice()
+    }
+}
+
+/// Chains as data, in their order.
+#[derive(Drop)]
+pub(crate) struct SaidChains {
+    items: Vec<SaidChain>,
+}
+
+impl Model for SaidChains {
+    ghost use Rattle.std.specs.Prelude.{List};
+    ghost use Rattle.dsr_chain.specs.Chain.{Chain};
+
+    ghost Value = { List Chain };
+
+    ghost view = { λ c. c.items.items };
+}
+
+impl SaidChains {
+    /// The chains as data. `NoMemory` where memory runs out.
+    pub(crate) fn of(alloc: Global, chains: &[Chain]) -> Result<SaidChains, Refusal>
+        ensures same { IfOk result (λ said. said ≡ chains.now) }
+        ensures refusal { IsOkUnless result Refusal.NoMemory }
+    {
+        let mut items = Vec::with_capacity(alloc, chains.len())?;
+        for chain in chains {
+            items.push(SaidChain::of(alloc, chain)?)?;
+        }
+        Ok(SaidChains { items })
+    }
+
+    /// The chains in their order.
+    pub(crate) fn as_slice(&self) -> &[SaidChain]
+        ensures { result.now ≡ self.now }
+    {
+        self.items.as_slice()
+    }
+}
+
+/// What these signatures say.
+fn all_said(alloc: Global, signatures: &[Signature]) -> Result<Vec<Said>, Refusal>
+    ensures same { IfOk result (λ said. said.items ≡ signatures.now) }
+    ensures refusal { IsOkUnless result Refusal.NoMemory }
+{
+    let mut said = Vec::with_capacity(alloc, signatures.len())?;
+    for signature in signatures {
+        said.push(Said::of(signature))?;
+    }
+    Ok(said)
+}
+
+/// The requests of this value, with what the signatures beside them say.
+fn said_value(alloc: Global, value: &SlotValue) -> Result<Vec<SaidRequest>, Refusal>
+    ensures same { IfOk result (λ said. value_of said.items ≡ value.now) }
+    ensures few { IfOk result (λ said. length said.items ≤ 8) }
+    ensures refusal { IsOkUnless result Refusal.NoMemory }
+{
+    match value {
+        SlotValue::Idle => Ok(Vec::new(alloc)),
+        SlotValue::Act(batch) => said_requests(alloc, batch.as_slice()),
+    }
+}
+
+/// These requests, with what the signatures beside them say.
+fn said_requests(alloc: Global, signed: &[SignedRequest]) -> Result<Vec<SaidRequest>, Refusal>
+    ensures same { IfOk result (λ said. said.items ≡ signed.now) }
+    ensures refusal { IsOkUnless result Refusal.NoMemory }
+{
+    let mut said = Vec::with_capacity(alloc, signed.len())?;
+    for ask in signed {
+        said.push(SaidRequest::of(ask))?;
+    }
+    Ok(said)
+}

@@ -1,0 +1,137 @@
+use crate::{Draft, Known, build};
+use dsr_chain::{Batch, Chain, SignedRequest, SlotValue};
+use dsr_desk::{Key, Keys};
+use dsr_ledger::Reply;
+use dsr_names::{Actor, ClientId, Refusal, ReplicaId, Shape};
+use dsr_replica::{Chains, Envelope};
+use dsr_request::{Answer, Name, Op, Request};
+use std::alloc::Global;
+use std::test::Fail;
+
+/// Replica 0, a sender, and client 0, who asks.
+const SENDER: Actor = Actor::Replica(ReplicaId::FIRST);
+
+const ASKER: Actor = Actor::Client(ClientId::FIRST);
+
+/// The key of this actor of shape (3,1,2,0).
+fn key_of(alloc: Global, actor: Actor) -> Result<Key, Fail> {
+    let mut keys = Keys::new(alloc, Shape::new(3, 1, 2, 0)?)?;
+    Ok(keys.take(actor).ok_or("no key")?)
+}
+
+/// A list of this actor's key alone.
+fn one_key(alloc: Global, actor: Actor) -> Result<Vec<Key>, Fail> {
+    let mut keys = Vec::new(alloc);
+    keys.push(key_of(alloc, actor)?)?;
+    Ok(keys)
+}
+
+/// Client 0's signed request of this number, to read `a`.
+fn ask_of(alloc: Global, number: u64) -> Result<SignedRequest, Fail> {
+    let key = key_of(alloc, ASKER)?;
+    let name = Name::read(b"a")?;
+    let request = Request::new(ClientId::FIRST, number, Op::Read { name })?;
+    Ok(SignedRequest::by(request, &key))
+}
+
+/// The chain of this slot that replica 0 starts, with client 0's request of this number.
+fn chain_of(alloc: Global, slot: u64, number: u64) -> Result<Chain, Fail> {
+    let key = key_of(alloc, SENDER)?;
+    let value = SlotValue::Act(Batch::one(ask_of(alloc, number)?));
+    Ok(Chain::start(alloc, slot, value, &key)?)
+}
+
+/// The envelope of round 0 with the chain of this slot and this request.
+fn round_of(alloc: Global, slot: u64, number: u64) -> Result<Envelope, Fail> {
+    let mut chains = Vec::new(alloc);
+    chains.push(chain_of(alloc, slot, number)?)?;
+    Ok(Envelope::Round {
+        round: 0,
+        chains: Chains::of(chains),
+    })
+}
+
+/// Whether the draft of the envelope is built as that envelope, from these keys and what is known.
+fn is_built(alloc: Global, envelope: &Envelope, keys: &[Key], known: &Known) -> Result<bool, Fail> {
+    let draft = Draft::of(alloc, envelope)?;
+    match build(alloc, &draft, keys, known) {
+        Ok(built) => Ok(built.same(envelope)),
+        Err(Refusal::Forged) => Ok(false),
+        Err(other) => Err(other.into()),
+    }
+}
+
+#[test]
+fn what_has_no_signature_is_always_built(rt: HostRuntime) -> Result<(), Fail> {
+    let known = Known::new(rt.alloc());
+    let reply = Envelope::Reply(Reply {
+        number: 1,
+        place: 0,
+        answer: Answer::Written,
+    });
+    for envelope in &[Envelope::Empty, reply, Envelope::Seen(4)] {
+        assert!(rt; is_built(rt.alloc(), envelope, &[], &known)?);
+    }
+    Ok(())
+}
+
+#[test]
+fn a_held_key_signs_an_ask(rt: HostRuntime) -> Result<(), Fail> {
+    let known = Known::new(rt.alloc());
+    let ask = Envelope::Ask(ask_of(rt.alloc(), 1)?);
+    let own = one_key(rt.alloc(), ASKER)?;
+    let other = one_key(rt.alloc(), SENDER)?;
+    assert!(rt; is_built(rt.alloc(), &ask, &own, &known)?);
+    assert!(rt; !is_built(rt.alloc(), &ask, &other, &known)?);
+    assert!(rt; !is_built(rt.alloc(), &ask, &[], &known)?);
+    Ok(())
+}
+
+#[test]
+fn a_chain_wants_each_of_its_signatures(rt: HostRuntime) -> Result<(), Fail> {
+    let mut known = Known::new(rt.alloc());
+    let round = round_of(rt.alloc(), 0, 1)?;
+    let sender = one_key(rt.alloc(), SENDER)?;
+    assert!(rt; !is_built(rt.alloc(), &round, &sender, &known)?);
+    known.learn(&Envelope::Ask(ask_of(rt.alloc(), 1)?))?;
+    assert!(rt; is_built(rt.alloc(), &round, &sender, &known)?);
+    assert!(rt; !is_built(rt.alloc(), &round, &[], &known)?);
+    Ok(())
+}
+
+#[test]
+fn what_was_learned_is_sent_on_and_nothing_else(rt: HostRuntime) -> Result<(), Fail> {
+    let mut known = Known::new(rt.alloc());
+    let round = round_of(rt.alloc(), 0, 1)?;
+    known.learn(&round)?;
+    assert!(rt; is_built(rt.alloc(), &round, &[], &known)?);
+    assert!(rt;
+        is_built(
+            rt.alloc(),
+            &Envelope::Ask(ask_of(rt.alloc(), 1)?),
+            &[],
+            &known
+        )?
+    );
+    assert!(rt; !is_built(rt.alloc(), &round_of(rt.alloc(), 1, 1)?, &[], &known)?);
+    assert!(rt;
+        !is_built(
+            rt.alloc(),
+            &Envelope::Ask(ask_of(rt.alloc(), 2)?),
+            &[],
+            &known
+        )?
+    );
+    Ok(())
+}
+
+#[test]
+fn room_is_made_and_what_is_known_stays(rt: HostRuntime) -> Result<(), Fail> {
+    let mut known = Known::new(rt.alloc());
+    let ask = Envelope::Ask(ask_of(rt.alloc(), 1)?);
+    known.learn(&ask)?;
+    known.room()?;
+    known.learn(&round_of(rt.alloc(), 0, 1)?)?;
+    assert!(rt; is_built(rt.alloc(), &ask, &[], &known)?);
+    Ok(())
+}
