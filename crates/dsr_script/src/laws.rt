@@ -1,4 +1,4 @@
-//! That nobody forges, as the contract of a function that does nothing.
+//! The law that nobody forges, as the contract of a function that does nothing.
 
 ghost use Rattle.std.specs.Prelude.{◌⊎◌, List};
 ghost use Rattle.dsr_names.specs.declared.actor.Actor.{Actor};
