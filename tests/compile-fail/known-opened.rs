@@ -3,6 +3,6 @@
 
 use dsr_script::Known;
 
-pub fn known_of<T>(seen: T) -> Known {
-    Known { seen } //~ private-field
+pub fn forget(known: &mut Known) {
+    known.seen.clear(); //~ private-field
 }
