@@ -7,7 +7,7 @@ use Rattle.dsr_replica.specs.Envelope.{Carries}
 use Rattle.dsr_replica.specs.declared.envelope.Envelope.{Envelope}
 use Rattle.dsr_replica.specs.declared.envelope.Envelope.TheVariants.{Empty, Round, Ask, Reply, Seen}
 
--- the signatures that are known, each once, and how many more are known without taking memory
+-- the signatures that are known, and for how many more there is room
 pub record Known : Type 0 where
   pub signatures : List Signature
   pub room : ℕ

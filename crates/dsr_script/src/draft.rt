@@ -9,8 +9,8 @@ use dsr_replica::Envelope;
 use std::alloc::Global;
 use std::marker::Model;
 
-/// An envelope as data: where an envelope has a signature, a draft has its signer and its statement alone. A draft can say
-/// anything; only `build` makes an envelope of it. Contracts see a draft as the envelope that it describes.
+/// An envelope as data: where an envelope has a signature, a draft has its signer and its statement alone. Only `build` makes an
+/// envelope of it. Contracts see a draft as the envelope that it describes.
 #[derive(Drop)]
 pub struct Draft {
     plan: Plan,

@@ -21,7 +21,7 @@ const MOST_ON_CHAIN: usize = 24;
 /// The most signatures of an envelope: 24 on each of its 32 chains.
 const MOST_CARRIED: usize = 768;
 
-/// The signatures that were seen, which can be sent on: a set, in which each is found without looking at the others.
+/// The signatures that were seen, which can be sent on: a set, in which a signature is found by a hash of what it says.
 #[derive(Drop)]
 pub struct Known {
     seen: IndexMap<Said, Signature>,
