@@ -1,0 +1,51 @@
+-- The logs of a run: each step is an entry of its actor's log, and the logs of loyal actors keep their conduct.
+use Rattle.std.proofs.Common.{◌≡◌, ℕ, false, List, [], ◌∷◌, ◌++◌, ◌⊎◌, inl, inr, sym, subst}
+use Rattle.dsr_base.specs.Growth.{Extends}
+use Rattle.dsr_names.specs.Shape.{Shape, is_traitor}
+use Rattle.dsr_names.specs.declared.actor.Actor.{Actor}
+use Rattle.dsr_names.specs.declared.actor.Actor.TheVariants.{Replica, Client}
+use Rattle.dsr_names.specs.Support.ActorEquality.{actor_eq, actor_eq-Decides}
+use Rattle.dsr_slot.proofs.Lemmas.{by_test}
+use Rattle.dsr_replica.specs.Conduct.{IsLoyalLog}
+use Rattle.dsr_client.specs.Conduct.{IsClientLog}
+use Rattle.dsr_world.specs.Run.{KeepsConduct, IsRun}
+use Rattle.dsr_world.specs.Step.{Step, log_of}
+
+-- a step adds its entry to the log of its actor, and to no other
+pub log_cases : (step : Step) (older : List Step) (a : Actor)
+    → ((step.0 ≡ a) × (log_of (step ∷ older) a ≡ step.1 ∷ log_of older a)) ⊎ ((¬ (step.0 ≡ a)) × (log_of (step ∷ older) a ≡ log_of older a))
+log_cases step older a = by_test (actor_eq step.0 a) (actor_eq-Decides step.0 a) (step.1 ∷ log_of older a) (log_of older a)
+
+module _ (shape : Shape) where
+  run_with : (newer older : List Step) → IsRun shape (newer ++ older) → IsRun shape older
+  run_with [] older is = is
+  run_with (step ∷ newer) older is = run_with newer older is.0
+
+  -- a run was one at each earlier time
+  pub run_before : (run earlier : List Step) → IsRun shape run → Extends run earlier → IsRun shape earlier
+  run_before run earlier is grown = run_with grown.0 earlier (subst (IsRun shape) grown.1 is)
+
+  -- the log of a loyal replica is a loyal one
+  pub log_loyal : (p : ℕ) → is_traitor shape p ≡ false → (run : List Step) → IsRun shape run
+      → IsLoyalLog shape (Replica p) (log_of run (Replica p))
+  log_loyal p loyal [] is = tt
+  log_loyal p loyal (step ∷ older) is =
+      let before = log_loyal p loyal older is.0 in
+      elim (log_cases step older (Replica p)) [
+        | inl own ↦
+            let keeps = subst (λ a. KeepsConduct shape (log_of older) a step.1) own.0 is.1.conduct in
+            subst (IsLoyalLog shape (Replica p)) (sym own.1) (before, (keeps.0 loyal).0)
+        | inr other ↦ subst (IsLoyalLog shape (Replica p)) (sym other.1) before
+      ]
+
+  -- the log of a client is a client's
+  pub log_client : (c : ℕ) (run : List Step) → IsRun shape run → IsClientLog shape c (log_of run (Client c))
+  log_client c [] is = tt
+  log_client c (step ∷ older) is =
+      let before = log_client c older is.0 in
+      elim (log_cases step older (Client c)) [
+        | inl own ↦
+            let keeps = subst (λ a. KeepsConduct shape (log_of older) a step.1) own.0 is.1.conduct in
+            subst (IsClientLog shape c) (sym own.1) (before, keeps)
+        | inr other ↦ subst (IsClientLog shape c) (sym other.1) before
+      ]

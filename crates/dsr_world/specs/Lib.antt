@@ -1,0 +1,5 @@
+pub mod Agreement
+pub mod History
+pub mod Right
+pub mod Run
+pub mod Step

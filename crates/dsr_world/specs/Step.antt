@@ -1,0 +1,18 @@
+-- Steps of all actors in one order, and the log of each actor in it (this project).
+use Rattle.std.specs.Prelude.{List, [], ◌∷◌, if◌then◌else◌}
+use Rattle.dsr_names.specs.declared.actor.Actor.{Actor}
+use Rattle.dsr_names.specs.Support.ActorEquality.{actor_eq}
+use Rattle.dsr_replica.specs.declared.entry.Entry.{Entry}
+
+-- a step: an actor, and the entry that its log gets
+abbrev pub Step : Type 0
+Step = Actor × Entry
+
+-- the log of each actor
+abbrev pub Logs : Type 0
+Logs = Actor → List Entry
+
+-- the entries of an actor in these steps; steps and logs stand newest first
+abbrev pub log_of : List Step → Actor → List Entry
+log_of [] a = []
+log_of ((actor, entry) ∷ older) a = if actor_eq actor a then entry ∷ log_of older a else log_of older a
