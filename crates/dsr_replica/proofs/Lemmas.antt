@@ -1,6 +1,7 @@
 -- What the crates above take from a replica's log: how many posts and takes it has, that the posts of a round are equal and are
 -- its envelope by the log, where each chain and each signature in a post is from, that closed rounds, kept chains and decided
 -- values stay, where held asks are from, and that none of it depends on who is a traitor.
+pub use Rattle.dsr_replica.proofs.Acting.{acted_source}
 pub use Rattle.dsr_replica.proofs.Asks.{IsOwnAsk, WasHeld, held_from}
 pub use Rattle.dsr_replica.proofs.Blindness.{due_blind, rounds_blind, slot_kept_blind, decided_values_blind, held_blind, envelope_to_blind, reply_to_blind, next_blind, loyal_blind}
 pub use Rattle.dsr_replica.proofs.Counting.{post_due, counts, all_taken}

@@ -1,3 +1,4 @@
+mod Acting
 mod Asks
 mod Blindness
 mod Choosing

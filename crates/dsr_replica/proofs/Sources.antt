@@ -70,7 +70,7 @@ read_taken shape log t chain s h on =
       carried = carried_for t found.0 chain s found.2 on;
     }
 
-slot_taken : (shape : Shape) (log : List Entry) (slot r : ℕ) (chain : Chain) (s : Signature) → In chain (slot_read shape log slot r) → IsOn s chain
+pub slot_taken : (shape : Shape) (log : List Entry) (slot r : ℕ) (chain : Chain) (s : Signature) → In chain (slot_read shape log slot r) → IsOn s chain
     → WasTaken log s
 slot_taken shape log slot zero chain s h on = elim h [ ]
 slot_taken shape log slot (suc r) chain s h on = read_taken shape log (first_round shape slot + r) chain s h on
