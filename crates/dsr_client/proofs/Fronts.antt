@@ -1,11 +1,12 @@
 -- The seen front never falls, and is above the place of each accepted reply; only an accepted reply and what another client tells
 -- raise it.
-use Rattle.std.proofs.Common.{◌<◌, ◌≤◌, List, [], ◌∷◌, ◌++◌, ap, sym, subst, arith}
+use Rattle.std.proofs.Common.{ℕ, refl, ◌<◌, ◌≤◌, List, [], ◌∷◌, ◌++◌, ap, sym, subst, arith}
 use Rattle.dsr_base.specs.Growth.{Extends}
 use Rattle.dsr_base.specs.Member.{In, here, there}
 use Rattle.dsr_names.specs.Shape.{Shape}
 use Rattle.dsr_names.specs.declared.actor.Actor.TheVariants.{Replica, Client}
 use Rattle.dsr_ledger.specs.declared.reply.Reply.{Reply as AReply}
+use Rattle.dsr_replica.specs.declared.envelope.Envelope.TheVariants.{Empty, Round, Ask, Reply, Seen}
 use Rattle.dsr_replica.specs.declared.entry.Entry.{Entry}
 use Rattle.dsr_replica.specs.declared.entry.Entry.TheVariants.{Post, Take}
 use Rattle.dsr_client.specs.State.{accepted, front_of, told, seen}
@@ -38,3 +39,38 @@ seen_grows shape entry log =
     let front = front_extends (accepted shape (entry ∷ log)) (accepted shape log) (accepted_grow shape entry log) in
     let more = told_grows entry log in
     omega (arith, front, more)
+
+front_below : (replies : List AReply) (most : ℕ) → ((w : AReply) → In w replies → w.place < most) → front_of replies ≤ most
+front_below [] most below = omega arith
+front_below (w ∷ older) most below =
+    let first = below w (here refl) in
+    let rest = front_below older most (λ v h. below v (there h)) in
+    omega (arith, first, rest)
+
+abbrev TellsAtMost : List Entry → ℕ → Type 0
+TellsAtMost log most = (c front : ℕ) → In (Take (Client c) (Seen front)) log → front ≤ most
+
+told_below : (log : List Entry) (most : ℕ) → TellsAtMost log most → told log ≤ most
+told_below [] most below = omega arith
+told_below (Post to envelope ∷ older) most below = told_below older most (λ c front h. below c front (there h))
+told_below (Take (Replica p) envelope ∷ older) most below = told_below older most (λ c front h. below c front (there h))
+told_below (Take (Client c) Empty ∷ older) most below =
+    let rest = told_below older most (λ c front h. below c front (there h)) in omega (arith, rest)
+told_below (Take (Client c) (Round round chains) ∷ older) most below =
+    let rest = told_below older most (λ c front h. below c front (there h)) in omega (arith, rest)
+told_below (Take (Client c) (Ask ask) ∷ older) most below =
+    let rest = told_below older most (λ c front h. below c front (there h)) in omega (arith, rest)
+told_below (Take (Client c) (Reply reply) ∷ older) most below =
+    let rest = told_below older most (λ c front h. below c front (there h)) in omega (arith, rest)
+told_below (Take (Client c) (Seen front) ∷ older) most below =
+    let first = below c front (here refl) in
+    let rest = told_below older most (λ c front h. below c front (there h)) in
+    omega (arith, first, rest)
+
+-- the front is no more than what is above all accepted places, and not below what clients told
+pub seen_below : (shape : Shape) (log : List Entry) (most : ℕ) → ((w : AReply) → In w (accepted shape log) → w.place < most)
+    → ((c front : ℕ) → In (Take (Client c) (Seen front)) log → front ≤ most) → seen shape log ≤ most
+seen_below shape log most replies fronts =
+    let own = front_below (accepted shape log) most replies in
+    let others = told_below log most fronts in
+    omega (arith, own, others)

@@ -1,6 +1,7 @@
 mod Accepting
 mod Answering
 mod Blindness
+mod Carried
 mod Dropping
 mod Fronts
 pub mod Lemmas

@@ -8,4 +8,5 @@ pub use Rattle.dsr_replica.proofs.Counting.{post_due, counts, all_taken}
 pub use Rattle.dsr_replica.proofs.Growing.{HasTaken, kept_same, decided_same, chains_same, decided_grow, rounds_grow}
 pub use Rattle.dsr_replica.proofs.Later.{read_later, kept_later, decided_later, history_later, post_of_round, part_of_round, post_source}
 pub use Rattle.dsr_replica.proofs.Posting.{equal_posts, lawful_posts}
+pub use Rattle.dsr_replica.proofs.Replying.{reply_later, replied}
 pub use Rattle.dsr_replica.proofs.Sources.{chain_posted, round_source}

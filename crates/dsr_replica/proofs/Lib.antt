@@ -13,5 +13,6 @@ mod LoyalLogs
 mod Posting
 mod Posts
 mod Reading
+mod Replying
 mod Sources
 mod Standing
