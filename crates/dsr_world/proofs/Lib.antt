@@ -1,2 +1,3 @@
 pub mod Lemmas
+mod Histories
 mod Logs
