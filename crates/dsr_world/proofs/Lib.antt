@@ -1,2 +1,4 @@
+mod Boxes
+mod Forging
 pub mod Lemmas
 mod Logs
