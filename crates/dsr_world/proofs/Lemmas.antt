@@ -1,2 +1,4 @@
 -- What the crates above take from runs: the logs of a run keep their conduct, and an earlier run is one.
 pub use Rattle.dsr_world.proofs.Logs.{log_cases, run_before, log_loyal, log_client}
+pub use Rattle.dsr_world.proofs.Boxes.{in_log, from_log, posted_entry, IsBox, boxes, found_was_posted, taken_was_posted}
+pub use Rattle.dsr_world.proofs.Forging.{has_posted_later, AllMade, all_made, step_made}

@@ -1,3 +1,5 @@
+mod Boxes
+mod Forging
 pub mod Lemmas
 mod Histories
 mod Logs

@@ -1,13 +1,20 @@
 //! The laws of runs, as the contracts of functions that do nothing.
 
-ghost use Rattle.std.specs.Prelude.{◌≡◌, ℕ, List, ◌∷◌};
+ghost use Rattle.std.specs.Prelude.{◌≡◌, ◌⊎◌, ℕ, List, ◌∷◌, ◌++◌, []};
 ghost use Rattle.dsr_base.specs.Growth.{Extends};
+ghost use Rattle.dsr_base.specs.Member.{In};
 ghost use Rattle.dsr_names.specs.Shape.{Shape, IsLoyal};
+ghost use Rattle.dsr_names.specs.declared.actor.Actor.{Actor};
 ghost use Rattle.dsr_names.specs.declared.actor.Actor.TheVariants.{Replica, Client};
+ghost use Rattle.dsr_desk.specs.Signature.{Signature};
+ghost use Rattle.dsr_replica.specs.declared.envelope.Envelope.{Envelope};
+ghost use Rattle.dsr_replica.specs.declared.entry.Entry.TheVariants.{Post, Take};
 ghost use Rattle.dsr_replica.specs.Conduct.{IsLoyalLog};
+ghost use Rattle.dsr_replica.specs.Envelope.{Carries};
+ghost use Rattle.dsr_replica.specs.Log.{posted_to, taken_from};
 ghost use Rattle.dsr_client.specs.Conduct.{IsClientLog};
+ghost use Rattle.dsr_world.specs.Run.{IsRun, IsMadeOrPosted, envelope_of};
 ghost use Rattle.dsr_world.specs.Step.{Step, log_of};
-ghost use Rattle.dsr_world.specs.Run.{IsRun};
 
 /// In a run the log of each loyal replica is a loyal one, and that of each client a client's; and at each earlier time it was
 /// a run.
@@ -16,4 +23,21 @@ pub fn runs_keep_conduct()
         → IsLoyalLog shape (Replica p) (log_of run (Replica p)) }
     ensures clients { (shape : Shape) (run : List Step) → IsRun shape run → (c : ℕ) → IsClientLog shape c (log_of run (Client c)) }
     ensures earlier { (shape : Shape) (run earlier : List Step) → IsRun shape run → Extends run earlier → IsRun shape earlier }
+{}
+
+/// In a run each box is empty or holds one envelope: an actor has taken from another all that this one posted to it, in its order,
+/// or all but the last envelope. So what was taken was posted.
+pub fn boxes_hold_one_envelope()
+    ensures boxes { (shape : Shape) (run : List Step) → IsRun shape run → (a b : Actor)
+        → (posted_to b (log_of run a) ≡ taken_from a (log_of run b))
+        ⊎ ((envelope : Envelope) × (posted_to b (log_of run a) ≡ taken_from a (log_of run b) ++ envelope ∷ [])) }
+    ensures posted { (shape : Shape) (run : List Step) → IsRun shape run → (a b : Actor) (envelope : Envelope)
+        → In (Take a envelope) (log_of run b) → In (Post b envelope) (log_of run a) }
+{}
+
+/// Nobody's signature is forged in a run: each signature that a step carries, on a chain, beside a request of a chain's value, or
+/// beside a request that is asked, is by a traitor of the shape, or stands in what its signer posted, in that step or earlier.
+pub fn no_signature_is_forged()
+    ensures { (shape : Shape) (run older : List Step) (step : Step) → IsRun shape run → Extends run (step ∷ older)
+        → (s : Signature) → Carries (envelope_of step.1) s → IsMadeOrPosted shape (log_of (step ∷ older)) s }
 {}

@@ -3,4 +3,4 @@
 
 mod laws;
 
-pub use laws::runs_keep_conduct;
+pub use laws::{boxes_hold_one_envelope, no_signature_is_forged, runs_keep_conduct};

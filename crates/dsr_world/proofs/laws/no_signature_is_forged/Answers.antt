@@ -1,0 +1,8 @@
+use Rattle.std.proofs.Common.{◌∷◌}
+use Rattle.dsr_world.proofs.Forging.{step_made}
+use Rattle.dsr_world.proofs.Logs.{run_before}
+use Rattle.dsr_world.proofs.laws.no_signature_is_forged.Goals as goal
+
+pub returns : goal.returns
+returns c shape run older step is grown s carried =
+    step_made shape step older (run_before shape run (step ∷ older) is grown) s carried
