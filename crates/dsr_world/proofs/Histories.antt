@@ -7,8 +7,7 @@ use Rattle.std.proofs.lemmas.Bool.Decides.{nat_tests}
 use Rattle.std.proofs.lemmas.List.{map-append}
 use Rattle.dsr_base.specs.Growth.{Extends}
 use Rattle.dsr_names.specs.Shape.{Shape, is_traitor, IsLoyal}
-use Rattle.dsr_names.specs.declared.actor.Actor.{Actor}
-use Rattle.dsr_names.specs.declared.actor.Actor.TheVariants.{Replica, Client}
+use Rattle.dsr_names.specs.declared.actor.Actor.TheVariants.{Replica}
 use Rattle.dsr_history.specs.History.{acted}
 use Rattle.dsr_history.proofs.Lemmas.{acted_extends}
 use Rattle.dsr_chain.specs.Content.{requests_in}

@@ -1,5 +1,8 @@
+mod Accepting
 mod Boxes
 mod Forging
 pub mod Lemmas
 mod Histories
+mod Issuing
 mod Logs
+mod Righting
