@@ -88,9 +88,9 @@ module _ (shape : Shape) (alike : AllAlike shape) where
       let told = told_now step older is (fronts few older is.0) in
       record {
         had = λ c. seen_below shape (log_of (step ∷ older) (Client c)) (length (history shape (log_of (step ∷ older))))
-        (λ w h. let right = accepted_right shape (step ∷ older) is (alike (step ∷ older) is) few c w h in
-        stands_below (history shape (log_of (step ∷ older))) w.place right.request w.answer right.stands)
-        (λ d front h. told c d front (taken_was_posted shape (step ∷ older) is (Client d) (Client c) (Seen front) h));
+            (λ w h. let right = accepted_right shape (step ∷ older) is (alike (step ∷ older) is) few c w h in
+            stands_below (history shape (log_of (step ∷ older))) w.place right.request w.answer right.stands)
+            (λ d front h. told c d front (taken_was_posted shape (step ∷ older) is (Client d) (Client c) (Seen front) h));
         told = told;
       }
 

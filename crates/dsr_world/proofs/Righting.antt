@@ -81,8 +81,8 @@ module _ (shape : Shape) (alike : AllAlike shape) (few : HasFewTraitors shape) w
       let reply = took some.0 some.1 in (
         reply.0,
         subst (λ l. In reply.0 (accepted shape l)) (sym parts)
-        (answered shape few older ask reply.0 most reply.2 newer (λ p r loyal inside number. agree some.0 some.1 reply.0 reply.1 reply.2 p r loyal inside number) current
-        (λ p loyal. all_of some.0 some.1 reply.0 reply.1 reply.2 p loyal)),
+            (answered shape few older ask reply.0 most reply.2 newer (λ p r loyal inside number. agree some.0 some.1 reply.0 reply.1 reply.2 p r loyal inside number) current
+            (λ p loyal. all_of some.0 some.1 reply.0 reply.1 reply.2 p loyal)),
         reply.2,
       )
     where

@@ -3,3 +3,4 @@ pub mod History
 pub mod Right
 pub mod Run
 pub mod Step
+pub mod Support
