@@ -1,4 +1,9 @@
+mod Agreeing
+mod Alike
 mod Boxes
+mod Family
 mod Forging
 pub mod Lemmas
 mod Logs
+mod Posts
+mod Signing

@@ -3,4 +3,6 @@
 
 mod laws;
 
-pub use laws::{boxes_hold_one_envelope, no_signature_is_forged, runs_keep_conduct};
+pub use laws::{
+    boxes_hold_one_envelope, loyal_replicas_agree, no_signature_is_forged, runs_keep_conduct,
+};
