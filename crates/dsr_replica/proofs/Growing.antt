@@ -91,7 +91,7 @@ values_same of other zero same = refl
 values_same of other (suc count) same =
     ap₂ (λ v vs. v ∷ vs) (same count (omega arith)) (values_same of other count (λ slot before. same slot (omega (arith, before))))
 
-values_grow : (of : ℕ → SlotValue) (count later : ℕ) → count ≤ later → Extends (values of later) (values of count)
+pub values_grow : (of : ℕ → SlotValue) (count later : ℕ) → count ≤ later → Extends (values of later) (values of count)
 values_grow of count zero few = let none : count ≡ 0 = omega (arith, few) in ([], ap (values of) (sym none))
 values_grow of count (suc later) few = elim (cases_lt later count) [
   | inl all ↦ let same : suc later ≡ count = omega (arith, few, all) in ([], ap (values of) same)

@@ -32,7 +32,7 @@ use Rattle.dsr_replica.specs.Posts.{MayPropose, IsOfRound, WasTaken, IsPosted}
 -- ---- what was taken
 
 -- an envelope among those taken from an actor is of an entry
-taken_entry : (a : Actor) (log : List Entry) (envelope : Envelope) → In envelope (taken_from a log) → In (Take a envelope) log
+pub taken_entry : (a : Actor) (log : List Entry) (envelope : Envelope) → In envelope (taken_from a log) → In (Take a envelope) log
 taken_entry a [] envelope h = elim h [ ]
 taken_entry a (Post to x ∷ older) envelope h = there (taken_entry a older envelope h)
 taken_entry a (Take from x ∷ older) envelope h = elim (by_test (actor_eq from a) (actor_eq-Decides from a) (taken_from a older ++ x ∷ []) (taken_from a older)) [
@@ -43,7 +43,7 @@ taken_entry a (Take from x ∷ older) envelope h = elim (by_test (actor_eq from 
   | inr other ↦ there (taken_entry a older envelope (subst (In envelope) other.1 h))
 ]
 
-in_some : (t : ℕ) (o : Option Envelope) (chain : Chain) → In chain (chains_of t o) → (envelope : Envelope) × (o ≡ Some envelope) × In chain (chains_for t envelope)
+pub in_some : (t : ℕ) (o : Option Envelope) (chain : Chain) → In chain (chains_of t o) → (envelope : Envelope) × (o ≡ Some envelope) × In chain (chains_for t envelope)
 in_some t None chain h = elim h [ ]
 in_some t (Some envelope) chain h = (envelope, refl, h)
 
@@ -51,7 +51,7 @@ in_if : (b : Bool) (chain : Chain) (chains : List Chain) → In chain (if b then
 in_if true chain chains h = h
 in_if false chain chains h = elim h [ ]
 
-carried_for : (t : ℕ) (envelope : Envelope) (chain : Chain) (s : Signature) → In chain (chains_for t envelope) → IsOn s chain → Carries envelope s
+pub carried_for : (t : ℕ) (envelope : Envelope) (chain : Chain) (s : Signature) → In chain (chains_for t envelope) → IsOn s chain → Carries envelope s
 carried_for t Empty chain s h on = elim h [ ]
 carried_for t (Round round chains) chain s h on = (chain, in_if (round == t) chain chains h, on)
 carried_for t (Ask ask) chain s h on = elim h [ ]
@@ -121,7 +121,7 @@ module _ (shape : Shape) (me : Actor) (log : List Entry) where
   -- ---- what is posted in a round
 
   -- a chain that is posted in a round is the part of a slot in flight
-  in_part : (round slot : ℕ) (value : SlotValue) (chain : Chain) → In chain (slot_part shape me log round value slot)
+  pub in_part : (round slot : ℕ) (value : SlotValue) (chain : Chain) → In chain (slot_part shape me log round value slot)
       → (first_round shape slot ≤ round) × (round ≤ last_round shape slot)
       × In chain (posted shape slot me value (suc (round - first_round shape slot)) (slot_kept shape log slot (round - first_round shape slot)))
   in_part round slot value chain h =

@@ -2,3 +2,5 @@
 pub use Rattle.dsr_world.proofs.Logs.{log_cases, run_before, log_loyal, log_client}
 pub use Rattle.dsr_world.proofs.Boxes.{in_log, from_log, posted_entry, IsBox, boxes, found_was_posted, taken_was_posted}
 pub use Rattle.dsr_world.proofs.Forging.{has_posted_later, AllMade, all_made, step_made}
+pub use Rattle.dsr_world.proofs.Family.{rounds_near}
+pub use Rattle.dsr_world.proofs.Agreeing.{same_decided, decided_extends, one_extends}

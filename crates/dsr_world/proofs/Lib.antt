@@ -1,8 +1,13 @@
 mod Accepting
+mod Agreeing
+mod Alike
 mod Boxes
+mod Family
 mod Forging
 pub mod Lemmas
 mod Histories
 mod Issuing
 mod Logs
 mod Righting
+mod Posts
+mod Signing

@@ -35,7 +35,7 @@ count_all zero = refl
 count_all (suc n) = let before = count_all n in omega (arith, before)
 
 module _ (shape : Shape) (alike : AllAlike shape) (few : HasFewTraitors shape) where
-  right_reply : (run : List Step) → IsRun shape run → (c : ℕ) (r : AReply) → In r (accepted_by shape (log_of run) c)
+  pub right_reply : (run : List Step) → IsRun shape run → (c : ℕ) (r : AReply) → In r (accepted_by shape (log_of run) c)
       → IsRightReply shape (history shape (log_of run)) (log_of run (Client c)) r
   right_reply run is c r h =
       let right = accepted_right shape run is (alike run is) few c r h in

@@ -1,18 +1,21 @@
 //! The laws of runs, as the contracts of functions that do nothing.
 
-ghost use Rattle.std.specs.Prelude.{◌≡◌, ◌⊎◌, ℕ, List, ◌∷◌, ◌++◌, []};
+ghost use Rattle.std.specs.Prelude.{◌≡◌, ◌⊎◌, ℕ, ◌<◌, List, ◌∷◌, ◌++◌, []};
 ghost use Rattle.dsr_base.specs.Growth.{Extends};
 ghost use Rattle.dsr_base.specs.Member.{In};
-ghost use Rattle.dsr_names.specs.Shape.{Shape, IsLoyal};
+ghost use Rattle.dsr_names.specs.Shape.{Shape, HasFewTraitors, IsLoyal};
 ghost use Rattle.dsr_names.specs.declared.actor.Actor.{Actor};
 ghost use Rattle.dsr_names.specs.declared.actor.Actor.TheVariants.{Replica, Client};
+ghost use Rattle.dsr_rotation.specs.Calendar.{closed_slots};
 ghost use Rattle.dsr_desk.specs.Signature.{Signature};
 ghost use Rattle.dsr_replica.specs.declared.envelope.Envelope.{Envelope};
 ghost use Rattle.dsr_replica.specs.declared.entry.Entry.TheVariants.{Post, Take};
 ghost use Rattle.dsr_replica.specs.Conduct.{IsLoyalLog};
+ghost use Rattle.dsr_replica.specs.Decided.{slot_decided};
 ghost use Rattle.dsr_replica.specs.Envelope.{Carries};
-ghost use Rattle.dsr_replica.specs.Log.{posted_to, taken_from};
+ghost use Rattle.dsr_replica.specs.Log.{posted_to, taken_from, rounds};
 ghost use Rattle.dsr_client.specs.Conduct.{IsClientLog};
+ghost use Rattle.dsr_world.specs.History.{decided_at};
 ghost use Rattle.dsr_world.specs.Run.{IsRun, IsMadeOrPosted, envelope_of};
 ghost use Rattle.dsr_world.specs.Step.{Step, log_of};
 
@@ -40,4 +43,18 @@ pub fn boxes_hold_one_envelope()
 pub fn no_signature_is_forged()
     ensures { (shape : Shape) (run older : List Step) (step : Step) → IsRun shape run → Extends run (step ∷ older)
         → (s : Signature) → Carries (envelope_of step.1) s → IsMadeOrPosted shape (log_of (step ∷ older)) s }
+{}
+
+/// Agreement: where at most f replicas are traitors, of the values that two loyal replicas have decided one list is a prefix of the
+/// other. Values stand latest first, so one list is the other with later values before it. Each slot that both have closed they
+/// decided alike.
+pub fn loyal_replicas_agree()
+    ensures lists { (shape : Shape) (run : List Step) → HasFewTraitors shape → IsRun shape run
+        → (p q : ℕ) → IsLoyal shape (Replica p) → IsLoyal shape (Replica q)
+        → Extends (decided_at shape (log_of run) p) (decided_at shape (log_of run) q)
+        ⊎ Extends (decided_at shape (log_of run) q) (decided_at shape (log_of run) p) }
+    ensures slots { (shape : Shape) (run : List Step) → HasFewTraitors shape → IsRun shape run
+        → (p q : ℕ) → IsLoyal shape (Replica p) → IsLoyal shape (Replica q) → (slot : ℕ)
+        → slot < closed_slots shape (rounds shape (log_of run (Replica p))) → slot < closed_slots shape (rounds shape (log_of run (Replica q)))
+        → slot_decided shape (log_of run (Replica p)) slot ≡ slot_decided shape (log_of run (Replica q)) slot }
 {}

@@ -2,8 +2,12 @@
 #![tactic(auto)]
 
 mod event;
+mod headline;
 mod laws;
 mod mail_boxes;
 
 pub use event::Event;
-pub use laws::{boxes_hold_one_envelope, no_signature_is_forged, runs_keep_conduct};
+pub use headline::{clients_are_answered, histories_only_grow, runs_are_right};
+pub use laws::{
+    boxes_hold_one_envelope, loyal_replicas_agree, no_signature_is_forged, runs_keep_conduct,
+};
