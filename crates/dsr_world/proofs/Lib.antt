@@ -8,6 +8,7 @@ pub mod Lemmas
 mod Histories
 mod Issuing
 mod Logs
+mod Playing
 mod Righting
 mod Posts
 mod Signing

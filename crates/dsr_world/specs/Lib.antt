@@ -1,4 +1,5 @@
 pub mod Agreement
+pub mod Event
 pub mod History
 pub mod Right
 pub mod Run

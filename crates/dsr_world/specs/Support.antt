@@ -1,2 +1,4 @@
 -- How a world stands in its parts. No public contract cites this: it serves `impl Model` and private contracts.
 pub mod Boxes
+pub mod Customer
+pub mod Party

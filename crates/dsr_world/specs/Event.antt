@@ -1,0 +1,151 @@
+-- What an event is refused with, and the step that it is where nothing refuses it (this project).
+use Rattle.std.specs.Prelude.{◌≡◌, ℕ, suc, ◌^◌, ◌==◌, ◌&&◌, ◌||◌, not, nat_lt, Bool, true, false, List, [], ◌∷◌, Option, None, Some, length, slice_get, if◌then◌else◌}
+use Rattle.std.specs.Option.{option_map, is_none}
+use Rattle.dsr_names.specs.Shape.{Shape, is_traitor}
+use Rattle.dsr_names.specs.declared.actor.Actor.{Actor}
+use Rattle.dsr_names.specs.declared.actor.Actor.TheVariants.{Replica, Client}
+use Rattle.dsr_names.specs.declared.refusal.Refusal.{Refusal}
+use Rattle.dsr_names.specs.declared.refusal.Refusal.TheVariants.{NoActor, WrongRole, NotDue, Exhausted, BoxFull, BoxEmpty}
+use Rattle.dsr_ledger.specs.declared.reply.Reply.{Reply as AReply}
+use Rattle.dsr_replica.specs.declared.envelope.Envelope.{Envelope}
+use Rattle.dsr_replica.specs.declared.envelope.Envelope.TheVariants.{Seen}
+use Rattle.dsr_replica.specs.declared.entry.Entry.{Entry}
+use Rattle.dsr_replica.specs.declared.entry.Entry.TheVariants.{Post as PostEntry, Take as TakeEntry}
+use Rattle.dsr_replica.specs.declared.step.Due.{Due}
+use Rattle.dsr_replica.specs.declared.step.Due.TheVariants.{Post as PostTo, Take as TakeFrom}
+use Rattle.dsr_replica.specs.declared.step.Pick.{Pick}
+use Rattle.dsr_replica.specs.declared.step.Pick.TheVariants.{Plain, From, Begin}
+use Rattle.dsr_replica.specs.Conduct.{envelope_to, reply_to}
+use Rattle.dsr_replica.specs.Log.{posted_to, taken_from, due, rounds}
+use Rattle.dsr_client.specs.Conduct.{next_number, ask_to}
+use Rattle.dsr_world.specs.declared.event.Event.{Event}
+use Rattle.dsr_world.specs.declared.event.Event.TheVariants.{Post, Plant, Take, Tell}
+use Rattle.dsr_world.specs.History.{seen_by}
+use Rattle.dsr_world.specs.Step.{Step, Logs}
+
+-- ---- conduct
+
+-- the envelope of a loyal actor's post to another, by its log and its choice; none where it posts none
+abbrev pub post_of : Shape → List Entry → Actor → Actor → Pick → Option Envelope
+post_of shape log (Replica p) (Replica q) pick = envelope_to shape (Replica p) log q pick
+post_of shape log (Replica p) (Client c) Plain = reply_to shape log c
+post_of shape log (Replica p) (Client c) (From clients) = None
+post_of shape log (Replica p) (Client c) (Begin op) = None
+post_of shape log (Client c) (Replica q) pick = ask_to shape c log pick
+post_of shape log (Client c) (Client d) pick = None
+
+-- whether a counter of the actor would pass its limit by the post: a replica's round, or the number of a client's new request
+abbrev pub is_exhausted : Shape → List Entry → Actor → Actor → Pick → Bool
+is_exhausted shape log (Replica p) (Replica q) pick = not (nat_lt (rounds shape log) (2 ^ 36))
+is_exhausted shape log (Replica p) (Client c) pick = false
+is_exhausted shape log (Client c) to Plain = false
+is_exhausted shape log (Client c) to (From clients) = false
+is_exhausted shape log (Client c) to (Begin op) = not (nat_lt (next_number shape log) (2 ^ 40))
+
+-- whether the take from this replica is due
+abbrev pub takes_from : Due → ℕ → Bool
+takes_from (PostTo q) p = false
+takes_from (TakeFrom q) p = q == p
+
+-- whether a loyal replica's take from a replica is not due; every other take is
+abbrev pub is_undue : Shape → List Entry → Actor → Actor → Bool
+is_undue shape log (Replica p) (Replica q) = if is_traitor shape p then false else not (takes_from (due shape log) q)
+is_undue shape log (Replica p) (Client c) = false
+is_undue shape log (Client c) from = false
+
+-- ---- roles
+
+-- whether it is an actor of the shape
+abbrev pub is_actor : Shape → Actor → Bool
+is_actor shape (Replica p) = nat_lt p shape.n
+is_actor shape (Client c) = nat_lt c shape.m
+
+-- whether it is a traitor
+abbrev pub is_traitor_of : Shape → Actor → Bool
+is_traitor_of shape (Replica p) = is_traitor shape p
+is_traitor_of shape (Client c) = false
+
+-- whether both are clients
+abbrev pub are_clients : Actor → Actor → Bool
+are_clients (Replica p) to = false
+are_clients (Client c) (Replica q) = false
+are_clients (Client c) (Client d) = true
+
+-- whether both are one client
+abbrev pub is_own_client : Actor → Actor → Bool
+is_own_client (Replica p) to = false
+is_own_client (Client c) (Replica q) = false
+is_own_client (Client c) (Client d) = c == d
+
+-- whether they are two clients
+abbrev pub are_two_clients : Actor → Actor → Bool
+are_two_clients a b = are_clients a b && not (is_own_client a b)
+
+-- ---- boxes
+
+-- the envelope in the box from one actor to another: the first that was posted there and not taken
+abbrev pub in_box : Logs → Actor → Actor → Option Envelope
+in_box logs from to = slice_get (posted_to to (logs from)) (length (taken_from from (logs to)))
+
+-- whether the box from one actor to another holds an envelope
+abbrev pub is_full : Logs → Actor → Actor → Bool
+is_full logs from to = nat_lt (length (taken_from from (logs to))) (length (posted_to to (logs from)))
+
+-- whether as many envelopes were posted in the box as a box may have
+abbrev pub is_used_up : Logs → Actor → Actor → Bool
+is_used_up logs from to = not (nat_lt (suc (length (posted_to to (logs from)))) (2 ^ 40))
+
+-- ---- refusals
+
+-- what an event is refused with, in this order, each with the test under which it is; beside these only `Forged` and `NoMemory`,
+-- after all of them
+abbrev pub refusals : Shape → Logs → Event → List (Bool × Refusal)
+refusals shape logs (Post from to pick) =
+    (not (is_actor shape from && is_actor shape to), NoActor)
+    ∷ (is_traitor_of shape from || are_clients from to, WrongRole)
+    ∷ (is_none (post_of shape (logs from) from to pick), NotDue)
+    ∷ (is_exhausted shape (logs from) from to pick || is_used_up logs from to, Exhausted)
+    ∷ (is_full logs from to, BoxFull)
+    ∷ []
+refusals shape logs (Plant from to draft) =
+    (not (is_actor shape from && is_actor shape to), NoActor)
+    ∷ (not (is_traitor_of shape from), WrongRole)
+    ∷ (is_used_up logs from to, Exhausted)
+    ∷ (is_full logs from to, BoxFull)
+    ∷ []
+refusals shape logs (Take at from) =
+    (not (is_actor shape at && is_actor shape from), NoActor)
+    ∷ (is_own_client at from, WrongRole)
+    ∷ (is_undue shape (logs at) at from, NotDue)
+    ∷ (not (is_full logs from at), BoxEmpty)
+    ∷ []
+refusals shape logs (Tell from to) =
+    (not (is_actor shape from && is_actor shape to), NoActor)
+    ∷ (not (are_two_clients from to), WrongRole)
+    ∷ (is_used_up logs from to, Exhausted)
+    ∷ (is_full logs from to, BoxFull)
+    ∷ []
+
+-- the first refusal whose test holds
+abbrev pub first_of : List (Bool × Refusal) → Option Refusal
+first_of [] = None
+first_of (row ∷ rest) = if row.0 then Some row.1 else first_of rest
+
+-- the refusal of an event; none where it is refused by none of these tests
+abbrev pub refusal_of : Shape → Logs → Event → Option Refusal
+refusal_of shape logs event = first_of (refusals shape logs event)
+
+-- the step that an event is: an entry of the actor's log
+abbrev pub step_of : Shape → Logs → Event → Option Step
+step_of shape logs (Post from to pick) = option_map (λ envelope. (from, PostEntry to envelope)) (post_of shape (logs from) from to pick)
+step_of shape logs (Plant from to draft) = Some (from, PostEntry to draft)
+step_of shape logs (Take at from) = option_map (λ envelope. (at, TakeEntry from envelope)) (in_box logs from at)
+step_of shape logs (Tell (Client c) to) = Some (Client c, PostEntry to (Seen (seen_by shape logs c)))
+step_of shape logs (Tell (Replica p) to) = None
+
+-- ---- replies
+
+-- what a client accepted later is what it had accepted, with this reply after that where there is one; replies stand newest first
+abbrev pub AcceptsBy : Option AReply → List AReply → List AReply → Type 0
+AcceptsBy None later earlier = later ≡ earlier
+AcceptsBy (Some reply) later earlier = later ≡ reply ∷ earlier

@@ -1,0 +1,253 @@
+ghost use Rattle.std.specs.Prelude.{◌≡◌, ◌≢◌, ℕ, ◌∷◌, List, None, Some, IfOk, IfSome, IfNone, IsOk, OnOk, IsOkUnless, IsTrue, IsSome};
+ghost use Rattle.dsr_names.specs.Shape.{Shape};
+ghost use Rattle.dsr_names.specs.declared.actor.Actor.{Actor};
+ghost use Rattle.dsr_names.specs.declared.actor.Actor.TheVariants.{Replica as ReplicaNumber, Client as ClientNumber};
+ghost use Rattle.dsr_replica.specs.declared.envelope.Envelope.{Envelope};
+ghost use Rattle.dsr_replica.specs.declared.entry.Entry.{Entry};
+ghost use Rattle.dsr_replica.specs.declared.entry.Entry.TheVariants.{Post, Take};
+ghost use Rattle.dsr_replica.specs.declared.step.Pick.TheVariants.{Begin};
+ghost use Rattle.dsr_replica.specs.Replica.{StandsFor, Allows};
+ghost use Rattle.dsr_client.specs.Client.{StandsFor as StandsForClient};
+ghost use Rattle.dsr_world.specs.Event.{post_of, takes_from, is_undue};
+ghost use Rattle.dsr_world.specs.Support.Party.{Plays, post_refusal, MayPost, CanPost, CanTake, HasRoomToTake, TakesReply, IsReplicaNumber};
+
+use crate::customer::Customer;
+use dsr_client::Client;
+use dsr_ledger::Reply;
+use dsr_names::{Actor, Refusal, ReplicaId};
+use dsr_replica::{Due, Envelope, Pick, Replica};
+use dsr_request::Op;
+use std::alloc::Global;
+
+/// An actor of a world.
+#[derive(Drop)]
+pub(crate) enum Party {
+    /// A loyal replica.
+    Loyal(Replica),
+    /// A traitor. There is no code of it: it posts what it likes, as far as it forges nothing.
+    Traitor,
+    /// A client.
+    Client(Customer),
+}
+
+impl Party {
+    /// What its conduct refuses a post to this actor by this choice with, if it does.
+    pub(crate) fn post_refusal(&self, alloc: Global, to: Actor, pick: Pick) -> Option<Refusal>
+        ensures same { (shape : Shape) (me : Actor) (log : List Entry) → Plays shape me log self.now → self.now ≢ Party.Traitor
+            → result ≡ post_refusal shape log me to pick }
+        ensures can { IfNone result (CanPost self.now to pick) }
+    {
+        match self {
+            Party::Loyal(replica) => replica_refusal(alloc, replica, to, pick),
+            Party::Traitor => None,
+            Party::Client(customer) => client_refusal(customer.client(), to, pick),
+        }
+    }
+
+    /// The envelope that it posts to this actor by this choice. `NoMemory` where memory runs out.
+    pub(crate) fn envelope_for(
+        &self,
+        alloc: Global,
+        to: Actor,
+        pick: Pick,
+    ) -> Result<Envelope, Refusal>
+        requires { CanPost self.now to pick }
+        ensures given { (shape : Shape) (me : Actor) (log : List Entry) → Plays shape me log self.now
+            → post_refusal shape log me to pick ≡ None → IfOk result (λ envelope. post_of shape log me to pick ≡ Some envelope) }
+        ensures refusal { (shape : Shape) (me : Actor) (log : List Entry) → Plays shape me log self.now
+            → post_refusal shape log me to pick ≡ None → IsOkUnless result Refusal.NoMemory }
+    {
+        match self {
+            Party::Loyal(replica) => replica_envelope(alloc, replica, to, pick),
+            Party::Traitor => Err(Refusal::NoMemory),
+            Party::Client(customer) => client_envelope(customer.client(), to, pick),
+        }
+    }
+
+    /// Posts to this actor by this choice.
+    pub(crate) fn posted(&mut self, to: Actor, pick: Pick)
+        requires { CanPost self.old to pick }
+        ensures plays { (shape : Shape) (me : Actor) (log : List Entry) (envelope : Envelope) → Plays shape me log self.old
+            → post_of shape log me to pick ≡ Some envelope → Plays shape me (Post to envelope ∷ log) self.new }
+    {
+        match self {
+            Party::Loyal(replica) => {
+                if let Actor::Replica(number) = to {
+                    replica.posted(number, pick);
+                }
+            }
+            Party::Traitor => {}
+            Party::Client(customer) => {
+                if let Pick::Begin(op) = pick {
+                    customer.begin(op);
+                }
+            }
+        }
+    }
+
+    /// Makes room for what it may take. `NoMemory` where it is refused: then nothing changed, but that there may be more room.
+    pub(crate) fn room(&mut self) -> Result<(), Refusal>
+        ensures plays { (shape : Shape) (me : Actor) (log : List Entry) → Plays shape me log self.old → Plays shape me log self.new }
+        ensures room { OnOk result (HasRoomToTake self.new) }
+        ensures refusal { IsOkUnless result Refusal.NoMemory }
+    {
+        match self {
+            Party::Loyal(replica) => replica.room(),
+            Party::Traitor => Ok(()),
+            Party::Client(customer) => customer.room(),
+        }
+    }
+
+    /// Whether a take from this actor is one of a loyal replica from a replica, and not due.
+    pub(crate) fn is_undue(&self, from: Actor) -> bool
+        ensures { (shape : Shape) (me : Actor) (log : List Entry) → Plays shape me log self.now → result ≡ is_undue shape log me from }
+    {
+        match (self, from) {
+            (Party::Loyal(replica), Actor::Replica(number)) => !takes_from(replica.due(), number),
+            _ => false,
+        }
+    }
+
+    /// Takes the envelope from this actor, and returns the reply that a client accepts by it. Requires that it can.
+    pub(crate) fn taken(&mut self, from: Actor, envelope: Envelope) -> Option<Reply>
+        requires { CanTake self.old from envelope }
+        ensures plays { (shape : Shape) (me : Actor) (log : List Entry) → Plays shape me log self.old
+            → Plays shape me (Take from envelope ∷ log) self.new }
+        ensures accepted { (shape : Shape) (me : Actor) (log : List Entry) → Plays shape me log self.old
+            → TakesReply shape me log from envelope result }
+    {
+        match self {
+            Party::Loyal(replica) => {
+                match from {
+                    Actor::Replica(number) => replica.taken(number, envelope),
+                    Actor::Client(client) => replica.ask_taken(client, envelope),
+                }
+                None
+            }
+            Party::Traitor => None,
+            Party::Client(customer) => customer.taken(from, envelope),
+        }
+    }
+}
+
+/// What a loyal replica's conduct refuses a post to this actor by this choice with, if it does.
+fn replica_refusal(alloc: Global, replica: &Replica, to: Actor, pick: Pick) -> Option<Refusal>
+    ensures same { (p : ℕ) (log : List Entry) → replica.now.me ≡ ReplicaNumber p → StandsFor replica.now log
+        → result ≡ post_refusal replica.now.shape log (ReplicaNumber p) to pick }
+    ensures can { IfNone result (CanPost (Party.Loyal replica.now) to pick) }
+{
+    match to {
+        Actor::Replica(number) => round_refusal(alloc, replica, number, &pick),
+        Actor::Client(client) => match pick {
+            Pick::Plain => match replica.reply_for(client) {
+                Some(_) => None,
+                None => Some(Refusal::NotDue),
+            },
+            Pick::From(_) | Pick::Begin(_) => Some(Refusal::NotDue),
+        },
+    }
+}
+
+/// What a loyal replica's conduct refuses a post to this replica by this choice with, if it does.
+fn round_refusal(alloc: Global, replica: &Replica, to: ReplicaId, pick: &Pick) -> Option<Refusal>
+    ensures same { (p : ℕ) (log : List Entry) → replica.now.me ≡ ReplicaNumber p → StandsFor replica.now log
+        → result ≡ post_refusal replica.now.shape log (ReplicaNumber p) (ReplicaNumber to) pick.now }
+    ensures can { IfNone result (Allows replica.now to pick.now) }
+{
+    let _due = replica.due();
+    if replica.allows(to, copy_of(pick)) {
+        None
+    } else {
+        let refused = replica.envelope_for(alloc, to, copy_of(pick)).err();
+        Some(refused.unwrap_or(Refusal::NotDue))
+    }
+}
+
+/// The choice once more.
+fn copy_of(pick: &Pick) -> Pick
+    ensures { result ≡ pick.now }
+{
+    *pick
+}
+
+/// What a client's conduct refuses a post to this actor by this choice with, if it does.
+fn client_refusal(client: &Client, to: Actor, pick: Pick) -> Option<Refusal>
+    ensures same { (log : List Entry) → StandsForClient client.now log
+        → result ≡ post_refusal client.now.shape log (ClientNumber client.now.me) to pick }
+    ensures can { IfNone result (MayPost client.now pick) }
+{
+    if let Actor::Client(_) = to {
+        return Some(Refusal::NotDue);
+    }
+    match pick {
+        Pick::Plain => match client.outstanding() {
+            Some(_) => None,
+            None => Some(Refusal::NotDue),
+        },
+        Pick::From(_) => Some(Refusal::NotDue),
+        Pick::Begin(op) => begin_refusal(client, to, op),
+    }
+}
+
+/// What a client refuses to begin a request of this operation with, if it does.
+fn begin_refusal(client: &Client, to: Actor, op: Op) -> Option<Refusal>
+    requires { IsReplicaNumber to }
+    ensures same { (log : List Entry) → StandsForClient client.now log
+        → result ≡ post_refusal client.now.shape log (ClientNumber client.now.me) to (Begin op) }
+    ensures can { IfNone result (MayPost client.now (Begin op)) }
+{
+    if client.outstanding().is_some() {
+        return Some(Refusal::NotDue);
+    }
+    match client.first_ask(op) {
+        Some(_) => None,
+        None => Some(Refusal::Exhausted),
+    }
+}
+
+/// The envelope that a loyal replica posts to this actor by this choice.
+fn replica_envelope(
+    alloc: Global,
+    replica: &Replica,
+    to: Actor,
+    pick: Pick,
+) -> Result<Envelope, Refusal>
+    ensures given { (p : ℕ) (log : List Entry) → replica.now.me ≡ ReplicaNumber p → StandsFor replica.now log
+        → IfOk result (λ envelope. post_of replica.now.shape log (ReplicaNumber p) to pick ≡ Some envelope) }
+    ensures refusal { (p : ℕ) (log : List Entry) → replica.now.me ≡ ReplicaNumber p → StandsFor replica.now log
+        → post_refusal replica.now.shape log (ReplicaNumber p) to pick ≡ None → IsOkUnless result Refusal.NoMemory }
+{
+    match to {
+        Actor::Replica(number) => replica.envelope_for(alloc, number, pick),
+        Actor::Client(client) => match pick {
+            Pick::Plain => replica.reply_for(client).ok_or(Refusal::NotDue),
+            Pick::From(_) | Pick::Begin(_) => Err(Refusal::NotDue),
+        },
+    }
+}
+
+/// The envelope that a client posts to this actor by this choice.
+fn client_envelope(client: &Client, to: Actor, pick: Pick) -> Result<Envelope, Refusal>
+    ensures given { (log : List Entry) → StandsForClient client.now log
+        → post_refusal client.now.shape log (ClientNumber client.now.me) to pick ≡ None
+        → IfOk result (λ envelope. post_of client.now.shape log (ClientNumber client.now.me) to pick ≡ Some envelope) }
+    ensures refusal { (log : List Entry) → StandsForClient client.now log
+        → post_refusal client.now.shape log (ClientNumber client.now.me) to pick ≡ None → IsOk result }
+{
+    let envelope = match pick {
+        Pick::Plain => client.ask_for(ReplicaId::FIRST),
+        Pick::From(_) => None,
+        Pick::Begin(op) => client.first_ask(op),
+    };
+    envelope.ok_or(Refusal::NotDue)
+}
+
+/// Whether the take from this replica is due.
+fn takes_from(due: Due, replica: ReplicaId) -> bool
+    ensures { result ≡ takes_from due replica }
+{
+    match due {
+        Due::Post(_) => false,
+        Due::Take(next) => next == replica,
+    }
+}
