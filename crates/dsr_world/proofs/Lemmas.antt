@@ -4,3 +4,4 @@ pub use Rattle.dsr_world.proofs.Boxes.{in_log, from_log, posted_entry, IsBox, bo
 pub use Rattle.dsr_world.proofs.Forging.{has_posted_later, AllMade, all_made, step_made}
 pub use Rattle.dsr_world.proofs.Family.{rounds_near}
 pub use Rattle.dsr_world.proofs.Agreeing.{same_decided, decided_extends, one_extends}
+pub use Rattle.dsr_world.proofs.Proposing.{as_proposed, decided_was_proposed}

@@ -6,4 +6,5 @@ mod Forging
 pub mod Lemmas
 mod Logs
 mod Posts
+mod Proposing
 mod Signing

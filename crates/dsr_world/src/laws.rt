@@ -8,6 +8,8 @@ ghost use Rattle.dsr_names.specs.declared.actor.Actor.{Actor};
 ghost use Rattle.dsr_names.specs.declared.actor.Actor.TheVariants.{Replica, Client};
 ghost use Rattle.dsr_rotation.specs.Calendar.{closed_slots};
 ghost use Rattle.dsr_desk.specs.Signature.{Signature};
+ghost use Rattle.dsr_chain.specs.Proper.{sender_of};
+ghost use Rattle.dsr_chain.specs.declared.slot_value.SlotValue.{SlotValue};
 ghost use Rattle.dsr_replica.specs.declared.envelope.Envelope.{Envelope};
 ghost use Rattle.dsr_replica.specs.declared.entry.Entry.TheVariants.{Post, Take};
 ghost use Rattle.dsr_replica.specs.Conduct.{IsLoyalLog};
@@ -15,6 +17,7 @@ ghost use Rattle.dsr_replica.specs.Decided.{slot_decided};
 ghost use Rattle.dsr_replica.specs.Envelope.{Carries};
 ghost use Rattle.dsr_replica.specs.Log.{posted_to, taken_from, rounds};
 ghost use Rattle.dsr_client.specs.Conduct.{IsClientLog};
+ghost use Rattle.dsr_world.specs.Agreement.{HasProposed};
 ghost use Rattle.dsr_world.specs.History.{decided_at};
 ghost use Rattle.dsr_world.specs.Run.{IsRun, IsMadeOrPosted, envelope_of};
 ghost use Rattle.dsr_world.specs.Step.{Step, log_of};
@@ -57,4 +60,17 @@ pub fn loyal_replicas_agree()
         → (p q : ℕ) → IsLoyal shape (Replica p) → IsLoyal shape (Replica q) → (slot : ℕ)
         → slot < closed_slots shape (rounds shape (log_of run (Replica p))) → slot < closed_slots shape (rounds shape (log_of run (Replica q)))
         → slot_decided shape (log_of run (Replica p)) slot ≡ slot_decided shape (log_of run (Replica q)) slot }
+{}
+
+/// Validity: a slot of a loyal sender, closed at a loyal replica, is decided as the value that the sender posted, however many are
+/// traitors. That is the value for which the sender's envelope of the slot's first round has the chain that it starts; there is
+/// one, and no other.
+pub fn loyal_senders_values_are_decided()
+    ensures decided { (shape : Shape) (run : List Step) → IsRun shape run → (slot : ℕ) → IsLoyal shape (sender_of shape slot)
+        → (p : ℕ) → IsLoyal shape (Replica p) → slot < closed_slots shape (rounds shape (log_of run (Replica p)))
+        → (value : SlotValue) → HasProposed shape (sender_of shape slot) (log_of run (sender_of shape slot)) slot value
+        → slot_decided shape (log_of run (Replica p)) slot ≡ value }
+    ensures proposed { (shape : Shape) (run : List Step) → IsRun shape run → (slot : ℕ) → IsLoyal shape (sender_of shape slot)
+        → (p : ℕ) → IsLoyal shape (Replica p) → slot < closed_slots shape (rounds shape (log_of run (Replica p)))
+        → HasProposed shape (sender_of shape slot) (log_of run (sender_of shape slot)) slot (slot_decided shape (log_of run (Replica p)) slot) }
 {}
