@@ -5,3 +5,4 @@ pub use Rattle.dsr_world.proofs.Forging.{has_posted_later, AllMade, all_made, st
 pub use Rattle.dsr_world.proofs.Family.{rounds_near}
 pub use Rattle.dsr_world.proofs.Agreeing.{same_decided, decided_extends, one_extends}
 pub use Rattle.dsr_world.proofs.Proposing.{as_proposed, decided_was_proposed}
+pub use Rattle.dsr_world.proofs.Links.{two_links, one_link}

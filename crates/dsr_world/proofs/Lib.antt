@@ -4,6 +4,7 @@ mod Boxes
 mod Family
 mod Forging
 pub mod Lemmas
+mod Links
 mod Logs
 mod Posts
 mod Proposing

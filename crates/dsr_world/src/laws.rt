@@ -17,7 +17,7 @@ ghost use Rattle.dsr_replica.specs.Decided.{slot_decided};
 ghost use Rattle.dsr_replica.specs.Envelope.{Carries};
 ghost use Rattle.dsr_replica.specs.Log.{posted_to, taken_from, rounds};
 ghost use Rattle.dsr_client.specs.Conduct.{IsClientLog};
-ghost use Rattle.dsr_world.specs.Agreement.{HasProposed};
+ghost use Rattle.dsr_world.specs.Agreement.{HasProposed, HasFewLinks};
 ghost use Rattle.dsr_world.specs.History.{decided_at};
 ghost use Rattle.dsr_world.specs.Run.{IsRun, IsMadeOrPosted, envelope_of};
 ghost use Rattle.dsr_world.specs.Step.{Step, log_of};
@@ -73,4 +73,13 @@ pub fn loyal_senders_values_are_decided()
     ensures proposed { (shape : Shape) (run : List Step) → IsRun shape run → (slot : ℕ) → IsLoyal shape (sender_of shape slot)
         → (p : ℕ) → IsLoyal shape (Replica p) → slot < closed_slots shape (rounds shape (log_of run (Replica p)))
         → HasProposed shape (sender_of shape slot) (log_of run (sender_of shape slot)) slot (slot_decided shape (log_of run (Replica p)) slot) }
+{}
+
+/// What a loyal replica posts carries its signature on at most two different links of one slot, and on at most one where the
+/// slot's sender is loyal, however many are traitors.
+pub fn loyal_replicas_sign_few_links()
+    ensures two { (shape : Shape) (run : List Step) → IsRun shape run → (slot : ℕ) → (p : ℕ) → IsLoyal shape (Replica p)
+        → HasFewLinks (Replica p) (log_of run (Replica p)) slot 2 }
+    ensures one { (shape : Shape) (run : List Step) → IsRun shape run → (slot : ℕ) → (p : ℕ) → IsLoyal shape (Replica p)
+        → IsLoyal shape (sender_of shape slot) → HasFewLinks (Replica p) (log_of run (Replica p)) slot 1 }
 {}
