@@ -4,6 +4,7 @@ mod Boxes
 mod Family
 mod Forging
 pub mod Lemmas
+mod Histories
 mod Links
 mod Logs
 mod Posts

@@ -6,6 +6,7 @@ ghost use Rattle.dsr_base.specs.Member.{In};
 ghost use Rattle.dsr_names.specs.Shape.{Shape, HasFewTraitors, IsLoyal};
 ghost use Rattle.dsr_names.specs.declared.actor.Actor.{Actor};
 ghost use Rattle.dsr_names.specs.declared.actor.Actor.TheVariants.{Replica, Client};
+ghost use Rattle.dsr_history.specs.History.{acted, IsLegal};
 ghost use Rattle.dsr_rotation.specs.Calendar.{closed_slots};
 ghost use Rattle.dsr_desk.specs.Signature.{Signature};
 ghost use Rattle.dsr_chain.specs.Proper.{sender_of};
@@ -13,14 +14,14 @@ ghost use Rattle.dsr_chain.specs.declared.slot_value.SlotValue.{SlotValue};
 ghost use Rattle.dsr_replica.specs.declared.envelope.Envelope.{Envelope};
 ghost use Rattle.dsr_replica.specs.declared.entry.Entry.TheVariants.{Post, Take};
 ghost use Rattle.dsr_replica.specs.Conduct.{IsLoyalLog};
-ghost use Rattle.dsr_replica.specs.Decided.{slot_decided};
+ghost use Rattle.dsr_replica.specs.Decided.{slot_decided, decided_requests};
 ghost use Rattle.dsr_replica.specs.Envelope.{Carries};
 ghost use Rattle.dsr_replica.specs.Log.{posted_to, taken_from, rounds};
 ghost use Rattle.dsr_client.specs.Conduct.{IsClientLog};
 ghost use Rattle.dsr_world.specs.Agreement.{HasProposed, HasFewLinks};
-ghost use Rattle.dsr_world.specs.History.{decided_at};
+ghost use Rattle.dsr_world.specs.History.{decided_at, history};
 ghost use Rattle.dsr_world.specs.Run.{IsRun, IsMadeOrPosted, envelope_of};
-ghost use Rattle.dsr_world.specs.Step.{Step, log_of};
+ghost use Rattle.dsr_world.specs.Step.{Step, Logs, log_of};
 
 /// In a run the log of each loyal replica is a loyal one, and that of each client a client's; and at each earlier time it was
 /// a run.
@@ -82,4 +83,19 @@ pub fn loyal_replicas_sign_few_links()
         → HasFewLinks (Replica p) (log_of run (Replica p)) slot 2 }
     ensures one { (shape : Shape) (run : List Step) → IsRun shape run → (slot : ℕ) → (p : ℕ) → IsLoyal shape (Replica p)
         → IsLoyal shape (sender_of shape slot) → HasFewLinks (Replica p) (log_of run (Replica p)) slot 1 }
+{}
+
+/// One history: where at most f replicas are traitors, what each loyal replica has processed is a prefix of the history, and the
+/// history is what one of them has processed, or empty. It only grows, by time and by logs that go on; and within each client the
+/// numbers in it rise strictly, whatever the logs.
+pub fn history_only_grows()
+    ensures each { (shape : Shape) (run : List Step) → HasFewTraitors shape → IsRun shape run → (p : ℕ) → IsLoyal shape (Replica p)
+        → Extends (history shape (log_of run)) (acted (decided_requests shape (log_of run (Replica p)))) }
+    ensures one { (shape : Shape) (logs : Logs) → (history shape logs ≡ [])
+        ⊎ ((p : ℕ) × IsLoyal shape (Replica p) × (history shape logs ≡ acted (decided_requests shape (logs (Replica p))))) }
+    ensures times { (shape : Shape) (run earlier : List Step) → HasFewTraitors shape → IsRun shape run → Extends run earlier
+        → Extends (history shape (log_of run)) (history shape (log_of earlier)) }
+    ensures logs { (shape : Shape) (run : List Step) (earlier : Logs) → HasFewTraitors shape → IsRun shape run
+        → ((a : Actor) → Extends (log_of run a) (earlier a)) → Extends (history shape (log_of run)) (history shape earlier) }
+    ensures legal { (shape : Shape) (logs : Logs) → IsLegal (history shape logs) }
 {}
