@@ -8,8 +8,8 @@ use Rattle.dsr_names.specs.Support.ActorEquality.{actor_eq, actor_eq-Decides}
 use Rattle.dsr_slot.proofs.Lemmas.{by_test}
 use Rattle.dsr_replica.specs.Conduct.{IsLoyalLog}
 use Rattle.dsr_client.specs.Conduct.{IsClientLog}
-use Rattle.dsr_world.specs.Run.{KeepsConduct, IsRun}
-use Rattle.dsr_world.specs.Step.{Step, log_of}
+use Rattle.dsr_world.specs.Run.{KeepsConduct, IsNextStep, IsRun, AreLogs}
+use Rattle.dsr_world.specs.Step.{Step, Logs, with_step, log_of}
 
 -- a step adds its entry to the log of its actor, and to no other
 pub log_cases : (step : Step) (older : List Step) (a : Actor)
@@ -64,3 +64,18 @@ logs_grow (step ∷ newer) older a =
 
 pub logs_grew : (run earlier : List Step) → Extends run earlier → (a : Actor) → Extends (log_of run a) (log_of earlier a)
 logs_grew run earlier grown a = subst (λ r. Extends (log_of r a) (log_of earlier a)) (sym grown.1) (logs_grow grown.0 earlier a)
+
+-- ---- the logs of a run
+
+-- they go on with each step that may be next
+pub logs_step : (shape : Shape) (logs : Logs) (step : Step) → AreLogs shape logs → IsNextStep shape logs step → AreLogs shape (with_step step logs)
+logs_step shape logs step are next =
+    let same : log_of are.run ≡ logs = λ i a. are.each a i in
+    record {
+      run = step ∷ are.run;
+      is = (are.is, subst (λ l. IsNextStep shape l step) (sym same) next);
+      each = λ a. ap (λ l. with_step step l a) same;
+    }
+
+pub no_logs : (shape : Shape) → AreLogs shape (λ a. [])
+no_logs shape = record { run = []; is = tt; each = λ a. refl }

@@ -17,11 +17,12 @@ ghost use Rattle.dsr_replica.specs.Conduct.{IsLoyalLog};
 ghost use Rattle.dsr_replica.specs.Decided.{slot_decided, decided_requests};
 ghost use Rattle.dsr_replica.specs.Envelope.{Carries};
 ghost use Rattle.dsr_replica.specs.Log.{posted_to, taken_from, rounds};
+ghost use Rattle.dsr_replica.specs.Posts.{WasTaken};
 ghost use Rattle.dsr_client.specs.Conduct.{IsClientLog};
 ghost use Rattle.dsr_world.specs.Agreement.{HasProposed, HasFewLinks};
 ghost use Rattle.dsr_world.specs.History.{decided_at, history};
-ghost use Rattle.dsr_world.specs.Run.{IsRun, IsMadeOrPosted, envelope_of};
-ghost use Rattle.dsr_world.specs.Step.{Step, Logs, log_of};
+ghost use Rattle.dsr_world.specs.Run.{IsRun, IsNextStep, AreLogs, IsMadeOrPosted, envelope_of};
+ghost use Rattle.dsr_world.specs.Step.{Step, Logs, with_step, log_of};
 
 /// In a run the log of each loyal replica is a loyal one, and that of each client a client's; and at each earlier time it was
 /// a run.
@@ -30,6 +31,14 @@ pub fn runs_keep_conduct()
         → IsLoyalLog shape (Replica p) (log_of run (Replica p)) }
     ensures clients { (shape : Shape) (run : List Step) → IsRun shape run → (c : ℕ) → IsClientLog shape c (log_of run (Client c)) }
     ensures earlier { (shape : Shape) (run earlier : List Step) → IsRun shape run → Extends run earlier → IsRun shape earlier }
+{}
+
+/// The logs of a run: empty logs are the logs of one, and so are the logs of a run with a step more that may be next. Which step may be
+/// next is a matter of the logs alone, not of the order in which they came about.
+pub fn runs_go_on()
+    ensures empty { (shape : Shape) → AreLogs shape (λ a. []) }
+    ensures step { (shape : Shape) (logs : Logs) (step : Step) → AreLogs shape logs → IsNextStep shape logs step
+        → AreLogs shape (with_step step logs) }
 {}
 
 /// In a run each box is empty or holds one envelope: an actor has taken from another all that this one posted to it, in its order,
@@ -43,10 +52,13 @@ pub fn boxes_hold_one_envelope()
 {}
 
 /// Nobody's signature is forged in a run: each signature that a step carries, on a chain, beside a request of a chain's value, or
-/// beside a request that is asked, is by a traitor of the shape, or stands in what its signer posted, in that step or earlier.
+/// beside a request that is asked, is by a traitor of the shape, or stands in what its signer posted, in that step or earlier. So a
+/// traitor that sends on what it took forges nothing.
 pub fn no_signature_is_forged()
-    ensures { (shape : Shape) (run older : List Step) (step : Step) → IsRun shape run → Extends run (step ∷ older)
+    ensures steps { (shape : Shape) (run older : List Step) (step : Step) → IsRun shape run → Extends run (step ∷ older)
         → (s : Signature) → Carries (envelope_of step.1) s → IsMadeOrPosted shape (log_of (step ∷ older)) s }
+    ensures taken { (shape : Shape) (run : List Step) → IsRun shape run → (a : Actor) (s : Signature) → WasTaken (log_of run a) s
+        → IsMadeOrPosted shape (log_of run) s }
 {}
 
 /// Agreement: where at most f replicas are traitors, of the values that two loyal replicas have decided one list is a prefix of the
