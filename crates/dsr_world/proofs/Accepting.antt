@@ -26,7 +26,7 @@ use Rattle.dsr_world.specs.Run.{IsRun, IsMadeOrPosted}
 use Rattle.dsr_world.specs.Step.{Step, log_of}
 use Rattle.dsr_world.proofs.Boxes.{taken_was_posted}
 use Rattle.dsr_world.proofs.Forging.{all_made}
-use Rattle.dsr_world.proofs.Histories.{AreAlike, most_from, history_extends}
+use Rattle.dsr_world.proofs.Histories.{history_is, history_extends}
 use Rattle.dsr_world.proofs.Logs.{log_loyal, log_client}
 
 -- the client posted this request
@@ -64,27 +64,27 @@ module _ (shape : Shape) (run : List Step) (is : IsRun shape run) where
 
   -- each request of the history was posted by its client
   pub history_posted : (q : Request) → In q (history shape (log_of run)) → WasPosted (log_of run (Client q.client)) q
-  history_posted q h = elim (most_from shape (log_of run) shape.n (omega arith)) [
-    | inl none ↦ elim (subst (λ vs. In q (acted (map requests_in vs))) none h) [ ]
+  history_posted q h = elim (history_is shape (log_of run)) [
+    | inl none ↦ elim (subst (In q) none h) [ ]
     | inr some ↦
-        let source = acted_source shape (log_of run (Replica some.0)) q (subst (λ vs. In q (acted (map requests_in vs))) some.2 h) in
+        let source = acted_source shape (log_of run (Replica some.0)) q (subst (In q) some.2 h) in
         subst (λ r. WasPosted (log_of run (Client r.client)) r) source.1 (signed_posted some.0 source.0 source.2 source.3)
   ]
 
   -- what a loyal replica replied and the client took stands in the history
-  pub reply_right : AreAlike shape (log_of run) → (c p : ℕ) → IsLoyal shape (Replica p) → (r : AReply)
+  pub reply_right : HasFewTraitors shape → (c p : ℕ) → IsLoyal shape (Replica p) → (r : AReply)
       → In (Take (Replica p) (Reply r)) (log_of run (Client c)) → IsReplyTo (history shape (log_of run)) c r
-  reply_right alike c p loyal r taken =
+  reply_right few c p loyal r taken =
       let posted = taken_was_posted shape run is (Replica p) (Client c) (Reply r) taken in
       let own = replied shape (Replica p) (omega (arith, loyal.0)) (log_of run (Replica p)) (log_loyal shape p loyal.1 run is) c r posted in
       reply_later (history shape (log_of run)) (acted (decided_requests shape (log_of run (Replica p)))) c r
-      (history_extends shape (log_of run) alike p loyal) own
+      (history_extends shape few run is p loyal) own
 
   -- so is what a client accepted
-  pub accepted_right : AreAlike shape (log_of run) → HasFewTraitors shape → (c : ℕ) (r : AReply) → In r (accepted_by shape (log_of run) c)
+  pub accepted_right : HasFewTraitors shape → (c : ℕ) (r : AReply) → In r (accepted_by shape (log_of run) c)
       → IsReplyTo (history shape (log_of run)) c r
-  accepted_right alike few c r h =
+  accepted_right few c r h =
       let gave = loyal_gave shape (log_of run (Client c)) r few h in
-      reply_right alike c gave.0 gave.1 r
+      reply_right few c gave.0 gave.1 r
       (subst (In (Take (Replica gave.0) (Reply r))) (sym gave.2.parts)
       (In-append_right (Take (Replica gave.0) (Reply r)) gave.2.newer (Take (Replica gave.0) (Reply r) ∷ gave.2.older) (here refl)))

@@ -87,14 +87,14 @@ module _ (shape : Shape) (run : List Step) (is : IsRun shape run) (slot : ℕ) w
   some_replica p inside = omega (arith, inside)
 
   -- in a closed round a loyal replica took an envelope from each replica
-  took : (p : ℕ) → Loyal p → (i : ℕ) → i < shape.n → (t : ℕ) → t < rounds shape (log p)
+  pub took : (p : ℕ) → Loyal p → (i : ℕ) → i < shape.n → (t : ℕ) → t < rounds shape (log p)
       → (x : Envelope) × (slice_get (taken_from (Replica i) (log p)) t ≡ Some x)
   took p loyal i inside t closed =
       let all = all_taken shape (Replica p) (some_replica p loyal.0) (log p) (loyal_log p loyal) i inside in
       some_at (taken_from (Replica i) (log p)) t (omega (arith, closed, all))
 
   -- what was taken was posted at the same place
-  was_posted : (i p t : ℕ) (x : Envelope) → slice_get (taken_from (Replica i) (log p)) t ≡ Some x
+  pub was_posted : (i p t : ℕ) (x : Envelope) → slice_get (taken_from (Replica i) (log p)) t ≡ Some x
       → slice_get (posted_to (Replica p) (log i)) t ≡ Some x
   was_posted i p t x e =
       at_place (posted_to (Replica p) (log i)) (taken_from (Replica i) (log p)) (boxes shape run is (Replica i) (Replica p)) t x e

@@ -14,6 +14,7 @@ use Rattle.dsr_replica.specs.declared.entry.Entry.{Entry}
 use Rattle.dsr_replica.specs.declared.entry.Entry.TheVariants.{Post, Take}
 use Rattle.dsr_replica.specs.Conduct.{IsNext}
 use Rattle.dsr_replica.specs.Envelope.{Carries}
+use Rattle.dsr_replica.specs.Posts.{WasTaken}
 use Rattle.dsr_replica.proofs.Lemmas.{post_source}
 use Rattle.dsr_client.specs.Conduct.{chosen_beside, next_number, IsClientLog, IsNext as IsNextOfClient}
 use Rattle.dsr_client.specs.State.{outstanding}
@@ -108,3 +109,8 @@ module _ (shape : Shape) where
   pub step_made : (step : Step) (older : List Step) → IsRun shape (step ∷ older) → (s : Signature) → Carries (envelope_of step.1) s
       → IsMadeOrPosted shape (log_of (step ∷ older)) s
   step_made step older is s carried = now_made step.0 step.1 older is (all_made older is.0) s carried
+
+  -- so can each signature be sent that an actor took
+  pub taken_made : (run : List Step) → IsRun shape run → (a : Actor) (s : Signature) → WasTaken (log_of run a) s
+      → IsMadeOrPosted shape (log_of run) s
+  taken_made run is a s h = all_made run is a (Take h.from h.envelope) h.taken s h.carried

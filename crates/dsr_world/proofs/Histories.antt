@@ -1,148 +1,187 @@
--- The history of some logs is that of the loyal replica with the most closed slots; where the decided values of loyal replicas are
--- prefixes of one another, it has the history of each of them in it, and it only grows.
-use Rattle.std.proofs.Common.{◌≡◌, ℕ, zero, suc, ◌<◌, ◌≤◌, Bool, true, false, nat_lt, if◌then◌else◌, List, [], ◌∷◌, ◌++◌, length, length-append, append_assoc, append-nil, ◌⊎◌, inl, inr, refl, ap, sym, ◌∙◌, subst, arith}
+-- The history is that of the loyal replica with the most closed slots: each loyal replica's is a prefix of it, it only grows, and
+-- no number of a client stands in it twice.
+use Rattle.std.proofs.Common.{◌≡◌, ℕ, zero, suc, ◌<◌, ◌≤◌, nat_lt, Bool, true, false, List, [], ◌∷◌, ◌++◌, length, if◌then◌else◌, ◌⊎◌, inl, inr, refl, ap, sym, ◌∙◌, subst, append_assoc, arith}
 use Rattle.std.specs.Prelude.{map}
-use Rattle.std.proofs.lemmas.Bool.{cases_lt, true≢false}
-use Rattle.std.proofs.lemmas.Bool.Decides.{nat_tests}
-use Rattle.std.proofs.lemmas.List.{map-append}
+use Rattle.std.proofs.lemmas.Bool.{cases_lt, false≢true}
+use Rattle.std.proofs.lemmas.Bool.Decides.{Decides-ltb}
+use Rattle.std.proofs.lemmas.List.{append-nil, map-append}
+use Rattle.std.proofs.Common.{length-append}
 use Rattle.dsr_base.specs.Growth.{Extends}
-use Rattle.dsr_names.specs.Shape.{Shape, is_traitor, IsLoyal}
+use Rattle.dsr_names.specs.Shape.{Shape, HasFewTraitors, is_traitor, IsLoyal}
+use Rattle.dsr_names.specs.declared.actor.Actor.{Actor}
 use Rattle.dsr_names.specs.declared.actor.Actor.TheVariants.{Replica}
-use Rattle.dsr_history.specs.History.{acted}
-use Rattle.dsr_history.proofs.Lemmas.{acted_extends}
+use Rattle.dsr_history.specs.History.{acted, requests_of, IsLegal}
+use Rattle.dsr_history.proofs.Lemmas.{acted_extends, legal_acting}
 use Rattle.dsr_chain.specs.Content.{requests_in}
 use Rattle.dsr_chain.specs.declared.slot_value.SlotValue.{SlotValue}
+use Rattle.dsr_slot.proofs.Lemmas.{by_test}
 use Rattle.dsr_replica.specs.Decided.{decided_requests}
+use Rattle.dsr_replica.proofs.Lemmas.{decided_later}
 use Rattle.dsr_world.specs.History.{decided_at, longer, most_decided, history}
-use Rattle.dsr_world.specs.Step.{Logs}
+use Rattle.dsr_world.specs.Run.{IsRun}
+use Rattle.dsr_world.specs.Step.{Step, Logs, log_of}
+use Rattle.dsr_world.proofs.Agreeing.{one_extends}
+use Rattle.dsr_world.proofs.Logs.{log_loyal}
 
--- ---- lists that extend others
+-- ---- lists that grow
 
-pub extends_all : {A : Type 0} (xs : List A) → Extends xs xs
-extends_all xs = ([], refl)
+pub extends_on : {A : Type 0} (last later first : List A) → Extends last later → Extends later first → Extends last first
+extends_on last later first g h = (g.0 ++ h.0, g.1 ∙ (ap (λ xs. g.0 ++ xs) h.1 ∙ sym (append_assoc g.0 h.0 first)))
 
-pub extends_none : {A : Type 0} (xs : List A) → Extends xs []
-extends_none xs = (xs, sym (append-nil xs))
+-- of two lists of which one grew from the other, one that is at least as long is the later one
+longer_is_later : {A : Type 0} (xs ys : List A) → length ys ≤ length xs → Extends xs ys ⊎ Extends ys xs → Extends xs ys
+longer_is_later xs ys long (inl grown) = grown
+longer_is_later xs ys long (inr ([], same)) = ([], sym same)
+longer_is_later xs ys long (inr (z ∷ zs, grown)) =
+    let count = length-append (z ∷ zs) xs in
+    let same = ap length grown in
+    absurd (omega (arith, long, count, same))
 
-pub extends_trans : {A : Type 0} (zs ys xs : List A) → Extends zs ys → Extends ys xs → Extends zs xs
-extends_trans zs ys xs more some = (more.0 ++ some.0, more.1 ∙ (ap (λ l. more.0 ++ l) some.1 ∙ sym (append_assoc more.0 some.0 xs)))
+-- the longer one of two lists is one of them, and at least as long as each
+longer_cases : {A : Type 0} (xs ys : List A) → ((length ys < length xs) × (longer xs ys ≡ xs)) ⊎ ((length xs ≤ length ys) × (longer xs ys ≡ ys))
+longer_cases xs ys = elim (by_test (nat_lt (length ys) (length xs)) (Decides-ltb (length ys) (length xs)) xs ys) [
+  | inl more ↦ inl (more.0, more.1)
+  | inr fewer ↦ let not_more = fewer.0 in inr (omega (arith, not_more), fewer.1)
+]
 
-pub extends_length : {A : Type 0} (ys xs : List A) → Extends ys xs → length xs ≤ length ys
-extends_length ys xs more = omega (arith, ap length more.1, length-append more.0 xs)
+-- ---- the most that was decided
 
--- a list that extends another and is no longer is that one
-no_longer : {A : Type 0} (xs ys newer : List A) → xs ≡ newer ++ ys → length xs ≤ length ys → xs ≡ ys
-no_longer xs ys [] e short = e
-no_longer xs ys (x ∷ newer) e short = absurd (omega (arith, short, ap length e, length-append newer ys))
-
--- the longer one of two lists extends both, where one of them extends the other
-pub longer_extends : {A : Type 0} (xs ys : List A) → Extends xs ys ⊎ Extends ys xs → Extends (longer xs ys) xs × Extends (longer xs ys) ys
-longer_extends xs ys either = by_length (nat_lt (length ys) (length xs)) refl
-  where
-    by_length : (b : Bool) → nat_lt (length ys) (length xs) ≡ b → Extends (if b then xs else ys) xs × Extends (if b then xs else ys) ys
-    by_length true is = (extends_all xs, first either)
-      where
-        first : Extends xs ys ⊎ Extends ys xs → Extends xs ys
-        first (inl more) = more
-        first (inr less) =
-            let at = extends_length ys xs less in
-            let below : length ys < length xs = grind (arith, nat_tests) in
-            absurd (omega (arith, at, below))
-    by_length false is = (second either, extends_all ys)
-      where
-        second : Extends xs ys ⊎ Extends ys xs → Extends ys xs
-        second (inl more) =
-            let within : length xs ≤ length ys = grind (arith, nat_tests) in
-            ([], sym (no_longer xs ys more.0 more.1 within))
-        second (inr less) = less
-
--- ---- the most decided values
-
--- of every two loyal replicas the values that one decided extend those of the other
-abbrev pub AreAlike : Shape → Logs → Type 0
-AreAlike shape logs = (p q : ℕ) → IsLoyal shape (Replica p) → IsLoyal shape (Replica q)
-    → Extends (decided_at shape logs p) (decided_at shape logs q) ⊎ Extends (decided_at shape logs q) (decided_at shape logs p)
-
--- there are no values, or they are what a loyal replica decided
-abbrev AreOfSome : Shape → Logs → List SlotValue → Type 0
-AreOfSome shape logs values = (values ≡ []) ⊎ ((p : ℕ) × IsLoyal shape (Replica p) × (values ≡ decided_at shape logs p))
+if_is : {A : Type 0} (b c : Bool) (x y : A) → b ≡ c → (if b then x else y) ≡ (if c then x else y)
+if_is b c x y e = ap (λ z. if z then x else y) e
 
 module _ (shape : Shape) (logs : Logs) where
-  from_step : (k : ℕ) → suc k ≤ shape.n → AreOfSome shape logs (most_decided shape logs k) → (b : Bool) → is_traitor shape k ≡ b
-      → AreOfSome shape logs (if b then most_decided shape logs k else longer (decided_at shape logs k) (most_decided shape logs k))
-  from_step k within before true is = before
-  from_step k within before false is = by_length (nat_lt (length (most_decided shape logs k)) (length (decided_at shape logs k)))
+  abbrev most : ℕ → List SlotValue
+  most = most_decided shape logs
+
+  -- a traitor counts for nothing, a loyal replica where it has decided more
+  past_traitor : (p : ℕ) → is_traitor shape p ≡ true → most (suc p) ≡ most p
+  past_traitor p traitor = if_is (is_traitor shape p) true (most p) (longer (decided_at shape logs p) (most p)) traitor
+
+  past_loyal : (p : ℕ) → is_traitor shape p ≡ false → most (suc p) ≡ longer (decided_at shape logs p) (most p)
+  past_loyal p loyal = if_is (is_traitor shape p) false (most p) (longer (decided_at shape logs p) (most p)) loyal
+
+  -- these values are what one of the first replicas decided, a loyal one
+  pub record IsFrom (values : List SlotValue) (count : ℕ) : Type 0 where
+    pub replica : ℕ
+    pub below : replica < count
+    pub loyal : is_traitor shape replica ≡ false
+    pub is : values ≡ decided_at shape logs replica
+
+  still_from : (values others : List SlotValue) (count : ℕ) → others ≡ values → (values ≡ []) ⊎ IsFrom values count
+      → (others ≡ []) ⊎ IsFrom others (suc count)
+  still_from values others count e (inl none) = inl (e ∙ none)
+  still_from values others count e (inr h) =
+      let low = h.below in inr (record { replica = h.replica; below = omega (arith, low); loyal = h.loyal; is = e ∙ h.is })
+
+  -- the most that was decided is what one loyal replica decided, or nothing
+  pub most_from : (count : ℕ) → (most count ≡ []) ⊎ IsFrom (most count) count
+  most_from zero = inl refl
+  most_from (suc p) = by_bit (is_traitor shape p) refl (most_from p)
     where
-      by_length : (b : Bool) → AreOfSome shape logs (if b then decided_at shape logs k else most_decided shape logs k)
-      by_length true = inr (k, (omega (arith, within), is), refl)
-      by_length false = before
-
-  -- the most decided values are a loyal replica's, or there are none
-  pub most_from : (k : ℕ) → k ≤ shape.n → AreOfSome shape logs (most_decided shape logs k)
-  most_from zero within = inl refl
-  most_from (suc k) within = from_step k within (most_from k (omega (arith, within))) (is_traitor shape k) refl
-
-  -- what a loyal replica decided and the most that those before it decided: one extends the other
-  either : AreAlike shape logs → (k : ℕ) → suc k ≤ shape.n → is_traitor shape k ≡ false
-      → Extends (decided_at shape logs k) (most_decided shape logs k) ⊎ Extends (most_decided shape logs k) (decided_at shape logs k)
-  either alike k within honest = elim (most_from k (omega (arith, within))) [
-    | inl none ↦ inl (subst (Extends (decided_at shape logs k)) (sym none) (extends_none (decided_at shape logs k)))
-    | inr some ↦
-        subst (λ l. Extends (decided_at shape logs k) l ⊎ Extends l (decided_at shape logs k)) (sym some.2)
-        (alike k some.0 (omega (arith, within), honest) some.1)
-  ]
-
-  extends_step : AreAlike shape logs → (k : ℕ) → suc k ≤ shape.n → (p : ℕ) → p < suc k → is_traitor shape p ≡ false
-      → (p < k → Extends (most_decided shape logs k) (decided_at shape logs p)) → (b : Bool) → is_traitor shape k ≡ b
-      → Extends (if b then most_decided shape logs k else longer (decided_at shape logs k) (most_decided shape logs k)) (decided_at shape logs p)
-  extends_step alike k within p below loyal older true is = elim (cases_lt p k) [
-    | inl earlier ↦ older earlier
-    | inr late ↦
-        let same : k ≡ p = omega (arith, late, below) in
-        absurd (true≢false (sym is ∙ (ap (is_traitor shape) same ∙ loyal)))
-  ]
-  extends_step alike k within p below loyal older false is =
-      let both = longer_extends (decided_at shape logs k) (most_decided shape logs k) (either alike k within is) in
-      elim (cases_lt p k) [
-        | inl earlier ↦
-            extends_trans (longer (decided_at shape logs k) (most_decided shape logs k)) (most_decided shape logs k) (decided_at shape logs p) both.1 (older earlier)
-        | inr late ↦
-            let same : k ≡ p = omega (arith, late, below) in
-            subst (λ x. Extends (longer (decided_at shape logs k) (most_decided shape logs k)) (decided_at shape logs x)) same both.0
+      by_bit : (b : Bool) → is_traitor shape p ≡ b → (most p ≡ []) ⊎ IsFrom (most p) p → (most (suc p) ≡ []) ⊎ IsFrom (most (suc p)) (suc p)
+      by_bit true traitor before = still_from (most p) (most (suc p)) p (past_traitor p traitor) before
+      by_bit false loyal before = elim (longer_cases (decided_at shape logs p) (most p)) [
+        | inl more ↦ inr (record { replica = p; below = omega arith; loyal = loyal; is = past_loyal p loyal ∙ more.1 })
+        | inr fewer ↦ still_from (most p) (most (suc p)) p (past_loyal p loyal ∙ fewer.1) before
       ]
 
-  -- they extend what each loyal replica decided
-  pub most_extends : AreAlike shape logs → (k : ℕ) → k ≤ shape.n → (p : ℕ) → p < k → is_traitor shape p ≡ false
-      → Extends (most_decided shape logs k) (decided_at shape logs p)
-  most_extends alike zero within p below loyal = absurd (omega (arith, below))
-  most_extends alike (suc k) within p below loyal =
-      extends_step alike k within p below loyal (λ earlier. most_extends alike k (omega (arith, within)) p earlier loyal) (is_traitor shape k) refl
+  -- no loyal replica has decided more
+  pub most_long : (count q : ℕ) → q < count → is_traitor shape q ≡ false → length (decided_at shape logs q) ≤ length (most count)
+  most_long zero q below loyal = absurd (omega (arith, below))
+  most_long (suc p) q below loyal = by_bit (is_traitor shape p) refl (λ lower. most_long p q lower loyal)
+    where
+      at_last : q ≡ p → length (decided_at shape logs q) ≤ length (decided_at shape logs p)
+      at_last e = let same = ap (λ z. length (decided_at shape logs z)) e in omega (arith, same)
 
--- ---- the history
+      by_bit : (b : Bool) → is_traitor shape p ≡ b → (q < p → length (decided_at shape logs q) ≤ length (most p)) → length (decided_at shape logs q) ≤ length (most (suc p))
+      by_bit true traitor earlier = elim (cases_lt q p) [
+        | inl lower ↦
+            let before = earlier lower in
+            let same = ap length (past_traitor p traitor) in
+            omega (arith, before, same)
+        | inr upper ↦
+            let last : q ≡ p = omega (arith, below, upper) in
+            absurd (false≢true (sym loyal ∙ (ap (is_traitor shape) last ∙ traitor)))
+      ]
+      by_bit false other earlier = elim (longer_cases (decided_at shape logs p) (most p)) [
+        | inl more ↦
+            let same = ap length (past_loyal p other ∙ more.1) in
+            let longest = more.0 in
+            elim (cases_lt q p) [
+              | inl lower ↦ let before = earlier lower in omega (arith, before, same, longest)
+              | inr upper ↦ let last = at_last (omega (arith, below, upper)) in omega (arith, last, same)
+            ]
+        | inr fewer ↦
+            let same = ap length (past_loyal p other ∙ fewer.1) in
+            let longest = fewer.0 in
+            elim (cases_lt q p) [
+              | inl lower ↦ let before = earlier lower in omega (arith, before, same)
+              | inr upper ↦ let last = at_last (omega (arith, below, upper)) in omega (arith, last, same, longest)
+            ]
+      ]
 
-acted_more : (later earlier : List SlotValue) → Extends later earlier → Extends (acted (map requests_in later)) (acted (map requests_in earlier))
-acted_more later earlier more =
-    let parts = acted_extends (map requests_in more.0) (map requests_in earlier) in
-    (parts.0, ap (λ vs. acted (map requests_in vs)) more.1 ∙ (ap acted (map-append requests_in more.0 earlier) ∙ parts.1))
+  -- the history is what one loyal replica has processed, or empty
+  pub history_is : (history shape logs ≡ [])
+      ⊎ ((p : ℕ) × IsLoyal shape (Replica p) × (history shape logs ≡ acted (decided_requests shape (logs (Replica p)))))
+  history_is = elim (most_from shape.n) [
+    | inl none ↦ inl (ap (λ vs. acted (map requests_in vs)) none)
+    | inr h ↦ inr (h.replica, (h.below, h.loyal), ap (λ vs. acted (map requests_in vs)) h.is)
+  ]
 
-module _ (shape : Shape) where
-  -- the history extends what acted at each loyal replica
-  pub history_extends : (logs : Logs) → AreAlike shape logs → (p : ℕ) → IsLoyal shape (Replica p)
-      → Extends (history shape logs) (acted (decided_requests shape (logs (Replica p))))
-  history_extends logs alike p loyal =
-      acted_more (most_decided shape logs shape.n) (decided_at shape logs p)
-      (most_extends shape logs alike shape.n (omega arith) p loyal.0 loyal.1)
+  -- no number of a client stands twice in the history, whatever the logs
+  pub history_legal : IsLegal (history shape logs)
+  history_legal = legal_acting (requests_of (map requests_in (most shape.n)))
 
-  -- the history grows where the logs of loyal replicas decide ever more
-  pub history_more : (later earlier : Logs) → AreAlike shape later
-      → ((p : ℕ) → IsLoyal shape (Replica p) → Extends (decided_at shape later p) (decided_at shape earlier p))
-      → Extends (history shape later) (history shape earlier)
-  history_more later earlier alike more =
-      acted_more (most_decided shape later shape.n) (most_decided shape earlier shape.n)
-      (elim (most_from shape earlier shape.n (omega arith)) [
-        | inl none ↦ subst (Extends (most_decided shape later shape.n)) (sym none) (extends_none (most_decided shape later shape.n))
-        | inr some ↦
-            subst (Extends (most_decided shape later shape.n)) (sym some.2)
-            (extends_trans (most_decided shape later shape.n) (decided_at shape later some.0) (decided_at shape earlier some.0)
-            (most_extends shape later alike shape.n (omega arith) some.0 some.1.0 some.1.1) (more some.0 some.1))
-      ])
+-- ---- in a run
+
+-- more decided values make a longer history
+pub acted_on : (later earlier : List SlotValue) → Extends later earlier → Extends (acted (map requests_in later)) (acted (map requests_in earlier))
+acted_on later earlier grown =
+    let parts = acted_extends (map requests_in grown.0) (map requests_in earlier) in
+    (parts.0, ap (λ vs. acted (map requests_in vs)) grown.1 ∙ (ap acted (map-append requests_in grown.0 earlier) ∙ parts.1))
+
+module _ (shape : Shape) (few : HasFewTraitors shape) (run : List Step) (is : IsRun shape run) where
+  -- what any loyal replica decided is a prefix of the most that was decided
+  pub most_extends : (p : ℕ) → IsLoyal shape (Replica p) → Extends (most_decided shape (log_of run) shape.n) (decided_at shape (log_of run) p)
+  most_extends p loyal =
+      let long = most_long shape (log_of run) shape.n p loyal.0 loyal.1 in
+      elim (most_from shape (log_of run) shape.n) [
+        | inl none ↦ longer_is_later (most_decided shape (log_of run) shape.n) (decided_at shape (log_of run) p) long (inr (from_none none))
+        | inr h ↦
+            longer_is_later (most_decided shape (log_of run) shape.n) (decided_at shape (log_of run) p) long
+            (subst (λ vs. Extends vs (decided_at shape (log_of run) p) ⊎ Extends (decided_at shape (log_of run) p) vs) (sym h.is)
+            (one_extends shape few run is h.replica p (h.below, h.loyal) loyal))
+      ]
+    where
+      from_none : most_decided shape (log_of run) shape.n ≡ [] → Extends (decided_at shape (log_of run) p) (most_decided shape (log_of run) shape.n)
+      from_none none =
+          (decided_at shape (log_of run) p, sym (append-nil (decided_at shape (log_of run) p)) ∙ ap (λ vs. decided_at shape (log_of run) p ++ vs) (sym none))
+
+  -- so its own history is a prefix of the history
+  pub history_extends : (p : ℕ) → IsLoyal shape (Replica p) → Extends (history shape (log_of run)) (acted (decided_requests shape (log_of run (Replica p))))
+  history_extends p loyal = acted_on (most_decided shape (log_of run) shape.n) (decided_at shape (log_of run) p) (most_extends p loyal)
+
+  -- what was decided by logs with which those of the run begin is a prefix of what is decided
+  most_grows : (earlier : Logs) → ((a : Actor) → Extends (log_of run a) (earlier a))
+      → Extends (most_decided shape (log_of run) shape.n) (most_decided shape earlier shape.n)
+  most_grows earlier grown = elim (most_from shape earlier shape.n) [
+    | inl none ↦ (
+      most_decided shape (log_of run) shape.n,
+      sym (append-nil (most_decided shape (log_of run) shape.n)) ∙ ap (λ vs. most_decided shape (log_of run) shape.n ++ vs) (sym none),
+    )
+    | inr h ↦
+        let some = some_replica h.replica h.below in
+        subst (Extends (most_decided shape (log_of run) shape.n)) (sym h.is)
+        (extends_on (most_decided shape (log_of run) shape.n) (decided_at shape (log_of run) h.replica) (decided_at shape earlier h.replica)
+        (most_extends h.replica (h.below, h.loyal))
+        (decided_later shape (Replica h.replica) some (log_of run (Replica h.replica)) (earlier (Replica h.replica))
+        (log_loyal shape h.replica h.loyal run is) (grown (Replica h.replica))))
+  ]
+    where
+      some_replica : (p : ℕ) → p < shape.n → 0 < shape.n
+      some_replica p inside = omega (arith, inside)
+
+  -- the history of such logs is a prefix of the history
+  pub history_grows : (earlier : Logs) → ((a : Actor) → Extends (log_of run a) (earlier a)) → Extends (history shape (log_of run)) (history shape earlier)
+  history_grows earlier grown =
+      acted_on (most_decided shape (log_of run) shape.n) (most_decided shape earlier shape.n) (most_grows earlier grown)

@@ -1,5 +1,5 @@
 -- A client's seen front is within the history, and the request that it asks for next is not: so its place is not before the front.
-use Rattle.std.proofs.Common.{◌≡◌, ℕ, ◌≤◌, Bool, true, false, if◌then◌else◌, List, [], ◌∷◌, ◌++◌, None, Some, length, ◌⊎◌, inl, inr, refl, ap, sym, ◌∙◌, subst, arith}
+use Rattle.std.proofs.Common.{◌≡◌, ℕ, ◌≤◌, Bool, true, false, if◌then◌else◌, List, [], ◌∷◌, ◌++◌, None, Some, length, length-append, ◌⊎◌, inl, inr, refl, ap, sym, ◌∙◌, subst, arith}
 use Rattle.std.specs.Option.{option_or}
 use Rattle.std.proofs.lemmas.Bool.{cases_lt, true≢false}
 use Rattle.std.proofs.lemmas.Bool.Decides.{Decides-eqb}
@@ -25,37 +25,18 @@ use Rattle.dsr_world.specs.Run.{KeepsConduct, IsRun}
 use Rattle.dsr_world.specs.Step.{Step, log_of}
 use Rattle.dsr_world.proofs.Accepting.{WasPosted, stands_in, stands_below, history_posted, accepted_right}
 use Rattle.dsr_world.proofs.Boxes.{from_log, taken_was_posted}
-use Rattle.dsr_world.proofs.Histories.{AreAlike, extends_all, extends_length, history_more}
-use Rattle.dsr_world.proofs.Logs.{log_cases, log_loyal, run_before}
+use Rattle.dsr_world.proofs.Histories.{history_grows}
+use Rattle.dsr_world.proofs.Logs.{log_cases, run_before, logs_grew}
 
--- a run's logs extend those of each earlier time
-log_with : (newer older : List Step) (a : Actor) → Extends (log_of (newer ++ older) a) (log_of older a)
-log_with [] older a = extends_all (log_of older a)
-log_with (step ∷ newer) older a = elim (log_cases step (newer ++ older) a) [
-  | inl own ↦ let before = log_with newer older a in (step.1 ∷ before.0, own.1 ∙ ap (λ l. step.1 ∷ l) before.1)
-  | inr other ↦ let before = log_with newer older a in (before.0, other.1 ∙ before.1)
-]
+-- a list is no longer than one that extends it
+extends_length : {A : Type 0} (later earlier : List A) → Extends later earlier → length earlier ≤ length later
+extends_length later earlier more = omega (arith, ap length more.1, length-append more.0 earlier)
 
-pub log_grows : (run earlier : List Step) → Extends run earlier → (a : Actor) → Extends (log_of run a) (log_of earlier a)
-log_grows run earlier more a = subst (λ w. Extends (log_of w a) (log_of earlier a)) (sym more.1) (log_with more.0 earlier a)
-
--- in each run the values of loyal replicas extend one another
-abbrev pub AllAlike : Shape → Type 0
-AllAlike shape = (run : List Step) → IsRun shape run → AreAlike shape (log_of run)
-
-module _ (shape : Shape) (alike : AllAlike shape) where
-  -- where each log of one run is a prefix of the same actor's log in another, so is its history (only the later one must be a run)
-  pub history_grows : (later earlier : List Step) → IsRun shape later → ((a : Actor) → Extends (log_of later a) (log_of earlier a))
-      → Extends (history shape (log_of later)) (history shape (log_of earlier))
-  history_grows later earlier is more =
-      history_more shape (log_of later) (log_of earlier) (alike later is)
-      (λ p loyal. decided_later shape (Replica p) (omega (arith, loyal.0)) (log_of later (Replica p)) (log_of earlier (Replica p))
-      (log_loyal shape p loyal.1 later is) (more (Replica p)))
-
+module _ (shape : Shape) (few : HasFewTraitors shape) where
   -- the history of a run has that of each earlier time in it
   pub history_since : (run earlier : List Step) → IsRun shape run → Extends run earlier
       → Extends (history shape (log_of run)) (history shape (log_of earlier))
-  history_since run earlier is more = history_grows run earlier is (log_grows run earlier more)
+  history_since run earlier is more = history_grows shape few run is (log_of earlier) (logs_grew run earlier more)
 
   -- ---- seen fronts
 
@@ -82,13 +63,13 @@ module _ (shape : Shape) (alike : AllAlike shape) where
       same_front : (a b : ℕ) → Seen a ≡ Seen b → a ≡ b
       same_front a b e = cc
 
-  pub fronts : HasFewTraitors shape → (run : List Step) → IsRun shape run → AreFronts run
-  fronts few [] is = record { had = λ c. omega arith; told = λ c d front h. elim h [ ] }
-  fronts few (step ∷ older) is =
-      let told = told_now step older is (fronts few older is.0) in
+  pub fronts : (run : List Step) → IsRun shape run → AreFronts run
+  fronts [] is = record { had = λ c. omega arith; told = λ c d front h. elim h [ ] }
+  fronts (step ∷ older) is =
+      let told = told_now step older is (fronts older is.0) in
       record {
         had = λ c. seen_below shape (log_of (step ∷ older) (Client c)) (length (history shape (log_of (step ∷ older))))
-            (λ w h. let right = accepted_right shape (step ∷ older) is (alike (step ∷ older) is) few c w h in
+            (λ w h. let right = accepted_right shape (step ∷ older) is few c w h in
             stands_below (history shape (log_of (step ∷ older))) w.place right.request w.answer right.stands)
             (λ d front h. told c d front (taken_was_posted shape (step ∷ older) is (Client d) (Client c) (Seen front) h));
         told = told;
@@ -168,14 +149,14 @@ module _ (shape : Shape) (alike : AllAlike shape) where
   issue_cases (step ∷ older) c number = issue_step step older c number (issue_cases older c number)
 
   -- the place of a request that a client asked for is not before what it had seen when it first did
-  pub not_before : HasFewTraitors shape → (run : List Step) → IsRun shape run → (c : ℕ) (q : Request) (place : ℕ) (answer : Answer)
+  pub not_before : (run : List Step) → IsRun shape run → (c : ℕ) (q : Request) (place : ℕ) (answer : Answer)
       → q.client ≡ c → StandsAt (history shape (log_of run)) place q answer → WasPosted (log_of run (Client c)) q
       → (front : ℕ) × (issue_front shape q.number (log_of run (Client c)) ≡ Some front) × (front ≤ place)
-  not_before few run is c q place answer client stands posted = elim (issue_cases run c q.number) [
+  not_before run is c q place answer client stands posted = elim (issue_cases run c q.number) [
     | inr never ↦ absurd (never.none posted.to posted.ask posted.posted (ap (λ r. r.number) posted.is))
     | inl h ↦
         let earlier = run_before shape run h.earlier is h.since in
-        let front = (fronts few h.earlier earlier).had c in
+        let front = (fronts h.earlier earlier).had c in
         let late = later_place h earlier in
         (seen shape (log_of h.earlier (Client c)), h.front_is, omega (arith, front, late))
   ]

@@ -7,8 +7,10 @@ mod Forging
 pub mod Lemmas
 mod Histories
 mod Issuing
+mod Links
 mod Logs
 mod Playing
 mod Righting
 mod Posts
+mod Proposing
 mod Signing

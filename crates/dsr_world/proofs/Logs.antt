@@ -1,5 +1,5 @@
 -- The logs of a run: each step is an entry of its actor's log, and the logs of loyal actors keep their conduct.
-use Rattle.std.proofs.Common.{◌≡◌, ℕ, false, List, [], ◌∷◌, ◌++◌, ◌⊎◌, inl, inr, sym, subst}
+use Rattle.std.proofs.Common.{◌≡◌, ℕ, false, List, [], ◌∷◌, ◌++◌, ◌⊎◌, inl, inr, refl, ap, sym, ◌∙◌, subst}
 use Rattle.dsr_base.specs.Growth.{Extends}
 use Rattle.dsr_names.specs.Shape.{Shape, is_traitor}
 use Rattle.dsr_names.specs.declared.actor.Actor.{Actor}
@@ -8,8 +8,8 @@ use Rattle.dsr_names.specs.Support.ActorEquality.{actor_eq, actor_eq-Decides}
 use Rattle.dsr_slot.proofs.Lemmas.{by_test}
 use Rattle.dsr_replica.specs.Conduct.{IsLoyalLog}
 use Rattle.dsr_client.specs.Conduct.{IsClientLog}
-use Rattle.dsr_world.specs.Run.{KeepsConduct, IsRun}
-use Rattle.dsr_world.specs.Step.{Step, log_of}
+use Rattle.dsr_world.specs.Run.{KeepsConduct, IsNextStep, IsRun, AreLogs}
+use Rattle.dsr_world.specs.Step.{Step, Logs, with_step, log_of}
 
 -- a step adds its entry to the log of its actor, and to no other
 pub log_cases : (step : Step) (older : List Step) (a : Actor)
@@ -49,3 +49,33 @@ module _ (shape : Shape) where
             subst (IsClientLog shape c) (sym own.1) (before, keeps)
         | inr other ↦ subst (IsClientLog shape c) (sym other.1) before
       ]
+
+-- ---- earlier logs
+
+-- each log of a run began as it was at an earlier time
+pub logs_grow : (newer older : List Step) (a : Actor) → Extends (log_of (newer ++ older) a) (log_of older a)
+logs_grow [] older a = ([], refl)
+logs_grow (step ∷ newer) older a =
+    let before = logs_grow newer older a in
+    elim (log_cases step (newer ++ older) a) [
+      | inl own ↦ (step.1 ∷ before.0, own.1 ∙ ap (λ es. step.1 ∷ es) before.1)
+      | inr other ↦ (before.0, other.1 ∙ before.1)
+    ]
+
+pub logs_grew : (run earlier : List Step) → Extends run earlier → (a : Actor) → Extends (log_of run a) (log_of earlier a)
+logs_grew run earlier grown a = subst (λ r. Extends (log_of r a) (log_of earlier a)) (sym grown.1) (logs_grow grown.0 earlier a)
+
+-- ---- the logs of a run
+
+-- they go on with each step that may be next
+pub logs_step : (shape : Shape) (logs : Logs) (step : Step) → AreLogs shape logs → IsNextStep shape logs step → AreLogs shape (with_step step logs)
+logs_step shape logs step are next =
+    let same : log_of are.run ≡ logs = λ i a. are.each a i in
+    record {
+      run = step ∷ are.run;
+      is = (are.is, subst (λ l. IsNextStep shape l step) (sym same) next);
+      each = λ a. ap (λ l. with_step step l a) same;
+    }
+
+pub no_logs : (shape : Shape) → AreLogs shape (λ a. [])
+no_logs shape = record { run = []; is = tt; each = λ a. refl }

@@ -23,25 +23,22 @@ use Rattle.dsr_world.specs.Right.{issue_front, IsRightReply, IsRight}
 use Rattle.dsr_world.specs.Run.{IsRun}
 use Rattle.dsr_world.specs.Step.{Step, log_of}
 use Rattle.dsr_world.proofs.Accepting.{WasPosted, stands_in, history_posted, reply_right, accepted_right}
-use Rattle.dsr_world.proofs.Issuing.{AllAlike, history_since, not_before}
-
--- the history is legal
-pub history_legal : (shape : Shape) (logs : Actor → List Entry) → IsLegal (history shape logs)
-history_legal shape logs = legal_acting (requests_of (map requests_in (most_decided shape logs shape.n)))
+use Rattle.dsr_world.proofs.Issuing.{history_since, not_before}
+use Rattle.dsr_world.proofs.Histories.{history_legal}
 
 -- all of the first numbers pass a test that all pass
 count_all : (n : ℕ) → count_below (λ p. true) n ≡ n
 count_all zero = refl
 count_all (suc n) = let before = count_all n in omega (arith, before)
 
-module _ (shape : Shape) (alike : AllAlike shape) (few : HasFewTraitors shape) where
+module _ (shape : Shape) (few : HasFewTraitors shape) where
   pub right_reply : (run : List Step) → IsRun shape run → (c : ℕ) (r : AReply) → In r (accepted_by shape (log_of run) c)
       → IsRightReply shape (history shape (log_of run)) (log_of run (Client c)) r
   right_reply run is c r h =
-      let right = accepted_right shape run is (alike run is) few c r h in
+      let right = accepted_right shape run is few c r h in
       let posted = subst (λ d. WasPosted (log_of run (Client d)) right.request) right.client_is
       (history_posted shape run is right.request (stands_in (history shape (log_of run)) r.place right.request r.answer right.stands)) in
-      let front = not_before shape alike few run is c right.request r.place r.answer right.client_is right.stands posted in
+      let front = not_before shape few run is c right.request r.place r.answer right.client_is right.stands posted in
       record {
         replica = posted.to;
         ask = posted.ask;
@@ -58,15 +55,15 @@ module _ (shape : Shape) (alike : AllAlike shape) (few : HasFewTraitors shape) w
   all_right run is = record {
     replies = λ c inside r h. right_reply run is c r h;
     legal = history_legal shape (log_of run);
-    grew = λ earlier since. history_since shape alike run earlier is since;
+    grew = λ earlier since. history_since shape few run earlier is since;
   }
 
   -- two replies of one number by loyal replicas to one client are the same
   same_reply : (run : List Step) → IsRun shape run → (c p q : ℕ) → IsLoyal shape (Replica p) → IsLoyal shape (Replica q) → (r s : AReply)
       → In (Take (Replica p) (Reply r)) (log_of run (Client c)) → In (Take (Replica q) (Reply s)) (log_of run (Client c)) → r.number ≡ s.number → r ≡ s
   same_reply run is c p q loyal loyal_other r s h k number =
-      let first = reply_right shape run is (alike run is) c p loyal r h in
-      let second = reply_right shape run is (alike run is) c q loyal_other s k in
+      let first = reply_right shape run is few c p loyal r h in
+      let second = reply_right shape run is few c q loyal_other s k in
       let once = stands_once (history shape (log_of run)) r.place s.place first.request second.request r.answer s.answer (history_legal shape (log_of run))
       first.stands second.stands (first.client_is ∙ sym second.client_is) (first.number_is ∙ (number ∙ sym second.number_is)) in
       λ i. record { number = number i; place = once.1 i; answer = once.2 i }

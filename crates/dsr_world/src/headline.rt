@@ -26,17 +26,6 @@ pub fn runs_are_right()
     ensures right { (shape : Shape) (run : List Step) → HasFewTraitors shape → IsRun shape run → IsRight shape run }
     ensures replies { (shape : Shape) (run : List Step) → HasFewTraitors shape → IsRun shape run → (c : ℕ) (reply : AReply)
         → In reply (accepted_by shape (log_of run) c) → IsRightReply shape (history shape (log_of run)) (log_of run (Client c)) reply }
-    ensures legal { (shape : Shape) (logs : Logs) → IsLegal (history shape logs) }
-{}
-
-/// The history only grows. Where each actor's log in one run is a prefix of its log in another, the history of the first run is a
-/// prefix of the other's: so it is at each earlier time of a run. Histories stand latest first.
-pub fn histories_only_grow()
-    ensures logs { (shape : Shape) (later earlier : List Step) → HasFewTraitors shape → IsRun shape later
-        → ((a : Actor) → Extends (log_of later a) (log_of earlier a))
-        → Extends (history shape (log_of later)) (history shape (log_of earlier)) }
-    ensures times { (shape : Shape) (run earlier : List Step) → HasFewTraitors shape → IsRun shape run → Extends run earlier
-        → Extends (history shape (log_of run)) (history shape (log_of earlier)) }
 {}
 
 /// A client is answered, where at most f replicas are traitors and n is at least 2f+1: if it took a reply to its request from each

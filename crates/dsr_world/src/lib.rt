@@ -9,7 +9,9 @@ mod mail_boxes;
 mod party;
 
 pub use event::Event;
-pub use headline::{clients_are_answered, histories_only_grow, runs_are_right};
+pub use headline::{clients_are_answered, runs_are_right};
 pub use laws::{
-    boxes_hold_one_envelope, loyal_replicas_agree, no_signature_is_forged, runs_keep_conduct,
+    boxes_hold_one_envelope, history_only_grows, loyal_replicas_agree,
+    loyal_replicas_sign_few_links, loyal_senders_values_are_decided, no_signature_is_forged,
+    runs_go_on, runs_keep_conduct,
 };

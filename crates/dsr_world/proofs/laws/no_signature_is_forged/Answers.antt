@@ -1,8 +1,11 @@
 use Rattle.std.proofs.Common.{◌∷◌}
-use Rattle.dsr_world.proofs.Forging.{step_made}
+use Rattle.dsr_world.proofs.Forging.{step_made, taken_made}
 use Rattle.dsr_world.proofs.Logs.{run_before}
 use Rattle.dsr_world.proofs.laws.no_signature_is_forged.Goals as goal
 
-pub returns : goal.returns
-returns c shape run older step is grown s carried =
+pub returns-clause-steps : goal.returns-clause-steps
+returns-clause-steps c shape run older step is grown s carried =
     step_made shape step older (run_before shape run (step ∷ older) is grown) s carried
+
+pub returns-clause-taken : goal.returns-clause-taken
+returns-clause-taken c shape run is a s taken = taken_made shape run is a s taken
