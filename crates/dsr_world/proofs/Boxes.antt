@@ -52,7 +52,7 @@ posted_entry a (Post to x ∷ older) envelope h =
 -- ---- one step
 
 -- a post adds its envelope to what its actor posted there, and to nothing else that was posted
-posted_cases : (actor to : Actor) (x : Envelope) (older : List Step) (a b : Actor)
+pub posted_cases : (actor to : Actor) (x : Envelope) (older : List Step) (a b : Actor)
     → ((actor ≡ a) × (to ≡ b) × (posted_to b (log_of ((actor, Post to x) ∷ older) a) ≡ posted_to b (log_of older a) ++ x ∷ []))
     ⊎ (posted_to b (log_of ((actor, Post to x) ∷ older) a) ≡ posted_to b (log_of older a))
 posted_cases actor to x older a b = elim (log_cases (actor, Post to x) older a) [
@@ -64,7 +64,7 @@ posted_cases actor to x older a b = elim (log_cases (actor, Post to x) older a) 
 ]
 
 -- a take adds nothing to what was posted
-posted_still : (actor from : Actor) (x : Envelope) (older : List Step) (a b : Actor)
+pub posted_still : (actor from : Actor) (x : Envelope) (older : List Step) (a b : Actor)
     → posted_to b (log_of ((actor, Take from x) ∷ older) a) ≡ posted_to b (log_of older a)
 posted_still actor from x older a b = elim (log_cases (actor, Take from x) older a) [
   | inl own ↦ ap (posted_to b) own.1
@@ -72,7 +72,7 @@ posted_still actor from x older a b = elim (log_cases (actor, Take from x) older
 ]
 
 -- a take adds its envelope to what its actor took from there, and to nothing else that was taken
-taken_cases : (actor from : Actor) (x : Envelope) (older : List Step) (a b : Actor)
+pub taken_cases : (actor from : Actor) (x : Envelope) (older : List Step) (a b : Actor)
     → ((actor ≡ b) × (from ≡ a) × (taken_from a (log_of ((actor, Take from x) ∷ older) b) ≡ taken_from a (log_of older b) ++ x ∷ []))
     ⊎ (taken_from a (log_of ((actor, Take from x) ∷ older) b) ≡ taken_from a (log_of older b))
 taken_cases actor from x older a b = elim (log_cases (actor, Take from x) older b) [
@@ -84,7 +84,7 @@ taken_cases actor from x older a b = elim (log_cases (actor, Take from x) older 
 ]
 
 -- a post adds nothing to what was taken
-taken_still : (actor to : Actor) (x : Envelope) (older : List Step) (a b : Actor)
+pub taken_still : (actor to : Actor) (x : Envelope) (older : List Step) (a b : Actor)
     → taken_from a (log_of ((actor, Post to x) ∷ older) b) ≡ taken_from a (log_of older b)
 taken_still actor to x older a b = elim (log_cases (actor, Post to x) older b) [
   | inl own ↦ ap (taken_from a) own.1

@@ -14,3 +14,4 @@ mod Righting
 mod Posts
 mod Proposing
 mod Signing
+mod Stepping

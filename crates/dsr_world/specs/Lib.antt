@@ -5,3 +5,4 @@ pub mod Right
 pub mod Run
 pub mod Step
 pub mod Support
+pub mod World

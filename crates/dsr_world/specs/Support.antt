@@ -2,3 +2,4 @@
 pub mod Boxes
 pub mod Customer
 pub mod Party
+pub mod WorldFields

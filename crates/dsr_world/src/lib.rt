@@ -7,6 +7,7 @@ mod headline;
 mod laws;
 mod mail_boxes;
 mod party;
+mod world;
 
 pub use event::Event;
 pub use headline::{clients_are_answered, runs_are_right};
@@ -15,3 +16,4 @@ pub use laws::{
     loyal_replicas_sign_few_links, loyal_senders_values_are_decided, no_signature_is_forged,
     runs_go_on, runs_keep_conduct,
 };
+pub use world::World;

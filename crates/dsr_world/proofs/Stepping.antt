@@ -1,0 +1,298 @@
+-- How the fields of a world go on standing for its run with each step.
+use Rattle.std.proofs.Common.{◌≡◌, ◌≢◌, ◌↔◌, ℕ, suc, ◌+◌, ◌<◌, ◌==◌, Bool, true, false, List, [], ◌∷◌, ◌++◌, Option, None, Some, length, length-append, append_assoc, append-nil, ◌⊎◌, inl, inr, refl, ap, ap₂, sym, ◌∙◌, subst, arith}
+use Rattle.std.specs.Prelude.{slice_set, slice_index_or}
+use Rattle.std.proofs.lemmas.List.{get_or-set_same, get_or-set_other, length-set}
+use Rattle.std.proofs.lemmas.Bool.Decides.{Decides-eqb}
+use Rattle.dsr_base.specs.Member.{In, here, there}
+use Rattle.dsr_names.specs.Shape.{Shape, IsActor, IsLoyal}
+use Rattle.dsr_names.specs.declared.actor.Actor.{Actor}
+use Rattle.dsr_names.specs.declared.actor.Actor.TheVariants.{Replica, Client}
+use Rattle.dsr_desk.specs.Signature.{Signature}
+use Rattle.dsr_names.specs.Support.ActorEquality.{actor_eq, actor_eq-Decides}
+use Rattle.dsr_slot.proofs.Lemmas.{holds_or_not, by_test}
+use Rattle.dsr_replica.specs.declared.envelope.Envelope.{Envelope}
+use Rattle.dsr_replica.specs.declared.entry.Entry.{Entry}
+use Rattle.dsr_replica.specs.declared.entry.Entry.TheVariants.{Post, Take}
+use Rattle.dsr_replica.specs.Envelope.{Carries}
+use Rattle.dsr_replica.specs.Log.{posted_to, taken_from}
+use Rattle.dsr_world.specs.Run.{HasPosted}
+use Rattle.dsr_world.specs.Step.{Step, Logs, log_of}
+use Rattle.dsr_world.specs.Support.Boxes.{empty_box, box_in, row_of, box_at, with_box, with_post, without_letter, held_in, AreSquare, IsBoxOf}
+use Rattle.dsr_world.specs.Support.Party.{Plays}
+use Rattle.dsr_world.specs.Support.WorldFields.{place_of, ArePlayed, AreBoxes, KnowsPosts}
+use Rattle.dsr_world.specs.declared.mail_boxes.MailBox.{MailBox}
+use Rattle.dsr_world.specs.declared.party.Party.{Party}
+use Rattle.dsr_world.proofs.Boxes.{from_log, posted_cases, posted_still, taken_cases, taken_still}
+use Rattle.dsr_world.proofs.Forging.{has_posted_later}
+use Rattle.dsr_world.proofs.Logs.{log_cases}
+
+-- ---- places
+
+pub place_below : (shape : Shape) (who : Actor) → IsActor shape who → place_of shape who < shape.n + shape.m
+place_below shape (Replica p) inside = omega (arith, inside)
+place_below shape (Client c) inside = omega (arith, inside)
+
+-- different actors have different places
+pub same_place : (shape : Shape) (a b : Actor) → IsActor shape a → IsActor shape b → place_of shape a ≡ place_of shape b → a ≡ b
+same_place shape (Replica p) (Replica q) inside too e = ap Replica e
+same_place shape (Replica p) (Client c) inside too e = absurd (omega (arith, inside, e))
+same_place shape (Client c) (Replica q) inside too e = absurd (omega (arith, too, e))
+same_place shape (Client c) (Client d) inside too e = let same : c ≡ d = omega (arith, e) in ap Client same
+
+-- ---- parties
+
+-- the party of the step's actor plays it with the step, and all others go on
+pub played_step : (shape : Shape) (older : List Step) (parties : List Party) (step : Step) (x : Party) → ArePlayed shape (log_of older) parties
+    → IsActor shape step.0 → Plays shape step.0 (step.1 ∷ log_of older step.0) x
+    → ArePlayed shape (log_of (step ∷ older)) (slice_set parties (place_of shape step.0) x)
+played_step shape older parties step x are actor plays = record {
+  count = length-set parties (place_of shape step.0) x ∙ are.count;
+  each = λ who inside d. elim (log_cases step older who) [
+    | inl own ↦
+        let here_is : place_of shape step.0 < length parties = let below = place_below shape step.0 actor in omega (arith, below, are.count) in
+        subst (λ a. Plays shape a (log_of (step ∷ older) a) (slice_index_or (slice_set parties (place_of shape step.0) x) (place_of shape a) d)) own.0
+        (subst (λ y. Plays shape step.0 (log_of (step ∷ older) step.0) y) (sym (get_or-set_same parties (place_of shape step.0) x d here_is))
+        (subst (λ l. Plays shape step.0 l x) (sym (subst (λ a. log_of (step ∷ older) a ≡ step.1 ∷ log_of older a) (sym own.0) own.1)) plays))
+    | inr other ↦
+        subst (λ l. Plays shape who l (slice_index_or (slice_set parties (place_of shape step.0) x) (place_of shape who) d)) (sym other.1)
+        (subst (Plays shape who (log_of older who))
+        (sym (get_or-set_other parties (place_of shape step.0) (place_of shape who) x d (λ e. other.0 (same_place shape step.0 who actor inside (sym e)))))
+        (are.each who inside d))
+  ];
+}
+
+-- a party that plays on as another one does changes nothing
+pub played_same : (shape : Shape) (logs : Logs) (parties : List Party) (who : Actor) (x : Party) → ArePlayed shape logs parties
+    → IsActor shape who → Plays shape who (logs who) x → ArePlayed shape logs (slice_set parties (place_of shape who) x)
+played_same shape logs parties who x are actor plays = record {
+  count = length-set parties (place_of shape who) x ∙ are.count;
+  each = λ other inside d. by_place other inside d;
+}
+  where
+    by_place : (other : Actor) → IsActor shape other → (d : Party) → Plays shape other (logs other) (slice_index_or (slice_set parties (place_of shape who) x) (place_of shape other) d)
+    by_place other inside d = elim (holds_or_not (actor_eq who other) (actor_eq-Decides who other)) [
+      | inl own ↦
+          let here_is : place_of shape who < length parties = let below = place_below shape who actor in omega (arith, below, are.count) in
+          subst (λ a. Plays shape a (logs a) (slice_index_or (slice_set parties (place_of shape who) x) (place_of shape a) d)) own
+          (subst (Plays shape who (logs who)) (sym (get_or-set_same parties (place_of shape who) x d here_is)) plays)
+      | inr apart ↦
+          subst (Plays shape other (logs other))
+          (sym (get_or-set_other parties (place_of shape who) (place_of shape other) x d (λ e. apart (same_place shape who other actor inside (sym e)))))
+          (are.each other inside d)
+    ]
+
+-- ---- boxes
+
+-- the box of a pair of actors in rows with another box
+box_same : (n from to : ℕ) (rows : List (List MailBox)) (x : MailBox) → AreSquare n rows → from < n → to < n → box_at (with_box rows from to x) from to ≡ x
+box_same n from to rows x square below inside =
+    let rows_long : from < length rows = let count = square.count in omega (arith, below, count) in
+    let row_long : to < length (row_of rows from) = let count = square.each from below in omega (arith, inside, count) in
+    ap (λ row. box_in row to) (get_or-set_same rows from (slice_set (row_of rows from) to x) [] rows_long)
+    ∙ get_or-set_same (row_of rows from) to x empty_box row_long
+
+box_other : (n from to a b : ℕ) (rows : List (List MailBox)) (x : MailBox) → AreSquare n rows → from < n → (a ≡ from → b ≢ to)
+    → box_at (with_box rows from to x) a b ≡ box_at rows a b
+box_other n from to a b rows x square below apart = elim (holds_or_not (a == from) (Decides-eqb a from)) [
+  | inr other ↦ ap (λ row. box_in row b) (get_or-set_other rows from a (slice_set (row_of rows from) to x) [] other)
+  | inl same ↦
+      let rows_long : from < length rows = let count = square.count in omega (arith, below, count) in
+      ap (λ k. box_in (row_of (with_box rows from to x) k) b) same
+      ∙ (ap (λ row. box_in row b) (get_or-set_same rows from (slice_set (row_of rows from) to x) [] rows_long)
+      ∙ (get_or-set_other (row_of rows from) to b x empty_box (apart same)
+      ∙ ap (λ k. box_in (row_of rows k) b) (sym same)))
+]
+
+still_square : (n from to : ℕ) (rows : List (List MailBox)) (x : MailBox) → AreSquare n rows → from < n → AreSquare n (with_box rows from to x)
+still_square n from to rows x square below = record {
+  count = length-set rows from (slice_set (row_of rows from) to x) ∙ square.count;
+  each = λ a inside. elim (holds_or_not (a == from) (Decides-eqb a from)) [
+    | inr other ↦ ap length (get_or-set_other rows from a (slice_set (row_of rows from) to x) [] other) ∙ square.each a inside
+    | inl same ↦
+        let rows_long : from < length rows = let count = square.count in omega (arith, below, count) in
+        ap (λ k. length (row_of (with_box rows from to x) k)) same
+        ∙ (ap length (get_or-set_same rows from (slice_set (row_of rows from) to x) [] rows_long)
+        ∙ (length-set (row_of rows from) to x ∙ square.each from below))
+  ];
+}
+
+-- what is one pair of actors or another
+same_pair : (shape : Shape) (from to a b : Actor) → IsActor shape from → IsActor shape to → IsActor shape a → IsActor shape b
+    → ((from ≡ a) × (to ≡ b)) ⊎ (place_of shape a ≡ place_of shape from → place_of shape b ≢ place_of shape to)
+same_pair shape from to a b actor other inside too = elim (holds_or_not (actor_eq from a) (actor_eq-Decides from a)) [
+  | inr apart ↦ inr (λ e. absurd (apart (same_place shape from a actor inside (sym e))))
+  | inl same ↦ elim (holds_or_not (actor_eq to b) (actor_eq-Decides to b)) [
+    | inr apart ↦ inr (λ e f. apart (same_place shape to b other too (sym f)))
+    | inl equal ↦ inl (same, equal)
+  ]
+]
+
+posted_now : (from to : Actor) (x : Envelope) (older : List Step)
+    → posted_to to (log_of ((from, Post to x) ∷ older) from) ≡ posted_to to (log_of older from) ++ x ∷ []
+posted_now from to x older = elim (log_cases (from, Post to x) older from) [
+  | inr other ↦ absurd (other.0 refl)
+  | inl own ↦ elim (by_test (actor_eq to to) (actor_eq-Decides to to) (posted_to to (log_of older from) ++ x ∷ []) (posted_to to (log_of older from))) [
+    | inl same ↦ ap (posted_to to) own.1 ∙ same.1
+    | inr other ↦ absurd (other.0 refl)
+  ]
+]
+
+taken_now : (at from : Actor) (x : Envelope) (older : List Step)
+    → taken_from from (log_of ((at, Take from x) ∷ older) at) ≡ taken_from from (log_of older at) ++ x ∷ []
+taken_now at from x older = elim (log_cases (at, Take from x) older at) [
+  | inr other ↦ absurd (other.0 refl)
+  | inl own ↦ elim (by_test (actor_eq from from) (actor_eq-Decides from from) (taken_from from (log_of older at) ++ x ∷ []) (taken_from from (log_of older at))) [
+    | inl same ↦ ap (taken_from from) own.1 ∙ same.1
+    | inr other ↦ absurd (other.0 refl)
+  ]
+]
+
+-- a full box after a post
+box_full : (box : MailBox) (x : Envelope) (posted taken : List Envelope) → box.letter ≡ None → IsBoxOf box posted taken
+    → IsBoxOf (with_post box x) (posted ++ x ∷ []) taken
+box_full box x posted taken empty is =
+    let same : posted ≡ taken = is.holds ∙ (ap (λ o. taken ++ held_in o) empty ∙ append-nil taken) in
+    record { count = let count = is.count in omega (arith, count, length-append posted (x ∷ [])); holds = ap (λ l. l ++ x ∷ []) same }
+
+-- an empty box after a take
+box_emptied : (box : MailBox) (x : Envelope) (posted taken : List Envelope) → box.letter ≡ Some x → IsBoxOf box posted taken
+    → IsBoxOf (without_letter box) posted (taken ++ x ∷ [])
+box_emptied box x posted taken full is = record {
+  count = is.count;
+  holds = is.holds ∙ (ap (λ o. taken ++ held_in o) full ∙ sym (append-nil (taken ++ x ∷ [])));
+}
+
+box_for : (box : MailBox) (posted taken later_posted later_taken : List Envelope) → later_posted ≡ posted → later_taken ≡ taken → IsBoxOf box posted taken
+    → IsBoxOf box later_posted later_taken
+box_for box posted taken later_posted later_taken e f is = record { count = is.count ∙ ap length (sym e); holds = e ∙ (is.holds ∙ ap (λ l. l ++ held_in box.letter) (sym f)) }
+
+-- the boxes after a post
+pub boxes_posted : (shape : Shape) (older : List Step) (rows : List (List MailBox)) (from to : Actor) (x : Envelope)
+    → AreBoxes shape (log_of older) rows → IsActor shape from → IsActor shape to
+    → (box_at rows (place_of shape from) (place_of shape to)).letter ≡ None
+    → AreBoxes shape (log_of ((from, Post to x) ∷ older))
+    (with_box rows (place_of shape from) (place_of shape to) (with_post (box_at rows (place_of shape from) (place_of shape to)) x))
+boxes_posted shape older rows from to x are actor other empty = record {
+  square = still_square (shape.n + shape.m) (place_of shape from) (place_of shape to) rows (with_post (box_at rows (place_of shape from) (place_of shape to)) x)
+      are.square (place_below shape from actor);
+  each = λ a b inside too. elim (same_pair shape from to a b actor other inside too) [
+    | inl same ↦
+        subst (λ c. IsBoxOf (box_at after (place_of shape c) (place_of shape b)) (posted_to b (log_of step c)) (taken_from c (log_of step b))) same.0
+        (subst (λ c. IsBoxOf (box_at after (place_of shape from) (place_of shape c)) (posted_to c (log_of step from)) (taken_from from (log_of step c))) same.1 own)
+    | inr apart ↦
+        subst (λ box. IsBoxOf box (posted_to b (log_of step a)) (taken_from a (log_of step b)))
+        (sym (box_other (shape.n + shape.m) (place_of shape from) (place_of shape to) (place_of shape a) (place_of shape b) rows
+        (with_post (box_at rows (place_of shape from) (place_of shape to)) x) are.square (place_below shape from actor) apart))
+        (box_for (box_at rows (place_of shape a) (place_of shape b)) (posted_to b (log_of older a)) (taken_from a (log_of older b))
+        (posted_to b (log_of step a)) (taken_from a (log_of step b)) (posted_else a b apart) (taken_still from to x older a b) (are.each a b inside too))
+  ];
+}
+  where
+    step : List Step
+    step = (from, Post to x) ∷ older
+
+    after : List (List MailBox)
+    after = with_box rows (place_of shape from) (place_of shape to) (with_post (box_at rows (place_of shape from) (place_of shape to)) x)
+
+    own : IsBoxOf (box_at after (place_of shape from) (place_of shape to)) (posted_to to (log_of step from)) (taken_from from (log_of step to))
+    own =
+        subst (λ box. IsBoxOf box (posted_to to (log_of step from)) (taken_from from (log_of step to)))
+        (sym (box_same (shape.n + shape.m) (place_of shape from) (place_of shape to) rows (with_post (box_at rows (place_of shape from) (place_of shape to)) x)
+        are.square (place_below shape from actor) (place_below shape to other)))
+        (box_for (with_post (box_at rows (place_of shape from) (place_of shape to)) x) (posted_to to (log_of older from) ++ x ∷ []) (taken_from from (log_of older to))
+        (posted_to to (log_of step from)) (taken_from from (log_of step to)) (posted_now from to x older) (taken_still from to x older from to)
+        (box_full (box_at rows (place_of shape from) (place_of shape to)) x (posted_to to (log_of older from)) (taken_from from (log_of older to)) empty
+        (are.each from to actor other)))
+
+    posted_else : (a b : Actor) → (place_of shape a ≡ place_of shape from → place_of shape b ≢ place_of shape to)
+        → posted_to b (log_of step a) ≡ posted_to b (log_of older a)
+    posted_else a b apart = elim (posted_cases from to x older a b) [
+      | inl now ↦ absurd (apart (ap (place_of shape) (sym now.0)) (ap (place_of shape) (sym now.1)))
+      | inr same ↦ same
+    ]
+
+-- the boxes after a take
+pub boxes_taken : (shape : Shape) (older : List Step) (rows : List (List MailBox)) (at from : Actor) (x : Envelope)
+    → AreBoxes shape (log_of older) rows → IsActor shape at → IsActor shape from
+    → (box_at rows (place_of shape from) (place_of shape at)).letter ≡ Some x
+    → AreBoxes shape (log_of ((at, Take from x) ∷ older))
+    (with_box rows (place_of shape from) (place_of shape at) (without_letter (box_at rows (place_of shape from) (place_of shape at))))
+boxes_taken shape older rows at from x are actor other full = record {
+  square = still_square (shape.n + shape.m) (place_of shape from) (place_of shape at) rows (without_letter (box_at rows (place_of shape from) (place_of shape at)))
+      are.square (place_below shape from other);
+  each = λ a b inside too. elim (same_pair shape from at a b other actor inside too) [
+    | inl same ↦
+        subst (λ c. IsBoxOf (box_at after (place_of shape c) (place_of shape b)) (posted_to b (log_of step c)) (taken_from c (log_of step b))) same.0
+        (subst (λ c. IsBoxOf (box_at after (place_of shape from) (place_of shape c)) (posted_to c (log_of step from)) (taken_from from (log_of step c))) same.1 own)
+    | inr apart ↦
+        subst (λ box. IsBoxOf box (posted_to b (log_of step a)) (taken_from a (log_of step b)))
+        (sym (box_other (shape.n + shape.m) (place_of shape from) (place_of shape at) (place_of shape a) (place_of shape b) rows
+        (without_letter (box_at rows (place_of shape from) (place_of shape at))) are.square (place_below shape from other) apart))
+        (box_for (box_at rows (place_of shape a) (place_of shape b)) (posted_to b (log_of older a)) (taken_from a (log_of older b))
+        (posted_to b (log_of step a)) (taken_from a (log_of step b)) (posted_still at from x older a b) (taken_else a b apart) (are.each a b inside too))
+  ];
+}
+  where
+    step : List Step
+    step = (at, Take from x) ∷ older
+
+    after : List (List MailBox)
+    after = with_box rows (place_of shape from) (place_of shape at) (without_letter (box_at rows (place_of shape from) (place_of shape at)))
+
+    own : IsBoxOf (box_at after (place_of shape from) (place_of shape at)) (posted_to at (log_of step from)) (taken_from from (log_of step at))
+    own =
+        subst (λ box. IsBoxOf box (posted_to at (log_of step from)) (taken_from from (log_of step at)))
+        (sym (box_same (shape.n + shape.m) (place_of shape from) (place_of shape at) rows (without_letter (box_at rows (place_of shape from) (place_of shape at)))
+        are.square (place_below shape from other) (place_below shape at actor)))
+        (box_for (without_letter (box_at rows (place_of shape from) (place_of shape at))) (posted_to at (log_of older from)) (taken_from from (log_of older at) ++ x ∷ [])
+        (posted_to at (log_of step from)) (taken_from from (log_of step at)) (posted_still at from x older from at) (taken_now at from x older)
+        (box_emptied (box_at rows (place_of shape from) (place_of shape at)) x (posted_to at (log_of older from)) (taken_from from (log_of older at)) full
+        (are.each from at other actor)))
+
+    taken_else : (a b : Actor) → (place_of shape a ≡ place_of shape from → place_of shape b ≢ place_of shape at)
+        → taken_from a (log_of step b) ≡ taken_from a (log_of older b)
+    taken_else a b apart = elim (taken_cases at from x older a b) [
+      | inl now ↦ absurd (apart (ap (place_of shape) (sym now.1)) (ap (place_of shape) (sym now.0)))
+      | inr same ↦ same
+    ]
+
+-- ---- what is known
+
+-- after a loyal actor's post, what it carries is known too
+pub known_posted : (shape : Shape) (older : List Step) (known new : List Signature) (a to : Actor) (x : Envelope)
+    → KnowsPosts shape (log_of older) known → IsLoyal shape a → ((s : Signature) → In s new ↔ (In s known ⊎ Carries x s))
+    → KnowsPosts shape (log_of ((a, Post to x) ∷ older)) new
+known_posted shape older known new a to x knows loyal learned = record {
+  from = λ s h. elim ((learned s).0 h) [
+    | inl old ↦ let was = knows.from s old in (was.0, was.1, has_posted_later (a, Post to x) older was.0 s was.2)
+    | inr carried ↦ (a, loyal, record { to = to; envelope = x; posted = now_in; carried = carried })
+  ];
+  all = λ s b honest h. (learned s).1 (by_entry s b honest h (from_log (a, Post to x) older b (Post h.to h.envelope) h.posted));
+}
+  where
+    now_in : In (Post to x) (log_of ((a, Post to x) ∷ older) a)
+    now_in = elim (log_cases (a, Post to x) older a) [
+      | inl own ↦ subst (In (Post to x)) (sym own.1) (here refl)
+      | inr other ↦ absurd (other.0 refl)
+    ]
+
+    same_envelope : (t u : Actor) (y z : Envelope) → Post t y ≡ Post u z → y ≡ z
+    same_envelope t u y z e = cc
+
+    by_entry : (s : Signature) (b : Actor) → IsLoyal shape b → (h : HasPosted (log_of ((a, Post to x) ∷ older) b) s)
+        → ((a ≡ b) × (Post to x ≡ Post h.to h.envelope)) ⊎ In (Post h.to h.envelope) (log_of older b) → In s known ⊎ Carries x s
+    by_entry s b honest h (inl now) = inr (subst (λ y. Carries y s) (sym (same_envelope to h.to x h.envelope now.1)) h.carried)
+    by_entry s b honest h (inr old) = inl (knows.all s b honest (record { to = h.to; envelope = h.envelope; posted = old; carried = h.carried }))
+
+-- a step that is no loyal actor's post makes nothing known
+pub known_still : (shape : Shape) (older : List Step) (known : List Signature) (step : Step) → KnowsPosts shape (log_of older) known
+    → ((to : Actor) (x : Envelope) → step.1 ≡ Post to x → IsLoyal shape step.0 → ⊥) → KnowsPosts shape (log_of (step ∷ older)) known
+known_still shape older known step knows silent = record {
+  from = λ s h. let was = knows.from s h in (was.0, was.1, has_posted_later step older was.0 s was.2);
+  all = λ s b honest h. by_entry s b honest h (from_log step older b (Post h.to h.envelope) h.posted);
+}
+  where
+    by_entry : (s : Signature) (b : Actor) → IsLoyal shape b → (h : HasPosted (log_of (step ∷ older) b) s)
+        → ((step.0 ≡ b) × (step.1 ≡ Post h.to h.envelope)) ⊎ In (Post h.to h.envelope) (log_of older b) → In s known
+    by_entry s b honest h (inl now) = absurd (silent h.to h.envelope now.1 (subst (IsLoyal shape) (sym now.0) honest))
+    by_entry s b honest h (inr old) = knows.all s b honest (record { to = h.to; envelope = h.envelope; posted = old; carried = h.carried })

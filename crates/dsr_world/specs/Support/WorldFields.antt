@@ -1,0 +1,54 @@
+-- How a world stands in its fields (this project).
+use Rattle.std.specs.Prelude.{◌≡◌, ◌↔◌, ℕ, ◌+◌, List, Any, length, reverse, slice_index_or}
+use Rattle.dsr_base.specs.Member.{In}
+use Rattle.dsr_names.specs.Shape.{Shape, IsActor, IsLoyal}
+use Rattle.dsr_names.specs.declared.actor.Actor.{Actor}
+use Rattle.dsr_names.specs.declared.actor.Actor.TheVariants.{Replica, Client}
+use Rattle.dsr_desk.specs.Signature.{Signature}
+use Rattle.dsr_replica.specs.declared.entry.Entry.{Entry}
+use Rattle.dsr_replica.specs.Log.{posted_to, taken_from}
+use Rattle.dsr_world.specs.Run.{IsTraitor, HasPosted, IsRun}
+use Rattle.dsr_world.specs.Step.{Step, Logs, log_of}
+use Rattle.dsr_world.specs.Support.Boxes.{AreSquare, box_at, IsBoxOf}
+use Rattle.dsr_world.specs.Support.Party.{Plays}
+use Rattle.dsr_world.specs.World.{World}
+use Rattle.dsr_world.specs.declared.mail_boxes.MailBox.{MailBox}
+use Rattle.dsr_world.specs.declared.party.Party.{Party}
+use Rattle.dsr_world.specs.declared.world.World.TheInside.{Inside}
+
+-- the place of an actor: replicas first, then clients
+abbrev pub place_of : Shape → Actor → ℕ
+place_of shape (Replica p) = p
+place_of shape (Client c) = shape.n + c
+
+-- there is a party for each actor of the shape, at its place, which plays it
+pub record ArePlayed (shape : Shape) (logs : Logs) (parties : List Party) : Type 0 where
+  pub count : length parties ≡ shape.n + shape.m
+  pub each : (who : Actor) → IsActor shape who → (d : Party) → Plays shape who (logs who) (slice_index_or parties (place_of shape who) d)
+
+-- the boxes are as the logs have left them
+pub record AreBoxes (shape : Shape) (logs : Logs) (rows : List (List MailBox)) : Type 0 where
+  pub square : AreSquare (shape.n + shape.m) rows
+  pub each : (from to : Actor) → IsActor shape from → IsActor shape to
+      → IsBoxOf (box_at rows (place_of shape from) (place_of shape to)) (posted_to to (logs from)) (taken_from from (logs to))
+
+-- the keys are those of the traitors
+abbrev pub AreKeys : Shape → List Actor → Type 0
+AreKeys shape keys = (a : Actor) → Any (λ holder. holder ≡ a) keys ↔ IsTraitor shape a
+
+-- what is known is what loyal actors have posted
+pub record KnowsPosts (shape : Shape) (logs : Logs) (known : List Signature) : Type 0 where
+  pub from : (s : Signature) → In s known → (a : Actor) × IsLoyal shape a × HasPosted (logs a) s
+  pub all : (s : Signature) (a : Actor) → IsLoyal shape a → HasPosted (logs a) s → In s known
+
+-- the fields of a world stand for the run that its entries are
+pub record IsWorldFields (a : Inside) : Type 0 where
+  pub is_run : IsRun a.shape (reverse a.entries.items)
+  pub played : ArePlayed a.shape (log_of (reverse a.entries.items)) a.parties.items
+  pub boxes : AreBoxes a.shape (log_of (reverse a.entries.items)) a.boxes
+  pub keys : AreKeys a.shape a.keys.items
+  pub known : KnowsPosts a.shape (log_of (reverse a.entries.items)) a.known.signatures
+
+-- the shape and the run
+abbrev pub world_of : Inside → World
+world_of a = record { shape = a.shape; run = reverse a.entries.items }
