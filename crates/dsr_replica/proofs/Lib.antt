@@ -3,6 +3,7 @@ mod Blindness
 mod Choosing
 mod Counting
 mod Distinct
+mod Fitting
 mod Growing
 mod InFlight
 mod Joining
@@ -12,5 +13,6 @@ mod LoyalLogs
 mod Posting
 mod Posts
 mod Reading
+mod Replying
 mod Sources
 mod Standing
