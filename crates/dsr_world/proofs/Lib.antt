@@ -10,3 +10,4 @@ mod Logs
 mod Posts
 mod Proposing
 mod Signing
+mod Within
