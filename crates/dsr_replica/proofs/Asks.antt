@@ -144,6 +144,7 @@ distinct_map f xs numbers is distinct = λ i j d before inside e.
 
 idle_may : (shape : Shape) (log : List Entry) → MayPropose shape log Idle
 idle_may shape log = record {
+  some = λ requests e. absurd (none-some requests e);
   few = omega arith;
   different = λ i j d before inside. absurd (omega (arith, inside));
   asked = All-nil (IsAsked shape);
@@ -157,6 +158,7 @@ held_may shape log clients asks list are =
     let numbers : map (λ r. r.client) requests ≡ clients = map-map (λ r. r.client) (λ s. s.request) asks ∙ are.clients_are in
     let count : length requests ≡ length clients = sym (length-map requests (λ r. r.client)) ∙ ap length numbers in
     record {
+      some = λ given e. let same = ap length (same_Some requests given e) in let many = list.some in omega (arith, count, many, same);
       few = let most = list.few in omega (arith, count, most);
       different = distinct_map (λ r. r.client) requests clients numbers list.distinct;
       asked = are.asked;
@@ -182,4 +184,4 @@ proposed_may shape me log (Begin op) value good e = absurd (none-some value e)
 pub may_later : (shape : Shape) (entry : Entry) (log : List Entry) (value : SlotValue) → MayPropose shape log value
     → MayPropose shape (entry ∷ log) value
 may_later shape entry log value may =
-    record { few = may.few; different = may.different; asked = may.asked; taken = λ s h. there (may.taken s h) }
+    record { some = may.some; few = may.few; different = may.different; asked = may.asked; taken = λ s h. there (may.taken s h) }

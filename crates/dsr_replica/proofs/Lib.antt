@@ -4,6 +4,7 @@ mod Blindness
 mod Choosing
 mod Counting
 mod Distinct
+mod Fitting
 mod Growing
 mod InFlight
 mod Joining
@@ -13,6 +14,7 @@ mod LoyalLogs
 mod Posting
 mod Posts
 mod Reading
+mod Replied
 mod Replying
 mod Sources
 mod Standing

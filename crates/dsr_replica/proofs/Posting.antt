@@ -133,3 +133,10 @@ module _ (shape : Shape) (me : Actor) (some : 0 < shape.n) where
             of_round_later (Post (Replica r) x) older loyal.0 j (omega (arith, at)) envelope
             (subst (λ z. IsOfRound shape me older z envelope) (sym at) (first_post older next.0 envelope next.1 same))
       ]
+
+  -- what a choice gives next is the envelope of the round in progress
+  pub next_of_round : (log : List Entry) → IsLoyalLog shape me log → (q : ℕ) (pick : Pick) (envelope : Envelope) → IsPick pick
+      → envelope_to shape me log q pick ≡ Some envelope → IsOfRound shape me log (rounds shape log) envelope
+  next_of_round log loyal zero pick envelope good e = first_post log pick envelope good (chosen_then shape me log 0 pick envelope e)
+  next_of_round log loyal (suc q) pick envelope good e =
+      lawful_posts log loyal (rounds shape log) envelope (later_post shape me log q pick envelope (chosen_then shape me log (suc q) pick envelope e))

@@ -53,7 +53,7 @@ part_is s log t me value all now few has =
     (sym (in_flight_test t first s.shape.f s.closed here few)))
 
 -- of a closed slot nothing is posted
-none_part : (shape : Shape) (me : Actor) (log : List Entry) (t : ℕ) (value : SlotValue) (slot : ℕ) → slot < closed_slots shape t
+pub none_part : (shape : Shape) (me : Actor) (log : List Entry) (t : ℕ) (value : SlotValue) (slot : ℕ) → slot < closed_slots shape t
     → slot_part shape me log t value slot ≡ []
 none_part shape me log t value slot closed =
     let first = first_round shape slot in

@@ -1,13 +1,14 @@
 -- What may be said of a loyal replica's posts (this project's words; Dolev and Strong 1983 for what is relayed).
-use Rattle.std.specs.Prelude.{◌≡◌, ◌≢◌, ℕ, suc, ◌+◌, ◌≤◌, List, All, AllPairs, length}
+use Rattle.std.specs.Prelude.{◌≡◌, ◌≢◌, ℕ, suc, ◌+◌, ◌<◌, ◌≤◌, List, Some, All, AllPairs, length}
 use Rattle.dsr_base.specs.Member.{In}
 use Rattle.dsr_names.specs.Shape.{Shape}
 use Rattle.dsr_names.specs.declared.actor.Actor.{Actor}
 use Rattle.dsr_names.specs.declared.actor.Actor.TheVariants.{Client}
+use Rattle.dsr_request.specs.Request.{Request}
 use Rattle.dsr_rotation.specs.Calendar.{first_round}
 use Rattle.dsr_desk.specs.Signature.{Signature}
 use Rattle.dsr_chain.specs.Chain.{Chain}
-use Rattle.dsr_chain.specs.Content.{signed_in, requests_in}
+use Rattle.dsr_chain.specs.Content.{signed_in, content, requests_in}
 use Rattle.dsr_chain.specs.Proper.{IsAsked, IsProper}
 use Rattle.dsr_chain.specs.declared.signed_request.SignedRequest.{SignedRequest}
 use Rattle.dsr_chain.specs.declared.slot_value.SlotValue.{SlotValue}
@@ -20,9 +21,10 @@ use Rattle.dsr_replica.specs.Conduct.{chains_posted}
 use Rattle.dsr_replica.specs.Decided.{slot_kept}
 use Rattle.dsr_replica.specs.Envelope.{Carries, round_envelope}
 
--- a value that a loyal replica may propose: at most 8 requests of different clients of the shape, each with the signature that
--- stood beside it in an ask which the replica took from its client
+-- a value that a loyal replica may propose: idle, or 1 to 8 requests of different clients of the shape, each with the signature
+-- that stood beside it in an ask which the replica took from its client
 pub record MayPropose (shape : Shape) (log : List Entry) (value : SlotValue) : Type 0 where
+  pub some : (requests : List Request) → content value ≡ Some requests → 0 < length requests
   pub few : length (requests_in value) ≤ 8
   pub different : AllPairs (λ r q. r.client ≢ q.client) (requests_in value)
   pub asked : All (IsAsked shape) (signed_in value)

@@ -1,11 +1,13 @@
 //! The laws of one loyal replica's log, as the contracts of functions that do nothing.
 
-ghost use Rattle.std.specs.Prelude.{◌≡◌, ◌⊎◌, ℕ, ◌+◌, ◌<◌, ◌≤◌, List, [], ◌∷◌, Some, slice_get};
+ghost use Rattle.std.specs.Prelude.{◌≡◌, ◌⊎◌, ℕ, ◌+◌, ◌*◌, ◌^◌, ◌<◌, ◌≤◌, List, [], ◌∷◌, length, Some, slice_get};
 ghost use Rattle.dsr_base.specs.Growth.{Extends};
 ghost use Rattle.dsr_base.specs.Member.{In};
-ghost use Rattle.dsr_names.specs.Shape.{Shape, AgreeButForTraitors};
+ghost use Rattle.dsr_names.specs.Shape.{Shape, IsAllowed, AgreeButForTraitors};
 ghost use Rattle.dsr_names.specs.declared.actor.Actor.{Actor};
 ghost use Rattle.dsr_names.specs.declared.actor.Actor.TheVariants.{Replica, Client};
+ghost use Rattle.dsr_request.specs.Request.{Request};
+ghost use Rattle.dsr_request.specs.RequestText.{IsRequest};
 ghost use Rattle.dsr_history.specs.History.{acted};
 ghost use Rattle.dsr_rotation.specs.Calendar.{first_round};
 ghost use Rattle.dsr_desk.specs.Signature.{Signature};
@@ -21,6 +23,7 @@ ghost use Rattle.dsr_replica.specs.Counts.{HasCounts};
 ghost use Rattle.dsr_replica.specs.Decided.{read_in, slot_kept, decided_values, decided_requests};
 ghost use Rattle.dsr_replica.specs.Envelope.{chains_for, Carries};
 ghost use Rattle.dsr_replica.specs.Held.{held};
+ghost use Rattle.dsr_replica.specs.Limits.{IsEnvelope};
 ghost use Rattle.dsr_replica.specs.Log.{posted_to, due, rounds};
 ghost use Rattle.dsr_replica.specs.Pick.{IsPick};
 ghost use Rattle.dsr_replica.specs.Posts.{IsOfRound, IsPosted, WasTaken};
@@ -83,6 +86,18 @@ pub fn closed_rounds_stay()
         → Extends later log → Extends (decided_values shape later) (decided_values shape log) }
     ensures history { (shape : Shape) (me : Actor) (later log : List Entry) → 0 < shape.n → IsLoyalLog shape me later
         → Extends later log → Extends (acted (decided_requests shape later)) (acted (decided_requests shape log)) }
+{}
+
+/// A loyal replica that took nothing past the limits posts nothing past them, in rounds up to 2^36; and its history has at most 8
+/// requests for each closed round, all within the limits.
+pub fn limits_are_kept()
+    ensures posts { (shape : Shape) (p : ℕ) (log : List Entry) → IsAllowed shape → p < shape.n → IsLoyalLog shape (Replica p) log
+        → ((from : Actor) (envelope : Envelope) → In (Take from envelope) log → IsEnvelope envelope) → rounds shape log ≤ 2 ^ 36
+        → (to : Actor) (envelope : Envelope) → IsNext shape (Replica p) log (Post to envelope) → IsEnvelope envelope }
+    ensures history { (shape : Shape) (log : List Entry) → ((from : Actor) (envelope : Envelope) → In (Take from envelope) log → IsEnvelope envelope)
+        → length (acted (decided_requests shape log)) ≤ 8 * rounds shape log }
+    ensures requests { (shape : Shape) (log : List Entry) → ((from : Actor) (envelope : Envelope) → In (Take from envelope) log → IsEnvelope envelope)
+        → (request : Request) → In request (acted (decided_requests shape log)) → IsRequest request }
 {}
 
 /// A loyal replica never looks at who is a traitor. Under two shapes that agree in all but that, the same is due, kept, decided and

@@ -19,8 +19,8 @@ pub use clients::Clients;
 pub use entry::Entry;
 pub use envelope::Envelope;
 pub use laws::{
-    calls_keep_a_log_loyal, closed_rounds_stay, conduct_is_blind, posts_and_takes_keep_step,
-    posts_follow_the_log, signatures_are_own_or_taken,
+    calls_keep_a_log_loyal, closed_rounds_stay, conduct_is_blind, limits_are_kept,
+    posts_and_takes_keep_step, posts_follow_the_log, signatures_are_own_or_taken,
 };
 pub use letter::Letter;
 pub use replica::Replica;

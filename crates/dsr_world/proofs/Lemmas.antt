@@ -7,3 +7,4 @@ pub use Rattle.dsr_world.proofs.Agreeing.{same_decided, decided_extends, one_ext
 pub use Rattle.dsr_world.proofs.Proposing.{as_proposed, decided_was_proposed}
 pub use Rattle.dsr_world.proofs.Links.{two_links, one_link}
 pub use Rattle.dsr_world.proofs.Histories.{extends_on, IsFrom, most_from, most_long, most_extends, history_extends, history_is, history_grows, history_legal}
+pub use Rattle.dsr_world.proofs.Within.{rounds_within, posted_within, taken_within, loyal_next_within, history_within}

@@ -15,3 +15,4 @@ mod Posts
 mod Proposing
 mod Signing
 mod Stepping
+mod Within

@@ -1,9 +1,9 @@
 //! The laws of runs, as the contracts of functions that do nothing.
 
-ghost use Rattle.std.specs.Prelude.{◌≡◌, ◌⊎◌, ℕ, ◌<◌, List, ◌∷◌, ◌++◌, []};
+ghost use Rattle.std.specs.Prelude.{◌≡◌, ◌⊎◌, ℕ, ◌^◌, ◌<◌, ◌≤◌, List, [], ◌∷◌, ◌++◌, length};
 ghost use Rattle.dsr_base.specs.Growth.{Extends};
 ghost use Rattle.dsr_base.specs.Member.{In};
-ghost use Rattle.dsr_names.specs.Shape.{Shape, HasFewTraitors, IsLoyal};
+ghost use Rattle.dsr_names.specs.Shape.{Shape, IsAllowed, HasFewTraitors, IsLoyal};
 ghost use Rattle.dsr_names.specs.declared.actor.Actor.{Actor};
 ghost use Rattle.dsr_names.specs.declared.actor.Actor.TheVariants.{Replica, Client};
 ghost use Rattle.dsr_history.specs.History.{acted, IsLegal};
@@ -13,9 +13,10 @@ ghost use Rattle.dsr_chain.specs.Proper.{sender_of};
 ghost use Rattle.dsr_chain.specs.declared.slot_value.SlotValue.{SlotValue};
 ghost use Rattle.dsr_replica.specs.declared.envelope.Envelope.{Envelope};
 ghost use Rattle.dsr_replica.specs.declared.entry.Entry.TheVariants.{Post, Take};
-ghost use Rattle.dsr_replica.specs.Conduct.{IsLoyalLog};
+ghost use Rattle.dsr_replica.specs.Conduct.{IsNext, IsLoyalLog};
 ghost use Rattle.dsr_replica.specs.Decided.{slot_decided, decided_requests};
 ghost use Rattle.dsr_replica.specs.Envelope.{Carries};
+ghost use Rattle.dsr_replica.specs.Limits.{IsEnvelope};
 ghost use Rattle.dsr_replica.specs.Log.{posted_to, taken_from, rounds};
 ghost use Rattle.dsr_replica.specs.Posts.{WasTaken};
 ghost use Rattle.dsr_client.specs.Conduct.{IsClientLog};
@@ -110,4 +111,19 @@ pub fn history_only_grows()
     ensures logs { (shape : Shape) (run : List Step) (earlier : Logs) → HasFewTraitors shape → IsRun shape run
         → ((a : Actor) → Extends (log_of run a) (earlier a)) → Extends (history shape (log_of run)) (history shape earlier) }
     ensures legal { (shape : Shape) (logs : Logs) → IsLegal (history shape logs) }
+{}
+
+/// The limits hold in a run: all that is posted or taken is within them, a loyal replica closes at most 2^36 rounds, and the history
+/// has at most 2^39 requests. And what a loyal replica may post next is within the limits of envelopes, where the shape is within
+/// those of shapes.
+pub fn limits_are_kept_in_runs()
+    ensures posted { (shape : Shape) (run : List Step) → IsRun shape run → (a to : Actor) (envelope : Envelope)
+        → In (Post to envelope) (log_of run a) → IsEnvelope envelope }
+    ensures taken { (shape : Shape) (run : List Step) → IsRun shape run → (a from : Actor) (envelope : Envelope)
+        → In (Take from envelope) (log_of run a) → IsEnvelope envelope }
+    ensures rounds { (shape : Shape) (run : List Step) → IsRun shape run → (p : ℕ) → IsLoyal shape (Replica p)
+        → rounds shape (log_of run (Replica p)) ≤ 2 ^ 36 }
+    ensures history { (shape : Shape) (run : List Step) → IsRun shape run → length (history shape (log_of run)) ≤ 2 ^ 39 }
+    ensures next { (shape : Shape) (run : List Step) → IsAllowed shape → IsRun shape run → (p : ℕ) → IsLoyal shape (Replica p)
+        → (to : Actor) (envelope : Envelope) → IsNext shape (Replica p) (log_of run (Replica p)) (Post to envelope) → IsEnvelope envelope }
 {}

@@ -12,7 +12,7 @@ mod world;
 pub use event::Event;
 pub use headline::{clients_are_answered, runs_are_right};
 pub use laws::{
-    boxes_hold_one_envelope, history_only_grows, loyal_replicas_agree,
+    boxes_hold_one_envelope, history_only_grows, limits_are_kept_in_runs, loyal_replicas_agree,
     loyal_replicas_sign_few_links, loyal_senders_values_are_decided, no_signature_is_forged,
     runs_go_on, runs_keep_conduct,
 };
