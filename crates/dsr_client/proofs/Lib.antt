@@ -6,4 +6,5 @@ mod Dropping
 mod Fronts
 pub mod Lemmas
 mod Numbers
+mod Posted
 mod States

@@ -16,3 +16,4 @@ mod Proposing
 mod Signing
 mod Stepping
 mod Within
+mod NextSteps

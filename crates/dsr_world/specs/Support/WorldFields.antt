@@ -4,8 +4,11 @@ use Rattle.dsr_base.specs.Member.{In}
 use Rattle.dsr_names.specs.Shape.{Shape, IsActor, IsLoyal}
 use Rattle.dsr_names.specs.declared.actor.Actor.{Actor}
 use Rattle.dsr_names.specs.declared.actor.Actor.TheVariants.{Replica, Client}
+use Rattle.dsr_request.specs.OpText.{IsOp}
 use Rattle.dsr_desk.specs.Signature.{Signature}
 use Rattle.dsr_replica.specs.declared.entry.Entry.{Entry}
+use Rattle.dsr_replica.specs.declared.step.Pick.{Pick}
+use Rattle.dsr_replica.specs.declared.step.Pick.TheVariants.{Plain, From, Begin}
 use Rattle.dsr_replica.specs.Log.{posted_to, taken_from}
 use Rattle.dsr_world.specs.Run.{IsTraitor, HasPosted, IsRun}
 use Rattle.dsr_world.specs.Step.{Step, Logs, log_of}
@@ -52,3 +55,9 @@ pub record IsWorldFields (a : Inside) : Type 0 where
 -- the shape and the run
 abbrev pub world_of : Inside → World
 world_of a = record { shape = a.shape; run = reverse a.entries.items }
+
+-- the operation of a choice is one that a text can spell
+abbrev pub IsSpelledPick : Pick → Type 0
+IsSpelledPick Plain = Unit {0}
+IsSpelledPick (From clients) = Unit {0}
+IsSpelledPick (Begin op) = IsOp op
