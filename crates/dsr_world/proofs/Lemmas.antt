@@ -1,7 +1,7 @@
 -- What the crates above take from runs: the logs of a run keep their conduct, and an earlier run is one.
 pub use Rattle.dsr_world.proofs.Logs.{log_cases, run_before, log_loyal, log_client, logs_grew, logs_step, no_logs}
-pub use Rattle.dsr_world.proofs.Boxes.{in_log, from_log, posted_entry, IsBox, boxes, found_was_posted, taken_was_posted}
-pub use Rattle.dsr_world.proofs.Forging.{has_posted_later, AllMade, all_made, step_made, taken_made}
+pub use Rattle.dsr_world.proofs.Boxes.{in_log, from_log, posted_entry, IsBox, boxes, found_was_posted, taken_was_posted, actors_within}
+pub use Rattle.dsr_world.proofs.Forging.{has_posted_later, AllMade, all_made, step_made, taken_made, posted_made}
 pub use Rattle.dsr_world.proofs.Family.{rounds_near}
 pub use Rattle.dsr_world.proofs.Agreeing.{same_decided, decided_extends, one_extends}
 pub use Rattle.dsr_world.proofs.Proposing.{as_proposed, decided_was_proposed}

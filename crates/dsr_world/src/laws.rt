@@ -3,7 +3,7 @@
 ghost use Rattle.std.specs.Prelude.{◌≡◌, ◌⊎◌, ℕ, ◌^◌, ◌<◌, ◌≤◌, List, [], ◌∷◌, ◌++◌, length};
 ghost use Rattle.dsr_base.specs.Growth.{Extends};
 ghost use Rattle.dsr_base.specs.Member.{In};
-ghost use Rattle.dsr_names.specs.Shape.{Shape, IsAllowed, HasFewTraitors, IsLoyal};
+ghost use Rattle.dsr_names.specs.Shape.{Shape, IsAllowed, HasFewTraitors, IsActor, IsLoyal};
 ghost use Rattle.dsr_names.specs.declared.actor.Actor.{Actor};
 ghost use Rattle.dsr_names.specs.declared.actor.Actor.TheVariants.{Replica, Client};
 ghost use Rattle.dsr_history.specs.History.{acted, IsLegal};
@@ -12,6 +12,7 @@ ghost use Rattle.dsr_desk.specs.Signature.{Signature};
 ghost use Rattle.dsr_chain.specs.Proper.{sender_of};
 ghost use Rattle.dsr_chain.specs.declared.slot_value.SlotValue.{SlotValue};
 ghost use Rattle.dsr_replica.specs.declared.envelope.Envelope.{Envelope};
+ghost use Rattle.dsr_replica.specs.declared.entry.Entry.{Entry};
 ghost use Rattle.dsr_replica.specs.declared.entry.Entry.TheVariants.{Post, Take};
 ghost use Rattle.dsr_replica.specs.Conduct.{IsNext, IsLoyalLog};
 ghost use Rattle.dsr_replica.specs.Decided.{slot_decided, decided_requests};
@@ -22,15 +23,17 @@ ghost use Rattle.dsr_replica.specs.Posts.{WasTaken};
 ghost use Rattle.dsr_client.specs.Conduct.{IsClientLog};
 ghost use Rattle.dsr_world.specs.Agreement.{HasProposed, HasFewLinks};
 ghost use Rattle.dsr_world.specs.History.{decided_at, history};
-ghost use Rattle.dsr_world.specs.Run.{IsRun, IsNextStep, AreLogs, IsMadeOrPosted, envelope_of};
+ghost use Rattle.dsr_world.specs.Run.{IsRun, IsNextStep, AreLogs, HasPosted, IsMadeOrPosted, other_of, envelope_of};
 ghost use Rattle.dsr_world.specs.Step.{Step, Logs, with_step, log_of};
 
-/// In a run the log of each loyal replica is a loyal one, and that of each client a client's; and at each earlier time it was
-/// a run.
+/// In a run the log of each loyal replica is a loyal one, and that of each client a client's; only actors of the shape have entries,
+/// all with actors of the shape; and at each earlier time it was a run.
 pub fn runs_keep_conduct()
     ensures replicas { (shape : Shape) (run : List Step) → IsRun shape run → (p : ℕ) → IsLoyal shape (Replica p)
         → IsLoyalLog shape (Replica p) (log_of run (Replica p)) }
     ensures clients { (shape : Shape) (run : List Step) → IsRun shape run → (c : ℕ) → IsClientLog shape c (log_of run (Client c)) }
+    ensures actors { (shape : Shape) (run : List Step) → IsRun shape run → (a : Actor) (entry : Entry) → In entry (log_of run a)
+        → IsActor shape a × IsActor shape (other_of entry) }
     ensures earlier { (shape : Shape) (run earlier : List Step) → IsRun shape run → Extends run earlier → IsRun shape earlier }
 {}
 
@@ -54,11 +57,13 @@ pub fn boxes_hold_one_envelope()
 
 /// Nobody's signature is forged in a run: each signature that a step carries, on a chain, beside a request of a chain's value, or
 /// beside a request that is asked, is by a traitor of the shape, or stands in what its signer posted, in that step or earlier. So a
-/// traitor that sends on what it took forges nothing.
+/// traitor forges nothing that sends on what it took, or what anybody posted.
 pub fn no_signature_is_forged()
     ensures steps { (shape : Shape) (run older : List Step) (step : Step) → IsRun shape run → Extends run (step ∷ older)
         → (s : Signature) → Carries (envelope_of step.1) s → IsMadeOrPosted shape (log_of (step ∷ older)) s }
     ensures taken { (shape : Shape) (run : List Step) → IsRun shape run → (a : Actor) (s : Signature) → WasTaken (log_of run a) s
+        → IsMadeOrPosted shape (log_of run) s }
+    ensures posted { (shape : Shape) (run : List Step) → IsRun shape run → (a : Actor) (s : Signature) → HasPosted (log_of run a) s
         → IsMadeOrPosted shape (log_of run) s }
 {}
 
