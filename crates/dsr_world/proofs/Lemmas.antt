@@ -8,3 +8,4 @@ pub use Rattle.dsr_world.proofs.Proposing.{as_proposed, decided_was_proposed}
 pub use Rattle.dsr_world.proofs.Links.{two_links, one_link}
 pub use Rattle.dsr_world.proofs.Histories.{extends_on, IsFrom, most_from, most_long, most_extends, history_extends, history_is, history_grows, history_legal}
 pub use Rattle.dsr_world.proofs.Within.{rounds_within, posted_within, taken_within, loyal_next_within, history_within}
+pub use Rattle.dsr_world.proofs.Asking.{WasAsked, was_asked, outstanding_within}

@@ -1,5 +1,6 @@
 mod Agreeing
 mod Alike
+mod Asking
 mod Boxes
 mod Family
 mod Forging
