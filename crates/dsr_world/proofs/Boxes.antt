@@ -3,7 +3,7 @@
 use Rattle.std.proofs.Common.{◌≡◌, List, [], ◌∷◌, ◌++◌, ◌⊎◌, inl, inr, refl, ap, sym, ◌∙◌, subst}
 use Rattle.dsr_base.specs.Member.{In, here, there}
 use Rattle.dsr_base.proofs.MemberLemmas.{In-append_right, In-append_cases, In-one}
-use Rattle.dsr_names.specs.Shape.{Shape}
+use Rattle.dsr_names.specs.Shape.{Shape, IsActor}
 use Rattle.dsr_names.specs.declared.actor.Actor.{Actor}
 use Rattle.dsr_names.specs.Support.ActorEquality.{actor_eq, actor_eq-Decides}
 use Rattle.dsr_slot.proofs.Lemmas.{by_test}
@@ -11,7 +11,7 @@ use Rattle.dsr_replica.specs.declared.envelope.Envelope.{Envelope}
 use Rattle.dsr_replica.specs.declared.entry.Entry.{Entry}
 use Rattle.dsr_replica.specs.declared.entry.Entry.TheVariants.{Post, Take}
 use Rattle.dsr_replica.specs.Log.{posted_to, taken_from}
-use Rattle.dsr_world.specs.Run.{IsRun}
+use Rattle.dsr_world.specs.Run.{IsRun, other_of}
 use Rattle.dsr_world.specs.Step.{Step, log_of}
 use Rattle.dsr_world.proofs.Logs.{log_cases}
 
@@ -147,4 +147,15 @@ module _ (shape : Shape) where
         in_log step older a (Post b x)
         (found_was_posted b a x older (subst (λ z. IsRun shape (z ∷ older)) (λ i. (new.0 i, new.1 i)) is))
     | inr old ↦ in_log step older a (Post b x) (taken_was_posted older is.0 a b x old)
+  ]
+
+  -- ---- actors
+
+  -- only actors of the shape have entries, with actors of the shape
+  pub actors_within : (run : List Step) → IsRun shape run → (a : Actor) (entry : Entry) → In entry (log_of run a)
+      → IsActor shape a × IsActor shape (other_of entry)
+  actors_within [] is a entry h = elim h [ ]
+  actors_within (step ∷ older) is a entry h = elim (from_log step older a entry h) [
+    | inl new ↦ (subst (IsActor shape) new.0 is.1.actor, subst (λ e. IsActor shape (other_of e)) new.1 is.1.other)
+    | inr old ↦ actors_within older is.0 a entry old
   ]

@@ -114,3 +114,8 @@ module _ (shape : Shape) where
   pub taken_made : (run : List Step) → IsRun shape run → (a : Actor) (s : Signature) → WasTaken (log_of run a) s
       → IsMadeOrPosted shape (log_of run) s
   taken_made run is a s h = all_made run is a (Take h.from h.envelope) h.taken s h.carried
+
+  -- and each that any actor posted
+  pub posted_made : (run : List Step) → IsRun shape run → (a : Actor) (s : Signature) → HasPosted (log_of run a) s
+      → IsMadeOrPosted shape (log_of run) s
+  posted_made run is a s h = all_made run is a (Post h.to h.envelope) h.posted s h.carried

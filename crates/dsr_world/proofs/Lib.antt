@@ -1,6 +1,7 @@
 mod Accepting
 mod Agreeing
 mod Alike
+mod Asking
 mod Boxes
 mod Family
 mod Forging

@@ -1,17 +1,20 @@
 //! The laws of runs, as the contracts of functions that do nothing.
 
-ghost use Rattle.std.specs.Prelude.{◌≡◌, ◌⊎◌, ℕ, ◌^◌, ◌<◌, ◌≤◌, List, [], ◌∷◌, ◌++◌, length};
+ghost use Rattle.std.specs.Prelude.{◌≡◌, ◌⊎◌, ℕ, ◌^◌, ◌<◌, ◌≤◌, List, [], ◌∷◌, ◌++◌, Some, length};
 ghost use Rattle.dsr_base.specs.Growth.{Extends};
 ghost use Rattle.dsr_base.specs.Member.{In};
-ghost use Rattle.dsr_names.specs.Shape.{Shape, IsAllowed, HasFewTraitors, IsLoyal};
+ghost use Rattle.dsr_names.specs.Shape.{Shape, IsAllowed, HasFewTraitors, IsActor, IsLoyal};
 ghost use Rattle.dsr_names.specs.declared.actor.Actor.{Actor};
 ghost use Rattle.dsr_names.specs.declared.actor.Actor.TheVariants.{Replica, Client};
 ghost use Rattle.dsr_history.specs.History.{acted, IsLegal};
 ghost use Rattle.dsr_rotation.specs.Calendar.{closed_slots};
 ghost use Rattle.dsr_desk.specs.Signature.{Signature};
 ghost use Rattle.dsr_chain.specs.Proper.{sender_of};
+ghost use Rattle.dsr_chain.specs.declared.signed_request.SignedRequest.{SignedRequest};
 ghost use Rattle.dsr_chain.specs.declared.slot_value.SlotValue.{SlotValue};
 ghost use Rattle.dsr_replica.specs.declared.envelope.Envelope.{Envelope};
+ghost use Rattle.dsr_replica.specs.declared.envelope.Envelope.TheVariants.{Ask};
+ghost use Rattle.dsr_replica.specs.declared.entry.Entry.{Entry};
 ghost use Rattle.dsr_replica.specs.declared.entry.Entry.TheVariants.{Post, Take};
 ghost use Rattle.dsr_replica.specs.Conduct.{IsNext, IsLoyalLog};
 ghost use Rattle.dsr_replica.specs.Decided.{slot_decided, decided_requests};
@@ -20,17 +23,20 @@ ghost use Rattle.dsr_replica.specs.Limits.{IsEnvelope};
 ghost use Rattle.dsr_replica.specs.Log.{posted_to, taken_from, rounds};
 ghost use Rattle.dsr_replica.specs.Posts.{WasTaken};
 ghost use Rattle.dsr_client.specs.Conduct.{IsClientLog};
+ghost use Rattle.dsr_client.specs.State.{outstanding};
 ghost use Rattle.dsr_world.specs.Agreement.{HasProposed, HasFewLinks};
 ghost use Rattle.dsr_world.specs.History.{decided_at, history};
-ghost use Rattle.dsr_world.specs.Run.{IsRun, IsNextStep, AreLogs, IsMadeOrPosted, envelope_of};
+ghost use Rattle.dsr_world.specs.Run.{IsRun, IsNextStep, AreLogs, HasPosted, IsMadeOrPosted, other_of, envelope_of};
 ghost use Rattle.dsr_world.specs.Step.{Step, Logs, with_step, log_of};
 
-/// In a run the log of each loyal replica is a loyal one, and that of each client a client's; and at each earlier time it was
-/// a run.
+/// In a run the log of each loyal replica is a loyal one, and that of each client a client's; only actors of the shape have entries,
+/// all with actors of the shape; and at each earlier time it was a run.
 pub fn runs_keep_conduct()
     ensures replicas { (shape : Shape) (run : List Step) → IsRun shape run → (p : ℕ) → IsLoyal shape (Replica p)
         → IsLoyalLog shape (Replica p) (log_of run (Replica p)) }
     ensures clients { (shape : Shape) (run : List Step) → IsRun shape run → (c : ℕ) → IsClientLog shape c (log_of run (Client c)) }
+    ensures actors { (shape : Shape) (run : List Step) → IsRun shape run → (a : Actor) (entry : Entry) → In entry (log_of run a)
+        → IsActor shape a × IsActor shape (other_of entry) }
     ensures earlier { (shape : Shape) (run earlier : List Step) → IsRun shape run → Extends run earlier → IsRun shape earlier }
 {}
 
@@ -54,11 +60,13 @@ pub fn boxes_hold_one_envelope()
 
 /// Nobody's signature is forged in a run: each signature that a step carries, on a chain, beside a request of a chain's value, or
 /// beside a request that is asked, is by a traitor of the shape, or stands in what its signer posted, in that step or earlier. So a
-/// traitor that sends on what it took forges nothing.
+/// traitor forges nothing that sends on what it took, or what anybody posted.
 pub fn no_signature_is_forged()
     ensures steps { (shape : Shape) (run older : List Step) (step : Step) → IsRun shape run → Extends run (step ∷ older)
         → (s : Signature) → Carries (envelope_of step.1) s → IsMadeOrPosted shape (log_of (step ∷ older)) s }
     ensures taken { (shape : Shape) (run : List Step) → IsRun shape run → (a : Actor) (s : Signature) → WasTaken (log_of run a) s
+        → IsMadeOrPosted shape (log_of run) s }
+    ensures posted { (shape : Shape) (run : List Step) → IsRun shape run → (a : Actor) (s : Signature) → HasPosted (log_of run a) s
         → IsMadeOrPosted shape (log_of run) s }
 {}
 
@@ -115,7 +123,7 @@ pub fn history_only_grows()
 
 /// The limits hold in a run: all that is posted or taken is within them, a loyal replica closes at most 2^36 rounds, and the history
 /// has at most 2^39 requests. And what a loyal replica may post next is within the limits of envelopes, where the shape is within
-/// those of shapes.
+/// those of shapes; so is what a client asks again.
 pub fn limits_are_kept_in_runs()
     ensures posted { (shape : Shape) (run : List Step) → IsRun shape run → (a to : Actor) (envelope : Envelope)
         → In (Post to envelope) (log_of run a) → IsEnvelope envelope }
@@ -126,4 +134,6 @@ pub fn limits_are_kept_in_runs()
     ensures history { (shape : Shape) (run : List Step) → IsRun shape run → length (history shape (log_of run)) ≤ 2 ^ 39 }
     ensures next { (shape : Shape) (run : List Step) → IsAllowed shape → IsRun shape run → (p : ℕ) → IsLoyal shape (Replica p)
         → (to : Actor) (envelope : Envelope) → IsNext shape (Replica p) (log_of run (Replica p)) (Post to envelope) → IsEnvelope envelope }
+    ensures again { (shape : Shape) (run : List Step) → IsRun shape run → (c : ℕ) (ask : SignedRequest)
+        → outstanding shape (log_of run (Client c)) ≡ Some ask → IsEnvelope (Ask ask) }
 {}

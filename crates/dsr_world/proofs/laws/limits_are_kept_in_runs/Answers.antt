@@ -1,3 +1,4 @@
+use Rattle.dsr_world.proofs.Asking.{outstanding_within}
 use Rattle.dsr_world.proofs.Within.{rounds_within, posted_within, taken_within, loyal_next_within, history_within}
 use Rattle.dsr_world.proofs.laws.limits_are_kept_in_runs.Goals as goal
 
@@ -15,3 +16,6 @@ returns-clause-history c shape run is = history_within shape run is
 
 pub returns-clause-next : goal.returns-clause-next
 returns-clause-next c shape run allowed is p loyal to envelope next = loyal_next_within shape allowed run is p loyal to envelope next
+
+pub returns-clause-again : goal.returns-clause-again
+returns-clause-again c shape run is client ask current = outstanding_within shape run is client ask current

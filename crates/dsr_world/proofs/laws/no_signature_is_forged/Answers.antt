@@ -1,5 +1,5 @@
 use Rattle.std.proofs.Common.{◌∷◌}
-use Rattle.dsr_world.proofs.Forging.{step_made, taken_made}
+use Rattle.dsr_world.proofs.Forging.{step_made, taken_made, posted_made}
 use Rattle.dsr_world.proofs.Logs.{run_before}
 use Rattle.dsr_world.proofs.laws.no_signature_is_forged.Goals as goal
 
@@ -9,3 +9,6 @@ returns-clause-steps c shape run older step is grown s carried =
 
 pub returns-clause-taken : goal.returns-clause-taken
 returns-clause-taken c shape run is a s taken = taken_made shape run is a s taken
+
+pub returns-clause-posted : goal.returns-clause-posted
+returns-clause-posted c shape run is a s posted = posted_made shape run is a s posted

@@ -1,3 +1,4 @@
+use Rattle.dsr_world.proofs.Boxes.{actors_within}
 use Rattle.dsr_world.proofs.Logs.{log_loyal, log_client, run_before}
 use Rattle.dsr_world.proofs.laws.runs_keep_conduct.Goals as goal
 
@@ -9,3 +10,6 @@ returns-clause-clients c shape run is client = log_client shape client run is
 
 pub returns-clause-earlier : goal.returns-clause-earlier
 returns-clause-earlier c shape run earlier is grown = run_before shape run earlier is grown
+
+pub returns-clause-actors : goal.returns-clause-actors
+returns-clause-actors c shape run is a entry inside = actors_within shape run is a entry inside
