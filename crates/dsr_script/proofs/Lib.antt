@@ -1,2 +1,3 @@
 mod KnownLemmas
+mod HeaderLemmas
 mod HeldLemmas

@@ -1,3 +1,4 @@
+pub mod Header
 pub mod Held
 pub mod Known
 pub mod Support

@@ -4,6 +4,7 @@
 
 mod building;
 mod draft;
+mod header;
 mod known;
 mod laws;
 mod plan;
@@ -12,6 +13,7 @@ mod said_chain;
 
 pub use building::build;
 pub use draft::Draft;
+pub use header::{Header, read_header};
 pub use known::Known;
 pub use laws::nobody_forges;
 
