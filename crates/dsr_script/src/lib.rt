@@ -4,6 +4,7 @@
 
 mod building;
 mod draft;
+mod draft_text;
 mod known;
 mod laws;
 mod plan;
