@@ -1,3 +1,5 @@
 mod KnownLemmas
 mod HeaderLemmas
 mod HeldLemmas
+mod ScriptLemmas
+mod ServeLemmas

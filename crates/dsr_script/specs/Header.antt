@@ -1,6 +1,6 @@
 -- Headers (this project): the first line of a play text, a serve script or a transcript. It is a title, which says the kind of
 -- text and the version, a space and a shape, as `dsr-serve 1 3 1 1 r0`.
-use Rattle.std.specs.Prelude.{◌≡◌, ℕ, List, [], ◌∷◌, ◌++◌}
+use Rattle.std.specs.Prelude.{◌≡◌, ◌⊎◌, ℕ, List, [], ◌∷◌, ◌++◌}
 use Rattle.dsr_names.specs.Shape.{Shape, IsAllowed}
 use Rattle.dsr_names.specs.ShapeText.{shape_text, IsSpelled}
 use Rattle.dsr_names.specs.declared.refusal.Refusal.{Refusal}
@@ -26,9 +26,6 @@ pub record HasBadShape (title text : List ℕ) : Type 0 where
   pub begins : BeginsWithHeader title text shape rest
   pub outside : ¬ IsAllowed shape
 
--- what each refusal of a header says of the text: its shape is outside the limits, or the first line is no header; there is
--- no other refusal
+-- what a refusal of a header says of the text: its shape is outside the limits, or the first line is no header
 abbrev pub IsHeaderRefusal : List ℕ → List ℕ → Refusal → Type 0
-IsHeaderRefusal title text BadShape = HasBadShape title text
-IsHeaderRefusal title text (BadText line) = (line ≡ 1) × HasNoHeader title text
-IsHeaderRefusal title text other = ⊥
+IsHeaderRefusal title text e = ((e ≡ BadShape) × HasBadShape title text) ⊎ ((e ≡ BadText 1) × HasNoHeader title text)

@@ -3,5 +3,8 @@
 pub mod Carried
 pub mod Described
 pub mod Noted
+pub mod PlaceEquality
+pub mod PlaceHash
 pub mod SaidEquality
 pub mod SaidHash
+pub mod TakenLines

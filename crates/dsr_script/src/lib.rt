@@ -4,18 +4,24 @@
 
 mod building;
 mod draft;
+mod draft_text;
 mod header;
 mod known;
 mod laws;
+mod ops;
+mod place;
 mod plan;
 mod said;
 mod said_chain;
+mod script;
+mod serve_line;
 
 pub use building::build;
 pub use draft::Draft;
 pub use header::{Header, read_header};
 pub use known::Known;
 pub use laws::nobody_forges;
+pub use script::Script;
 
 #[cfg(test)]
 mod tests;
