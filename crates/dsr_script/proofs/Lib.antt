@@ -1,2 +1,6 @@
-mod KnownLemmas
+mod AskLemmas
 mod HeldLemmas
+mod ItemsLemmas
+mod KnownLemmas
+mod PairLemmas
+mod SpelledLemmas

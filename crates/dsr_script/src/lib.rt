@@ -5,11 +5,13 @@
 mod building;
 mod draft;
 mod draft_text;
+mod items;
 mod known;
 mod laws;
 mod plan;
 mod said;
 mod said_chain;
+mod spelled;
 
 pub use building::build;
 pub use draft::Draft;
