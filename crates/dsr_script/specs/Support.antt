@@ -2,7 +2,9 @@
 -- These serve `impl Model`, `impl Hash`, and private contracts.
 pub mod AskText
 pub mod Carried
+pub mod ChainParts
 pub mod Described
+pub mod EnvelopeParts
 pub mod Noted
 pub mod SaidEquality
 pub mod SaidHash
