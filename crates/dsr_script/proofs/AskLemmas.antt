@@ -1,22 +1,19 @@
 -- Signed requests, read.
-use Rattle.std.proofs.Common.{◌≡◌, ◌≢◌, ℕ, ◌↔◌, List, ◌∷◌, ◌++◌, Option, None, Some, refl, sym, ◌∙◌, ap, ap₂, subst, arith}
-use Rattle.std.proofs.lemmas.Option.{none-some, same_Some}
+use Rattle.std.proofs.Common.{◌≡◌, ℕ, ◌↔◌, List, ◌∷◌, ◌++◌, Option, None, Some, refl, arith}
+use Rattle.std.proofs.lemmas.Option.{none-some}
 use Rattle.dsr_base.specs.Reads.{Reads}
 use Rattle.dsr_base.specs.Split.{IsAbsent}
-use Rattle.dsr_base.proofs.Marks.{not_absent}
-use Rattle.dsr_base.proofs.ReadsLemmas.{reads_none}
 use Rattle.dsr_base.proofs.TwoParts.{at_byte, both_text, AreBoth, no_parts}
 use Rattle.dsr_request.specs.Request.{Request}
 use Rattle.dsr_request.specs.RequestText.{request_token, IsRequest}
 use Rattle.dsr_request.specs.Support.RequestToken.{token_without}
-use Rattle.dsr_desk.specs.Signature.{Signature}
 use Rattle.dsr_desk.specs.declared.statement.Statement.TheVariants.{Ask}
 use Rattle.dsr_chain.specs.declared.signed_request.SignedRequest.{SignedRequest}
 use Rattle.dsr_replica.specs.Limits.{IsSigned}
-use Rattle.dsr_script.specs.SignatureText.{Spelled, spelled_at, spelled_text}
+use Rattle.dsr_script.specs.SignatureText.{Spelled, spelled_text}
 use Rattle.dsr_script.specs.ChainText.{signed_text}
 use Rattle.dsr_script.specs.Support.SpelledText.{IsSpelled, pair_of}
-use Rattle.dsr_script.specs.Support.AskText.{ask_parts, ask_of}
+use Rattle.dsr_script.specs.Support.AskText.{ask_parts}
 use Rattle.dsr_script.proofs.PairLemmas.{reads_pair, reads_through}
 use Rattle.dsr_script.proofs.SpelledLemmas.{said_kinds}
 

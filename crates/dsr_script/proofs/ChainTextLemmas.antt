@@ -1,10 +1,10 @@
 -- Chains, read from their three parts.
-use Rattle.std.proofs.Common.{All, ◌≡◌, ℕ, suc, ◌+◌, ◌<◌, ◌≤◌, ◌^◌, ◌↔◌, List, [], ◌∷◌, ◌++◌, Option, None, Some, false, refl, sym, ◌∙◌, ap, subst, arith, lit<, length, length-append}
+use Rattle.std.proofs.Common.{All, ◌≡◌, ℕ, suc, ◌+◌, ◌<◌, ◌≤◌, ◌^◌, ◌↔◌, List, [], ◌∷◌, ◌++◌, Option, None, Some, false, refl, ap, arith, lit<, length, length-append}
 use Rattle.std.specs.Prelude.{map}
 use Rattle.std.specs.Fmt.{decimal}
 use Rattle.std.proofs.lemmas.List.Elements.{All-nil, All-cons, All-head, All-tail, All-append}
 use Rattle.std.proofs.lemmas.Option.{none-some}
-use Rattle.dsr_base.specs.Joined.{joined_or_dash, AreFew, AreUpTo}
+use Rattle.dsr_base.specs.Joined.{joined_or_dash, AreUpTo}
 use Rattle.dsr_base.specs.Reads.{Reads}
 use Rattle.dsr_base.specs.Split.{IsAbsent, IsFree, IsPart}
 use Rattle.dsr_base.proofs.Marks.{decimal_without_low}
@@ -14,7 +14,6 @@ use Rattle.dsr_names.specs.declared.actor.Actor.{Actor}
 use Rattle.dsr_request.specs.Request.{Request}
 use Rattle.dsr_request.specs.RequestText.{IsRequest}
 use Rattle.dsr_desk.specs.ContentText.{IsContent}
-use Rattle.dsr_desk.specs.StatementText.{IsStatement}
 use Rattle.dsr_desk.specs.Signature.{Signature}
 use Rattle.dsr_desk.specs.declared.statement.Statement.TheVariants.{Link}
 use Rattle.dsr_chain.specs.Chain.{Chain}

@@ -1,5 +1,6 @@
 mod AskLemmas
 mod ChainTextLemmas
+mod EnvelopeLemmas
 mod HeldLemmas
 mod ItemsLemmas
 mod KnownLemmas

@@ -1,5 +1,5 @@
 -- What texts say of signatures, read back.
-use Rattle.std.proofs.Common.{◌≡◌, ℕ, ◌↔◌, Bool, true, false, cond, List, [], ◌∷◌, ◌++◌, Option, None, Some, refl, sym, ◌∙◌, ap, ap₂, subst, arith, lit<}
+use Rattle.std.proofs.Common.{◌≡◌, ℕ, ◌↔◌, Bool, true, false, cond, List, ◌∷◌, ◌++◌, Option, None, Some, refl, sym, ◌∙◌, ap, ap₂, subst, arith, lit<}
 use Rattle.std.specs.Bool.{Decides}
 use Rattle.std.specs.Option.{option_map}
 use Rattle.std.proofs.lemmas.Bool.{false≢true}
@@ -15,7 +15,7 @@ use Rattle.dsr_names.specs.Actor.{actor_text, IsNumbered}
 use Rattle.dsr_names.specs.declared.actor.Actor.{Actor}
 use Rattle.dsr_names.specs.declared.actor.Actor.TheVariants.{Replica, Client}
 use Rattle.dsr_desk.specs.Signature.{Signature, signed}
-use Rattle.dsr_desk.specs.StatementText.{statement_text, IsStatement}
+use Rattle.dsr_desk.specs.StatementText.{IsStatement}
 use Rattle.dsr_desk.specs.Support.StatementEquality.{statement_eq, statement_eq-Decides}
 use Rattle.dsr_desk.specs.declared.statement.Statement.{Statement}
 use Rattle.dsr_script.proofs.PairLemmas.{reads_pair}

@@ -1,11 +1,10 @@
-ghost use Rattle.std.specs.Prelude.{◌≡◌, ◌++◌, codes, Option, Some, IfOk, IsOkUnless};
+ghost use Rattle.std.specs.Prelude.{◌≡◌, ◌↔◌, ◌++◌, codes, Some, IfOk, IsOkUnless};
 ghost use Rattle.std.specs.Option.{option_map};
 ghost use Rattle.std.specs.Fmt.{decimal};
 ghost use Rattle.dsr_base.specs.Reads.{Reads};
-ghost use Rattle.dsr_replica.specs.declared.envelope.Envelope.TheVariants.{Round as RoundOf};
 ghost use Rattle.dsr_script.specs.EnvelopeText.{envelope_text, reply_text, IsSpelledEnvelope};
 ghost use Rattle.dsr_script.specs.Support.Described.{described};
-ghost use Rattle.dsr_script.specs.Support.EnvelopeParts.{IsSpelledReply, IsNumber, IsRound, round_text, reply_parts, round_of};
+ghost use Rattle.dsr_script.specs.Support.EnvelopeParts.{IsSpelledReply, IsNumber, reply_parts, round_of};
 ghost use Rattle.dsr_script.specs.Support.SpelledText.{pair_of};
 ghost use Rattle.dsr_ledger.specs.declared.reply.Reply.{Reply as AReply};
 
@@ -63,28 +62,24 @@ fn read_round(alloc: Global, bytes: &[u8]) -> Result<Option<Plan>, Refusal>
     ensures refusal { IsOkUnless result Refusal.NoMemory }
 {
     match split_once(bytes, b' ') {
-        None => round_of_parts(read_num(bytes), Some(Vec::new(alloc))),
+        None => Ok(round_of_parts(read_num(bytes), Some(Vec::new(alloc)))),
         Some((round, chains)) => {
             let chains = read_items(alloc, chains, MOST_CHAINS)?;
-            round_of_parts(read_num(round), chains)
+            Ok(round_of_parts(read_num(round), chains))
         }
     }
 }
 
 /// The chains of a global round, where there are both.
-fn round_of_parts(
-    round: Option<u64>,
-    chains: Option<Vec<SaidChain>>,
-) -> Result<Option<Plan>, Refusal>
-    ensures made { IfOk result (λ plan. option_map described plan ≡ option_map round_of (pair_of round (option_map (λ list. list.items) chains))) }
-    ensures refusal { IsOkUnless result Refusal.NoMemory }
+fn round_of_parts(round: Option<u64>, chains: Option<Vec<SaidChain>>) -> Option<Plan>
+    ensures { option_map described result ≡ option_map round_of (pair_of round (option_map (λ list. list.items) chains)) }
 {
     match (round, chains) {
-        (Some(round), Some(chains)) => Ok(Some(Plan::Round {
+        (Some(round), Some(chains)) => Some(Plan::Round {
             round,
             chains: SaidChains::of_vec(chains),
-        })),
-        _ => Ok(None),
+        }),
+        _ => None,
     }
 }
 
@@ -137,7 +132,10 @@ fn read_reply(bytes: &[u8]) -> Option<Reply>
 fn read_number(bytes: &[u8]) -> Option<u64>
     ensures { Reads IsNumber decimal bytes.now result }
 {
-    read_num(bytes).filter(|n| *n > 0)
+    match read_num(bytes) {
+        Some(number) if number > 0 => Some(number),
+        _ => None,
+    }
 }
 
 /// The reply of these parts, where there are all.

@@ -1,12 +1,10 @@
 -- Signed requests by their two parts in a text, and why they can be joined.
-use Rattle.std.proofs.Common.{◌≡◌, ◌≢◌, ℕ, ◌<◌, List, [], ◌∷◌, ◌++◌, Bool, true, false, cond, Option, None, Some, refl, arith, lit<}
-use Rattle.std.specs.Bool.{Decides}
-use Rattle.dsr_base.specs.Split.{IsAbsent, IsPart}
+use Rattle.std.proofs.Common.{◌≡◌, ◌≢◌, ℕ, ◌<◌, [], ◌∷◌, Bool, true, false, cond, None, Some, refl, arith, lit<}
+use Rattle.dsr_base.specs.Split.{IsPart}
 use Rattle.dsr_base.proofs.Outside.{part_append, plain_part}
-use Rattle.dsr_names.specs.declared.actor.Actor.{Actor}
 use Rattle.dsr_request.specs.Request.{Request}
 use Rattle.dsr_request.specs.NameText.{is_name_byte}
-use Rattle.dsr_request.specs.RequestText.{request_token, IsRequest}
+use Rattle.dsr_request.specs.RequestText.{request_token}
 use Rattle.dsr_request.specs.Support.RequestToken.{token_without}
 use Rattle.dsr_desk.specs.Signature.{Signature}
 use Rattle.dsr_desk.specs.StatementText.{IsStatement}

@@ -1,11 +1,10 @@
 -- What texts say of signatures: which of it they can say, and why it can be joined to more.
-use Rattle.std.proofs.Common.{◌≡◌, ◌≢◌, ℕ, ◌<◌, List, [], ◌∷◌, ◌++◌, codes, Option, None, Some, refl, arith, lit<, rules, false}
+use Rattle.std.proofs.Common.{◌≡◌, ◌≢◌, ℕ, ◌<◌, List, [], ◌∷◌, ◌++◌, Option, None, Some, refl, arith, lit<, rules}
 use Rattle.std.proofs.lemmas.List.Elements.{All-cons, All-append}
 use Rattle.std.specs.Fmt.{decimal}
 use Rattle.dsr_base.specs.Split.{IsAbsent, IsPart}
-use Rattle.dsr_base.specs.Joined.{joined_or_dash}
 use Rattle.dsr_base.proofs.JoinedLemmas.{joined_all}
-use Rattle.dsr_base.proofs.Outside.{part_append, plain_part, wrapped_part, lettered_part}
+use Rattle.dsr_base.proofs.Outside.{part_append, wrapped_part, lettered_part}
 use Rattle.dsr_names.specs.Actor.{actor_text, IsNumbered}
 use Rattle.dsr_names.specs.declared.actor.Actor.{Actor}
 use Rattle.dsr_names.specs.declared.actor.Actor.TheVariants.{Replica, Client}

@@ -1,7 +1,7 @@
-use Rattle.std.proofs.Common.{◌≡◌, ◌∷◌, ◌++◌, [], Some, None, subst, sym, rules, arith}
+use Rattle.std.proofs.Common.{◌≡◌, ◌∷◌, ◌++◌, [], Some, subst, sym, rules, arith}
 use Rattle.dsr_base.specs.Joined.{joined, AreFew}
 use Rattle.dsr_base.specs.Reads.{Reads}
-use Rattle.dsr_script.proofs.ItemsLemmas.{begins, goes_on, stops, no_last, last, too_many}
+use Rattle.dsr_script.proofs.ItemsLemmas.{goes_on, stops, no_last, last, too_many}
 use Rattle.dsr_script.proofs.items.read_items.Goals as goal
 
 pub returns-in-None-2-clause-read : goal.returns-in-None-2-clause-read

@@ -1,4 +1,4 @@
-use Rattle.std.proofs.Common.{◌≡◌, true, sym, ◌∙◌}
+use Rattle.std.proofs.Common.{sym, ◌∙◌}
 use Rattle.std.proofs.lemmas.Bool.{false≢true}
 use Rattle.dsr_script.proofs.SpelledLemmas.{short_said, long_said, long_of_fitting}
 use Rattle.dsr_script.proofs.spelled.Spelled.said_at.Goals as goal
