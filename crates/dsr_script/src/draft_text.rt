@@ -9,7 +9,7 @@ ghost use Rattle.dsr_script.specs.Support.SpelledText.{pair_of};
 ghost use Rattle.dsr_ledger.specs.declared.reply.Reply.{Reply as AReply};
 
 use crate::draft::Draft;
-use crate::items::read_items;
+use crate::items::{read_items, write_more};
 use crate::plan::Plan;
 use crate::said::SaidRequest;
 use crate::said_chain::{SaidChain, SaidChains};
@@ -18,6 +18,7 @@ use dsr_ledger::Reply;
 use dsr_names::{Refusal, read_num};
 use dsr_request::Answer;
 use std::alloc::Global;
+use std::fmt;
 
 /// The most chains of an envelope that a text spells.
 const MOST_CHAINS: usize = 32;
@@ -32,6 +33,29 @@ impl Draft {
         match read_plan(alloc, bytes)? {
             Some(plan) => Ok(Some(Draft::of_plan(plan))),
             None => Ok(None),
+        }
+    }
+}
+
+/// What is written is the text of the envelope that the draft describes.
+impl fmt::Display for Draft {
+    ghost output = { λ draft. Some (envelope_text draft) };
+
+    fn fmt<W: fmt::Write>(&self, f: &mut fmt::Formatter<W>) -> fmt::Result {
+        match self.plan() {
+            Plan::Empty => f.write_str("empty"),
+            Plan::Round { round, chains } => {
+                write!(f, "round {round}")?;
+                write_more(chains.as_slice(), f)
+            }
+            Plan::Ask(ask) => write!(f, "ask {ask}"),
+            Plan::Reply(reply) => {
+                let number = reply.number;
+                let place = reply.place;
+                let answer = reply.answer;
+                write!(f, "reply {number} {place} {answer}")
+            }
+            Plan::Seen(front) => write!(f, "seen {front}"),
         }
     }
 }

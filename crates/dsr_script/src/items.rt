@@ -1,15 +1,17 @@
-ghost use Rattle.std.specs.Prelude.{◌≡◌, ℕ, ◌≤◌, List, IfOk, IsOkUnless};
+ghost use Rattle.std.specs.Prelude.{◌≡◌, ℕ, ◌<◌, List, Some, IfOk, IsOkUnless};
 ghost use Rattle.std.specs.Option.{option_map};
-ghost use Rattle.dsr_base.specs.Joined.{joined, AreFew};
+ghost use Rattle.std.specs.Fmt.{DisplaysOnOk};
+ghost use Rattle.dsr_base.specs.Joined.{joined, more_joined, AreFew};
 ghost use Rattle.dsr_base.specs.Reads.{Reads};
 ghost use Rattle.dsr_base.specs.Split.{IsPart};
 
 use dsr_base::split_outside;
 use dsr_names::Refusal;
 use std::alloc::Global;
+use std::fmt;
 
 /// What texts join to others of its kind by a mark.
-pub(crate) trait Item: Drop {
+pub(crate) trait Item: Drop + fmt::Display {
     // the items that have a text
     ghost is: { Self → Type 0 };
 
@@ -29,6 +31,10 @@ pub(crate) trait Item: Drop {
 
     // no text has the mark outside parentheses, and none ends inside them
     ghost apart: { (x : Self) → is x → IsPart MARK (text x) };
+
+    ghost ascii: { MARK < 128 };
+
+    ghost shown: { (x : Self) → Self.output x ≡ Some (text x) };
 }
 
 /// The items whose texts the bytes join: at least one, and at most `most`. The inner `None` comes exactly where they are no such
@@ -64,4 +70,18 @@ pub(crate) fn read_items<T: Item>(
         }
     }
     Ok(None)
+}
+
+/// Writes the items, each with their mark before it.
+pub(crate) fn write_more<T: Item, W: fmt::Write>(
+    items: &[T],
+    f: &mut fmt::Formatter<W>,
+) -> fmt::Result
+    ensures { DisplaysOnOk W.write_str_gives f.old result (Some (more_joined T.MARK T.text items.now)) f.new }
+{
+    let mark = T::MARK as char;
+    for item in items {
+        write!(f, "{mark}{item}")?;
+    }
+    Ok(())
 }

@@ -11,6 +11,7 @@ mod laws;
 mod plan;
 mod said;
 mod said_chain;
+mod said_display;
 mod said_text;
 mod spelled;
 

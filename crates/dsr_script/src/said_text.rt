@@ -1,6 +1,6 @@
 //! How the parts of drafts are read.
 
-ghost use Rattle.std.specs.Prelude.{◌≡◌, ◌↔◌, ◌≤◌, List, [], Some, length, IfOk, IfSome, IsOkUnless};
+ghost use Rattle.std.specs.Prelude.{◌≡◌, refl, ◌↔◌, ◌≤◌, List, [], Some, length, IfOk, IfSome, IsOkUnless};
 ghost use Rattle.std.specs.Option.{option_map};
 ghost use Rattle.std.proofs.Common.{lit<};
 ghost use Rattle.dsr_base.specs.Joined.{joined_or_dash, AreUpTo};
@@ -40,6 +40,10 @@ impl Item for Spelled {
     }
 
     ghost apart = { spelled_apart };
+
+    ghost ascii = { lit< tt };
+
+    ghost shown = { λ _. refl };
 }
 
 /// Signed requests are joined by commas.
@@ -57,6 +61,10 @@ impl Item for SaidRequest {
     }
 
     ghost apart = { ask_apart };
+
+    ghost ascii = { lit< tt };
+
+    ghost shown = { λ _. refl };
 }
 
 /// Each chain of an envelope has a space before it.
@@ -74,6 +82,10 @@ impl Item for SaidChain {
     }
 
     ghost apart = { chain_apart };
+
+    ghost ascii = { lit< tt };
+
+    ghost shown = { λ _. refl };
 }
 
 impl SaidChain {

@@ -1,9 +1,10 @@
-ghost use Rattle.std.specs.Prelude.{◌≡◌, ◌↔◌, Option, None, Some};
+ghost use Rattle.std.specs.Prelude.{◌≡◌, ◌↔◌, if◌then◌else◌, None, Some};
 ghost use Rattle.std.specs.Option.{option_map};
 ghost use Rattle.dsr_base.specs.Reads.{Reads};
 ghost use Rattle.dsr_names.specs.declared.actor.Actor.{Actor};
 ghost use Rattle.dsr_desk.specs.Signature.{Signature};
 ghost use Rattle.dsr_desk.specs.StatementText.{IsStatement};
+ghost use Rattle.dsr_desk.specs.Support.StatementEquality.{statement_eq};
 ghost use Rattle.dsr_script.specs.SignatureText.{Spelled, spelled_at, spelled_text};
 ghost use Rattle.dsr_script.specs.Support.SpelledText.{IsSpelled, closed_text, long_form, pair_of};
 
@@ -41,6 +42,30 @@ impl Spelled {
         }
     }
 
+    /// What a text says of the signature at the place that this statement fits.
+    pub(crate) fn at(said: &Said, fitting: &Statement) -> Spelled
+        ensures { result ≡ spelled_at fitting.now said.now }
+    {
+        Spelled {
+            signer: said.signer(),
+            other: other_than(said.statement(), fitting),
+        }
+    }
+
+    /// The signer.
+    pub(crate) fn signer(&self) -> Actor
+        ensures { result ≡ self.now.signer }
+    {
+        self.signer
+    }
+
+    /// The other statement, where it is on another than fits.
+    pub(crate) fn other(&self) -> Option<Statement>
+        ensures { result ≡ self.now.other }
+    {
+        self.other
+    }
+
     /// What the signature of this place says. `None` where it is the long form of the statement that fits, which is said of none.
     pub(crate) fn said_at(&self, fitting: &Statement) -> Option<Said>
         ensures { (s : Signature) → (result ≡ Some s) ↔ (self.now ≡ spelled_at fitting.now s) }
@@ -55,6 +80,17 @@ impl Spelled {
                 }
             }
         }
+    }
+}
+
+/// The statement, where it is another one than this.
+fn other_than(statement: &Statement, fitting: &Statement) -> Option<Statement>
+    ensures { result ≡ (if statement_eq statement.now fitting.now then None else Some statement.now) }
+{
+    if statement == fitting {
+        None
+    } else {
+        Some(statement.copy())
     }
 }
 
