@@ -1,5 +1,12 @@
-mod KnownLemmas
+mod AskLemmas
+mod ChainTextLemmas
+mod EnvelopeLemmas
 mod HeaderLemmas
 mod HeldLemmas
+mod ItemsLemmas
+mod KnownLemmas
+mod LinkLemmas
+mod PairLemmas
 mod ScriptLemmas
 mod ServeLemmas
+mod SpelledLemmas

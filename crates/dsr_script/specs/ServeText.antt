@@ -1,6 +1,6 @@
 -- How texts spell serve scripts (this project): a header `dsr-serve 1 n f m traitors`, then lines in any order, `ask C OPERATION` and
 -- `script R ROUND TO ENVELOPE`. Lines stand newest first: the last line is the first of the list.
-use Rattle.std.specs.Prelude.{◌≡◌, ◌≢◌, ℕ, ◌<◌, ◌^◌, true, nat_eq, if◌then◌else◌, List, [], ◌∷◌, ◌++◌, codes, Option, None, Some}
+use Rattle.std.specs.Prelude.{◌≡◌, ℕ, ◌<◌, ◌^◌, true, nat_eq, if◌then◌else◌, List, [], ◌∷◌, ◌++◌, codes, Option, None, Some}
 use Rattle.std.specs.Fmt.{decimal}
 use Rattle.dsr_base.specs.Split.{IsAbsent}
 use Rattle.dsr_names.specs.Actor.{IsNumbered, actor_text, replica_text}

@@ -1,4 +1,4 @@
-use Rattle.std.proofs.Common.{rules, ◌≢◌, []}
+use Rattle.std.proofs.Common.{rules}
 use Rattle.dsr_script.proofs.ScriptLemmas.{no_line, no_follower, bad_after, cannot_follow}
 use Rattle.dsr_script.proofs.script.Script.take_lines.Goals as goal
 
