@@ -28,4 +28,6 @@ pub use laws::nobody_forges;
 pub use script::Script;
 
 #[cfg(test)]
+mod script_tests;
+#[cfg(test)]
 mod tests;
