@@ -21,4 +21,8 @@ pub use known::Known;
 pub use laws::nobody_forges;
 
 #[cfg(test)]
+mod memory_tests;
+#[cfg(test)]
 mod tests;
+#[cfg(test)]
+mod text_tests;
