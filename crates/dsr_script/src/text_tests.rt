@@ -1,5 +1,6 @@
 use crate::Draft;
 use std::alloc::Global;
+use std::fmt::Write;
 use std::test::Fail;
 
 /// Texts of every case, with short and long forms, and at some limits.
@@ -46,6 +47,18 @@ fn is_spelled(alloc: Global, bytes: &[u8]) -> Result<bool, Fail> {
 fn is_exact(alloc: Global, bytes: &[u8]) -> Result<bool, Fail> {
     match again(alloc, bytes)? {
         Some(text) => Ok(text.as_bytes() == bytes),
+        None => Ok(true),
+    }
+}
+
+/// The same, where what is written goes to this room, so that less is allocated.
+fn is_exact_in(alloc: Global, bytes: &[u8], room: &mut String) -> Result<bool, Fail> {
+    room.clear();
+    match Draft::read(alloc, bytes)? {
+        Some(draft) => {
+            write!(room, "{draft}")?;
+            Ok(room.as_bytes() == bytes)
+        }
         None => Ok(true),
     }
 }
@@ -219,17 +232,26 @@ fn texts_cut_at_every_byte(rt: HostRuntime) -> Result<(), Fail> {
 
 #[test]
 fn texts_with_any_byte_changed(rt: HostRuntime) -> Result<(), Fail> {
-    let others = [
-        b' ', b'0', b'1', b'r', b'c', b'+', b'-', b',', b'/', b'~', b'(', b')', b'#', b':', b'a',
-        b'\n', 0u8, 200u8,
+    let texts = [
+        "empty",
+        "round 0 0/c0#1:read:a~c0/r0",
+        "round 1 3/idle/r1(0/idle/-)",
+        "ask c0#1:remove:a~r1(c0#2:read:b)",
+        "reply 1 0 held 5",
+        "seen 12",
     ];
-    for text in TEXTS {
+    let others = b" 01rc+-,/~()\n";
+    let mut room = String::with_capacity(rt.alloc(), 1024)?;
+    for text in texts {
         let mut changed = text.as_bytes().to_vec(rt.alloc())?;
         for place in 0..changed.len() {
             let was = changed[place];
             for other in others {
-                changed[place] = other;
-                assert!(rt; is_exact(rt.alloc(), changed.as_slice())?, "{text}");
+                changed[place] = *other;
+                assert!(rt;
+                    is_exact_in(rt.alloc(), changed.as_slice(), &mut room)?,
+                    "{text}"
+                );
             }
             changed[place] = was;
         }
