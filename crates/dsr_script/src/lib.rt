@@ -18,7 +18,7 @@ mod spelled;
 pub use building::build;
 pub use draft::Draft;
 pub use known::Known;
-pub use laws::nobody_forges;
+pub use laws::{nobody_forges, texts_tell_drafts};
 
 #[cfg(test)]
 mod memory_tests;
