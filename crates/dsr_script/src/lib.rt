@@ -4,6 +4,7 @@
 
 mod building;
 mod draft;
+mod draft_fits;
 mod draft_text;
 mod items;
 mod known;
