@@ -16,11 +16,10 @@ use Rattle.dsr_request.specs.AnswerText.{answer_text, IsAnswer}
 use Rattle.dsr_request.specs.declared.answer.Answer.{Answer}
 use Rattle.dsr_ledger.specs.declared.reply.Reply.{Reply as AReply}
 use Rattle.dsr_chain.specs.Chain.{Chain}
-use Rattle.dsr_chain.specs.declared.signed_request.SignedRequest.{SignedRequest}
-use Rattle.dsr_replica.specs.Limits.{IsCount, IsSigned}
+use Rattle.dsr_replica.specs.Limits.{IsCount}
 use Rattle.dsr_replica.specs.declared.envelope.Envelope.{Envelope}
 use Rattle.dsr_replica.specs.declared.envelope.Envelope.TheVariants.{Empty, Round, Ask, Reply, Seen}
-use Rattle.dsr_script.specs.ChainText.{signed_text, chain_text, IsSpelledChain}
+use Rattle.dsr_script.specs.ChainText.{chain_text, IsSpelledChain}
 use Rattle.dsr_script.specs.EnvelopeText.{envelope_text, reply_text, IsSpelledEnvelope}
 use Rattle.dsr_script.specs.Support.EnvelopeParts.{IsSpelledReply, IsNumber, IsRound, round_text, reply_parts, round_of}
 use Rattle.dsr_script.specs.Support.SpelledText.{pair_of}
@@ -69,18 +68,6 @@ pub reads_round : (rest : List ℕ) (rp : Option (ℕ × List Chain)) → Reads 
     → Reads IsSpelledEnvelope envelope_text (codes "round " ++ rest) (option_map round_of rp)
 reads_round rest rp reads = reads_word IsRound round_text round_of (codes "round ") rest (λ p h. h) (λ p. refl) (found_round rest) rp reads
 
-found_ask : (rest : List ℕ) (x : Envelope) → IsSpelledEnvelope x → codes "ask " ++ rest ≡ envelope_text x → IsMade IsSigned signed_text Ask rest x
-found_ask rest Empty is e = absurd (other_key (codes "ask " ++ rest) (codes "empty") refl e)
-found_ask rest (Round round chains) is e = absurd (other_key (codes "ask " ++ rest) (envelope_text (Round round chains)) refl e)
-found_ask rest (Ask request) is e =
-    record { part = request; kind = is; spelled = append_cancel_left (codes "ask ") rest (signed_text request) e; made = refl }
-found_ask rest (Reply reply) is e = absurd (other_key (codes "ask " ++ rest) (envelope_text (Reply reply)) refl e)
-found_ask rest (Seen front) is e = absurd (other_key (codes "ask " ++ rest) (envelope_text (Seen front)) refl e)
-
-pub reads_asked : (rest : List ℕ) (rp : Option SignedRequest) → Reads IsSigned signed_text rest rp
-    → Reads IsSpelledEnvelope envelope_text (codes "ask " ++ rest) (option_map Ask rp)
-reads_asked rest rp reads = reads_word IsSigned signed_text Ask (codes "ask ") rest (λ p h. h) (λ p. refl) (found_ask rest) rp reads
-
 found_reply : (rest : List ℕ) (x : Envelope) → IsSpelledEnvelope x → codes "reply " ++ rest ≡ envelope_text x → IsMade IsSpelledReply reply_text Reply rest x
 found_reply rest Empty is e = absurd (other_key (codes "reply " ++ rest) (codes "empty") refl e)
 found_reply rest (Round round chains) is e = absurd (other_key (codes "reply " ++ rest) (envelope_text (Round round chains)) refl e)
@@ -104,26 +91,6 @@ found_seen rest (Seen front) is e =
 pub reads_seen : (rest : List ℕ) (rp : Option ℕ) → Reads IsCount decimal rest rp
     → Reads IsSpelledEnvelope envelope_text (codes "seen " ++ rest) (option_map Seen rp)
 reads_seen rest rp reads = reads_word IsCount decimal Seen (codes "seen ") rest (λ p h. h) (λ p. refl) (found_seen rest) rp reads
-
-found_empty : (x : Envelope) → codes "empty" ≡ envelope_text x → Empty ≡ x
-found_empty Empty e = refl
-found_empty (Round round chains) e = absurd (other_key (codes "empty") (envelope_text (Round round chains)) refl e)
-found_empty (Ask request) e = absurd (other_key (codes "empty") (envelope_text (Ask request)) refl e)
-found_empty (Reply reply) e = absurd (other_key (codes "empty") (envelope_text (Reply reply)) refl e)
-found_empty (Seen front) e = absurd (other_key (codes "empty") (envelope_text (Seen front)) refl e)
-
-pub reads_empty : (bytes : List ℕ) → bytes ≡ codes "empty" → Reads IsSpelledEnvelope envelope_text bytes (Some Empty)
-reads_empty bytes e = reads_some IsSpelledEnvelope envelope_text bytes Empty tt e (λ x is same. found_empty x (sym e ∙ same))
-
--- what begins with no word is no text
-pub no_word : (bytes : List ℕ) → (bytes ≡ codes "empty" → ⊥) → ((rest : List ℕ) → bytes ≡ codes "round " ++ rest → ⊥)
-    → ((rest : List ℕ) → bytes ≡ codes "ask " ++ rest → ⊥) → ((rest : List ℕ) → bytes ≡ codes "reply " ++ rest → ⊥)
-    → ((rest : List ℕ) → bytes ≡ codes "seen " ++ rest → ⊥) → (x : Envelope) → bytes ≡ envelope_text x → ⊥
-no_word bytes empty round ask reply seen Empty e = empty e
-no_word bytes empty round ask reply seen (Round n chains) e = round (round_text (n, chains)) e
-no_word bytes empty round ask reply seen (Ask request) e = ask (signed_text request) e
-no_word bytes empty round ask reply seen (Reply it) e = reply (reply_text it) e
-no_word bytes empty round ask reply seen (Seen front) e = seen (decimal front) e
 
 -- ---- a round
 
@@ -236,3 +203,10 @@ reads_number bytes n some reads x = (
       ((subst (λ m. 0 < m) (same_Some n x e) some, read.0), read.1),
   λ h. (reads x).1 (h.0.1, h.1),
 )
+
+-- ---- texts and drafts
+
+pub one_text : (bytes others : List ℕ) (a : Envelope) → Reads IsSpelledEnvelope envelope_text bytes (Some a)
+    → Reads IsSpelledEnvelope envelope_text others (Some a) → bytes ≡ others
+one_text bytes others a reads reads_others =
+    (was_read IsSpelledEnvelope envelope_text bytes a reads).1 ∙ sym (was_read IsSpelledEnvelope envelope_text others a reads_others).1

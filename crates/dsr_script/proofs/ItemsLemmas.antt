@@ -17,10 +17,6 @@ module _ {X : Type 0} (is : X → Type 0) (text : X → List ℕ) (mark : ℕ) (
   GoesOn count done rest = (r : Option (List X)) → Reads (AreFew is (most - count)) (joined mark text) rest r
       → Reads (AreFew is most) (joined mark text) bytes (after_those done r)
 
-  pub begins : GoesOn 0 [] bytes
-  begins None reads = let all : most - 0 ≡ most = omega arith in subst (λ n. Reads (AreFew is n) (joined mark text) bytes None) all reads
-  begins (Some xs) reads = let all : most - 0 ≡ most = omega arith in subst (λ n. Reads (AreFew is n) (joined mark text) bytes (Some xs)) all reads
-
   pub goes_on : (count : ℕ) (done : List X) (rest front after : List ℕ) (x : X) → count < most → GoesOn count done rest → rest ≡ front ++ mark ∷ after → IsPart mark front
       → Reads is text front (Some x) → GoesOn (count + 1) (done ++ x ∷ []) after
   goes_on count done rest front after x small h parts part reads None others =

@@ -1,6 +1,7 @@
 mod AskLemmas
 mod ChainTextLemmas
 mod EnvelopeLemmas
+mod FitLemmas
 mod HeaderLemmas
 mod HeldLemmas
 mod ItemsLemmas

@@ -76,7 +76,3 @@ module _ (slot : ℕ) (value : Option (List Request)) where
 
   pub says_all : (links : List Spelled) (before : List Actor) (done : List Signature) → SaysOn links before done [] → AreSaid [] links (Some done)
   says_all links before done h = subst (λ all. AreSaid [] links (Some all)) (append-nil done) (h (Some []) (said_none before))
-
-  pub says_first : (links : List Spelled) → SaysOn links [] [] links
-  says_first links None h = h
-  says_first links (Some ss) h = h
