@@ -1,2 +1,13 @@
-mod KnownLemmas
+mod AskLemmas
+mod ChainTextLemmas
+mod EnvelopeLemmas
+mod FitLemmas
+mod HeaderLemmas
 mod HeldLemmas
+mod ItemsLemmas
+mod KnownLemmas
+mod LinkLemmas
+mod PairLemmas
+mod ScriptLemmas
+mod ServeLemmas
+mod SpelledLemmas

@@ -1,3 +1,9 @@
+pub mod ChainText
+pub mod EnvelopeText
+pub mod Header
 pub mod Held
 pub mod Known
+pub mod Script
+pub mod ServeText
+pub mod SignatureText
 pub mod Support

@@ -1,7 +1,14 @@
--- How drafts and known signatures stand in their fields, and what of a signature is hashed. These serve `impl Model`, `impl Hash`,
--- and private contracts.
+-- How drafts and known signatures stand in their fields, what of a signature is hashed, and why texts of drafts can be joined.
+-- These serve `impl Model`, `impl Hash`, and private contracts.
+pub mod AskText
 pub mod Carried
+pub mod ChainParts
 pub mod Described
+pub mod EnvelopeParts
 pub mod Noted
+pub mod PlaceEquality
+pub mod PlaceHash
 pub mod SaidEquality
 pub mod SaidHash
+pub mod SpelledText
+pub mod TakenLines

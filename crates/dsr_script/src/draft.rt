@@ -48,6 +48,13 @@ impl Draft {
         Ok(Draft { plan })
     }
 
+    /// The draft of these cases.
+    pub(crate) fn of_plan(plan: Plan) -> Draft
+        ensures { result ≡ described plan }
+    {
+        Draft { plan }
+    }
+
     /// The cases of the draft.
     pub(crate) fn plan(&self) -> &Plan
         ensures { described result.now ≡ self.now }

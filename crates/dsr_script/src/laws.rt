@@ -1,10 +1,12 @@
-//! The law that nobody forges, as the contract of a function that does nothing.
+//! The law that nobody forges, and that texts and drafts tell each other: the contracts of functions that do nothing.
 
-ghost use Rattle.std.specs.Prelude.{◌⊎◌, List};
+ghost use Rattle.std.specs.Prelude.{◌≡◌, ◌⊎◌, ℕ, List, Option, Some};
+ghost use Rattle.dsr_base.specs.Reads.{Reads};
 ghost use Rattle.dsr_names.specs.declared.actor.Actor.{Actor};
 ghost use Rattle.dsr_desk.specs.Signature.{Signature};
 ghost use Rattle.dsr_replica.specs.Envelope.{Carries};
 ghost use Rattle.dsr_replica.specs.declared.envelope.Envelope.{Envelope};
+ghost use Rattle.dsr_script.specs.EnvelopeText.{envelope_text, IsSpelledEnvelope};
 ghost use Rattle.dsr_script.specs.Known.{StandFor, WasCarried};
 ghost use Rattle.dsr_script.specs.Held.{IsHeld, IsUnforged};
 
@@ -14,4 +16,12 @@ pub fn nobody_forges()
     ensures { (holders : List Actor) (known : List Signature) (envelopes : List Envelope) (envelope : Envelope)
         → StandFor known envelopes → IsUnforged holders known envelope
         → (s : Signature) → Carries envelope s → IsHeld holders s ⊎ WasCarried envelopes s }
+{}
+
+/// Where bytes were read, they spell one draft alone, whatever it is; and a draft that was read has one text alone.
+pub fn texts_tell_drafts()
+    ensures one_draft { (bytes : List ℕ) (answer : Option Envelope) → Reads IsSpelledEnvelope envelope_text bytes answer
+        → (a b : Envelope) → IsSpelledEnvelope a → IsSpelledEnvelope b → bytes ≡ envelope_text a → bytes ≡ envelope_text b → a ≡ b }
+    ensures one_text { (bytes others : List ℕ) (envelope : Envelope) → Reads IsSpelledEnvelope envelope_text bytes (Some envelope)
+        → Reads IsSpelledEnvelope envelope_text others (Some envelope) → bytes ≡ others }
 {}

@@ -4,16 +4,35 @@
 
 mod building;
 mod draft;
+mod draft_fits;
+mod draft_text;
+mod header;
+mod items;
 mod known;
 mod laws;
+mod ops;
+mod place;
 mod plan;
 mod said;
 mod said_chain;
+mod said_display;
+mod said_text;
+mod script;
+mod serve_line;
+mod spelled;
 
 pub use building::build;
 pub use draft::Draft;
+pub use header::{Header, read_header};
 pub use known::Known;
-pub use laws::nobody_forges;
+pub use laws::{nobody_forges, texts_tell_drafts};
+pub use script::Script;
 
 #[cfg(test)]
+mod memory_tests;
+#[cfg(test)]
+mod script_tests;
+#[cfg(test)]
 mod tests;
+#[cfg(test)]
+mod text_tests;

@@ -1,5 +1,14 @@
-ghost use Rattle.std.specs.Prelude.{◌≡◌};
+ghost use Rattle.std.specs.Prelude.{◌≡◌, ◌↔◌, Some};
+ghost use Rattle.dsr_base.specs.Reads.{Reads};
+ghost use Rattle.dsr_desk.specs.Signature.{signed};
+ghost use Rattle.dsr_chain.specs.declared.signed_request.SignedRequest.{SignedRequest};
+ghost use Rattle.dsr_replica.specs.Limits.{IsSigned};
+ghost use Rattle.dsr_script.specs.ChainText.{signed_text};
+ghost use Rattle.dsr_script.specs.Support.AskText.{ask_parts};
+ghost use Rattle.dsr_script.specs.Support.SpelledText.{pair_of};
 
+use crate::spelled::Spelled;
+use dsr_base::split_once;
 use dsr_chain::SignedRequest;
 use dsr_desk::{Signature, Statement};
 use dsr_names::Actor;
@@ -32,6 +41,16 @@ impl Said {
         Said {
             signer: signature.signer(),
             statement: signature.statement().copy(),
+        }
+    }
+
+    /// What this signer's signature on the statement says.
+    pub(crate) fn by(signer: Actor, statement: &Statement) -> Said
+        ensures { result ≡ signed signer statement.now }
+    {
+        Said {
+            signer,
+            statement: statement.copy(),
         }
     }
 
@@ -98,6 +117,31 @@ impl SaidRequest {
         SaidRequest {
             request: signed.request,
             said: Said::of(&signed.signature),
+        }
+    }
+
+    /// The signed request that the bytes spell, as `c0#1:read:a~c0`. `None` exactly where they spell none.
+    pub(crate) fn read(bytes: &[u8]) -> Option<SaidRequest>
+        ensures { Reads IsSigned signed_text bytes.now result }
+    {
+        match split_once(bytes, b'~') {
+            None => None,
+            Some((request, spelled)) => {
+                SaidRequest::of_parts(Request::read(request), Spelled::read(spelled))
+            }
+        }
+    }
+
+    /// The request with what is said of the signature beside it, where there are both and a signature is said.
+    fn of_parts(request: Option<Request>, spelled: Option<Spelled>) -> Option<SaidRequest>
+        ensures { (x : SignedRequest) → (result ≡ Some x) ↔ (pair_of request spelled ≡ Some (ask_parts x)) }
+    {
+        match (request, spelled) {
+            (Some(request), Some(spelled)) => match spelled.said_at(&Statement::Ask(request)) {
+                Some(said) => Some(SaidRequest { request, said }),
+                None => None,
+            },
+            _ => None,
         }
     }
 

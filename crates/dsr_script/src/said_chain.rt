@@ -1,4 +1,5 @@
 ghost use Rattle.std.specs.Prelude.{◌≡◌, ◌≤◌, length, IfOk, IsOkUnless};
+ghost use Rattle.dsr_chain.specs.Chain.{chain_of};
 ghost use Rattle.dsr_chain.specs.Support.SignedLists.{value_of};
 
 use crate::said::{Said, SaidRequest};
@@ -43,6 +44,19 @@ impl SaidChain {
             asks,
             signatures,
         })
+    }
+
+    /// The chain of these parts.
+    pub(crate) fn of_parts(slot: u64, asks: Vec<SaidRequest>, signatures: Vec<Said>) -> SaidChain
+        requires asks { length asks.items ≤ 8 }
+        requires signatures { length signatures.items ≤ 16 }
+        ensures { result ≡ chain_of slot (value_of asks.items) signatures.items }
+    {
+        SaidChain {
+            slot,
+            asks,
+            signatures,
+        }
     }
 
     /// The slot that the chain is for.
@@ -96,6 +110,13 @@ impl SaidChains {
             items.push(SaidChain::of(alloc, chain)?)?;
         }
         Ok(SaidChains { items })
+    }
+
+    /// The chains of this list.
+    pub(crate) fn of_vec(items: Vec<SaidChain>) -> SaidChains
+        ensures { result ≡ items.items }
+    {
+        SaidChains { items }
     }
 
     /// The chains in their order.

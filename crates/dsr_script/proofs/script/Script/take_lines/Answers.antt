@@ -1,0 +1,23 @@
+use Rattle.std.proofs.Common.{rules}
+use Rattle.dsr_script.proofs.ScriptLemmas.{no_line, no_follower, bad_after, cannot_follow}
+use Rattle.dsr_script.proofs.script.Script.take_lines.Goals as goal
+
+-- the line is read as none
+pub returns-in_default-2-clause-refused : goal.returns-in_default-2-clause-refused
+returns-in_default-2-clause-refused c =
+    bad_after c.args.text.now c.loop-rest.rest.now c.loop-rest.number c.loop-rest.self c.args.self.now.shape c.loop-rest.invariant.0 c.loop-rest.invariant.1
+    (search rules)
+    (λ lines gives.
+    no_line c.loop-rest.self.shape lines c.loop-rest.rest.now c.in-Some.line.now c.in-Some.after.now c.in-Some.ensures.found c.in-Some.ensures.first
+    (rw c.in_default-2.is at c.in_ok-line.ensures.read))
+
+-- the line cannot follow
+pub returns-then-not-branch-clause-refused : goal.returns-then-not-branch-clause-refused
+returns-then-not-branch-clause-refused c =
+    bad_after c.args.text.now c.loop-rest.rest.now c.loop-rest.number c.loop-rest.self c.args.self.now.shape c.loop-rest.invariant.0 c.loop-rest.invariant.1
+    (search rules)
+    (λ lines gives.
+    no_follower c.loop-rest.self.shape lines c.loop-rest.rest.now c.in-Some.line.now c.in-Some.after.now c.in-Some.ensures.found c.in-Some.ensures.first
+    c.in-Some-2.line (rw c.in-Some-2.is at c.in_ok-line.ensures.read)
+    (cannot_follow c.in-Some-2.line c.loop-rest.self c.take.new.self c.in_ok-take.field-0
+    (record { taken = c.in_ok-take.ensures.taken; when = c.in_ok-take.ensures.when; shape = c.in_ok-take.ensures.shape }) c.if-not-branch.true lines gives))

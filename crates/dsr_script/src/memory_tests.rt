@@ -1,0 +1,49 @@
+//! Drafts read again where memory was refused. `tests/allocations.py` refuses each allocation of this test in turn, one in each
+//! run, and every run must pass: the call made again returns what it returns where nothing is refused.
+
+use crate::Draft;
+use dsr_names::Refusal;
+use std::alloc::Global;
+use std::test::Fail;
+
+/// What is read, or none where memory was refused. Another refusal is a failure.
+fn tried(alloc: Global, text: &[u8]) -> Result<Option<Option<Draft>>, Fail> {
+    match Draft::read(alloc, text) {
+        Ok(draft) => Ok(Some(draft)),
+        Err(Refusal::NoMemory) => Ok(None),
+        Err(refusal) => Err(refusal)?,
+    }
+}
+
+/// What is read, where at most one allocation is refused.
+fn read(alloc: Global, text: &[u8]) -> Result<Option<Draft>, Fail> {
+    match tried(alloc, text)? {
+        Some(draft) => Ok(draft),
+        None => Ok(tried(alloc, text)?.ok_or("refused again")?),
+    }
+}
+
+/// What is written, where at most one allocation is refused.
+fn written(alloc: Global, draft: &Draft) -> Result<String, Fail> {
+    match draft.to_string(alloc) {
+        Ok(text) => Ok(text),
+        Err(_) => Ok(draft.to_string(alloc)?),
+    }
+}
+
+#[test]
+fn reads_again_what_memory_was_refused_for(rt: HostRuntime) -> Result<(), Fail> {
+    let texts = [
+        "empty",
+        "round 0",
+        "round 0 0/c0#1:write:a:1~c0,c1#1:read:a~r0(0/idle/-)/r0+r1 1/idle/r1(c0#1:read:a)",
+        "ask c0#1:read:a~c0",
+        "reply 1 0 written",
+    ];
+    for text in texts {
+        let draft = read(rt.alloc(), text.as_bytes())?.ok_or("no draft")?;
+        assert!(rt; written(rt.alloc(), &draft)?.as_str() == text, "{text}");
+    }
+    assert!(rt; read(rt.alloc(), b"round 0 0/idle/r0+r0(0/idle/r0)")?.is_none());
+    Ok(())
+}

@@ -1,0 +1,204 @@
+//! How the parts of drafts are read.
+
+ghost use Rattle.std.specs.Prelude.{◌≡◌, refl, ◌↔◌, ◌≤◌, List, [], Some, length, IfOk, IfSome, IsOkUnless};
+ghost use Rattle.std.specs.Option.{option_map};
+ghost use Rattle.std.proofs.Common.{lit<};
+ghost use Rattle.dsr_base.specs.Joined.{joined_or_dash, AreUpTo};
+ghost use Rattle.dsr_base.specs.Reads.{Reads};
+ghost use Rattle.dsr_chain.specs.Chain.{Chain};
+ghost use Rattle.dsr_chain.specs.Support.SignedLists.{value_of, content_of as content_in};
+ghost use Rattle.dsr_desk.specs.Signature.{Signature};
+ghost use Rattle.dsr_replica.specs.Limits.{IsSigned};
+ghost use Rattle.dsr_script.specs.ChainText.{signed_text, value_text, chain_text, spelled_links, IsValue, IsSpelledChain};
+ghost use Rattle.dsr_script.specs.SignatureText.{spelled_text};
+ghost use Rattle.dsr_script.specs.Support.AskText.{ask_apart};
+ghost use Rattle.dsr_script.specs.Support.ChainParts.{chain_parts, chain_apart};
+ghost use Rattle.dsr_script.specs.Support.SpelledText.{IsSpelled, spelled_apart, pair_of};
+
+use crate::items::{Item, read_items};
+use crate::said::{Said, SaidRequest};
+use crate::said_chain::SaidChain;
+use crate::spelled::Spelled;
+use dsr_base::{split_once, split_outside};
+use dsr_desk::{MOST_SIGNERS, Signers, Statement};
+use dsr_names::{Refusal, read_num};
+use dsr_request::{MOST_REQUESTS, Request, Requests};
+use std::alloc::Global;
+
+/// What is said of signatures is joined by plus signs.
+impl Item for Spelled {
+    ghost is = { IsSpelled };
+
+    ghost text = { spelled_text };
+
+    ghost MARK = { 43 };
+
+    const MARK: u8 = b'+';
+
+    fn read(_: Global, bytes: &[u8]) -> Result<Option<Spelled>, Refusal> {
+        Ok(Spelled::read(bytes))
+    }
+
+    ghost apart = { spelled_apart };
+
+    ghost ascii = { lit< tt };
+
+    ghost shown = { λ _. refl };
+}
+
+/// Signed requests are joined by commas.
+impl Item for SaidRequest {
+    ghost is = { IsSigned };
+
+    ghost text = { signed_text };
+
+    ghost MARK = { 44 };
+
+    const MARK: u8 = b',';
+
+    fn read(_: Global, bytes: &[u8]) -> Result<Option<SaidRequest>, Refusal> {
+        Ok(SaidRequest::read(bytes))
+    }
+
+    ghost apart = { ask_apart };
+
+    ghost ascii = { lit< tt };
+
+    ghost shown = { λ _. refl };
+}
+
+/// Each chain of an envelope has a space before it.
+impl Item for SaidChain {
+    ghost is = { IsSpelledChain };
+
+    ghost text = { chain_text };
+
+    ghost MARK = { 32 };
+
+    const MARK: u8 = b' ';
+
+    fn read(alloc: Global, bytes: &[u8]) -> Result<Option<SaidChain>, Refusal> {
+        SaidChain::read(alloc, bytes)
+    }
+
+    ghost apart = { chain_apart };
+
+    ghost ascii = { lit< tt };
+
+    ghost shown = { λ _. refl };
+}
+
+impl SaidChain {
+    /// The chain that the bytes spell, as `0/c0#1:write:a:5~c0/r0`. The inner `None` comes exactly where they spell none. `NoMemory`
+    /// where memory runs out.
+    pub(crate) fn read(alloc: Global, bytes: &[u8]) -> Result<Option<SaidChain>, Refusal>
+        ensures read { IfOk result (λ chain. Reads IsSpelledChain chain_text bytes.now chain) }
+        ensures refusal { IsOkUnless result Refusal.NoMemory }
+    {
+        let Some((slot, rest)) = split_once(bytes, b'/') else {
+            return Ok(None);
+        };
+        let Some((value, links)) = split_outside(rest, b'/') else {
+            return Ok(None);
+        };
+        let asks = read_value(alloc, value)?;
+        let links = read_links(alloc, links)?;
+        chain_of_parts(alloc, read_num(slot), asks, links)
+    }
+}
+
+/// The chain of these parts, where there are all and its signatures are said of those.
+fn chain_of_parts(
+    alloc: Global,
+    slot: Option<u64>,
+    asks: Option<Vec<SaidRequest>>,
+    links: Option<Vec<Spelled>>,
+) -> Result<Option<SaidChain>, Refusal>
+    requires asks { IfSome asks (λ list. length list.items ≤ 8) }
+    requires links { IfSome links (λ list. length list.items ≤ 16) }
+    ensures made { IfOk result (λ chain. (x : Chain) → (chain ≡ Some x)
+        ↔ (pair_of slot (pair_of (option_map (λ list. value_of list.items) asks) (option_map (λ list. list.items) links)) ≡ Some (chain_parts x))) }
+    ensures refusal { IsOkUnless result Refusal.NoMemory }
+{
+    match (slot, asks, links) {
+        (Some(slot), Some(asks), Some(links)) => {
+            let content = content_of(asks.as_slice());
+            match said_links(alloc, slot, &content, links.as_slice())? {
+                Some(signatures) => Ok(Some(SaidChain::of_parts(slot, asks, signatures))),
+                None => Ok(None),
+            }
+        }
+        _ => Ok(None),
+    }
+}
+
+/// The signed requests of the value that the bytes spell: `idle`, or 1 to 8 joined by commas.
+fn read_value(alloc: Global, bytes: &[u8]) -> Result<Option<Vec<SaidRequest>>, Refusal>
+    ensures read { IfOk result (λ asks. Reads IsValue value_text bytes.now (option_map (λ list. value_of list.items) asks)) }
+    ensures few { IfOk result (λ asks. IfSome asks (λ list. length list.items ≤ 8)) }
+    ensures refusal { IsOkUnless result Refusal.NoMemory }
+{
+    if bytes == b"idle".as_slice() {
+        return Ok(Some(Vec::new(alloc)));
+    }
+    read_items(alloc, bytes, MOST_REQUESTS)
+}
+
+/// What the bytes say of a chain's signatures: `-` for none, or at most 16 joined by plus signs.
+fn read_links(alloc: Global, bytes: &[u8]) -> Result<Option<Vec<Spelled>>, Refusal>
+    ensures read { IfOk result (λ links. Reads (AreUpTo IsSpelled 16) (joined_or_dash 43 spelled_text) bytes.now (option_map (λ list. list.items) links)) }
+    ensures few { IfOk result (λ links. IfSome links (λ list. length list.items ≤ 16)) }
+    ensures refusal { IsOkUnless result Refusal.NoMemory }
+{
+    if bytes == b"-".as_slice() {
+        return Ok(Some(Vec::new(alloc)));
+    }
+    read_items(alloc, bytes, MOST_SIGNERS)
+}
+
+/// The signatures of a chain of this slot and content of which these are said. `None` exactly where they are said of none.
+fn said_links(
+    alloc: Global,
+    slot: u64,
+    content: &Option<Requests>,
+    links: &[Spelled],
+) -> Result<Option<Vec<Said>>, Refusal>
+    requires { length links.now ≤ 16 }
+    ensures said { IfOk result (λ said. (ss : List Signature)
+        → (option_map (λ list. list.items) said ≡ Some ss) ↔ (links.now ≡ spelled_links slot content.now [] ss)) }
+    ensures few { IfOk result (λ said. IfSome said (λ list. length list.items ≤ 16)) }
+    ensures refusal { IsOkUnless result Refusal.NoMemory }
+{
+    let mut said = Vec::with_capacity(alloc, links.len())?;
+    let mut before = Signers::new();
+    for link in links {
+        let fitting = Statement::Link {
+            slot,
+            value: *content,
+            before,
+        };
+        match link.said_at(&fitting) {
+            None => return Ok(None),
+            Some(one) => {
+                before.push(one.signer());
+                said.push(one)?;
+            }
+        }
+    }
+    Ok(Some(said))
+}
+
+/// The requests without what is said of the signatures beside them, or `None` where there are none.
+pub(crate) fn content_of(asks: &[SaidRequest]) -> Option<Requests>
+    requires { length asks.now ≤ 8 }
+    ensures { result ≡ content_in asks.now }
+{
+    if asks.is_empty() {
+        return None;
+    }
+    let mut requests: [Request; MOST_REQUESTS] = [asks[0].request(); MOST_REQUESTS];
+    for i in 0..asks.len() {
+        requests[i] = asks[i].request();
+    }
+    Requests::of(&requests[..asks.len()])
+}
