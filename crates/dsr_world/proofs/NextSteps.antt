@@ -90,13 +90,13 @@ module _ (shape : Shape) (allowed : IsAllowed shape) (older : List Step) (is : I
         other = other;
         box = empty;
         limits = (
-              loyal_next_within shape allowed older is p (actor, honest) (Replica q) x next,
-              below_not (suc (length (posted_to (Replica q) (log_of older (Replica p))))) (2 ^ 40) used,
-            );
+          loyal_next_within shape allowed older is p (actor, honest) (Replica q) x next,
+          below_not (suc (length (posted_to (Replica q) (log_of older (Replica p))))) (2 ^ 40) used,
+        );
         conduct = (
-              λ loyal. (next, below_not (rounds shape (log_of older (Replica p))) (2 ^ 36) more),
-              λ traitor. absurd (true≢false (sym traitor ∙ honest)),
-            );
+          λ loyal. (next, below_not (rounds shape (log_of older (Replica p))) (2 ^ 36) more),
+          λ traitor. absurd (true≢false (sym traitor ∙ honest)),
+        );
       }
   posts_next (Replica p) (Client c) pick x actor other good spelled honest e more used empty =
       let next = reply_next p c pick x other e in
@@ -105,9 +105,9 @@ module _ (shape : Shape) (allowed : IsAllowed shape) (older : List Step) (is : I
         other = other;
         box = empty;
         limits = (
-              loyal_next_within shape allowed older is p (actor, honest) (Client c) x next,
-              below_not (suc (length (posted_to (Client c) (log_of older (Replica p))))) (2 ^ 40) used,
-            );
+          loyal_next_within shape allowed older is p (actor, honest) (Client c) x next,
+          below_not (suc (length (posted_to (Client c) (log_of older (Replica p))))) (2 ^ 40) used,
+        );
         conduct = (λ loyal. (next, tt), λ traitor. absurd (true≢false (sym traitor ∙ honest)));
       }
   posts_next (Client c) (Client d) pick x actor other good spelled honest e more used empty = absurd (none-some x e)
@@ -116,9 +116,9 @@ module _ (shape : Shape) (allowed : IsAllowed shape) (older : List Step) (is : I
     other = other;
     box = empty;
     limits = (
-          ask_within shape allowed older is c actor (outstanding shape (log_of older (Client c))) refl pick spelled (sym (spent_alike c q pick) ∙ more) x e,
-          below_not (suc (length (posted_to (Replica q) (log_of older (Client c))))) (2 ^ 40) used,
-        );
+      ask_within shape allowed older is c actor (outstanding shape (log_of older (Client c))) refl pick spelled (sym (spent_alike c q pick) ∙ more) x e,
+      below_not (suc (length (posted_to (Replica q) (log_of older (Client c))))) (2 ^ 40) used,
+    );
     conduct = (other, (pick, e));
   }
 

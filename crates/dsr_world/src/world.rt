@@ -1,14 +1,20 @@
-ghost use Rattle.std.specs.Prelude.{◌≡◌, ◌≢◌, ℕ, ◌<◌, ◌+◌, [], ◌∷◌, List, Option, None, Some, Err, reverse, IfOk, OnErr, IsOkUnless};
-ghost use Rattle.dsr_names.specs.Shape.{IsActor};
+ghost use Rattle.std.specs.Prelude.{◌≡◌, ◌≢◌, ◌↔◌, ◌&&◌, ℕ, ◌<◌, ◌+◌, [], ◌∷◌, List, Option, None, Some, Err, length, reverse, IfOk, OnErr, IsTrue, IsOkUnless};
+ghost use Rattle.dsr_names.specs.Shape.{IsActor, IsAllowed};
+ghost use Rattle.dsr_names.specs.declared.refusal.Refusal.TheVariants.{NoActor, WrongRole};
+ghost use Rattle.dsr_replica.specs.declared.envelope.Envelope.{Envelope};
+ghost use Rattle.dsr_replica.specs.Pick.{IsPick};
+ghost use Rattle.dsr_world.specs.declared.event.Event.TheVariants.{Post, Plant, Take, Tell};
+ghost use Rattle.dsr_world.specs.Event.{is_actor, is_traitor_of, are_clients, is_own_client, are_two_clients, is_full, is_used_up, refusal_of, first_of};
+ghost use Rattle.dsr_world.specs.Run.{IsRun};
 ghost use Rattle.dsr_world.specs.Step.{Step, log_of};
-ghost use Rattle.dsr_world.specs.Support.WorldFields.{place_of};
+ghost use Rattle.dsr_world.specs.Support.WorldFields.{place_of, IsSpelledPick, box_refusal};
 
 use crate::event::Event;
 use crate::mail_boxes::MailBoxes;
 use crate::party::Party;
 use dsr_desk::Key;
-use dsr_names::{Actor, Refusal, Shape};
-use dsr_replica::Entry;
+use dsr_names::{Actor, NUMBER_END, Refusal, Shape};
+use dsr_replica::{Entry, Pick};
 use dsr_script::Known;
 use std::alloc::Global;
 use std::marker::Model;
@@ -46,8 +52,148 @@ impl World {
 
     /// The steps of its run: who took each, and the entry of that actor's log.
     pub fn entries(&self) -> &[(Actor, Entry)]
-        ensures { result.now ≡ reverse self.now.run }
+        ensures same { result.now ≡ reverse self.now.run }
+        ensures run { IsRun self.now.shape self.now.run }
     {
         self.entries.as_slice()
+    }
+
+    /// What a post of a loyal actor is refused with, if it is.
+    fn post_refusal(&self, alloc: Global, from: &Actor, to: &Actor, pick: &Pick) -> Option<Refusal>
+        ensures { result ≡ refusal_of self.now.shape (log_of self.now.run) (Post from.now to.now pick.now) }
+    {
+        if !self.are_actors(from, to) {
+            return Some(Refusal::NoActor);
+        }
+        if is_traitor(&self.shape, from) || are_clients(from, to) {
+            return Some(Refusal::WrongRole);
+        }
+        let place = place_of(&self.shape, from);
+        match self.parties[place].post_refusal(alloc, *to, *pick) {
+            Some(refusal) => Some(refusal),
+            None => self.box_refusal(from, to),
+        }
+    }
+
+    /// What a post of a traitor is refused with before its signatures are looked at, if it is.
+    fn plant_refusal(&self, from: &Actor, to: &Actor) -> Option<Refusal>
+        ensures { (draft : Envelope) → result ≡ refusal_of self.now.shape (log_of self.now.run) (Plant from.now to.now draft) }
+    {
+        if !self.are_actors(from, to) {
+            return Some(Refusal::NoActor);
+        }
+        if !is_traitor(&self.shape, from) {
+            return Some(Refusal::WrongRole);
+        }
+        self.box_refusal(from, to)
+    }
+
+    /// What a take is refused with, if it is.
+    fn take_refusal(&self, at: &Actor, from: &Actor) -> Option<Refusal>
+        ensures { result ≡ refusal_of self.now.shape (log_of self.now.run) (Take at.now from.now) }
+    {
+        if !self.are_actors(at, from) {
+            return Some(Refusal::NoActor);
+        }
+        if is_own_client(at, from) {
+            return Some(Refusal::WrongRole);
+        }
+        let place = place_of(&self.shape, at);
+        if self.parties[place].is_undue(*from) {
+            return Some(Refusal::NotDue);
+        }
+        if !self.is_full(from, at) {
+            return Some(Refusal::BoxEmpty);
+        }
+        None
+    }
+
+    /// What it is refused with that an actor tells another its seen front, if it is.
+    fn tell_refusal(&self, from: &Actor, to: &Actor) -> Option<Refusal>
+        ensures { result ≡ refusal_of self.now.shape (log_of self.now.run) (Tell from.now to.now) }
+    {
+        if !self.are_actors(from, to) {
+            return Some(Refusal::NoActor);
+        }
+        if !are_clients(from, to) || is_own_client(from, to) {
+            return Some(Refusal::WrongRole);
+        }
+        self.box_refusal(from, to)
+    }
+
+    /// What the box from one actor to another refuses a post with, if it does.
+    fn box_refusal(&self, from: &Actor, to: &Actor) -> Option<Refusal>
+        requires from { IsActor self.now.shape from.now }
+        requires to { IsActor self.now.shape to.now }
+        ensures { result ≡ box_refusal (log_of self.now.run) from.now to.now }
+    {
+        let posts = self
+            .boxes
+            .posts(place_of(&self.shape, from), place_of(&self.shape, to));
+        if posts >= NUMBER_END - 1 {
+            return Some(Refusal::Exhausted);
+        }
+        if self.is_full(from, to) {
+            return Some(Refusal::BoxFull);
+        }
+        None
+    }
+
+    /// Whether the box from one actor to another holds an envelope.
+    fn is_full(&self, from: &Actor, to: &Actor) -> bool
+        requires from { IsActor self.now.shape from.now }
+        requires to { IsActor self.now.shape to.now }
+        ensures { result ≡ is_full (log_of self.now.run) from.now to.now }
+    {
+        self.boxes
+            .letter(place_of(&self.shape, from), place_of(&self.shape, to))
+            .is_some()
+    }
+
+    /// Whether both are actors of the shape.
+    fn are_actors(&self, one: &Actor, other: &Actor) -> bool
+        ensures same { result ≡ (is_actor self.now.shape one.now && is_actor self.now.shape other.now) }
+        ensures one { IsTrue result → IsActor self.now.shape one.now }
+        ensures other { IsTrue result → IsActor self.now.shape other.now }
+    {
+        self.shape.has(*one) && self.shape.has(*other)
+    }
+}
+
+/// The place of an actor of the shape: replicas first, then clients.
+fn place_of(shape: &Shape, actor: &Actor) -> usize
+    ensures { result ≡ place_of shape.now actor.now }
+{
+    match actor {
+        Actor::Replica(replica) => replica.number() as usize,
+        Actor::Client(client) => shape.n() as usize + client.number() as usize,
+    }
+}
+
+/// Whether an actor of the shape is a traitor.
+fn is_traitor(shape: &Shape, actor: &Actor) -> bool
+    requires { IsActor shape.now actor.now }
+    ensures { result ≡ is_traitor_of shape.now actor.now }
+{
+    !shape.is_loyal(*actor)
+}
+
+/// Whether both are clients.
+fn are_clients(one: &Actor, other: &Actor) -> bool
+    ensures { result ≡ are_clients one.now other.now }
+{
+    match (one, other) {
+        (Actor::Client(_), Actor::Client(_)) => true,
+        _ => false,
+    }
+}
+
+/// Whether both are one client.
+fn is_own_client(one: &Actor, other: &Actor) -> bool
+    ensures { result ≡ is_own_client one.now other.now }
+{
+    match (one, other) {
+        (Actor::Client(client), Actor::Client(another)) => client.number() == another.number(),
+        _ => false,
     }
 }

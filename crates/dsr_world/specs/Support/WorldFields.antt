@@ -1,15 +1,18 @@
 -- How a world stands in its fields (this project).
-use Rattle.std.specs.Prelude.{◌≡◌, ◌↔◌, ℕ, ◌+◌, List, Any, length, reverse, slice_index_or}
+use Rattle.std.specs.Prelude.{◌≡◌, ◌↔◌, ℕ, ◌+◌, List, Option, None, Some, Any, if◌then◌else◌, length, reverse, slice_index_or}
 use Rattle.dsr_base.specs.Member.{In}
 use Rattle.dsr_names.specs.Shape.{Shape, IsActor, IsLoyal}
 use Rattle.dsr_names.specs.declared.actor.Actor.{Actor}
 use Rattle.dsr_names.specs.declared.actor.Actor.TheVariants.{Replica, Client}
+use Rattle.dsr_names.specs.declared.refusal.Refusal.{Refusal}
+use Rattle.dsr_names.specs.declared.refusal.Refusal.TheVariants.{Exhausted, BoxFull}
 use Rattle.dsr_request.specs.OpText.{IsOp}
 use Rattle.dsr_desk.specs.Signature.{Signature}
 use Rattle.dsr_replica.specs.declared.entry.Entry.{Entry}
 use Rattle.dsr_replica.specs.declared.step.Pick.{Pick}
 use Rattle.dsr_replica.specs.declared.step.Pick.TheVariants.{Plain, From, Begin}
 use Rattle.dsr_replica.specs.Log.{posted_to, taken_from}
+use Rattle.dsr_world.specs.Event.{is_full, is_used_up}
 use Rattle.dsr_world.specs.Run.{IsTraitor, HasPosted, IsRun}
 use Rattle.dsr_world.specs.Step.{Step, Logs, log_of}
 use Rattle.dsr_world.specs.Support.Boxes.{AreSquare, box_at, IsBoxOf}
@@ -61,3 +64,10 @@ abbrev pub IsSpelledPick : Pick → Type 0
 IsSpelledPick Plain = Unit {0}
 IsSpelledPick (From clients) = Unit {0}
 IsSpelledPick (Begin op) = IsOp op
+
+-- what the box from one actor to another refuses a post with
+abbrev pub box_refusal : Logs → Actor → Actor → Option Refusal
+box_refusal logs from to =
+    if is_used_up logs from to then Some Exhausted
+    else if is_full logs from to then Some BoxFull
+    else None
