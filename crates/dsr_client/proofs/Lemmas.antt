@@ -8,4 +8,3 @@ pub use Rattle.dsr_client.proofs.Carried.{WasAsked, client_posted}
 pub use Rattle.dsr_client.proofs.Dropping.{early, again}
 pub use Rattle.dsr_client.proofs.Fronts.{seen_above, seen_grows, seen_below}
 pub use Rattle.dsr_client.proofs.Numbers.{IsOwn, IsNumbered, numbered}
-pub use Rattle.dsr_client.proofs.Posted.{outstanding_posted}

@@ -6,5 +6,4 @@ mod Dropping
 mod Fronts
 pub mod Lemmas
 mod Numbers
-mod Posted
 mod States

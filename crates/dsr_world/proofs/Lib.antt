@@ -18,3 +18,4 @@ mod Signing
 mod Stepping
 mod Within
 mod NextSteps
+mod Worlds

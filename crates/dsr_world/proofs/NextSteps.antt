@@ -26,13 +26,13 @@ use Rattle.dsr_replica.specs.Log.{posted_to, taken_from, due, rounds}
 use Rattle.dsr_replica.specs.Pick.{IsPick}
 use Rattle.dsr_client.specs.Conduct.{ask_of, next_number, chosen_beside, IsNext as IsNextOfClient}
 use Rattle.dsr_client.specs.State.{outstanding, seen}
-use Rattle.dsr_client.proofs.Lemmas.{outstanding_posted}
 use Rattle.dsr_world.specs.Event.{post_of, is_exhausted, is_traitor_of, is_undue, takes_from, is_used_up}
 use Rattle.dsr_world.specs.Run.{IsTraitor, IsMadeOrPosted, ForgesNothing, KeepsConduct, IsNextStep, IsRun}
 use Rattle.dsr_world.specs.Step.{Step, Logs, log_of}
 use Rattle.dsr_world.specs.Support.WorldFields.{IsSpelledPick}
+use Rattle.dsr_world.proofs.Asking.{outstanding_within}
 use Rattle.dsr_world.proofs.Issuing.{fronts}
-use Rattle.dsr_world.proofs.Within.{posted_within, loyal_next_within, history_within}
+use Rattle.dsr_world.proofs.Within.{loyal_next_within, history_within}
 
 below_not : (a b : ℕ) → not (nat_lt a b) ≡ false → a < b
 below_not a b e = grind (arith, nat_tests)
@@ -46,8 +46,7 @@ ask_within : (shape : Shape) (allowed : IsAllowed shape) (older : List Step) (is
     → option_map Ask (chosen_beside o c (next_number shape (log_of older (Client c))) pick) ≡ Some x → IsEnvelope x
 ask_within shape allowed older is c inside None o_is Plain good more x e = absurd (none-some x e)
 ask_within shape allowed older is c inside (Some ask) o_is Plain good more x e =
-    let posted = outstanding_posted shape (log_of older (Client c)) ask o_is in
-    subst IsEnvelope (same_Some (Ask ask) x e) (posted_within shape older is (Client c) (Replica posted.0) (Ask ask) posted.1)
+    subst IsEnvelope (same_Some (Ask ask) x e) (outstanding_within shape older is c ask o_is)
 ask_within shape allowed older is c inside None o_is (From clients) good more x e = absurd (none-some x e)
 ask_within shape allowed older is c inside (Some ask) o_is (From clients) good more x e = absurd (none-some x e)
 ask_within shape allowed older is c inside (Some ask) o_is (Begin op) good more x e = absurd (none-some x e)

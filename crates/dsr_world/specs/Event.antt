@@ -1,11 +1,11 @@
 -- What an event is refused with, and the step that it is where nothing refuses it (this project).
-use Rattle.std.specs.Prelude.{◌≡◌, ℕ, suc, ◌^◌, ◌==◌, ◌&&◌, ◌||◌, not, nat_lt, Bool, true, false, List, [], ◌∷◌, Option, None, Some, length, slice_get, if◌then◌else◌}
+use Rattle.std.specs.Prelude.{◌≡◌, ◌⊎◌, ℕ, suc, ◌^◌, ◌==◌, ◌&&◌, ◌||◌, not, nat_lt, Bool, true, false, List, [], ◌∷◌, Option, None, Some, length, slice_get, if◌then◌else◌}
 use Rattle.std.specs.Option.{option_map, is_none}
 use Rattle.dsr_names.specs.Shape.{Shape, is_traitor}
 use Rattle.dsr_names.specs.declared.actor.Actor.{Actor}
 use Rattle.dsr_names.specs.declared.actor.Actor.TheVariants.{Replica, Client}
 use Rattle.dsr_names.specs.declared.refusal.Refusal.{Refusal}
-use Rattle.dsr_names.specs.declared.refusal.Refusal.TheVariants.{NoActor, WrongRole, NotDue, Exhausted, BoxFull, BoxEmpty}
+use Rattle.dsr_names.specs.declared.refusal.Refusal.TheVariants.{NoActor, WrongRole, NotDue, Exhausted, BoxFull, BoxEmpty, Forged, NoMemory}
 use Rattle.dsr_ledger.specs.declared.reply.Reply.{Reply as AReply}
 use Rattle.dsr_replica.specs.declared.envelope.Envelope.{Envelope}
 use Rattle.dsr_replica.specs.declared.envelope.Envelope.TheVariants.{Seen}
@@ -16,12 +16,14 @@ use Rattle.dsr_replica.specs.declared.step.Due.TheVariants.{Post as PostTo, Take
 use Rattle.dsr_replica.specs.declared.step.Pick.{Pick}
 use Rattle.dsr_replica.specs.declared.step.Pick.TheVariants.{Plain, From, Begin}
 use Rattle.dsr_replica.specs.Conduct.{envelope_to, reply_to}
+use Rattle.dsr_replica.specs.Limits.{IsEnvelope}
 use Rattle.dsr_replica.specs.Log.{posted_to, taken_from, due, rounds}
 use Rattle.dsr_client.specs.Conduct.{next_number, ask_to}
 use Rattle.dsr_world.specs.declared.event.Event.{Event}
 use Rattle.dsr_world.specs.declared.event.Event.TheVariants.{Post, Plant, Take, Tell}
-use Rattle.dsr_world.specs.History.{seen_by}
-use Rattle.dsr_world.specs.Step.{Step, Logs}
+use Rattle.dsr_world.specs.History.{accepted_by, seen_by}
+use Rattle.dsr_world.specs.Run.{ForgesNothing}
+use Rattle.dsr_world.specs.Step.{Step, Logs, log_of}
 
 -- ---- conduct
 
@@ -149,3 +151,44 @@ step_of shape logs (Tell (Replica p) to) = None
 abbrev pub AcceptsBy : Option AReply → List AReply → List AReply → Type 0
 AcceptsBy None later earlier = later ≡ earlier
 AcceptsBy (Some reply) later earlier = later ≡ reply ∷ earlier
+
+-- the reply that a step has a client accept, if it has: what the client accepted grew by it
+abbrev pub Answers : Shape → Logs → Logs → Step → Option AReply → Type 0
+Answers shape later earlier (Replica p, entry) reply = reply ≡ None
+Answers shape later earlier (Client c, entry) reply = AcceptsBy reply (accepted_by shape later c) (accepted_by shape earlier c)
+
+-- the run went on by the step that the event is, and this is the reply that was accepted by it
+pub record HasDone (shape : Shape) (later earlier : List Step) (event : Event) (reply : Option AReply) : Type 0 where
+  pub step : Step
+  pub is_event : step_of shape (log_of earlier) event ≡ Some step
+  pub went_on : later ≡ step ∷ earlier
+  pub answers : Answers shape (log_of later) (log_of earlier) step reply
+
+-- a traitor's post that nothing else refuses has a forged signature
+abbrev pub IsForged : Shape → Logs → Event → Type 0
+IsForged shape logs (Post from to pick) = ⊥
+IsForged shape logs (Plant from to draft) = ¬ ForgesNothing shape logs (PostEntry to draft)
+IsForged shape logs (Take at from) = ⊥
+IsForged shape logs (Tell from to) = ⊥
+
+-- what a traitor is to post is within the limits of envelopes
+abbrev pub IsWithin : Event → Type 0
+IsWithin (Post from to pick) = Unit {0}
+IsWithin (Plant from to draft) = IsEnvelope draft
+IsWithin (Take at from) = Unit {0}
+IsWithin (Tell from to) = Unit {0}
+
+-- nothing refuses it but a forged signature
+abbrev pub IsForgedAtLast : Shape → Logs → Event → Type 0
+IsForgedAtLast shape logs event = (refusal_of shape logs event ≡ None) × IsForged shape logs event
+
+-- nothing refuses it, and no signature is forged
+abbrev pub MayBeDone : Shape → Logs → Event → Type 0
+MayBeDone shape logs event = (refusal_of shape logs event ≡ None) × (¬ IsForged shape logs event)
+
+-- the event is refused with this: by the tests in their order; else as forged; else as out of memory
+abbrev pub IsRefusedBy : Shape → Logs → Event → Refusal → Type 0
+IsRefusedBy shape logs event refusal =
+    (refusal_of shape logs event ≡ Some refusal)
+    ⊎ ((refusal ≡ Forged) × IsForgedAtLast shape logs event)
+    ⊎ ((refusal ≡ NoMemory) × MayBeDone shape logs event)

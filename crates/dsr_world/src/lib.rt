@@ -5,6 +5,7 @@ mod customer;
 mod event;
 mod headline;
 mod laws;
+mod letters;
 mod mail_boxes;
 mod party;
 mod world;

@@ -6,6 +6,7 @@ ghost use Rattle.dsr_replica.specs.declared.envelope.Envelope.{Envelope};
 ghost use Rattle.dsr_replica.specs.declared.entry.Entry.{Entry};
 ghost use Rattle.dsr_replica.specs.declared.entry.Entry.TheVariants.{Post, Take};
 ghost use Rattle.dsr_replica.specs.declared.step.Pick.TheVariants.{Begin};
+ghost use Rattle.dsr_replica.specs.Conduct.{envelope_to};
 ghost use Rattle.dsr_replica.specs.Replica.{StandsFor, Allows};
 ghost use Rattle.dsr_client.specs.Client.{StandsFor as StandsForClient};
 ghost use Rattle.dsr_world.specs.Event.{post_of, takes_from, is_undue};
@@ -35,7 +36,6 @@ impl Party {
     pub(crate) fn post_refusal(&self, alloc: Global, to: Actor, pick: Pick) -> Option<Refusal>
         ensures same { (shape : Shape) (me : Actor) (log : List Entry) → Plays shape me log self.now → self.now ≢ Party.Traitor
             → result ≡ post_refusal shape log me to pick }
-        ensures can { IfNone result (CanPost self.now to pick) }
     {
         match self {
             Party::Loyal(replica) => replica_refusal(alloc, replica, to, pick),
@@ -51,7 +51,6 @@ impl Party {
         to: Actor,
         pick: Pick,
     ) -> Result<Envelope, Refusal>
-        requires { CanPost self.now to pick }
         ensures given { (shape : Shape) (me : Actor) (log : List Entry) → Plays shape me log self.now
             → post_refusal shape log me to pick ≡ None → IfOk result (λ envelope. post_of shape log me to pick ≡ Some envelope) }
         ensures refusal { (shape : Shape) (me : Actor) (log : List Entry) → Plays shape me log self.now
@@ -66,14 +65,13 @@ impl Party {
 
     /// Posts to this actor by this choice.
     pub(crate) fn posted(&mut self, to: Actor, pick: Pick)
-        requires { CanPost self.old to pick }
         ensures plays { (shape : Shape) (me : Actor) (log : List Entry) (envelope : Envelope) → Plays shape me log self.old
-            → post_of shape log me to pick ≡ Some envelope → Plays shape me (Post to envelope ∷ log) self.new }
+            → post_refusal shape log me to pick ≡ None → post_of shape log me to pick ≡ Some envelope → Plays shape me (Post to envelope ∷ log) self.new }
     {
         match self {
             Party::Loyal(replica) => {
                 if let Actor::Replica(number) = to {
-                    replica.posted(number, pick);
+                    post_round(replica, number, &pick);
                 }
             }
             Party::Traitor => {}
@@ -134,7 +132,6 @@ impl Party {
 fn replica_refusal(alloc: Global, replica: &Replica, to: Actor, pick: Pick) -> Option<Refusal>
     ensures same { (p : ℕ) (log : List Entry) → replica.now.me ≡ ReplicaNumber p → StandsFor replica.now log
         → result ≡ post_refusal replica.now.shape log (ReplicaNumber p) to pick }
-    ensures can { IfNone result (CanPost (Party.Loyal replica.now) to pick) }
 {
     match to {
         Actor::Replica(number) => round_refusal(alloc, replica, number, &pick),
@@ -152,7 +149,6 @@ fn replica_refusal(alloc: Global, replica: &Replica, to: Actor, pick: Pick) -> O
 fn round_refusal(alloc: Global, replica: &Replica, to: ReplicaId, pick: &Pick) -> Option<Refusal>
     ensures same { (p : ℕ) (log : List Entry) → replica.now.me ≡ ReplicaNumber p → StandsFor replica.now log
         → result ≡ post_refusal replica.now.shape log (ReplicaNumber p) (ReplicaNumber to) pick.now }
-    ensures can { IfNone result (Allows replica.now to pick.now) }
 {
     let _due = replica.due();
     if replica.allows(to, copy_of(pick)) {
@@ -160,6 +156,20 @@ fn round_refusal(alloc: Global, replica: &Replica, to: ReplicaId, pick: &Pick) -
     } else {
         let refused = replica.envelope_for(alloc, to, copy_of(pick)).err();
         Some(refused.unwrap_or(Refusal::NotDue))
+    }
+}
+
+/// Posts to this replica by this choice, where it is allowed.
+fn post_round(replica: &mut Replica, to: ReplicaId, pick: &Pick)
+    ensures stands { (p : ℕ) (log : List Entry) (envelope : Envelope) → replica.old.me ≡ ReplicaNumber p → StandsFor replica.old log
+        → post_refusal replica.old.shape log (ReplicaNumber p) (ReplicaNumber to) pick.now ≡ None
+        → envelope_to replica.old.shape (ReplicaNumber p) log to pick.now ≡ Some envelope
+        → StandsFor replica.new (Post (ReplicaNumber to) envelope ∷ log) }
+    ensures me { replica.new.me ≡ replica.old.me }
+    ensures shape { replica.new.shape ≡ replica.old.shape }
+{
+    if replica.allows(to, copy_of(pick)) {
+        replica.posted(to, copy_of(pick));
     }
 }
 
@@ -174,7 +184,6 @@ fn copy_of(pick: &Pick) -> Pick
 fn client_refusal(client: &Client, to: Actor, pick: Pick) -> Option<Refusal>
     ensures same { (log : List Entry) → StandsForClient client.now log
         → result ≡ post_refusal client.now.shape log (ClientNumber client.now.me) to pick }
-    ensures can { IfNone result (MayPost client.now pick) }
 {
     if let Actor::Client(_) = to {
         return Some(Refusal::NotDue);
@@ -194,7 +203,6 @@ fn begin_refusal(client: &Client, to: Actor, op: Op) -> Option<Refusal>
     requires { IsReplicaNumber to }
     ensures same { (log : List Entry) → StandsForClient client.now log
         → result ≡ post_refusal client.now.shape log (ClientNumber client.now.me) to (Begin op) }
-    ensures can { IfNone result (MayPost client.now (Begin op)) }
 {
     if client.outstanding().is_some() {
         return Some(Refusal::NotDue);

@@ -1,20 +1,27 @@
-ghost use Rattle.std.specs.Prelude.{◌≡◌, ◌≢◌, ◌↔◌, ◌&&◌, ℕ, ◌<◌, ◌+◌, [], ◌∷◌, List, Option, None, Some, Err, length, reverse, IfOk, OnErr, IsTrue, IsOkUnless};
+ghost use Rattle.std.specs.Prelude.{◌⊎◌, Any, OnOk, vec_len, vec_capacity, ◌≡◌, ◌≢◌, ◌↔◌, ◌&&◌, ℕ, ◌<◌, ◌+◌, [], ◌∷◌, List, Option, None, Some, Err, length, reverse, IfOk, OnErr, IsTrue, IsOkUnless};
 ghost use Rattle.dsr_names.specs.Shape.{IsActor, IsAllowed};
 ghost use Rattle.dsr_names.specs.declared.refusal.Refusal.TheVariants.{NoActor, WrongRole};
 ghost use Rattle.dsr_replica.specs.declared.envelope.Envelope.{Envelope};
 ghost use Rattle.dsr_replica.specs.Pick.{IsPick};
 ghost use Rattle.dsr_world.specs.declared.event.Event.TheVariants.{Post, Plant, Take, Tell};
-ghost use Rattle.dsr_world.specs.Event.{is_actor, is_traitor_of, are_clients, is_own_client, are_two_clients, is_full, is_used_up, refusal_of, first_of};
+ghost use Rattle.dsr_base.specs.Member.{In};
+ghost use Rattle.dsr_desk.specs.Signature.{Signature};
+ghost use Rattle.dsr_replica.specs.Envelope.{Carries};
+ghost use Rattle.dsr_names.specs.declared.actor.Actor.{Actor};
+ghost use Rattle.dsr_names.specs.declared.refusal.Refusal.{Refusal};
+ghost use Rattle.dsr_world.specs.Event.{HasDone, IsRefusedBy, IsForgedAtLast, IsWithin, is_actor, is_traitor_of, are_clients, is_own_client, are_two_clients, is_full, is_used_up, refusal_of, first_of};
 ghost use Rattle.dsr_world.specs.Run.{IsRun};
 ghost use Rattle.dsr_world.specs.Step.{Step, log_of};
 ghost use Rattle.dsr_world.specs.Support.WorldFields.{place_of, IsSpelledPick, box_refusal};
 
 use crate::event::Event;
+use crate::letters::Letters;
 use crate::mail_boxes::MailBoxes;
 use crate::party::Party;
 use dsr_desk::Key;
+use dsr_ledger::Reply;
 use dsr_names::{Actor, NUMBER_END, Refusal, Shape};
-use dsr_replica::{Entry, Pick};
+use dsr_replica::{Entry, Envelope, Pick};
 use dsr_script::Known;
 use std::alloc::Global;
 use std::marker::Model;
@@ -56,6 +63,50 @@ impl World {
         ensures run { IsRun self.now.shape self.now.run }
     {
         self.entries.as_slice()
+    }
+
+    /// Has a loyal actor post.
+    fn post(
+        &mut self,
+        alloc: Global,
+        from: &Actor,
+        to: &Actor,
+        pick: &Pick,
+    ) -> Result<Option<Reply>, Refusal>
+        ensures done { IfOk result (HasDone self.old.shape self.new.run self.old.run (Post from.now to.now pick.now)) }
+        ensures refused { (refusal : Refusal)
+            → refusal_of self.old.shape (log_of self.old.run) (Post from.now to.now pick.now) ≡ Some refusal → result ≡ Err refusal }
+        ensures last { (refusal : Refusal) → result ≡ Err refusal
+            → IsRefusedBy self.old.shape (log_of self.old.run) (Post from.now to.now pick.now) refusal }
+        ensures unchanged { OnErr result (self.new ≡ self.old) }
+        ensures shape { self.new.shape ≡ self.old.shape }
+    {
+        if let Some(refusal) = self.post_refusal(alloc, from, to, pick) {
+            return Err(refusal);
+        }
+        look_at(pick);
+        let _n = self.shape.n();
+        let (poster, taker) = (place_of(&self.shape, from), place_of(&self.shape, to));
+        let Ok(envelope) = self.parties[poster].envelope_for(alloc, *to, *pick) else {
+            return Err(Refusal::NoMemory);
+        };
+        let letters = Letters::of(alloc, envelope)?;
+        make_room(&mut self.entries)?;
+        learn(
+            &mut self.known,
+            self.keys.as_slice(),
+            letters.kept.envelope(),
+        )?;
+        self.parties[poster].posted(*to, *pick);
+        self.boxes.put(poster, taker, letters.sent);
+        self.entries.push_reserved((
+            *from,
+            Entry::Post {
+                to: *to,
+                envelope: letters.kept,
+            },
+        ));
+        Ok(None)
     }
 
     /// What a post of a loyal actor is refused with, if it is.
@@ -195,5 +246,48 @@ fn is_own_client(one: &Actor, other: &Actor) -> bool
     match (one, other) {
         (Actor::Client(client), Actor::Client(another)) => client.number() == another.number(),
         _ => false,
+    }
+}
+
+/// Looks at the choice, from which on it is known that it can be made.
+fn look_at(pick: &Pick)
+    ensures pick { IsPick pick.now }
+    ensures spelled { IsSpelledPick pick.now }
+{
+    match pick {
+        Pick::Plain => {}
+        Pick::From(clients) => {
+            let _clients = clients.as_slice();
+        }
+        Pick::Begin(op) => {
+            let _name = op.name();
+        }
+    }
+}
+
+/// Makes room for one more entry. `NoMemory` where it is refused.
+fn make_room(entries: &mut Vec<(Actor, Entry)>) -> Result<(), Refusal>
+    ensures same { entries.new.items ≡ entries.old.items }
+    ensures room { OnOk result (vec_len entries.new < vec_capacity entries.new) }
+    ensures refusal { IsOkUnless result Refusal.NoMemory }
+{
+    match entries.reserve(1) {
+        Ok(()) => Ok(()),
+        Err(_) => Err(Refusal::NoMemory),
+    }
+}
+
+/// Has the signatures of a loyal actor's post be known, where there are traitors who could send them on. `NoMemory` where memory
+/// runs out: then nothing changed.
+fn learn(known: &mut Known, keys: &[Key], envelope: &Envelope) -> Result<(), Refusal>
+    ensures learned { (holder : Actor) → Any (λ h. h ≡ holder) keys.now → (s : Signature)
+        → OnOk result (In s known.new.signatures ↔ (In s known.old.signatures ⊎ Carries envelope.now s)) }
+    ensures stays { OnErr result (known.new.signatures ≡ known.old.signatures) }
+    ensures refusal { IsOkUnless result Refusal.NoMemory }
+{
+    if keys.is_empty() {
+        Ok(())
+    } else {
+        known.learn(envelope)
     }
 }

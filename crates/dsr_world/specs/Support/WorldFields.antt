@@ -47,13 +47,21 @@ pub record KnowsPosts (shape : Shape) (logs : Logs) (known : List Signature) : T
   pub from : (s : Signature) → In s known → (a : Actor) × IsLoyal shape a × HasPosted (logs a) s
   pub all : (s : Signature) (a : Actor) → IsLoyal shape a → HasPosted (logs a) s → In s known
 
+-- where there is a traitor, what is known is what loyal actors have posted; for nobody else it is needed
+abbrev pub KnowsAll : Shape → Logs → List Signature → Type 0
+KnowsAll shape logs known = (p : ℕ) → IsTraitor shape (Replica p) → KnowsPosts shape logs known
+
+-- the parts of a world stand for a run: the parties, the boxes, the traitors' keys, and what is known
+pub record AreParts (shape : Shape) (run : List Step) (parties : List Party) (rows : List (List MailBox)) (keys : List Actor) (known : List Signature) : Type 0 where
+  pub is_run : IsRun shape run
+  pub played : ArePlayed shape (log_of run) parties
+  pub boxes : AreBoxes shape (log_of run) rows
+  pub held : AreKeys shape keys
+  pub knows : KnowsAll shape (log_of run) known
+
 -- the fields of a world stand for the run that its entries are
-pub record IsWorldFields (a : Inside) : Type 0 where
-  pub is_run : IsRun a.shape (reverse a.entries.items)
-  pub played : ArePlayed a.shape (log_of (reverse a.entries.items)) a.parties.items
-  pub boxes : AreBoxes a.shape (log_of (reverse a.entries.items)) a.boxes
-  pub keys : AreKeys a.shape a.keys.items
-  pub known : KnowsPosts a.shape (log_of (reverse a.entries.items)) a.known.signatures
+abbrev pub IsWorldFields : Inside → Type 0
+IsWorldFields a = AreParts a.shape (reverse a.entries.items) a.parties.items a.boxes a.keys.items a.known.signatures
 
 -- the shape and the run
 abbrev pub world_of : Inside → World

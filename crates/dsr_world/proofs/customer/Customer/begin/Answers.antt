@@ -8,6 +8,6 @@ use Rattle.dsr_world.specs.Support.Customer.{Customer}
 use Rattle.dsr_world.proofs.customer.Customer.begin.Goals as goal
 
 pub returns-clause-begun : goal.returns-clause-begun
-returns-clause-begun c log q stands =
+returns-clause-begun c may log q stands =
     subst (λ (x : Customer). StandsFor c.begin.new.self (Post (Replica q) (Ask (ask_of x.client.me (suc x.client.accepted) c.args.op)) ∷ log)) c.self.view_is
     (c.in-Ok.ensures.stands log q (subst (λ (x : Customer). StandsFor x.client log) (sym c.self.view_is) stands))
