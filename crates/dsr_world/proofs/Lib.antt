@@ -19,3 +19,4 @@ mod Stepping
 mod Within
 mod NextSteps
 mod Worlds
+mod WorldPosts

@@ -61,6 +61,26 @@ played_step shape older parties step x are actor plays = record {
   ];
 }
 
+-- a step that leaves its actor's party as it is
+pub played_on : (shape : Shape) (older : List Step) (parties : List Party) (step : Step) → ArePlayed shape (log_of older) parties
+    → ((x : Party) → Plays shape step.0 (log_of older step.0) x → Plays shape step.0 (step.1 ∷ log_of older step.0) x)
+    → ArePlayed shape (log_of (step ∷ older)) parties
+played_on shape older parties step are on = record {
+  count = are.count;
+  each = λ who inside d. elim (log_cases step older who) [
+    | inl own ↦ by_own who own.0 own.1 inside d
+    | inr other ↦
+        subst (λ l. Plays shape who l (slice_index_or parties (place_of shape who) d)) (sym other.1) (are.each who inside d)
+  ];
+}
+  where
+    by_own : (who : Actor) → step.0 ≡ who → log_of (step ∷ older) who ≡ step.1 ∷ log_of older who → IsActor shape who → (d : Party)
+        → Plays shape who (log_of (step ∷ older) who) (slice_index_or parties (place_of shape who) d)
+    by_own who own grown inside d =
+        subst (λ l. Plays shape who l (slice_index_or parties (place_of shape who) d)) (sym grown)
+        (subst (λ a. (x : Party) → Plays shape a (log_of older a) x → Plays shape a (step.1 ∷ log_of older a) x) own on
+        (slice_index_or parties (place_of shape who) d) (are.each who inside d))
+
 -- a party that plays on as another one does changes nothing
 pub played_same : (shape : Shape) (logs : Logs) (parties : List Party) (who : Actor) (x : Party) → ArePlayed shape logs parties
     → IsActor shape who → Plays shape who (logs who) x → ArePlayed shape logs (slice_set parties (place_of shape who) x)

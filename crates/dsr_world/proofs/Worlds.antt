@@ -39,14 +39,14 @@ use Rattle.dsr_world.proofs.Stepping.{place_below, played_step, boxes_posted, kn
 -- ---- what was not refused
 
 -- where no row refuses, no test holds
-record NoneHolds (a b c d : Bool) (rest : List (Bool × Refusal)) : Type 0 where
+pub record NoneHolds (a b c d : Bool) (rest : List (Bool × Refusal)) : Type 0 where
   pub first : a ≡ false
   pub second : b ≡ false
   pub third : c ≡ false
   pub fourth : d ≡ false
   pub others : first_of rest ≡ None
 
-none_holds : (a b c d : Bool) (r s t u : Refusal) (rest : List (Bool × Refusal)) → first_of ((a, r) ∷ (b, s) ∷ (c, t) ∷ (d, u) ∷ rest) ≡ None
+pub none_holds : (a b c d : Bool) (r s t u : Refusal) (rest : List (Bool × Refusal)) → first_of ((a, r) ∷ (b, s) ∷ (c, t) ∷ (d, u) ∷ rest) ≡ None
     → NoneHolds a b c d rest
 none_holds true b c d r s t u rest e = absurd (none-some r (sym e))
 none_holds false true c d r s t u rest e = absurd (none-some s (sym e))
@@ -54,11 +54,11 @@ none_holds false false true d r s t u rest e = absurd (none-some t (sym e))
 none_holds false false false true r s t u rest e = absurd (none-some u (sym e))
 none_holds false false false false r s t u rest e = record { first = refl; second = refl; third = refl; fourth = refl; others = e }
 
-last_fails : (a : Bool) (r : Refusal) → first_of ((a, r) ∷ []) ≡ None → a ≡ false
+pub last_fails : (a : Bool) (r : Refusal) → first_of ((a, r) ∷ []) ≡ None → a ≡ false
 last_fails true r e = absurd (none-some r (sym e))
 last_fails false r e = refl
 
-both_hold : (a b : Bool) → not (a && b) ≡ false → (a ≡ true) × (b ≡ true)
+pub both_hold : (a b : Bool) → not (a && b) ≡ false → (a ≡ true) × (b ≡ true)
 both_hold true true e = (refl, refl)
 both_hold true false e = absurd (true≢false e)
 both_hold false b e = absurd (true≢false e)
@@ -67,7 +67,7 @@ neither : (a b : Bool) → (a || b) ≡ false → (a ≡ false) × (b ≡ false)
 neither true b e = absurd (true≢false e)
 neither false b e = (refl, e)
 
-actor_is : (shape : Shape) (a : Actor) → is_actor shape a ≡ true → IsActor shape a
+pub actor_is : (shape : Shape) (a : Actor) → is_actor shape a ≡ true → IsActor shape a
 actor_is shape (Replica p) e = grind (arith, nat_tests)
 actor_is shape (Client c) e = grind (arith, nat_tests)
 

@@ -9,6 +9,7 @@ ghost use Rattle.dsr_replica.specs.declared.step.Pick.TheVariants.{Begin};
 ghost use Rattle.dsr_replica.specs.Conduct.{envelope_to};
 ghost use Rattle.dsr_replica.specs.Replica.{StandsFor, Allows};
 ghost use Rattle.dsr_client.specs.Client.{StandsFor as StandsForClient};
+ghost use Rattle.dsr_client.specs.State.{seen};
 ghost use Rattle.dsr_world.specs.Event.{post_of, takes_from, is_undue};
 ghost use Rattle.dsr_world.specs.Support.Party.{Plays, post_refusal, MayPost, CanPost, CanTake, HasRoomToTake, TakesReply, IsReplicaNumber};
 
@@ -93,6 +94,16 @@ impl Party {
             Party::Loyal(replica) => replica.room(),
             Party::Traitor => Ok(()),
             Party::Client(customer) => customer.room(),
+        }
+    }
+
+    /// A client's seen front; 0 of others.
+    pub(crate) fn seen(&self) -> u64
+        ensures { (shape : Shape) (c : ℕ) (log : List Entry) → Plays shape (ClientNumber c) log self.now → result ≡ seen shape log }
+    {
+        match self {
+            Party::Loyal(_) | Party::Traitor => 0,
+            Party::Client(customer) => customer.client().seen(),
         }
     }
 

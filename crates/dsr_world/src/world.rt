@@ -2,6 +2,7 @@ ghost use Rattle.std.specs.Prelude.{◌⊎◌, Any, OnOk, vec_len, vec_capacity,
 ghost use Rattle.dsr_names.specs.Shape.{IsActor, IsAllowed};
 ghost use Rattle.dsr_names.specs.declared.refusal.Refusal.TheVariants.{NoActor, WrongRole};
 ghost use Rattle.dsr_replica.specs.declared.envelope.Envelope.{Envelope};
+ghost use Rattle.dsr_replica.specs.Limits.{IsEnvelope};
 ghost use Rattle.dsr_replica.specs.Pick.{IsPick};
 ghost use Rattle.dsr_world.specs.declared.event.Event.TheVariants.{Post, Plant, Take, Tell};
 ghost use Rattle.dsr_base.specs.Member.{In};
@@ -22,7 +23,7 @@ use dsr_desk::Key;
 use dsr_ledger::Reply;
 use dsr_names::{Actor, NUMBER_END, Refusal, Shape};
 use dsr_replica::{Entry, Envelope, Pick};
-use dsr_script::Known;
+use dsr_script::{Draft, Known, build};
 use std::alloc::Global;
 use std::marker::Model;
 
@@ -109,6 +110,115 @@ impl World {
         Ok(None)
     }
 
+    /// Has an actor take.
+    fn take(&mut self, alloc: Global, at: &Actor, from: &Actor) -> Result<Option<Reply>, Refusal>
+        ensures done { IfOk result (HasDone self.old.shape self.new.run self.old.run (Take at.now from.now)) }
+        ensures refused { (refusal : Refusal)
+            → refusal_of self.old.shape (log_of self.old.run) (Take at.now from.now) ≡ Some refusal → result ≡ Err refusal }
+        ensures last { (refusal : Refusal) → result ≡ Err refusal
+            → IsRefusedBy self.old.shape (log_of self.old.run) (Take at.now from.now) refusal }
+        ensures unchanged { OnErr result (self.new ≡ self.old) }
+        ensures shape { self.new.shape ≡ self.old.shape }
+    {
+        if let Some(refusal) = self.take_refusal(at, from) {
+            return Err(refusal);
+        }
+        let _n = self.shape.n();
+        let (poster, taker) = (place_of(&self.shape, from), place_of(&self.shape, at));
+        let letter = self.boxes.letter(poster, taker).unwrap();
+        let Ok(envelope) = letter.envelope().try_copy(alloc) else {
+            return Err(Refusal::NoMemory);
+        };
+        make_room(&mut self.entries)?;
+        let Ok(()) = self.parties[taker].room() else {
+            return Err(Refusal::NoMemory);
+        };
+        let reply = self.parties[taker].taken(*from, envelope);
+        let letter = self.boxes.take(poster, taker).unwrap();
+        self.entries.push_reserved((
+            *at,
+            Entry::Take {
+                from: *from,
+                envelope: letter,
+            },
+        ));
+        Ok(reply)
+    }
+
+    /// Has a client tell another one its seen front.
+    fn tell(&mut self, alloc: Global, from: &Actor, to: &Actor) -> Result<Option<Reply>, Refusal>
+        ensures done { IfOk result (HasDone self.old.shape self.new.run self.old.run (Tell from.now to.now)) }
+        ensures refused { (refusal : Refusal)
+            → refusal_of self.old.shape (log_of self.old.run) (Tell from.now to.now) ≡ Some refusal → result ≡ Err refusal }
+        ensures last { (refusal : Refusal) → result ≡ Err refusal
+            → IsRefusedBy self.old.shape (log_of self.old.run) (Tell from.now to.now) refusal }
+        ensures unchanged { OnErr result (self.new ≡ self.old) }
+        ensures shape { self.new.shape ≡ self.old.shape }
+    {
+        if let Some(refusal) = self.tell_refusal(from, to) {
+            return Err(refusal);
+        }
+        let _n = self.shape.n();
+        let (poster, taker) = (place_of(&self.shape, from), place_of(&self.shape, to));
+        let envelope = Envelope::Seen(self.parties[poster].seen());
+        let letters = Letters::of(alloc, envelope)?;
+        make_room(&mut self.entries)?;
+        learn(
+            &mut self.known,
+            self.keys.as_slice(),
+            letters.kept.envelope(),
+        )?;
+        self.boxes.put(poster, taker, letters.sent);
+        self.entries.push_reserved((
+            *from,
+            Entry::Post {
+                to: *to,
+                envelope: letters.kept,
+            },
+        ));
+        Ok(None)
+    }
+
+    /// Has a traitor post.
+    fn plant(
+        &mut self,
+        alloc: Global,
+        from: &Actor,
+        to: &Actor,
+        draft: &Draft,
+    ) -> Result<Option<Reply>, Refusal>
+        requires { IsEnvelope draft.now }
+        ensures done { IfOk result (HasDone self.old.shape self.new.run self.old.run (Plant from.now to.now draft.now)) }
+        ensures refused { (refusal : Refusal)
+            → refusal_of self.old.shape (log_of self.old.run) (Plant from.now to.now draft.now) ≡ Some refusal → result ≡ Err refusal }
+        ensures last { (refusal : Refusal) → result ≡ Err refusal
+            → IsRefusedBy self.old.shape (log_of self.old.run) (Plant from.now to.now draft.now) refusal }
+        ensures unchanged { OnErr result (self.new ≡ self.old) }
+        ensures shape { self.new.shape ≡ self.old.shape }
+        ensures forged { IsForgedAtLast self.old.shape (log_of self.old.run) (Plant from.now to.now draft.now) → result ≡ Err Refusal.Forged }
+    {
+        if let Some(refusal) = self.plant_refusal(from, to, draft) {
+            return Err(refusal);
+        }
+        let _n = self.shape.n();
+        let (poster, taker) = (place_of(&self.shape, from), place_of(&self.shape, to));
+        let envelope = match build(alloc, draft, self.keys.as_slice(), &self.known) {
+            Ok(envelope) => envelope,
+            Err(refusal) => return Err(refusal),
+        };
+        let letters = Letters::of(alloc, envelope)?;
+        make_room(&mut self.entries)?;
+        self.boxes.put(poster, taker, letters.sent);
+        self.entries.push_reserved((
+            *from,
+            Entry::Post {
+                to: *to,
+                envelope: letters.kept,
+            },
+        ));
+        Ok(None)
+    }
+
     /// What a post of a loyal actor is refused with, if it is.
     fn post_refusal(&self, alloc: Global, from: &Actor, to: &Actor, pick: &Pick) -> Option<Refusal>
         ensures { result ≡ refusal_of self.now.shape (log_of self.now.run) (Post from.now to.now pick.now) }
@@ -127,8 +237,8 @@ impl World {
     }
 
     /// What a post of a traitor is refused with before its signatures are looked at, if it is.
-    fn plant_refusal(&self, from: &Actor, to: &Actor) -> Option<Refusal>
-        ensures { (draft : Envelope) → result ≡ refusal_of self.now.shape (log_of self.now.run) (Plant from.now to.now draft) }
+    fn plant_refusal(&self, from: &Actor, to: &Actor, _draft: &Draft) -> Option<Refusal>
+        ensures { result ≡ refusal_of self.now.shape (log_of self.now.run) (Plant from.now to.now _draft.now) }
     {
         if !self.are_actors(from, to) {
             return Some(Refusal::NoActor);

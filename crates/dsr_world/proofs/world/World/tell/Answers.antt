@@ -1,0 +1,87 @@
+use Rattle.std.proofs.Common.{◌≡◌, ◌↔◌, ◌⊎◌, ◌∷◌, ◌++◌, [], ◌<◌, ◌^◌, None, Some, length, reverse, refl, ap, ap₂, sym, ◌∙◌, subst, arith}
+use Rattle.std.specs.Prelude.{Any, IfOk, slice_set, slice_index_or}
+use Rattle.dsr_base.specs.Member.{In}
+use Rattle.dsr_names.specs.Shape.{IsActor}
+use Rattle.dsr_names.specs.declared.actor.Actor.{Actor}
+use Rattle.dsr_names.specs.declared.actor.Actor.TheVariants.{Client}
+use Rattle.dsr_replica.specs.declared.envelope.Envelope.TheVariants.{Seen}
+use Rattle.dsr_client.specs.State.{seen}
+use Rattle.dsr_desk.specs.Signature.{Signature}
+use Rattle.dsr_replica.specs.Envelope.{Carries}
+use Rattle.dsr_replica.specs.declared.entry.Entry.TheVariants.{Post as PostEntry}
+use Rattle.dsr_world.specs.declared.event.Event.TheVariants.{Tell}
+use Rattle.dsr_world.specs.Event.{refusal_of, is_full, is_used_up, HasDone}
+use Rattle.dsr_world.specs.Step.{log_of}
+use Rattle.dsr_world.specs.Support.Boxes.{row_of, box_at, with_box, with_post}
+use Rattle.dsr_world.specs.Support.Party.{Plays}
+use Rattle.dsr_world.specs.Support.WorldFields.{place_of, AreParts}
+use Rattle.dsr_world.specs.World.{World}
+use Rattle.dsr_world.proofs.Worlds.{pushed, post_answers}
+use Rattle.dsr_world.proofs.WorldPosts.{IsTold, cleared_tell, parts_after_tell, done_tell}
+use Rattle.dsr_world.proofs.world.World.tell.Goals as goal
+
+pub invariant_of-self-2 : goal.invariant_of-self-2
+invariant_of-self-2 c =
+    let a = c.self.inside in
+    let from = c.args.from.now in
+    let to = c.args.to.now in
+    let run = reverse a.entries.items in
+    let none = subst (λ (w : World). refusal_of w.shape (log_of w.run) (Tell from to) ≡ None) (sym c.self.view_is)
+    (sym c.tell_refusal.ensures ∙ c.in_default.is) in
+    let is = cleared_tell a.shape (log_of run) from to none in
+    let at : Plays a.shape (Client is.c) (log_of run (Client is.c)) c.index.result.now =
+    subst (λ b. Plays a.shape b (log_of run b) c.index.result.now) is.from_is
+    (subst (Plays a.shape from (log_of run from)) (sym (c.index.ensures ∙ ap (λ k. slice_index_or a.parties.items k c.index.result.now) c.place_of-poster.ensures))
+    (c.self.invariant.played.each from is.actor c.index.result.now)) in
+    let front : c.seen.result ≡ seen a.shape (log_of run (Client is.c)) = c.seen.ensures a.shape is.c (log_of run (Client is.c)) at in
+    let x = Seen (seen a.shape (log_of run (Client is.c))) in
+    let kept : c.in_ok-letters.letters.kept ≡ x = c.in_ok-letters.ensures.kept ∙ ap Seen front in
+    let sent : c.in_ok-letters.letters.sent ≡ x = c.in_ok-letters.ensures.sent ∙ ap Seen front in
+    let same : c.envelope.result.now ≡ x = c.envelope.ensures ∙ kept in
+    let learned : (holder : Actor) → Any (λ h. h ≡ holder) a.keys.items → (s : Signature)
+    → In s c.learn.new.known.signatures ↔ (In s a.known.signatures ⊎ Carries x s) =
+    λ holder h s. subst (λ y. In s c.learn.new.known.signatures ↔ (In s a.known.signatures ⊎ Carries y s)) same
+    (c.in_ok-learn.ensures.learned holder (subst (Any (λ h. h ≡ holder)) (sym c.as_slice.ensures.value) h) s) in
+    let parts = parts_after_tell a.shape run a.parties.items a.boxes a.keys.items a.known.signatures c.self.invariant is.c is.d
+    c.learn.new.known.signatures c.n-n.ensures.allowed (subst (IsActor a.shape) is.from_is is.actor) (subst (IsActor a.shape) is.to_is is.other) is.apart
+    (ap₂ (is_used_up (log_of run)) (sym is.from_is) (sym is.to_is) ∙ is.used) (ap₂ (is_full (log_of run)) (sym is.from_is) (sym is.to_is) ∙ is.room) learned in
+    let entry : c.push_reserved.new.self.items ≡ a.entries.items ++ (Client is.c, PostEntry (Client is.d) x) ∷ [] =
+    c.push_reserved.ensures.items
+    ∙ (ap₂ (λ es y. es ++ (from, PostEntry to y) ∷ []) c.make_room.ensures.same kept
+    ∙ ap₂ (λ b d. a.entries.items ++ (b, PostEntry d x) ∷ []) is.from_is is.to_is) in
+    let went : reverse c.push_reserved.new.self.items ≡ (Client is.c, PostEntry (Client is.d) x) ∷ run =
+    pushed a.entries.items c.push_reserved.new.self.items (Client is.c, PostEntry (Client is.d) x) entry in
+    let box : c.put.new.self ≡ with_box a.boxes (place_of a.shape (Client is.c)) (place_of a.shape (Client is.d))
+    (with_post (box_at a.boxes (place_of a.shape (Client is.c)) (place_of a.shape (Client is.d))) x) =
+    c.put.ensures
+    ∙ (ap (λ y. with_box a.boxes c.place_of-poster.result c.place_of-taker.result (with_post (box_at a.boxes c.place_of-poster.result c.place_of-taker.result) y)) sent
+    ∙ ap₂ (λ k l. with_box a.boxes k l (with_post (box_at a.boxes k l) x)) (c.place_of-poster.ensures ∙ ap (place_of a.shape) is.from_is)
+    (c.place_of-taker.ensures ∙ ap (place_of a.shape) is.to_is)) in
+    subst (λ r. AreParts a.shape r a.parties.items c.put.new.self a.keys.items c.learn.new.known.signatures) (sym went)
+    (subst (λ rows. AreParts a.shape ((Client is.c, PostEntry (Client is.d) x) ∷ run) a.parties.items rows a.keys.items c.learn.new.known.signatures) (sym box) parts)
+
+pub returns-clause-done : goal.returns-clause-done
+returns-clause-done c =
+    let a = c.self.inside in
+    let from = c.args.from.now in
+    let to = c.args.to.now in
+    let run = reverse a.entries.items in
+    let none = subst (λ (w : World). refusal_of w.shape (log_of w.run) (Tell from to) ≡ None) (sym c.self.view_is)
+    (sym c.tell_refusal.ensures ∙ c.in_default.is) in
+    let is = cleared_tell a.shape (log_of run) from to none in
+    let at : Plays a.shape (Client is.c) (log_of run (Client is.c)) c.index.result.now =
+    subst (λ b. Plays a.shape b (log_of run b) c.index.result.now) is.from_is
+    (subst (Plays a.shape from (log_of run from)) (sym (c.index.ensures ∙ ap (λ k. slice_index_or a.parties.items k c.index.result.now) c.place_of-poster.ensures))
+    (c.self.invariant.played.each from is.actor c.index.result.now)) in
+    let front : c.seen.result ≡ seen a.shape (log_of run (Client is.c)) = c.seen.ensures a.shape is.c (log_of run (Client is.c)) at in
+    let x = Seen (seen a.shape (log_of run (Client is.c))) in
+    let kept : c.in_ok-letters.letters.kept ≡ x = c.in_ok-letters.ensures.kept ∙ ap Seen front in
+    let entry : c.push_reserved.new.self.items ≡ a.entries.items ++ (Client is.c, PostEntry to x) ∷ [] =
+    c.push_reserved.ensures.items
+    ∙ (ap₂ (λ es y. es ++ (from, PostEntry to y) ∷ []) c.make_room.ensures.same kept
+    ∙ ap (λ b. a.entries.items ++ (b, PostEntry to x) ∷ []) is.from_is) in
+    let went : reverse c.push_reserved.new.self.items ≡ (Client is.c, PostEntry to x) ∷ run =
+    pushed a.entries.items c.push_reserved.new.self.items (Client is.c, PostEntry to x) entry in
+    subst (λ (w : World). HasDone w.shape (reverse c.push_reserved.new.self.items) w.run (Tell from to) None) c.self.view_is
+    (subst (λ r. HasDone a.shape r run (Tell from to) None) (sym went)
+    (subst (λ b. HasDone a.shape ((Client is.c, PostEntry to x) ∷ run) run (Tell b to) None) (sym is.from_is) (done_tell a.shape run is.c to)))
