@@ -20,3 +20,4 @@ mod Within
 mod NextSteps
 mod Worlds
 mod WorldPosts
+mod WorldTakes

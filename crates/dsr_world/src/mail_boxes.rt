@@ -1,11 +1,11 @@
 //! The boxes: one from each actor to each actor, which holds at most one envelope.
 
-ghost use Rattle.std.specs.Prelude.{◌≡◌, ℕ, suc, ◌<◌, ◌^◌, None, Some, length, slice_set, IfOk, IsOkUnless, OnOk};
+ghost use Rattle.std.specs.Prelude.{◌≡◌, ℕ, suc, ◌<◌, ◌^◌, None, Some, IsSome, length, slice_set, IfOk, IsOkUnless, OnOk};
 ghost use Rattle.std.specs.Option.{option_map};
 ghost use Rattle.dsr_world.specs.Support.Boxes.{AreSquare, empty_box, box_in, row_of, box_at, with_box, with_post, without_letter};
 
 use dsr_names::Refusal;
-use dsr_replica::Letter;
+use dsr_replica::{Envelope, Letter};
 use std::alloc::Global;
 use std::marker::Model;
 
@@ -118,6 +118,21 @@ impl MailBoxes {
         self.rows[from].boxes[to].letter.as_ref()
     }
 
+    /// A copy of the envelope in the box from one actor to another. Requires that it holds one. `NoMemory` where memory runs out or
+    /// one handle more is refused.
+    pub(crate) fn copy(&self, alloc: Global, from: usize, to: usize) -> Result<Envelope, Refusal>
+        requires inside { from < length self.now }
+        requires row { to < length (row_of self.now from) }
+        requires full { IsSome (box_at self.now from to).letter }
+        ensures same { IfOk result (λ envelope. (box_at self.now from to).letter ≡ Some envelope) }
+        ensures refusal { IsOkUnless result Refusal.NoMemory }
+    {
+        match self.letter(from, to) {
+            Some(letter) => letter.envelope().try_copy(alloc),
+            None => Err(Refusal::NoMemory),
+        }
+    }
+
     /// Puts the letter into the box from one actor to another.
     pub(crate) fn put(&mut self, from: usize, to: usize, letter: Letter)
         requires inside { from < length self.old }
@@ -128,13 +143,14 @@ impl MailBoxes {
         self.rows[from].put(to, letter);
     }
 
-    /// Takes the letter out of the box from one actor to another.
-    pub(crate) fn take(&mut self, from: usize, to: usize) -> Option<Letter>
+    /// Takes the letter out of the box from one actor to another. Requires that it holds one.
+    pub(crate) fn take(&mut self, from: usize, to: usize) -> Letter
         requires inside { from < length self.old }
         requires row { to < length (row_of self.old from) }
-        ensures letter { result ≡ (box_at self.old from to).letter }
+        requires full { IsSome (box_at self.old from to).letter }
+        ensures letter { (box_at self.old from to).letter ≡ Some result }
         ensures rest { self.new ≡ with_box self.old from to (without_letter (box_at self.old from to)) }
     {
-        self.rows[from].take(to)
+        self.rows[from].take(to).unwrap()
     }
 }

@@ -125,8 +125,7 @@ impl World {
         }
         let _n = self.shape.n();
         let (poster, taker) = (place_of(&self.shape, from), place_of(&self.shape, at));
-        let letter = self.boxes.letter(poster, taker).unwrap();
-        let Ok(envelope) = letter.envelope().try_copy(alloc) else {
+        let Ok(envelope) = self.boxes.copy(alloc, poster, taker) else {
             return Err(Refusal::NoMemory);
         };
         make_room(&mut self.entries)?;
@@ -134,7 +133,7 @@ impl World {
             return Err(Refusal::NoMemory);
         };
         let reply = self.parties[taker].taken(*from, envelope);
-        let letter = self.boxes.take(poster, taker).unwrap();
+        let letter = self.boxes.take(poster, taker);
         self.entries.push_reserved((
             *at,
             Entry::Take {

@@ -1,0 +1,184 @@
+-- How the parts of a world go on standing for its run when an actor takes.
+use Rattle.std.proofs.Common.{◌≡◌, ◌≢◌, ◌↔◌, ℕ, suc, ◌<◌, ◌^◌, ◌&&◌, ◌||◌, not, nat_lt, Bool, true, false, List, [], ◌∷◌, ◌++◌, Option, None, Some, length, length-append, reverse, if◌then◌else◌, ◌⊎◌, inl, inr, refl, ap, sym, ◌∙◌, subst, arith}
+use Rattle.std.specs.Prelude.{Any, slice_set, slice_index_or}
+use Rattle.std.specs.Option.{option_map, is_none}
+use Rattle.std.proofs.lemmas.Bool.{true≢false}
+use Rattle.std.proofs.lemmas.Bool.Decides.{nat_tests}
+use Rattle.std.proofs.lemmas.List.{reverse-append, append-nil}
+use Rattle.std.proofs.lemmas.Option.{none-some, same_Some}
+use Rattle.dsr_base.specs.Member.{In, here, there}
+use Rattle.dsr_names.specs.Shape.{Shape, is_traitor, IsActor, IsAllowed, IsLoyal}
+use Rattle.dsr_names.specs.declared.actor.Actor.{Actor}
+use Rattle.dsr_names.specs.declared.actor.Actor.TheVariants.{Replica, Client}
+use Rattle.dsr_names.specs.declared.refusal.Refusal.{Refusal}
+use Rattle.dsr_names.specs.declared.refusal.Refusal.TheVariants.{NoActor, WrongRole, NotDue, Exhausted, BoxFull, BoxEmpty}
+use Rattle.dsr_desk.specs.Signature.{Signature}
+use Rattle.dsr_replica.specs.declared.envelope.Envelope.{Envelope}
+use Rattle.dsr_replica.specs.declared.entry.Entry.{Entry}
+use Rattle.dsr_replica.specs.declared.entry.Entry.TheVariants.{Post as PostEntry, Take as TakeEntry}
+use Rattle.dsr_replica.specs.declared.step.Pick.{Pick}
+use Rattle.dsr_replica.specs.Envelope.{Carries}
+use Rattle.dsr_replica.specs.Log.{posted_to, taken_from}
+use Rattle.dsr_replica.specs.Pick.{IsPick}
+use Rattle.dsr_chain.specs.declared.signed_request.SignedRequest.{SignedRequest}
+use Rattle.dsr_replica.specs.declared.envelope.Envelope.TheVariants.{Empty, Round, Ask, Reply, Seen}
+use Rattle.dsr_client.specs.State.{State, asked_beside, state_after, outstanding, accepted}
+use Rattle.dsr_world.proofs.Logs.{log_cases}
+use Rattle.dsr_world.specs.declared.event.Event.TheVariants.{Post, Plant, Take, Tell}
+use Rattle.dsr_world.specs.Event.{is_actor, is_traitor_of, are_clients, is_full, is_used_up, is_exhausted, post_of, refusal_of, first_of, Answers, HasDone}
+use Rattle.dsr_world.specs.Run.{IsNextStep, IsTraitor}
+use Rattle.dsr_world.specs.Step.{Step, Logs, log_of}
+use Rattle.dsr_world.specs.Support.Boxes.{box_at, row_of, with_box, with_post, held_in, IsBoxOf}
+use Rattle.dsr_world.specs.Support.Party.{Plays, post_refusal}
+use Rattle.dsr_world.specs.Support.WorldFields.{place_of, IsSpelledPick, AreParts, AreBoxes, KnowsAll}
+use Rattle.dsr_world.specs.declared.mail_boxes.MailBox.{MailBox}
+use Rattle.dsr_world.specs.declared.party.Party.{Party}
+use Rattle.dsr_world.proofs.NextSteps.{posts_next}
+use Rattle.dsr_world.proofs.Stepping.{place_below, played_step, boxes_posted, known_posted, known_still}
+use Rattle.std.specs.Prelude.{slice_get}
+use Rattle.std.proofs.lemmas.Bool.Decides.{Decides-eqb}
+use Rattle.dsr_replica.specs.Limits.{IsEnvelope}
+use Rattle.dsr_client.specs.State.{seen}
+use Rattle.dsr_replica.specs.Replica.{HasRoom}
+use Rattle.dsr_replica.specs.declared.step.Due.TheVariants.{Take as TakeFrom}
+use Rattle.dsr_replica.specs.Log.{due}
+use Rattle.dsr_script.specs.Held.{IsUnforged}
+use Rattle.dsr_world.specs.Event.{is_own_client, are_two_clients, is_undue, step_of, in_box, AcceptsBy, IsForged, IsForgedAtLast}
+use Rattle.dsr_world.specs.Run.{IsRun, IsMadeOrPosted, HasPosted}
+use Rattle.dsr_world.specs.Support.Boxes.{without_letter}
+use Rattle.dsr_world.specs.Support.Party.{PlaysClient, CanTake, HasRoomToTake, TakesReply}
+use Rattle.dsr_world.specs.declared.party.Party.TheVariants.{Loyal, Traitor, Client as ClientParty}
+use Rattle.dsr_ledger.specs.declared.reply.Reply.{Reply as AReply}
+use Rattle.dsr_world.specs.Support.WorldFields.{ArePlayed, AreKeys, KnowsPosts}
+use Rattle.dsr_world.proofs.Boxes.{posted_entry, actors_within}
+use Rattle.dsr_world.proofs.Forging.{all_made}
+use Rattle.dsr_world.proofs.NextSteps.{plants_next, tells_next, takes_next, take_due}
+use Rattle.dsr_world.proofs.Stepping.{played_on, played_same, boxes_taken}
+use Rattle.dsr_world.proofs.Within.{posted_within}
+use Rattle.dsr_world.proofs.Worlds.{NoneHolds, none_holds, last_fails, both_hold, actor_is, box_is_empty, empty_same, post_answers}
+use Rattle.dsr_base.proofs.MemberLemmas.{In-append_right}
+use Rattle.dsr_replica.specs.Replica.{Replica as ReplicaValue}
+use Rattle.dsr_world.specs.Support.Customer.{Customer}
+use Rattle.dsr_world.specs.Support.Party.{PlaysReplica}
+
+-- a take that nothing refuses
+pub record IsTaken (shape : Shape) (logs : Logs) (at from : Actor) : Type 0 where
+  pub actor : IsActor shape at
+  pub other : IsActor shape from
+  pub own : is_own_client at from ≡ false
+  pub timely : is_undue shape (logs at) at from ≡ false
+  pub full : is_full logs from at ≡ true
+
+not_false : (b : Bool) → not b ≡ false → b ≡ true
+not_false true e = refl
+not_false false e = absurd (true≢false e)
+
+pub cleared_take : (shape : Shape) (logs : Logs) (at from : Actor) → refusal_of shape logs (Take at from) ≡ None → IsTaken shape logs at from
+cleared_take shape logs at from e =
+    let none = none_holds (not (is_actor shape at && is_actor shape from)) (is_own_client at from) (is_undue shape (logs at) at from) (not (is_full logs from at))
+    NoActor WrongRole NotDue BoxEmpty [] e in
+    let actors = both_hold (is_actor shape at) (is_actor shape from) none.first in
+    record {
+      actor = actor_is shape at actors.0;
+      other = actor_is shape from actors.1;
+      own = none.second;
+      timely = none.third;
+      full = not_false (is_full logs from at) none.fourth;
+    }
+
+-- it is no client's from itself
+not_own : (at from : Actor) → is_own_client at from ≡ false → at ≡ from → (c : ℕ) → at ≡ Client c → ⊥
+not_own (Replica p) from own same c is = absurd cc
+not_own (Client d) (Replica q) own same c is = absurd cc
+not_own (Client d) (Client e) own same c is =
+    let equal : d ≡ e = cc in
+    true≢false (sym ((Decides-eqb d e).1 equal) ∙ own)
+
+-- the envelope at the end of a list
+last_of : (xs : List Envelope) (x : Envelope) → slice_get (xs ++ x ∷ []) (length xs) ≡ Some x
+last_of [] x = refl
+last_of (y ∷ xs) x = last_of xs x
+
+module _ (shape : Shape) (run : List Step) (parties : List Party) (rows : List (List MailBox)) (keys : List Actor) (known : List Signature)
+    (are : AreParts shape run parties rows keys known) where
+  -- what is in the box was posted and not taken
+  box_holds : (at from : Actor) (x : Envelope) → IsActor shape at → IsActor shape from → (box_at rows (place_of shape from) (place_of shape at)).letter ≡ Some x
+      → posted_to at (log_of run from) ≡ taken_from from (log_of run at) ++ x ∷ []
+  box_holds at from x actor other full =
+      (are.boxes.each from at other actor).holds ∙ ap (λ o. taken_from from (log_of run at) ++ held_in o) full
+
+  box_within : (at from : Actor) (x : Envelope) → IsActor shape at → IsActor shape from → (box_at rows (place_of shape from) (place_of shape at)).letter ≡ Some x
+      → IsEnvelope x
+  box_within at from x actor other full =
+      posted_within shape run are.is_run from at x
+      (posted_entry at (log_of run from) x
+      (subst (In x) (sym (box_holds at from x actor other full)) (In-append_right x (taken_from from (log_of run at)) (x ∷ []) (here refl))))
+
+  -- a party with room can take it
+  pub can_take : (at from : Actor) (x : Envelope) (party : Party) → IsAllowed shape → IsTaken shape (log_of run) at from
+      → (box_at rows (place_of shape from) (place_of shape at)).letter ≡ Some x → Plays shape at (log_of run at) party → HasRoomToTake party
+      → CanTake party from x
+  can_take (Replica p) (Replica q) x (Loyal r) allowed is full plays room = (
+    plays.stands.due_is ∙ (ap (λ s. due s (log_of run (Replica p))) plays.shape_is ∙ take_due shape allowed run are.is_run p q plays.honest is.timely),
+    room,
+  )
+  can_take (Replica p) (Client c) x (Loyal r) allowed is full plays room = subst (λ s. c < s.m) (sym plays.shape_is) is.other
+  can_take (Client c) from x (Loyal r) allowed is full plays room = elim plays [ ]
+  can_take at from x Traitor allowed is full plays room = tt
+  can_take (Replica p) from x (ClientParty y) allowed is full plays room = elim plays [ ]
+  can_take (Client c) from x (ClientParty y) allowed is full plays room = (
+    subst (λ s. IsActor s from) (sym plays.shape_is) is.other,
+    λ e. not_own (Client c) from is.own (sym (e ∙ ap Client plays.me)) c refl,
+    box_within (Client c) from x is.actor is.other full,
+    room,
+  )
+
+  -- the parts while room is made
+  pub parts_with_room : (at : Actor) (party : Party) → IsActor shape at → Plays shape at (log_of run at) party
+      → AreParts shape run (slice_set parties (place_of shape at) party) rows keys known
+  parts_with_room at party actor plays = record {
+    is_run = are.is_run;
+    played = played_same shape (log_of run) parties at party are.played actor plays;
+    boxes = are.boxes;
+    held = are.held;
+    knows = are.knows;
+  }
+
+  -- the parts after the take
+  pub parts_after_take : (at from : Actor) (x : Envelope) (party : Party) → IsAllowed shape → IsTaken shape (log_of run) at from
+      → (box_at rows (place_of shape from) (place_of shape at)).letter ≡ Some x → Plays shape at (TakeEntry from x ∷ log_of run at) party
+      → AreParts shape ((at, TakeEntry from x) ∷ run) (slice_set parties (place_of shape at) party)
+      (with_box rows (place_of shape from) (place_of shape at) (without_letter (box_at rows (place_of shape from) (place_of shape at)))) keys known
+  parts_after_take at from x party allowed is full plays = record {
+    is_run = (
+      are.is_run,
+      takes_next shape allowed run are.is_run at from x is.actor is.other (not_own at from is.own) is.timely (box_holds at from x is.actor is.other full),
+    );
+    played = played_step shape run parties (at, TakeEntry from x) party are.played is.actor plays;
+    boxes = boxes_taken shape run rows at from x are.boxes is.actor is.other full;
+    held = are.held;
+    knows = λ p traitor. known_still shape run known (at, TakeEntry from x) (are.knows p traitor) (λ t y e loyal. no_post from x t y e);
+  }
+    where
+      no_post : (a : Actor) (x : Envelope) (t : Actor) (y : Envelope) → TakeEntry a x ≡ PostEntry t y → ⊥
+      no_post a x t y e = cc
+
+  -- the take is the event
+  pub done_take : (at from : Actor) (x : Envelope) (reply : Option AReply) → IsActor shape at → IsActor shape from
+      → (box_at rows (place_of shape from) (place_of shape at)).letter ≡ Some x
+      → TakesReply shape at (log_of run at) from x reply → HasDone shape ((at, TakeEntry from x) ∷ run) run (Take at from) reply
+  done_take at from x reply actor other full takes = record {
+    step = (at, TakeEntry from x);
+    is_event = ap (option_map (λ envelope. (at, TakeEntry from envelope)))
+        (ap (λ xs. slice_get xs (length (taken_from from (log_of run at)))) (box_holds at from x actor other full) ∙ last_of (taken_from from (log_of run at)) x);
+    went_on = refl;
+    answers = answers_of at actor takes;
+  }
+    where
+      answers_of : (a : Actor) → IsActor shape a → TakesReply shape a (log_of run a) from x reply
+          → Answers shape (log_of ((a, TakeEntry from x) ∷ run)) (log_of run) (a, TakeEntry from x) reply
+      answers_of (Replica p) inside takes = takes
+      answers_of (Client c) inside takes = elim (log_cases (Client c, TakeEntry from x) run (Client c)) [
+        | inl own ↦ subst (λ l. AcceptsBy reply (accepted shape l) (accepted shape (log_of run (Client c)))) (sym own.1) takes
+        | inr other ↦ absurd (other.0 refl)
+      ]
