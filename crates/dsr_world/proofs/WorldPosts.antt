@@ -11,7 +11,7 @@ use Rattle.dsr_names.specs.Shape.{Shape, is_traitor, IsActor, IsAllowed, IsLoyal
 use Rattle.dsr_names.specs.declared.actor.Actor.{Actor}
 use Rattle.dsr_names.specs.declared.actor.Actor.TheVariants.{Replica, Client}
 use Rattle.dsr_names.specs.declared.refusal.Refusal.{Refusal}
-use Rattle.dsr_names.specs.declared.refusal.Refusal.TheVariants.{NoActor, WrongRole, NotDue, Exhausted, BoxFull}
+use Rattle.dsr_names.specs.declared.refusal.Refusal.TheVariants.{NoActor, WrongRole, NotDue, Exhausted, BoxFull, Forged, NoMemory}
 use Rattle.dsr_desk.specs.Signature.{Signature}
 use Rattle.dsr_replica.specs.declared.envelope.Envelope.{Envelope}
 use Rattle.dsr_replica.specs.declared.entry.Entry.{Entry}
@@ -43,8 +43,8 @@ use Rattle.dsr_replica.specs.Replica.{HasRoom}
 use Rattle.dsr_replica.specs.declared.step.Due.TheVariants.{Take as TakeFrom}
 use Rattle.dsr_replica.specs.Log.{due}
 use Rattle.dsr_script.specs.Held.{IsUnforged}
-use Rattle.dsr_world.specs.Event.{is_own_client, are_two_clients, is_undue, step_of, in_box, AcceptsBy, IsForged, IsForgedAtLast}
-use Rattle.dsr_world.specs.Run.{IsRun, IsMadeOrPosted, HasPosted}
+use Rattle.dsr_world.specs.Event.{refusals, IsRefusedBy, is_own_client, are_two_clients, is_undue, step_of, in_box, AcceptsBy, IsForged, IsForgedAtLast}
+use Rattle.dsr_world.specs.Run.{IsRun, IsMadeOrPosted, HasPosted, ForgesNothing}
 use Rattle.dsr_world.specs.Support.Boxes.{without_letter}
 use Rattle.dsr_world.specs.Support.Party.{PlaysClient, CanTake, HasRoomToTake, TakesReply}
 use Rattle.dsr_world.specs.declared.party.Party.TheVariants.{Loyal, Traitor, Client as ClientParty}
@@ -189,7 +189,7 @@ module _ (shape : Shape) (run : List Step) (parties : List Party) (rows : List (
       (learned (Replica p) ((are.held (Replica p)).1 traitor)))
 
   -- what is held or known can be sent
-  unforged_made : (p : ℕ) → IsTraitor shape (Replica p) → (x : Envelope) → IsUnforged keys known x → (s : Signature) → Carries x s
+  pub unforged_made : (p : ℕ) → IsTraitor shape (Replica p) → (x : Envelope) → IsUnforged keys known x → (s : Signature) → Carries x s
       → IsMadeOrPosted shape (log_of run) s
   unforged_made p traitor x unforged s carried = elim (unforged s carried) [
     | inl held ↦ inl ((are.held s.signer).0 held)
@@ -199,7 +199,7 @@ module _ (shape : Shape) (run : List Step) (parties : List Party) (rows : List (
   ]
 
   -- and what can be sent is held or known
-  made_unforged : (p : ℕ) → IsTraitor shape (Replica p) → (x : Envelope) → ((s : Signature) → Carries x s → IsMadeOrPosted shape (log_of run) s)
+  pub made_unforged : (p : ℕ) → IsTraitor shape (Replica p) → (x : Envelope) → ((s : Signature) → Carries x s → IsMadeOrPosted shape (log_of run) s)
       → IsUnforged keys known x
   made_unforged p traitor x made s carried = elim (made s carried) [
     | inl by ↦ inl ((are.held s.signer).1 by)
@@ -223,15 +223,15 @@ module _ (shape : Shape) (run : List Step) (parties : List Party) (rows : List (
           inr ((are.knows p traitor).all s s.signer (subst (IsLoyal shape) (sym same) (loyal_one a inside good)) posted)
 
   pub parts_after_plant : (p : ℕ) (to : Actor) (x : Envelope) → IsAllowed shape → p < shape.n → IsActor shape to → is_traitor shape p ≡ true → IsEnvelope x
-      → is_used_up (log_of run) (Replica p) to ≡ false → is_full (log_of run) (Replica p) to ≡ false → IsUnforged keys known x
+      → is_used_up (log_of run) (Replica p) to ≡ false → is_full (log_of run) (Replica p) to ≡ false → ForgesNothing shape (log_of run) (PostEntry to x)
       → AreParts shape ((Replica p, PostEntry to x) ∷ run) parties
       (with_box rows (place_of shape (Replica p)) (place_of shape to) (with_post (box_at rows (place_of shape (Replica p)) (place_of shape to)) x)) keys known
-  parts_after_plant p to x allowed inside other traitor fits used room unforged =
+  parts_after_plant p to x allowed inside other traitor fits used room forges =
       let empty = box_open (Replica p) to inside other room in
       let same = empty_same (box_at rows (place_of shape (Replica p)) (place_of shape to)) (posted_to to (log_of run (Replica p)))
       (taken_from (Replica p) (log_of run to)) empty (are.boxes.each (Replica p) to inside other) in
       parts_still (Replica p) to x known inside other
-      (plants_next shape allowed run are.is_run p to x inside other traitor fits used same (unforged_made p (inside, traitor) x unforged))
+      (plants_next shape allowed run are.is_run p to x inside other traitor fits used same forges)
       (λ y plays. planted_plays shape p (log_of run (Replica p)) (PostEntry to x) y traitor plays) empty
       (λ q bad. known_still shape run known (Replica p, PostEntry to x) (are.knows q bad) (λ t y e loyal. true≢false (sym traitor ∙ loyal.1)))
 
@@ -254,3 +254,23 @@ done_tell shape run c to = record {
 -- so is a traitor's post
 pub done_plant : (shape : Shape) (run : List Step) (p : ℕ) (to : Actor) (x : Envelope) → HasDone shape ((Replica p, PostEntry to x) ∷ run) run (Plant (Replica p) to x) None
 done_plant shape run p to x = record { step = (Replica p, PostEntry to x); is_event = refl; went_on = refl; answers = post_answers shape run (Replica p) to x }
+
+-- no test refuses as forged
+no_row_forged : (rows : List (Bool × Refusal)) → ((b : Bool) (r : Refusal) → In (b, r) rows → r ≡ Forged → ⊥) → first_of rows ≡ Some Forged → ⊥
+no_row_forged [] none e = absurd (none-some Forged e)
+no_row_forged ((true, r) ∷ rows) none e = none true r (here refl) (same_Some r Forged e)
+no_row_forged ((false, r) ∷ rows) none e = no_row_forged rows (λ b s h. none b s (there h)) e
+
+-- what is refused as forged has a forged signature
+pub forged_at_last : (shape : Shape) (logs : Logs) (from to : Actor) (x : Envelope) → IsRefusedBy shape logs (Plant from to x) Forged
+    → IsForgedAtLast shape logs (Plant from to x)
+forged_at_last shape logs from to x (inl row) = absurd (no_row_forged (refusals shape logs (Plant from to x)) (λ b r h e. none b r h e) row)
+  where
+    none : (b : Bool) (r : Refusal) → In (b, r) (refusals shape logs (Plant from to x)) → r ≡ Forged → ⊥
+    none b r (here e) f = let same : NoActor ≡ r = ap (λ z. z.1) e in absurd cc
+    none b r (there (here e)) f = let same : WrongRole ≡ r = ap (λ z. z.1) e in absurd cc
+    none b r (there (there (here e))) f = let same : Exhausted ≡ r = ap (λ z. z.1) e in absurd cc
+    none b r (there (there (there (here e)))) f = let same : BoxFull ≡ r = ap (λ z. z.1) e in absurd cc
+    none b r (there (there (there (there h)))) f = elim h [ ]
+forged_at_last shape logs from to x (inr (inl forged)) = forged.1
+forged_at_last shape logs from to x (inr (inr memory)) = let same : Forged ≡ NoMemory = memory.0 in absurd cc

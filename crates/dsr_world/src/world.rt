@@ -11,7 +11,8 @@ ghost use Rattle.dsr_replica.specs.Envelope.{Carries};
 ghost use Rattle.dsr_names.specs.declared.actor.Actor.{Actor};
 ghost use Rattle.dsr_names.specs.declared.refusal.Refusal.{Refusal};
 ghost use Rattle.dsr_world.specs.Event.{HasDone, IsRefusedBy, IsForgedAtLast, IsWithin, is_actor, is_traitor_of, are_clients, is_own_client, are_two_clients, is_full, is_used_up, refusal_of, first_of};
-ghost use Rattle.dsr_world.specs.Run.{IsRun};
+ghost use Rattle.dsr_replica.specs.declared.entry.Entry.TheVariants.{Post as PostEntry};
+ghost use Rattle.dsr_world.specs.Run.{IsRun, ForgesNothing};
 ghost use Rattle.dsr_world.specs.Step.{Step, log_of};
 ghost use Rattle.dsr_world.specs.Support.WorldFields.{place_of, IsSpelledPick, box_refusal};
 
@@ -64,6 +65,30 @@ impl World {
         ensures run { IsRun self.now.shape self.now.run }
     {
         self.entries.as_slice()
+    }
+
+    /// Has the event happen, and returns the reply that a client accepts by it. Requires that a traitor's envelope is within the
+    /// limits.
+    ///
+    /// Refused with the first of these that holds: `NoActor` where an actor is not one of the shape; `WrongRole` where it is not the
+    /// actor's part; `NotDue` where the actor's conduct has no such step now; `Exhausted` where a counter would pass its limit;
+    /// `BoxFull` or `BoxEmpty`; `Forged` where a traitor's envelope has a signature that is neither a traitor's nor posted by its
+    /// signer; `NoMemory` where memory runs out. After each of them the world is as before.
+    pub fn step(&mut self, alloc: Global, event: &Event) -> Result<Option<Reply>, Refusal>
+        requires { IsWithin event.now }
+        ensures done { IfOk result (HasDone self.old.shape self.new.run self.old.run event.now) }
+        ensures refused { (refusal : Refusal) → refusal_of self.old.shape (log_of self.old.run) event.now ≡ Some refusal → result ≡ Err refusal }
+        ensures forged { (result ≡ Err Refusal.Forged) ↔ IsForgedAtLast self.old.shape (log_of self.old.run) event.now }
+        ensures last { (refusal : Refusal) → result ≡ Err refusal → IsRefusedBy self.old.shape (log_of self.old.run) event.now refusal }
+        ensures unchanged { OnErr result (self.new ≡ self.old) }
+        ensures shape { self.new.shape ≡ self.old.shape }
+    {
+        match event {
+            Event::Post { from, to, pick } => self.post(alloc, from, to, pick),
+            Event::Plant { from, to, draft } => self.plant(alloc, from, to, draft),
+            Event::Take { at, from } => self.take(alloc, at, from),
+            Event::Tell { from, to } => self.tell(alloc, from, to),
+        }
     }
 
     /// Has a loyal actor post.
@@ -196,15 +221,12 @@ impl World {
         ensures shape { self.new.shape ≡ self.old.shape }
         ensures forged { IsForgedAtLast self.old.shape (log_of self.old.run) (Plant from.now to.now draft.now) → result ≡ Err Refusal.Forged }
     {
-        if let Some(refusal) = self.plant_refusal(from, to, draft) {
-            return Err(refusal);
-        }
-        let _n = self.shape.n();
-        let (poster, taker) = (place_of(&self.shape, from), place_of(&self.shape, to));
-        let envelope = match build(alloc, draft, self.keys.as_slice(), &self.known) {
+        let envelope = match self.unforged(alloc, from, to, draft) {
             Ok(envelope) => envelope,
             Err(refusal) => return Err(refusal),
         };
+        let _n = self.shape.n();
+        let (poster, taker) = (place_of(&self.shape, from), place_of(&self.shape, to));
         let letters = Letters::of(alloc, envelope)?;
         make_room(&mut self.entries)?;
         self.boxes.put(poster, taker, letters.sent);
@@ -216,6 +238,32 @@ impl World {
             },
         ));
         Ok(None)
+    }
+
+    /// The envelope that a traitor is to post, in which nothing is forged.
+    fn unforged(
+        &self,
+        alloc: Global,
+        from: &Actor,
+        to: &Actor,
+        draft: &Draft,
+    ) -> Result<Envelope, Refusal>
+        ensures same { IfOk result (λ envelope. envelope ≡ draft.now) }
+        ensures none { OnOk result (refusal_of self.now.shape (log_of self.now.run) (Plant from.now to.now draft.now) ≡ None) }
+        ensures made { OnOk result (ForgesNothing self.now.shape (log_of self.now.run) (PostEntry to.now draft.now)) }
+        ensures refused { (refusal : Refusal)
+            → refusal_of self.now.shape (log_of self.now.run) (Plant from.now to.now draft.now) ≡ Some refusal → result ≡ Err refusal }
+        ensures last { (refusal : Refusal) → result ≡ Err refusal
+            → IsRefusedBy self.now.shape (log_of self.now.run) (Plant from.now to.now draft.now) refusal }
+        ensures forged { IsForgedAtLast self.now.shape (log_of self.now.run) (Plant from.now to.now draft.now) → result ≡ Err Refusal.Forged }
+    {
+        if let Some(refusal) = self.plant_refusal(from, to, draft) {
+            return Err(refusal);
+        }
+        match build(alloc, draft, self.keys.as_slice(), &self.known) {
+            Ok(envelope) => Ok(envelope),
+            Err(refusal) => Err(refusal),
+        }
     }
 
     /// What a post of a loyal actor is refused with, if it is.

@@ -1,53 +1,49 @@
-use Rattle.std.proofs.Common.{rules, ◌⊎◌, Any, OnOk, vec_len, vec_capacity, ◌≡◌, ◌≢◌, ◌↔◌, ◌&&◌, ℕ, ◌<◌, ◌+◌, [], ◌∷◌, List, Option, None, Some, Err, length, reverse, IfOk, OnErr, IsTrue, IsOkUnless, ◌-◌, ◌*◌, ◌≤◌, ◌/◌, ◌%◌, Bool, true, false, nat_eq, nat_lt, ◌++◌, slice_index_or, slice_set, bit_and, bit_or, Fits, w8, w32, w64, Bor, MutBor}
-use Rattle.dsr_names.specs.Shape.{IsActor, IsAllowed}
-use Rattle.dsr_names.specs.declared.refusal.Refusal.TheVariants.{NoActor, WrongRole}
-use Rattle.dsr_replica.specs.declared.envelope.Envelope.{Envelope}
-use Rattle.dsr_replica.specs.Limits.{IsEnvelope}
-use Rattle.dsr_replica.specs.Pick.{IsPick}
-use Rattle.dsr_world.specs.declared.event.Event.TheVariants.{Post, Plant, Take, Tell}
-use Rattle.dsr_base.specs.Member.{In}
-use Rattle.dsr_desk.specs.Signature.{Signature}
-use Rattle.dsr_replica.specs.Envelope.{Carries}
+use Rattle.std.proofs.Common.{◌≡◌, ◌∷◌, ◌++◌, [], ◌⊎◌, None, Some, Err, inl, inr, reverse, refl, ap, ap₂, sym, ◌∙◌, subst}
+use Rattle.std.specs.Prelude.{slice_set}
+use Rattle.dsr_names.specs.Shape.{Shape, is_traitor, IsActor}
 use Rattle.dsr_names.specs.declared.actor.Actor.{Actor}
+use Rattle.dsr_names.specs.declared.actor.Actor.TheVariants.{Replica}
 use Rattle.dsr_names.specs.declared.refusal.Refusal.{Refusal}
-use Rattle.dsr_world.specs.Event.{HasDone, IsRefusedBy, IsForgedAtLast, IsWithin, is_actor, is_traitor_of, are_clients, is_own_client, are_two_clients, is_full, is_used_up, refusal_of, first_of}
-use Rattle.dsr_world.specs.Run.{IsRun}
-use Rattle.dsr_world.specs.Step.{Step, log_of}
-use Rattle.dsr_world.specs.Support.WorldFields.{place_of, IsSpelledPick, box_refusal}
+use Rattle.dsr_names.specs.declared.refusal.Refusal.TheVariants.{Forged, NoMemory}
+use Rattle.dsr_replica.specs.declared.entry.Entry.TheVariants.{Post as PostEntry}
+use Rattle.dsr_replica.specs.Limits.{IsEnvelope}
+use Rattle.dsr_script.specs.Held.{IsUnforged}
+use Rattle.dsr_world.specs.declared.event.Event.TheVariants.{Plant}
+use Rattle.dsr_world.specs.Event.{refusal_of, is_full, is_used_up, IsForged, IsForgedAtLast, IsRefusedBy}
+use Rattle.dsr_world.specs.Run.{IsTraitor, ForgesNothing}
+use Rattle.dsr_world.specs.Step.{log_of}
+use Rattle.dsr_world.specs.Support.Boxes.{box_at, with_box, with_post}
+use Rattle.dsr_world.specs.Support.WorldFields.{place_of, AreParts}
+use Rattle.dsr_world.specs.World.{World}
+use Rattle.dsr_world.proofs.Worlds.{pushed}
+use Rattle.dsr_world.proofs.WorldPosts.{IsPlanted, cleared_plant, unforged_made, forged_plant, parts_after_plant}
 use Rattle.dsr_world.proofs.world.World.plant.Goals as goal
 
--- src/world.rt:206:29
-pub returns-in-Err-clause-last : goal.returns-in-Err-clause-last
-returns-in-Err-clause-last c = ?
-
--- src/world.rt:206:29
-pub returns-in-Err-clause-forged : goal.returns-in-Err-clause-forged
-returns-in-Err-clause-forged c = ?
-
--- src/world.rt:208:23
-pub returns-in_err-letters-clause-last : goal.returns-in_err-letters-clause-last
-returns-in_err-letters-clause-last c = ?
-
--- src/world.rt:208:23
-pub returns-in_err-letters-clause-forged : goal.returns-in_err-letters-clause-forged
-returns-in_err-letters-clause-forged c = ?
-
--- src/world.rt:209:9
-pub returns-in_err-make_room-clause-last : goal.returns-in_err-make_room-clause-last
-returns-in_err-make_room-clause-last c = ?
-
--- src/world.rt:209:9
-pub returns-in_err-make_room-clause-forged : goal.returns-in_err-make_room-clause-forged
-returns-in_err-make_room-clause-forged c = ?
-
--- src/world.rt:182:5
 pub invariant_of-self-2 : goal.invariant_of-self-2
-invariant_of-self-2 c = ?
-
--- src/world.rt:182:5
-pub returns-clause-done : goal.returns-clause-done
-returns-clause-done c = ?
-
--- src/world.rt:182:5
-pub returns-clause-forged : goal.returns-clause-forged
-returns-clause-forged c = ?
+invariant_of-self-2 c =
+    let a = c.self.inside in
+    let from = c.args.from.now in
+    let to = c.args.to.now in
+    let x = c.args.draft.now in
+    let run = reverse a.entries.items in
+    let none = subst (λ (w : World). refusal_of w.shape (log_of w.run) (Plant from to x) ≡ None) (sym c.self.view_is) c.in-Ok.ensures.none in
+    let is = cleared_plant a.shape (log_of run) from to x none in
+    let made : ForgesNothing a.shape (log_of run) (PostEntry to x) =
+    subst (λ (w : World). ForgesNothing w.shape (log_of w.run) (PostEntry to x)) (sym c.self.view_is) c.in-Ok.ensures.made in
+    let kept : c.in_ok-letters.letters.kept ≡ x = c.in_ok-letters.ensures.kept ∙ c.in-Ok.ensures.same in
+    let sent : c.in_ok-letters.letters.sent ≡ x = c.in_ok-letters.ensures.sent ∙ c.in-Ok.ensures.same in
+    let parts = parts_after_plant a.shape run a.parties.items a.boxes a.keys.items a.known.signatures c.self.invariant is.p to x c.n-n.ensures.allowed
+    (subst (IsActor a.shape) is.from_is is.actor) is.other is.traitor c.requires
+    (ap (λ b. is_used_up (log_of run) b to) (sym is.from_is) ∙ is.used) (ap (λ b. is_full (log_of run) b to) (sym is.from_is) ∙ is.room) made in
+    let entry : c.push_reserved.new.self.items ≡ a.entries.items ++ (Replica is.p, PostEntry to x) ∷ [] =
+    c.push_reserved.ensures.items
+    ∙ (ap₂ (λ es y. es ++ (from, PostEntry to y) ∷ []) c.make_room.ensures.same kept ∙ ap (λ b. a.entries.items ++ (b, PostEntry to x) ∷ []) is.from_is) in
+    let went : reverse c.push_reserved.new.self.items ≡ (Replica is.p, PostEntry to x) ∷ run =
+    pushed a.entries.items c.push_reserved.new.self.items (Replica is.p, PostEntry to x) entry in
+    let box : c.put.new.self ≡ with_box a.boxes (place_of a.shape (Replica is.p)) (place_of a.shape to)
+    (with_post (box_at a.boxes (place_of a.shape (Replica is.p)) (place_of a.shape to)) x) =
+    c.put.ensures
+    ∙ (ap (λ y. with_box a.boxes c.place_of-poster.result c.place_of-taker.result (with_post (box_at a.boxes c.place_of-poster.result c.place_of-taker.result) y)) sent
+    ∙ ap₂ (λ k l. with_box a.boxes k l (with_post (box_at a.boxes k l) x)) (c.place_of-poster.ensures ∙ ap (place_of a.shape) is.from_is) c.place_of-taker.ensures) in
+    subst (λ r. AreParts a.shape r a.parties.items c.put.new.self a.keys.items a.known.signatures) (sym went)
+    (subst (λ rows. AreParts a.shape ((Replica is.p, PostEntry to x) ∷ run) a.parties.items rows a.keys.items a.known.signatures) (sym box) parts)
