@@ -21,3 +21,4 @@ mod NextSteps
 mod Worlds
 mod WorldPosts
 mod WorldTakes
+mod Opening

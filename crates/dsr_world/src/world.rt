@@ -1,5 +1,8 @@
-ghost use Rattle.std.specs.Prelude.{◌⊎◌, Any, OnOk, vec_len, vec_capacity, ◌≡◌, ◌≢◌, ◌↔◌, ◌&&◌, ℕ, ◌<◌, ◌+◌, [], ◌∷◌, List, Option, None, Some, Err, length, reverse, IfOk, OnErr, IsTrue, IsOkUnless};
-ghost use Rattle.dsr_names.specs.Shape.{IsActor, IsAllowed};
+ghost use Rattle.std.specs.Prelude.{true, ◌++◌, IfSome, IsSome, ◌⊎◌, Any, OnOk, vec_len, vec_capacity, ◌≡◌, ◌≢◌, ◌↔◌, ◌&&◌, ℕ, ◌<◌, ◌+◌, [], ◌∷◌, List, Option, None, Some, Err, length, reverse, IfOk, OnErr, IsTrue, IsOkUnless};
+ghost use Rattle.std.specs.Option.{option_to_list};
+ghost use Rattle.dsr_names.specs.Shape.{IsActor, is_traitor};
+ghost use Rattle.dsr_names.specs.declared.actor.Actor.TheVariants.{Replica as ReplicaNumber, Client as ClientNumber};
+ghost use Rattle.dsr_world.specs.Support.Party.{Plays};
 ghost use Rattle.dsr_names.specs.declared.refusal.Refusal.TheVariants.{NoActor, WrongRole};
 ghost use Rattle.dsr_replica.specs.declared.envelope.Envelope.{Envelope};
 ghost use Rattle.dsr_replica.specs.Limits.{IsEnvelope};
@@ -16,14 +19,16 @@ ghost use Rattle.dsr_world.specs.Run.{IsRun, ForgesNothing};
 ghost use Rattle.dsr_world.specs.Step.{Step, log_of};
 ghost use Rattle.dsr_world.specs.Support.WorldFields.{place_of, IsSpelledPick, box_refusal};
 
+use crate::customer::Customer;
 use crate::event::Event;
 use crate::letters::Letters;
 use crate::mail_boxes::MailBoxes;
 use crate::party::Party;
-use dsr_desk::Key;
+use dsr_client::Client;
+use dsr_desk::{Key, Keys};
 use dsr_ledger::Reply;
-use dsr_names::{Actor, NUMBER_END, Refusal, Shape};
-use dsr_replica::{Entry, Envelope, Pick};
+use dsr_names::{Actor, ClientId, NUMBER_END, Refusal, ReplicaId, Shape};
+use dsr_replica::{Entry, Envelope, Pick, Replica};
 use dsr_script::{Draft, Known, build};
 use std::alloc::Global;
 use std::marker::Model;
@@ -52,6 +57,34 @@ impl Model for World {
 }
 
 impl World {
+    /// The world of this shape before any step. `NoMemory` where memory runs out.
+    pub fn open(alloc: Global, shape: Shape) -> Result<World, Refusal>
+        ensures shape { IfOk result (λ world. world.shape ≡ shape) }
+        ensures empty { IfOk result (λ world. world.run ≡ []) }
+        ensures refusal { IsOkUnless result Refusal.NoMemory }
+    {
+        let count = shape.n() as usize + shape.m() as usize;
+        let mut keys = Keys::new(alloc, shape)?;
+        let mut parties = Vec::with_capacity(alloc, count)?;
+        let mut traitors = Vec::new(alloc);
+        for number in 0..shape.n() {
+            let (party, key) = replica_party(alloc, &shape, &mut keys, number)?;
+            parties.push(party)?;
+            keep(&mut traitors, key)?;
+        }
+        for number in 0..shape.m() {
+            parties.push(client_party(alloc, &shape, &mut keys, number)?)?;
+        }
+        Ok(World {
+            shape,
+            parties,
+            boxes: MailBoxes::new(alloc, count)?,
+            keys: traitors,
+            known: Known::new(alloc),
+            entries: Vec::new(alloc),
+        })
+    }
+
     /// The shape.
     pub fn shape(&self) -> &Shape
         ensures { result.now ≡ self.now.shape }
@@ -446,5 +479,80 @@ fn learn(known: &mut Known, keys: &[Key], envelope: &Envelope) -> Result<(), Ref
         Ok(())
     } else {
         known.learn(envelope)
+    }
+}
+
+/// The party of a replica of the shape, and its key where it is a traitor. `NoMemory` where memory runs out.
+fn replica_party(
+    alloc: Global,
+    shape: &Shape,
+    keys: &mut Keys,
+    number: u8,
+) -> Result<(Party, Option<Key>), Refusal>
+    requires inside { number < shape.now.n }
+    ensures plays { IfOk result (λ made. Plays shape.now (ReplicaNumber number) [] made.0) }
+    ensures held { IfOk result (λ made. IfSome made.1 (λ key. key ≡ ReplicaNumber number)) }
+    ensures traitor { IfOk result (λ made. IsSome made.1 ↔ (is_traitor shape.now number ≡ true)) }
+    ensures refusal { IsOkUnless result Refusal.NoMemory }
+{
+    let _n = shape.n();
+    let actor = Actor::Replica(replica_of(number));
+    let Some(key) = keys.take(actor) else {
+        return Err(Refusal::NoMemory);
+    };
+    if shape.is_loyal(key.signer()) {
+        Ok((Party::Loyal(Replica::new(alloc, key, shape)?), None))
+    } else {
+        Ok((Party::Traitor, Some(key)))
+    }
+}
+
+/// The party of a client of the shape. `NoMemory` where memory runs out.
+fn client_party(alloc: Global, shape: &Shape, keys: &mut Keys, number: u8) -> Result<Party, Refusal>
+    requires inside { number < shape.now.m }
+    ensures plays { IfOk result (Plays shape.now (ClientNumber number) []) }
+    ensures refusal { IsOkUnless result Refusal.NoMemory }
+{
+    let _m = shape.m();
+    let actor = Actor::Client(client_of(number));
+    let Some(key) = keys.take(actor) else {
+        return Err(Refusal::NoMemory);
+    };
+    Ok(Party::Client(Customer::new(alloc, Client::new(key, shape))))
+}
+
+/// Keeps the key, where there is one. `NoMemory` where memory runs out.
+fn keep(keys: &mut Vec<Key>, key: Option<Key>) -> Result<(), Refusal>
+    ensures kept { OnOk result (keys.new.items ≡ keys.old.items ++ option_to_list key) }
+    ensures refusal { IsOkUnless result Refusal.NoMemory }
+{
+    match key {
+        Some(key) => match keys.push(key) {
+            Ok(()) => Ok(()),
+            Err(_) => Err(Refusal::NoMemory),
+        },
+        None => Ok(()),
+    }
+}
+
+/// The replica of this number, which is below 16.
+fn replica_of(number: u8) -> ReplicaId
+    requires { number < 16 }
+    ensures { result ≡ number }
+{
+    match ReplicaId::new(number) {
+        Ok(replica) => replica,
+        Err(_) => ReplicaId::FIRST,
+    }
+}
+
+/// The client of this number, which is below 32.
+fn client_of(number: u8) -> ClientId
+    requires { number < 32 }
+    ensures { result ≡ number }
+{
+    match ClientId::new(number) {
+        Ok(client) => client,
+        Err(_) => ClientId::FIRST,
     }
 }

@@ -1,7 +1,7 @@
 -- How a world stands in its fields (this project).
-use Rattle.std.specs.Prelude.{◌≡◌, ◌↔◌, ℕ, ◌+◌, List, Option, None, Some, Any, if◌then◌else◌, length, reverse, slice_index_or}
+use Rattle.std.specs.Prelude.{◌≡◌, ◌↔◌, ℕ, ◌+◌, ◌<◌, true, [], List, Option, None, Some, Any, if◌then◌else◌, length, reverse, slice_index_or}
 use Rattle.dsr_base.specs.Member.{In}
-use Rattle.dsr_names.specs.Shape.{Shape, IsActor, IsLoyal}
+use Rattle.dsr_names.specs.Shape.{Shape, is_traitor, IsActor, IsLoyal}
 use Rattle.dsr_names.specs.declared.actor.Actor.{Actor}
 use Rattle.dsr_names.specs.declared.actor.Actor.TheVariants.{Replica, Client}
 use Rattle.dsr_names.specs.declared.refusal.Refusal.{Refusal}
@@ -79,3 +79,17 @@ box_refusal logs from to =
     if is_used_up logs from to then Some Exhausted
     else if is_full logs from to then Some BoxFull
     else None
+
+-- while a world is opened: there are parties for the actors at the first places, none of which has taken a step
+pub record AreOpened (shape : Shape) (k : ℕ) (parties : List Party) : Type 0 where
+  pub count : length parties ≡ k
+  pub each : (who : Actor) → IsActor shape who → place_of shape who < k → (d : Party) → Plays shape who [] (slice_index_or parties (place_of shape who) d)
+
+-- a traitor among the first replicas
+abbrev pub IsTraitorBelow : Shape → ℕ → Actor → Type 0
+IsTraitorBelow shape k (Replica p) = (p < k) × (is_traitor shape p ≡ true)
+IsTraitorBelow shape k (Client c) = ⊥
+
+-- the keys are those of the traitors among the first replicas
+abbrev pub AreKeysBelow : Shape → ℕ → List Actor → Type 0
+AreKeysBelow shape k keys = (a : Actor) → Any (λ holder. holder ≡ a) keys ↔ IsTraitorBelow shape k a

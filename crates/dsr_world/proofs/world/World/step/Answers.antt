@@ -10,7 +10,7 @@ pub returns-in-Plant-clause-forged : goal.returns-in-Plant-clause-forged
 returns-in-Plant-clause-forged c =
     let w = c.args.self.now in (
       λ e. subst (IsForgedAtLast w.shape (log_of w.run)) (sym c.in-Plant.is)
-      (forged_at_last w.shape (log_of w.run) c.in-Plant.from c.in-Plant.to c.in-Plant.draft (c.plant.ensures.last Forged e)),
+          (forged_at_last w.shape (log_of w.run) c.in-Plant.from c.in-Plant.to c.in-Plant.draft (c.plant.ensures.last Forged e)),
       λ forged. c.plant.ensures.forged (subst (IsForgedAtLast w.shape (log_of w.run)) c.in-Plant.is forged),
     )
 
