@@ -7,6 +7,9 @@ mod headline;
 mod laws;
 mod mail_boxes;
 mod party;
+mod play;
+mod play_events;
+mod play_line;
 mod world;
 
 pub use event::Event;
@@ -16,4 +19,5 @@ pub use laws::{
     loyal_replicas_sign_few_links, loyal_senders_values_are_decided, no_signature_is_forged,
     runs_go_on, runs_keep_conduct,
 };
+pub use play::{MOST_EVENTS, Play};
 pub use world::World;
