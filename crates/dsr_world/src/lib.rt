@@ -21,3 +21,6 @@ pub use laws::{
 };
 pub use play::{MOST_EVENTS, Play};
 pub use world::World;
+
+#[cfg(test)]
+mod play_tests;
