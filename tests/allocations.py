@@ -26,7 +26,7 @@ EXAMPLES = ["first-lines", "swaps", "repeated-numbers", "full-table"]
 # The crates whose tests end with an error where memory was refused; those of dsr_base and dsr_request allocate only what they
 # print. dsr_rotation, dsr_quorum and dsr_client allocate nothing. dsr_command and dsr_cli say it otherwise: their calls are in the runs of the program.
 CRATES = ["dsr_base", "dsr_names", "dsr_request", "dsr_register", "dsr_ledger", "dsr_history", "dsr_desk", "dsr_chain", "dsr_slot",
-          "dsr_replica", "dsr_script"]
+          "dsr_replica", "dsr_script", "dsr_world"]
 MOST_RUNS = 20_000
 WANT_OF_MEMORY = re.compile(rb"^(?:[Ee]rror:|  left:) .*(NoMemory|AllocError|AllocFailed|WriteFailed)", re.M)
 

@@ -1,4 +1,5 @@
 pub mod BitLemmas
+mod ClientTokens
 mod OldLemmas
 mod ReplicaSets
 mod ReplicaTokens

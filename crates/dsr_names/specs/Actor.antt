@@ -13,6 +13,10 @@ IsNumbered (Client c) = c < 32
 abbrev pub replica_text : ℕ → List ℕ
 replica_text r = codes "r" ++ decimal r
 
+-- the token of a client: `c`, and its number
+abbrev pub client_text : ℕ → List ℕ
+client_text c = codes "c" ++ decimal c
+
 -- the token of an actor: of a replica, or `c` and the client's number
 abbrev pub actor_text : Actor → List ℕ
 actor_text (Replica r) = replica_text r

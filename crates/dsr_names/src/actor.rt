@@ -1,7 +1,7 @@
 ghost use Rattle.std.specs.Prelude.{◌≡◌, ℕ, ◌<◌, ◌↔◌, Some, IsOk, IfOk, IsOkUnless};
 ghost use Rattle.std.specs.Option.{SomeIff};
 ghost use Rattle.dsr_names.specs.declared.actor.Actor.{Actor};
-ghost use Rattle.dsr_names.specs.Actor.{actor_text, replica_text, IsNumbered};
+ghost use Rattle.dsr_names.specs.Actor.{actor_text, client_text, replica_text, IsNumbered};
 ghost use Rattle.std.proofs.Common.{rules};
 ghost use Rattle.dsr_base.specs.Reads.{Reads};
 
@@ -121,12 +121,31 @@ impl ClientId {
         }
     }
 
+    /// The client whose token the bytes are, as `c0`; `None` exactly where they are no such token.
+    pub fn read(bytes: &[u8]) -> Option<ClientId>
+        ensures { Reads (λ (c : ℕ). c < 32) client_text bytes.now result }
+    {
+        match Actor::read(bytes)? {
+            Actor::Client(client) => Some(client),
+            Actor::Replica(_) => None,
+        }
+    }
+
     /// The client's number, below 32.
     pub fn number(self) -> u8
         ensures same { result ≡ self }
         ensures small { result < 32 }
     {
         self.number
+    }
+}
+
+impl fmt::Display for ClientId {
+    ghost output = { λ client. Some (client_text client) };
+
+    fn fmt<W: fmt::Write>(&self, f: &mut fmt::Formatter<W>) -> fmt::Result {
+        let number = self.number;
+        write!(f, "c{number}")
     }
 }
 
@@ -172,10 +191,7 @@ impl fmt::Display for Actor {
     fn fmt<W: fmt::Write>(&self, f: &mut fmt::Formatter<W>) -> fmt::Result {
         match self {
             Actor::Replica(replica) => write!(f, "{replica}"),
-            Actor::Client(client) => {
-                let number = client.number;
-                write!(f, "c{number}")
-            }
+            Actor::Client(client) => write!(f, "{client}"),
         }
     }
 }

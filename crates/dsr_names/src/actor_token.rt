@@ -1,9 +1,9 @@
 ghost use Rattle.std.specs.Prelude.{ℕ, ◌<◌, refl};
 ghost use Rattle.std.proofs.Common.{lit<};
-ghost use Rattle.dsr_names.specs.Actor.{IsNumbered, actor_text, replica_text};
-ghost use Rattle.dsr_names.specs.Support.ActorToken.{replica_part, actor_part, actor_begun};
+ghost use Rattle.dsr_names.specs.Actor.{IsNumbered, actor_text, client_text, replica_text};
+ghost use Rattle.dsr_names.specs.Support.ActorToken.{replica_part, client_part, actor_part, actor_begun};
 
-use crate::actor::{Actor, ReplicaId};
+use crate::actor::{Actor, ClientId, ReplicaId};
 use dsr_base::Token;
 
 /// Actors are joined by plus signs, as `r0+c1`.
@@ -65,4 +65,33 @@ impl Token for ReplicaId {
     ghost begun = { λ r is. lit< tt };
 
     ghost shown = { λ r. refl };
+}
+
+/// Clients are joined by plus signs, as `c0+c2`.
+impl Token for ClientId {
+    ghost is = { λ (c : ℕ). c < 32 };
+
+    ghost text = { client_text };
+
+    ghost MARK = { 43 };
+
+    const MARK: u8 = b'+';
+
+    fn read(bytes: &[u8]) -> Option<ClientId> {
+        ClientId::read(bytes)
+    }
+
+    // As every actor has.
+    fn fits(&self) -> bool {
+        let _number = self.number();
+        true
+    }
+
+    ghost ascii = { lit< tt };
+
+    ghost apart = { client_part };
+
+    ghost begun = { λ c is. lit< tt };
+
+    ghost shown = { λ c. refl };
 }

@@ -1,5 +1,5 @@
 -- What reads the parts of a line of a serve script reads the line.
-use Rattle.std.proofs.Common.{◌≡◌, ◌≢◌, ℕ, ◌<◌, ◌^◌, Bool, true, false, List, [], ◌∷◌, ◌++◌, codes, Option, None, Some, sym, ◌∙◌, ap, subst, arith, lit<}
+use Rattle.std.proofs.Common.{◌≡◌, ◌≢◌, ℕ, ◌<◌, ◌^◌, Bool, true, false, List, [], ◌∷◌, ◌++◌, codes, None, Some, sym, ◌∙◌, ap, subst, arith, lit<}
 use Rattle.std.specs.Fmt.{decimal}
 use Rattle.std.specs.Str.{bytes_eq}
 use Rattle.std.proofs.lemmas.Bool.{false≢true}
@@ -22,39 +22,13 @@ use Rattle.dsr_script.specs.declared.serve_line.ServeLine.TheVariants.{Ask, Post
 use Rattle.dsr_script.specs.ServeText.{line_word, line_rest, line_text, IsLine}
 use Rattle.dsr_script.specs.Script.{place_of}
 
--- ---- a client among actors
+-- ---- a client
 
 abbrev pub IsClient : ℕ → Type 0
 IsClient client = client < 32
 
 abbrev pub client_text : ℕ → List ℕ
 client_text client = actor_text (Client client)
-
-abbrev pub ReadsActor : List ℕ → Option Actor → Type 0
-ReadsActor = Reads IsNumbered actor_text
-
-abbrev pub ReadsClient : List ℕ → Option ℕ → Type 0
-ReadsClient = Reads IsClient client_text
-
-same_client : (c d : ℕ) → Client c ≡ Client d → c ≡ d
-same_client c d e = cc
-
-replica_is_client : (r c : ℕ) → Replica r ≡ Client c → ⊥
-replica_is_client r c e = cc
-
-pub no_actor : (bytes : List ℕ) → ReadsActor bytes None → ReadsClient bytes None
-no_actor bytes reads = reads_none IsClient client_text bytes (λ c small e. not_read IsNumbered actor_text bytes reads (Client c) small e)
-
-pub a_replica : (bytes : List ℕ) (r : ℕ) → ReadsActor bytes (Some (Replica r)) → ReadsClient bytes None
-a_replica bytes r reads =
-    reads_none IsClient client_text bytes
-    (λ c small e. replica_is_client r c (only_read IsNumbered actor_text bytes (Replica r) reads (Client c) small e))
-
-pub a_client : (bytes : List ℕ) (c : ℕ) → ReadsActor bytes (Some (Client c)) → ReadsClient bytes (Some c)
-a_client bytes c reads =
-    let read = was_read IsNumbered actor_text bytes (Client c) reads in
-    reads_some IsClient client_text bytes c read.0 read.1
-    (λ d small e. same_client c d (only_read IsNumbered actor_text bytes (Client c) reads (Client d) small e))
 
 -- ---- no space stands in the fields
 

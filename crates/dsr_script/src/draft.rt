@@ -48,6 +48,24 @@ impl Draft {
         Ok(Draft { plan })
     }
 
+    /// A draft of the same envelope. `NoMemory` where memory runs out.
+    pub fn try_copy(&self, alloc: Global) -> Result<Draft, Refusal>
+        ensures same { IfOk result (λ draft. draft ≡ self.now) }
+        ensures refusal { IsOkUnless result Refusal.NoMemory }
+    {
+        let plan = match &self.plan {
+            Plan::Empty => Plan::Empty,
+            Plan::Round { round, chains } => Plan::Round {
+                round: *round,
+                chains: chains.try_copy(alloc)?,
+            },
+            Plan::Ask(ask) => Plan::Ask(*ask),
+            Plan::Reply(reply) => Plan::Reply(*reply),
+            Plan::Seen(front) => Plan::Seen(*front),
+        };
+        Ok(Draft { plan })
+    }
+
     /// The draft of these cases.
     pub(crate) fn of_plan(plan: Plan) -> Draft
         ensures { result ≡ described plan }

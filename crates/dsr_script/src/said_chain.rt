@@ -46,6 +46,16 @@ impl SaidChain {
         })
     }
 
+    /// A chain that says the same. `NoMemory` where memory runs out.
+    pub(crate) fn try_copy(&self, alloc: Global) -> Result<SaidChain, Refusal>
+        ensures same { IfOk result (λ said. said ≡ self.now) }
+        ensures refusal { IsOkUnless result Refusal.NoMemory }
+    {
+        let asks = copied_asks(alloc, self.asks())?;
+        let signatures = copied(alloc, self.signatures())?;
+        Ok(SaidChain::of_parts(self.slot(), asks, signatures))
+    }
+
     /// The chain of these parts.
     pub(crate) fn of_parts(slot: u64, asks: Vec<SaidRequest>, signatures: Vec<Said>) -> SaidChain
         requires asks { length asks.items ≤ 8 }
@@ -112,6 +122,15 @@ impl SaidChains {
         Ok(SaidChains { items })
     }
 
+    /// Chains that say the same. `NoMemory` where memory runs out.
+    pub(crate) fn try_copy(&self, alloc: Global) -> Result<SaidChains, Refusal>
+        ensures same { IfOk result (λ said. said ≡ self.now) }
+        ensures refusal { IsOkUnless result Refusal.NoMemory }
+    {
+        let items = copied_chains(alloc, self.as_slice())?;
+        Ok(SaidChains { items })
+    }
+
     /// The chains of this list.
     pub(crate) fn of_vec(items: Vec<SaidChain>) -> SaidChains
         ensures { result ≡ items.items }
@@ -136,6 +155,38 @@ fn all_said(alloc: Global, signatures: &[Signature]) -> Result<Vec<Said>, Refusa
     for signature in signatures {
         said.push(Said::of(signature))?;
     }
+    Ok(said)
+}
+
+/// Chains that say the same.
+fn copied_chains(alloc: Global, chains: &[SaidChain]) -> Result<Vec<SaidChain>, Refusal>
+    ensures same { IfOk result (λ said. said.items ≡ chains.now) }
+    ensures refusal { IsOkUnless result Refusal.NoMemory }
+{
+    let mut said = Vec::with_capacity(alloc, chains.len())?;
+    for chain in chains {
+        said.push(chain.try_copy(alloc)?)?;
+    }
+    Ok(said)
+}
+
+/// The same signatures.
+fn copied(alloc: Global, signatures: &[Said]) -> Result<Vec<Said>, Refusal>
+    ensures same { IfOk result (λ said. said.items ≡ signatures.now) }
+    ensures refusal { IsOkUnless result Refusal.NoMemory }
+{
+    let mut said = Vec::with_capacity(alloc, signatures.len())?;
+    said.extend_from_slice(signatures)?;
+    Ok(said)
+}
+
+/// The same requests.
+fn copied_asks(alloc: Global, asks: &[SaidRequest]) -> Result<Vec<SaidRequest>, Refusal>
+    ensures same { IfOk result (λ said. said.items ≡ asks.now) }
+    ensures refusal { IsOkUnless result Refusal.NoMemory }
+{
+    let mut said = Vec::with_capacity(alloc, asks.len())?;
+    said.extend_from_slice(asks)?;
     Ok(said)
 }
 

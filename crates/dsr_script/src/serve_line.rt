@@ -83,19 +83,9 @@ fn read_ask(bytes: &[u8]) -> Option<(ClientId, Op)>
     ensures { Reads (λ p. (p.0 < 32) × IsOp p.1) (λ p. actor_text (Client p.0) ++ 32 ∷ op_text 32 p.1) bytes.now result }
 {
     let (client, op) = split_once(bytes, b' ')?;
-    let client = read_client(client)?;
+    let client = ClientId::read(client)?;
     let op = Op::read(op, b' ')?;
     Some((client, op))
-}
-
-/// The client whose token the bytes are.
-fn read_client(bytes: &[u8]) -> Option<ClientId>
-    ensures { Reads (λ client. client < 32) (λ client. actor_text (Client client)) bytes.now result }
-{
-    match Actor::read(bytes)? {
-        Actor::Client(client) => Some(client),
-        Actor::Replica(_) => None,
-    }
 }
 
 /// The traitor, the round, the other end and the draft that the bytes spell.

@@ -10,6 +10,9 @@ mod Histories
 mod Issuing
 mod Links
 mod Logs
+mod PlayLemmas
+mod PlayLineLemmas
+mod PlayPartLemmas
 mod Playing
 mod Righting
 mod Posts

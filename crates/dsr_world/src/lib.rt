@@ -8,6 +8,9 @@ mod laws;
 mod letters;
 mod mail_boxes;
 mod party;
+mod play;
+mod play_events;
+mod play_line;
 mod world;
 
 pub use event::Event;
@@ -17,4 +20,8 @@ pub use laws::{
     loyal_replicas_sign_few_links, loyal_senders_values_are_decided, no_signature_is_forged,
     runs_go_on, runs_keep_conduct,
 };
+pub use play::{MOST_EVENTS, Play};
 pub use world::World;
+
+#[cfg(test)]
+mod play_tests;

@@ -1,6 +1,6 @@
 use Rattle.std.proofs.Common.{sym, subst}
-use Rattle.dsr_script.proofs.ServeLemmas.{ReadsClient, no_actor, a_client, a_replica}
-use Rattle.dsr_script.proofs.serve_line.read_client.Goals as goal
+use Rattle.dsr_names.proofs.ClientTokens.{ReadsClient, no_actor, a_client, a_replica}
+use Rattle.dsr_names.proofs.actor.ClientId.read.Goals as goal
 
 pub returns-in_err-client : goal.returns-in_err-client
 returns-in_err-client c = subst (ReadsClient c.args.bytes.now) (sym c.from_residual.ensures) (no_actor c.args.bytes.now c.in_err-client.ensures)
