@@ -1,10 +1,11 @@
 mod AskLemmas
+mod BriefLemmas
 mod ChainTextLemmas
 mod EnvelopeLemmas
 mod FitLemmas
 mod HeldLemmas
 mod ItemsLemmas
+mod KeptLemmas
 mod KnownLemmas
-mod LinkLemmas
 mod PairLemmas
 mod SpelledLemmas
