@@ -46,18 +46,6 @@ module _ (slot : ℕ) (value : Option (List Request)) where
     pub whole : AreShort before rest → AreShort [] links
     pub part : AreShort [] links → AreShort before rest
 
-  pub short_on : (links : List Spelled) (before : List Actor) (x : Spelled) (rest : List Spelled) → ShortOn links before (x ∷ rest)
-      → x ≡ spelled_at (Link slot value before) (said_in (Link slot value before) x) → ShortOn links (before ++ x.signer ∷ []) rest
-  short_on links before x rest h short =
-      record {
-        whole = λ others. h.whole (ap₂ (λ y ys. y ∷ ys) short others);
-        part = λ all. let both : AreShort before (x ∷ rest) = h.part all in cc;
-      }
-
-  pub long_one : (links : List Spelled) (before : List Actor) (x : Spelled) (rest : List Spelled) → ShortOn links before (x ∷ rest)
-      → AreShort [] links → x ≡ spelled_at (Link slot value before) (said_in (Link slot value before) x)
-  long_one links before x rest h all = let both : AreShort before (x ∷ rest) = h.part all in cc
-
   -- each signature that is said has the property where each of the rest has it
   pub record HeldOn (P : Signature → Type 0) (links : List Spelled) (before : List Actor) (rest : List Spelled) : Type 0 where
     pub whole : All P (said_by slot value before rest) → All P (said_by slot value [] links)
