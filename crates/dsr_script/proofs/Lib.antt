@@ -1,12 +1,13 @@
 mod AskLemmas
+mod BriefLemmas
 mod ChainTextLemmas
 mod EnvelopeLemmas
 mod FitLemmas
 mod HeaderLemmas
 mod HeldLemmas
 mod ItemsLemmas
+mod KeptLemmas
 mod KnownLemmas
-mod LinkLemmas
 mod PairLemmas
 mod ScriptLemmas
 mod ServeLemmas

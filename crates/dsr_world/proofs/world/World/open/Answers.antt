@@ -45,7 +45,7 @@ loop-number-2-preserved c =
     let parties = one_opened c.args.shape (c.args.shape.n + k) c.loop-number-2.parties.items (Client k) c.in_ok-client_party.field-0 c.loop-number-2.invariant.0 inside refl
     c.in_ok-client_party.ensures.plays in (
       subst (λ j. AreOpened c.args.shape j c.push-in-loop-number-2.new.self.items) next
-      (subst (AreOpened c.args.shape (suc (c.args.shape.n + k))) (sym c.in_ok-push-2.ensures.items) parties),
+          (subst (AreOpened c.args.shape (suc (c.args.shape.n + k))) (sym c.in_ok-push-2.ensures.items) parties),
       c.loop-number-2.invariant.1,
       c.m-number-end.ensures.same,
     )
