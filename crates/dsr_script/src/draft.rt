@@ -59,7 +59,7 @@ impl Draft {
                 round: *round,
                 chains: chains.try_copy(alloc)?,
             },
-            Plan::Ask(ask) => Plan::Ask(*ask),
+            Plan::Ask(ask) => Plan::Ask(ask.try_copy(alloc)?),
             Plan::Reply(reply) => Plan::Reply(*reply),
             Plan::Seen(front) => Plan::Seen(*front),
         };

@@ -58,9 +58,13 @@ impl SaidChain {
         ensures same { IfOk result (λ said. said ≡ self.now) }
         ensures refusal { IsOkUnless result Refusal.NoMemory }
     {
-        let asks = copied_asks(alloc, self.asks())?;
-        let signatures = copied(alloc, self.signatures())?;
-        Ok(SaidChain::of_parts(self.slot(), asks, signatures))
+        let asks = copied_asks(alloc, self.asks.as_slice())?;
+        let links = copied_links(alloc, self.links.as_slice())?;
+        Ok(SaidChain {
+            slot: self.slot,
+            asks,
+            links,
+        })
     }
 
     /// The chain of these parts.
@@ -193,13 +197,15 @@ fn copied_chains(alloc: Global, chains: &[SaidChain]) -> Result<Vec<SaidChain>, 
     Ok(said)
 }
 
-/// The same signatures.
-fn copied(alloc: Global, signatures: &[Said]) -> Result<Vec<Said>, Refusal>
-    ensures same { IfOk result (λ said. said.items ≡ signatures.now) }
+/// What a text says of the same signatures.
+fn copied_links(alloc: Global, links: &[Brief]) -> Result<Vec<Brief>, Refusal>
+    ensures same { IfOk result (λ said. said.items ≡ links.now) }
     ensures refusal { IsOkUnless result Refusal.NoMemory }
 {
-    let mut said = Vec::with_capacity(alloc, signatures.len())?;
-    said.extend_from_slice(signatures)?;
+    let mut said = Vec::with_capacity(alloc, links.len())?;
+    for link in links {
+        said.push(link.try_copy(alloc)?)?;
+    }
     Ok(said)
 }
 
@@ -209,7 +215,9 @@ fn copied_asks(alloc: Global, asks: &[SaidRequest]) -> Result<Vec<SaidRequest>, 
     ensures refusal { IsOkUnless result Refusal.NoMemory }
 {
     let mut said = Vec::with_capacity(alloc, asks.len())?;
-    said.extend_from_slice(asks)?;
+    for ask in asks {
+        said.push(ask.try_copy(alloc)?)?;
+    }
     Ok(said)
 }
 

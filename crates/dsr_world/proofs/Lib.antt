@@ -25,3 +25,4 @@ mod Worlds
 mod WorldPosts
 mod WorldTakes
 mod Opening
+mod Spelled

@@ -19,6 +19,7 @@ use Rattle.dsr_replica.specs.Conduct.{envelope_to, reply_to}
 use Rattle.dsr_replica.specs.Limits.{IsEnvelope}
 use Rattle.dsr_replica.specs.Log.{posted_to, taken_from, due, rounds}
 use Rattle.dsr_client.specs.Conduct.{next_number, ask_to}
+use Rattle.dsr_script.specs.EnvelopeText.{IsSpelledEnvelope}
 use Rattle.dsr_world.specs.declared.event.Event.{Event}
 use Rattle.dsr_world.specs.declared.event.Event.TheVariants.{Post, Plant, Take, Tell}
 use Rattle.dsr_world.specs.History.{accepted_by, seen_by}
@@ -192,3 +193,10 @@ IsRefusedBy shape logs event refusal =
     (refusal_of shape logs event ≡ Some refusal)
     ⊎ ((refusal ≡ Forged) × IsForgedAtLast shape logs event)
     ⊎ ((refusal ≡ NoMemory) × MayBeDone shape logs event)
+
+-- an event that a text can spell: so is what a traitor is to post, and all choices are
+abbrev pub IsSpelledEvent : Event → Type 0
+IsSpelledEvent (Post from to pick) = Unit {0}
+IsSpelledEvent (Plant from to draft) = IsSpelledEnvelope draft
+IsSpelledEvent (Take at from) = Unit {0}
+IsSpelledEvent (Tell from to) = Unit {0}

@@ -1,3 +1,6 @@
+ghost use Rattle.std.specs.Prelude.{◌↔◌, IsTrue};
+ghost use Rattle.dsr_world.specs.Event.{IsSpelledEvent, IsWithin};
+
 use dsr_names::Actor;
 use dsr_replica::Pick;
 use dsr_script::Draft;
@@ -37,4 +40,17 @@ pub enum Event {
         /// To whom.
         to: Actor,
     },
+}
+
+impl Event {
+    /// Whether a text can spell it. Then what a traitor is to post is within the limits of envelopes.
+    pub fn fits(&self) -> bool
+        ensures spelled { IsTrue result ↔ IsSpelledEvent self.now }
+        ensures within { IsTrue result → IsWithin self.now }
+    {
+        match self {
+            Event::Plant { draft, .. } => draft.fits(),
+            Event::Post { .. } | Event::Take { .. } | Event::Tell { .. } => true,
+        }
+    }
 }

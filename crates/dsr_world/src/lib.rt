@@ -25,3 +25,5 @@ pub use world::World;
 
 #[cfg(test)]
 mod play_tests;
+#[cfg(test)]
+mod world_tests;

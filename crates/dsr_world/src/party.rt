@@ -1,4 +1,4 @@
-ghost use Rattle.std.specs.Prelude.{◌≡◌, ◌≢◌, ℕ, ◌∷◌, List, None, Some, IfOk, IfSome, IfNone, IsOk, OnOk, IsOkUnless, IsTrue, IsSome};
+ghost use Rattle.std.specs.Prelude.{reverse, ◌≡◌, ◌≢◌, ℕ, ◌∷◌, List, None, Some, IfOk, IfSome, IfNone, IsOk, OnOk, IsOkUnless, IsTrue, IsSome};
 ghost use Rattle.dsr_names.specs.Shape.{Shape};
 ghost use Rattle.dsr_names.specs.declared.actor.Actor.{Actor};
 ghost use Rattle.dsr_names.specs.declared.actor.Actor.TheVariants.{Replica as ReplicaNumber, Client as ClientNumber};
@@ -9,7 +9,7 @@ ghost use Rattle.dsr_replica.specs.declared.step.Pick.TheVariants.{Begin};
 ghost use Rattle.dsr_replica.specs.Conduct.{envelope_to};
 ghost use Rattle.dsr_replica.specs.Replica.{StandsFor, Allows};
 ghost use Rattle.dsr_client.specs.Client.{StandsFor as StandsForClient};
-ghost use Rattle.dsr_client.specs.State.{seen};
+ghost use Rattle.dsr_client.specs.State.{accepted, seen};
 ghost use Rattle.dsr_world.specs.Event.{post_of, takes_from, is_undue};
 ghost use Rattle.dsr_world.specs.Support.Party.{Plays, post_refusal, MayPost, CanPost, CanTake, HasRoomToTake, TakesReply, IsReplicaNumber};
 
@@ -104,6 +104,17 @@ impl Party {
         match self {
             Party::Loyal(_) | Party::Traitor => 0,
             Party::Client(customer) => customer.client().seen(),
+        }
+    }
+
+    /// The replies that a client accepted, in their order; none of others.
+    pub(crate) fn accepted(&self) -> &[Reply]
+        ensures { (shape : Shape) (c : ℕ) (log : List Entry) → Plays shape (ClientNumber c) log self.now
+            → result.now ≡ reverse (accepted shape log) }
+    {
+        match self {
+            Party::Loyal(_) | Party::Traitor => &[],
+            Party::Client(customer) => customer.accepted(),
         }
     }
 

@@ -1,4 +1,4 @@
-ghost use Rattle.std.specs.Prelude.{true, ◌++◌, IfSome, IsSome, ◌⊎◌, Any, OnOk, vec_len, vec_capacity, ◌≡◌, ◌≢◌, ◌↔◌, ◌&&◌, ℕ, ◌<◌, ◌+◌, [], ◌∷◌, List, Option, None, Some, Err, length, reverse, IfOk, OnErr, IsTrue, IsOkUnless};
+ghost use Rattle.std.specs.Prelude.{true, ◌++◌, IfSome, IsSome, ◌⊎◌, Any, OnOk, vec_len, vec_capacity, ◌≡◌, ◌≢◌, ◌↔◌, ◌&&◌, ℕ, ◌<◌, ◌+◌, [], ◌∷◌, List, Option, None, Some, Err, length, reverse, IfOk, IsOk, OnErr, IsTrue, IsOkUnless};
 ghost use Rattle.std.specs.Option.{option_to_list};
 ghost use Rattle.dsr_names.specs.Shape.{IsActor, is_traitor};
 ghost use Rattle.dsr_names.specs.declared.actor.Actor.TheVariants.{Replica as ReplicaNumber, Client as ClientNumber};
@@ -15,6 +15,7 @@ ghost use Rattle.dsr_names.specs.declared.actor.Actor.{Actor};
 ghost use Rattle.dsr_names.specs.declared.refusal.Refusal.{Refusal};
 ghost use Rattle.dsr_world.specs.Event.{HasDone, IsRefusedBy, IsForgedAtLast, IsWithin, is_actor, is_traitor_of, are_clients, is_own_client, are_two_clients, is_full, is_used_up, refusal_of, first_of};
 ghost use Rattle.dsr_replica.specs.declared.entry.Entry.TheVariants.{Post as PostEntry};
+ghost use Rattle.dsr_world.specs.History.{accepted_by, seen_by};
 ghost use Rattle.dsr_world.specs.Run.{IsRun, ForgesNothing};
 ghost use Rattle.dsr_world.specs.Step.{Step, log_of};
 ghost use Rattle.dsr_world.specs.Support.WorldFields.{place_of, IsSpelledPick, box_refusal};
@@ -98,6 +99,30 @@ impl World {
         ensures run { IsRun self.now.shape self.now.run }
     {
         self.entries.as_slice()
+    }
+
+    /// The replies that a client accepted, in their order. `NoActor` where it is no client of the shape.
+    pub fn accepted(&self, client: ClientId) -> Result<&[Reply], Refusal>
+        ensures same { IfOk result (λ replies. replies.now ≡ reverse (accepted_by self.now.shape (log_of self.now.run) client)) }
+        ensures when { IsOk result ↔ client < self.now.shape.m }
+        ensures refusal { IsOkUnless result Refusal.NoActor }
+    {
+        if client.number() >= self.shape.m() {
+            return Err(Refusal::NoActor);
+        }
+        Ok(self.parties[place_of(&self.shape, &Actor::Client(client))].accepted())
+    }
+
+    /// A client's seen front. `NoActor` where it is no client of the shape.
+    pub fn seen(&self, client: ClientId) -> Result<u64, Refusal>
+        ensures same { IfOk result (λ front. front ≡ seen_by self.now.shape (log_of self.now.run) client) }
+        ensures when { IsOk result ↔ client < self.now.shape.m }
+        ensures refusal { IsOkUnless result Refusal.NoActor }
+    {
+        if client.number() >= self.shape.m() {
+            return Err(Refusal::NoActor);
+        }
+        Ok(self.parties[place_of(&self.shape, &Actor::Client(client))].seen())
     }
 
     /// Has the event happen, and returns the reply that a client accepts by it. Requires that a traitor's envelope is within the

@@ -1,0 +1,22 @@
+use Rattle.std.proofs.Common.{◌≡◌, ◌<◌, reverse, ap, sym, ◌∙◌, subst, arith}
+use Rattle.std.specs.Prelude.{slice_index_or}
+use Rattle.dsr_names.specs.Shape.{Shape}
+use Rattle.dsr_names.specs.declared.actor.Actor.TheVariants.{Client}
+use Rattle.dsr_world.specs.History.{accepted_by, seen_by}
+use Rattle.dsr_world.specs.Step.{log_of}
+use Rattle.dsr_world.specs.Support.Party.{Plays}
+use Rattle.dsr_world.specs.World.{World}
+use Rattle.dsr_world.proofs.world.World.accepted.Goals as goal
+
+pub returns-clause-same : goal.returns-clause-same
+returns-clause-same c =
+    let a = c.self.inside in
+    let log = log_of (reverse a.entries.items) (Client c.args.client) in
+    let below = c.if-number-m.false in
+    let number = c.number.ensures.same in
+    let size = c.m.ensures.same in
+    let inside : c.args.client < a.shape.m = omega (arith, below, number, size) in
+    let plays : Plays a.shape (Client c.args.client) log c.index.result.now =
+    subst (Plays a.shape (Client c.args.client) log) (sym (c.index.ensures ∙ ap (λ k. slice_index_or a.parties.items k c.index.result.now) c.place_of.ensures))
+    (c.self.invariant.played.each (Client c.args.client) inside c.index.result.now) in
+    subst (λ (w : World). c.accepted.result.now ≡ reverse (accepted_by w.shape (log_of w.run) c.args.client)) c.self.view_is (c.accepted.ensures a.shape c.args.client log plays)
