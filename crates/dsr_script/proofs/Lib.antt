@@ -1,6 +1,7 @@
 mod AskLemmas
 mod ChainTextLemmas
 mod EnvelopeLemmas
+mod FeedLemmas
 mod FitLemmas
 mod HeaderLemmas
 mod HeldLemmas

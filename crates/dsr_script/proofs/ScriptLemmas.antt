@@ -12,6 +12,7 @@ use Rattle.dsr_names.specs.declared.refusal.Refusal.{Refusal}
 use Rattle.dsr_script.specs.Header.{IsHeaderRefusal, HasBadShape, HasNoHeader}
 use Rattle.dsr_script.specs.Script.{Script, Gives, BeginsWithLines, HasNoNext, IsBadAfter, serve_title, IsScriptRefusal}
 use Rattle.dsr_script.specs.Support.TakenLines.{HasTaken}
+use Rattle.dsr_script.proofs.ServeLemmas.{line_clean}
 
 -- ---- what begins a rest
 
@@ -25,7 +26,7 @@ module _ (shape : Shape) (lines : List ServeLine) (rest : List ℕ) where
 
   module _ (bytes after : List ℕ) (cut : rest ≡ bytes ++ 10 ∷ after) (whole : IsAbsent 10 bytes) where
     first_is : (line : ServeLine) (later : List ℕ) → IsNext shape lines line → rest ≡ (line_text line ++ 10 ∷ []) ++ later → bytes ≡ line_text line
-    first_is line later next e = (one_cut 10 bytes after (line_text line) later whole next.whole (sym cut ∙ (e ∙ ended line later))).0
+    first_is line later next e = (one_cut 10 bytes after (line_text line) later whole (line_clean line next.is_line) (sym cut ∙ (e ∙ ended line later))).0
 
     -- where the first line is read as none
     pub no_line : Reads IsLine line_text bytes None → HasNoNext shape lines rest
@@ -74,7 +75,7 @@ pub one_more : (text rest bytes after : List ℕ) (number : ℕ) (line : ServeLi
 one_more text rest bytes after number line script later can s cut whole reads takes is =
     let read = was_read IsLine line_text bytes line reads in
     let follows = (takes.when s.lines s.gives).0 is in
-    let next : IsNext script.shape s.lines line = record { is_line = read.0; whole = subst (IsAbsent 10) read.1 whole; follows = follows } in
+    let next : IsNext script.shape s.lines line = record { is_line = read.0; follows = follows } in
     let spelled : rest ≡ (line_text line ++ 10 ∷ []) ++ after = cut ∙ (ap (λ xs. xs ++ 10 ∷ after) read.1 ∙ sym (ended line after)) in
     let text_is : text ≡ (lines_text s.lines ++ (line_text line ++ 10 ∷ [])) ++ after =
     s.begins.cut ∙ (ap (λ xs. lines_text s.lines ++ xs) spelled ∙ sym (append_assoc (lines_text s.lines) (line_text line ++ 10 ∷ []) after)) in
