@@ -40,12 +40,12 @@ same_length : (asks : List SignedRequest) → length (map (λ s. s.request) asks
 same_length [] = refl
 same_length (x ∷ xs) = ap suc (same_length xs)
 
-content_fits : (value : SlotValue) → IsValue value → IsContent (content value)
+pub content_fits : (value : SlotValue) → IsValue value → IsContent (content value)
 content_fits Idle h = tt
 content_fits (Act batch) h =
     record { some = rw (same_length batch) h.some; few = rw (same_length batch) h.few; each = requests_each batch h.each }
 
-links_length : (slot : ℕ) (value : Option (List Request)) (before : List Actor) (ss : List Signature) → length (spelled_links slot value before ss) ≡ length ss
+pub links_length : (slot : ℕ) (value : Option (List Request)) (before : List Actor) (ss : List Signature) → length (spelled_links slot value before ss) ≡ length ss
 links_length slot value before [] = refl
 links_length slot value before (s ∷ ss) = ap suc (links_length slot value (before ++ s.signer ∷ []) ss)
 

@@ -1,4 +1,5 @@
 mod AskLemmas
+mod BriefLemmas
 mod ChainTextLemmas
 mod EnvelopeLemmas
 mod FeedLemmas
@@ -6,8 +7,8 @@ mod FitLemmas
 mod HeaderLemmas
 mod HeldLemmas
 mod ItemsLemmas
+mod KeptLemmas
 mod KnownLemmas
-mod LinkLemmas
 mod PairLemmas
 mod ScriptLemmas
 mod ServeLemmas

@@ -5,6 +5,7 @@ pub mod Carried
 pub mod ChainParts
 pub mod Described
 pub mod EnvelopeParts
+pub mod Links
 pub mod Noted
 pub mod PlaceEquality
 pub mod PlaceHash

@@ -1,18 +1,22 @@
-ghost use Rattle.std.specs.Prelude.{◌≡◌, ◌≤◌, ◌↔◌, ◌⊎◌, All, Any, Err, length, IfOk, IfErr, IfSome, IsSome, IsTrue, IsOkUnless};
+ghost use Rattle.std.specs.Prelude.{◌≡◌, ◌≤◌, ◌↔◌, ◌⊎◌, [], All, Any, Err, length, IfOk, IfErr, IfSome, IsSome, IsTrue, IsOkUnless};
 ghost use Rattle.dsr_chain.specs.Support.SignedLists.{value_of as value_in};
 ghost use Rattle.dsr_script.specs.Held.{IsHeldOrKnown, IsUnforged};
 ghost use Rattle.dsr_script.specs.Support.Described.{described};
+ghost use Rattle.dsr_script.specs.Support.Links.{said_by};
 ghost use Rattle.dsr_script.specs.Support.Carried.{IsHeldRequest, IsHeldChain, IsHeldEnvelope};
 
+use crate::brief::Brief;
 use crate::draft::Draft;
 use crate::known::Known;
 use crate::plan::Plan;
 use crate::said::{Said, SaidRequest};
-use crate::said_chain::SaidChain;
+use crate::said_chain::{SaidChain, link_at};
+use crate::said_text::content_of;
 use dsr_chain::{Batch, Chain, SignedRequest, SlotValue};
-use dsr_desk::{Key, Signature};
+use dsr_desk::{Key, Signature, Signers};
 use dsr_names::{Actor, Refusal};
 use dsr_replica::{Chains, Envelope};
+use dsr_request::Requests;
 use std::alloc::Global;
 
 /// The envelope that the draft describes. A signature by the holder of one of the keys is made; any other is taken from those that are
@@ -37,7 +41,7 @@ fn is_unforged(plan: &Plan, keys: &[Key], known: &Known) -> bool
 {
     match plan {
         Plan::Round { chains, .. } => are_chains_held(chains.as_slice(), keys, known),
-        Plan::Ask(ask) => is_held(ask.said(), keys, known),
+        Plan::Ask(ask) => is_held(&ask.said(), keys, known),
         Plan::Empty | Plan::Reply(_) | Plan::Seen(_) => true,
     }
 }
@@ -79,14 +83,34 @@ fn are_chains_held(chains: &[SaidChain], keys: &[Key], known: &Known) -> bool
 fn is_chain_held(chain: &SaidChain, keys: &[Key], known: &Known) -> bool
     ensures { IsTrue result ↔ IsHeldChain keys.now known.now.signatures chain.now }
 {
-    chain
-        .signatures()
-        .iter()
-        .all(|said| is_held(said, keys, known))
+    let content = content_of(chain.asks());
+    are_links_held(chain.slot(), &content, chain.links(), keys, known)
         && chain
             .asks()
             .iter()
-            .all(|ask| is_held(ask.said(), keys, known))
+            .all(|ask| is_held(&ask.said(), keys, known))
+}
+
+/// Whether none of the signatures is forged that are said in a chain of this slot and content.
+fn are_links_held(
+    slot: u64,
+    content: &Option<Requests>,
+    links: &[Brief],
+    keys: &[Key],
+    known: &Known,
+) -> bool
+    requires { length links.now ≤ 16 }
+    ensures { IsTrue result ↔ All (IsHeldOrKnown keys.now known.now.signatures) (said_by slot content.now [] links.now) }
+{
+    let mut before = Signers::new();
+    for link in links {
+        let said = link.said_in(&link_at(slot, content, before));
+        if !is_held(&said, keys, known) {
+            return false;
+        }
+        before.push(link.signer());
+    }
+    true
 }
 
 /// Whether the signature is by the holder of one of the keys, or is known.
@@ -134,7 +158,8 @@ fn chain_of(alloc: Global, said: &SaidChain, keys: &[Key], known: &Known) -> Res
     ensures refusal { IsOkUnless result Refusal.NoMemory }
 {
     let value = value_of(alloc, said.asks(), keys, known)?;
-    let signatures = signatures_of(alloc, said.signatures(), keys, known)?;
+    let content = content_of(said.asks());
+    let signatures = signatures_of(alloc, said.slot(), &content, said.links(), keys, known)?;
     Chain::of(alloc, said.slot(), value, signatures)
 }
 
@@ -160,20 +185,27 @@ fn value_of(
     })
 }
 
-/// The signatures that these describe.
+/// The signatures that are said in a chain of this slot and content.
 fn signatures_of(
     alloc: Global,
-    said: &[Said],
+    slot: u64,
+    content: &Option<Requests>,
+    links: &[Brief],
     keys: &[Key],
     known: &Known,
 ) -> Result<Vec<Signature>, Refusal>
-    requires { All (IsHeldOrKnown keys.now known.now.signatures) said.now }
-    ensures same { IfOk result (λ signatures. signatures.items ≡ said.now) }
+    requires held { All (IsHeldOrKnown keys.now known.now.signatures) (said_by slot content.now [] links.now) }
+    requires few { length links.now ≤ 16 }
+    ensures same { IfOk result (λ signatures. signatures.items ≡ said_by slot content.now [] links.now) }
+    ensures few { IfOk result (λ signatures. length signatures.items ≤ 16) }
     ensures refusal { IsOkUnless result Refusal.NoMemory }
 {
-    let mut signatures = Vec::with_capacity(alloc, said.len())?;
-    for one in said {
-        signatures.push(signature_of(one, keys, known))?;
+    let mut signatures = Vec::with_capacity(alloc, links.len())?;
+    let mut before = Signers::new();
+    for link in links {
+        let said = link.said_in(&link_at(slot, content, before));
+        signatures.push(signature_of(&said, keys, known))?;
+        before.push(link.signer());
     }
     Ok(signatures)
 }
@@ -185,7 +217,7 @@ fn request_of(said: &SaidRequest, keys: &[Key], known: &Known) -> SignedRequest
 {
     SignedRequest {
         request: said.request(),
-        signature: signature_of(said.said(), keys, known),
+        signature: signature_of(&said.said(), keys, known),
     }
 }
 

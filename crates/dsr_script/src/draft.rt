@@ -41,7 +41,7 @@ impl Draft {
                     chains,
                 }
             }
-            Envelope::Ask(ask) => Plan::Ask(SaidRequest::of(ask)),
+            Envelope::Ask(ask) => Plan::Ask(SaidRequest::of(alloc, ask)?),
             Envelope::Reply(reply) => Plan::Reply(*reply),
             Envelope::Seen(front) => Plan::Seen(*front),
         };

@@ -5,16 +5,19 @@ ghost use Rattle.dsr_base.specs.Joined.{AreUpTo};
 ghost use Rattle.dsr_names.specs.Token.{IsOld};
 ghost use Rattle.dsr_request.specs.AnswerText.{IsAnswer};
 ghost use Rattle.dsr_chain.specs.Support.SignedLists.{value_of};
-ghost use Rattle.dsr_replica.specs.Limits.{IsSignature, IsSigned};
+ghost use Rattle.dsr_replica.specs.Limits.{IsCount, IsSignature, IsSigned};
 ghost use Rattle.dsr_script.specs.ChainText.{IsValue, IsSpelledChain};
 ghost use Rattle.dsr_script.specs.EnvelopeText.{IsSpelledEnvelope};
 ghost use Rattle.dsr_script.specs.Support.EnvelopeParts.{IsSpelledReply};
+ghost use Rattle.dsr_script.specs.Support.SpelledText.{IsSpelled, IsOther};
 
+use crate::brief::Brief;
 use crate::draft::Draft;
 use crate::plan::Plan;
 use crate::said::{Said, SaidRequest};
 use crate::said_chain::SaidChain;
 use dsr_base::Token;
+use dsr_desk::Statement;
 use dsr_ledger::Reply;
 use dsr_names::NUMBER_END;
 use dsr_request::Answer;
@@ -49,7 +52,16 @@ fn chains_fit(chains: &[SaidChain]) -> bool
 fn chain_fits(chain: &SaidChain) -> bool
     ensures { IsTrue result ↔ IsSpelledChain chain.now }
 {
-    chain.slot() < NUMBER_END && value_fits(chain.asks()) && signatures_fit(chain.signatures())
+    parts_fit(chain.slot(), chain.asks(), chain.links())
+}
+
+/// Whether the slot, the requests and what is said of the signatures of a chain can be said.
+fn parts_fit(slot: u64, asks: &[SaidRequest], links: &[Brief]) -> bool
+    requires asks { length asks.now ≤ 8 }
+    requires links { length links.now ≤ 16 }
+    ensures { IsTrue result ↔ (IsCount slot × IsValue (value_of asks.now) × AreUpTo IsSpelled 16 links.now) }
+{
+    slot < NUMBER_END && value_fits(asks) && links_fit(links)
 }
 
 /// Whether the value with these requests has a text.
@@ -67,19 +79,37 @@ fn requests_fit(asks: &[SaidRequest]) -> bool
     asks.iter().all(|ask| request_fits(ask))
 }
 
-/// Whether the signatures have texts.
-fn signatures_fit(signatures: &[Said]) -> bool
-    requires { length signatures.now ≤ 16 }
-    ensures { IsTrue result ↔ AreUpTo IsSignature 16 signatures.now }
+/// Whether what is said of the signatures of a chain can be said.
+fn links_fit(links: &[Brief]) -> bool
+    requires { length links.now ≤ 16 }
+    ensures { IsTrue result ↔ AreUpTo IsSpelled 16 links.now }
 {
-    signatures.iter().all(|said| said_fits(said))
+    links.iter().all(|link| link_fits(link))
+}
+
+/// Whether what is said of a signature can be said.
+fn link_fits(link: &Brief) -> bool
+    ensures { IsTrue result ↔ IsSpelled link.now }
+{
+    let spelled = link.spelled();
+    spelled.signer().fits() && other_fits(&spelled.other())
+}
+
+/// Whether another statement than fits has a text, where there is one.
+fn other_fits(other: &Option<Statement>) -> bool
+    ensures { IsTrue result ↔ IsOther other.now }
+{
+    match other {
+        None => true,
+        Some(statement) => statement.fits(),
+    }
 }
 
 /// Whether the request and the signature beside it have texts.
 fn request_fits(ask: &SaidRequest) -> bool
     ensures { IsTrue result ↔ IsSigned ask.now }
 {
-    ask.request().fits() && said_fits(ask.said())
+    ask.request().fits() && said_fits(&ask.said())
 }
 
 /// Whether the signature has a text.

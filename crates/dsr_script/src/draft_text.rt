@@ -68,7 +68,7 @@ fn read_plan(alloc: Global, bytes: &[u8]) -> Result<Option<Plan>, Refusal>
     } else if let Some(rest) = bytes.strip_prefix(b"round ".as_slice()) {
         read_round(alloc, rest)
     } else if let Some(rest) = bytes.strip_prefix(b"ask ".as_slice()) {
-        Ok(read_ask(rest))
+        read_ask(alloc, rest)
     } else if let Some(rest) = bytes.strip_prefix(b"reply ".as_slice()) {
         Ok(read_told(rest))
     } else if let Some(rest) = bytes.strip_prefix(b"seen ".as_slice()) {
@@ -106,12 +106,13 @@ fn round_of_parts(round: Option<u64>, chains: Option<Vec<SaidChain>>) -> Option<
 }
 
 /// The request whose text has these bytes after its word.
-fn read_ask(bytes: &[u8]) -> Option<Plan>
-    ensures { Reads IsSpelledEnvelope envelope_text (codes "ask " ++ bytes.now) (option_map described result) }
+fn read_ask(alloc: Global, bytes: &[u8]) -> Result<Option<Plan>, Refusal>
+    ensures read { IfOk result (λ plan. Reads IsSpelledEnvelope envelope_text (codes "ask " ++ bytes.now) (option_map described plan)) }
+    ensures refusal { IsOkUnless result Refusal.NoMemory }
 {
-    match SaidRequest::read(bytes) {
-        Some(ask) => Some(Plan::Ask(ask)),
-        None => None,
+    match SaidRequest::read(alloc, bytes)? {
+        Some(ask) => Ok(Some(Plan::Ask(ask))),
+        None => Ok(None),
     }
 }
 

@@ -47,7 +47,8 @@ pub(crate) fn read_items<T: Item>(
     ensures read { IfOk result (λ items. Reads (AreFew T.is most) (joined T.MARK T.text) bytes.now (option_map (λ list. list.items) items)) }
     ensures refusal { IsOkUnless result Refusal.NoMemory }
 {
-    let mut items = Vec::new(alloc);
+    // a list of one item takes no more room than it
+    let mut items = Vec::with_capacity(alloc, 1)?;
     let mut rest = bytes;
     for _ in 0..most {
         match split_outside(rest, T::MARK) {

@@ -2,6 +2,7 @@
 //! and of signatures that were seen, so nobody's signature is forged.
 #![tactic(auto)]
 
+mod brief;
 mod building;
 mod draft;
 mod draft_fits;

@@ -1,18 +1,22 @@
-ghost use Rattle.std.specs.Prelude.{◌≡◌, ◌↔◌, Some};
+ghost use Rattle.std.specs.Prelude.{◌≡◌, ◌↔◌, Some, IfOk, IsOkUnless};
 ghost use Rattle.dsr_base.specs.Reads.{Reads};
 ghost use Rattle.dsr_desk.specs.Signature.{signed};
 ghost use Rattle.dsr_chain.specs.declared.signed_request.SignedRequest.{SignedRequest};
 ghost use Rattle.dsr_replica.specs.Limits.{IsSigned};
 ghost use Rattle.dsr_script.specs.ChainText.{signed_text};
 ghost use Rattle.dsr_script.specs.Support.AskText.{ask_parts};
+ghost use Rattle.dsr_desk.specs.declared.statement.Statement.TheVariants.{Ask};
+ghost use Rattle.dsr_script.specs.SignatureText.{spelled_at};
 ghost use Rattle.dsr_script.specs.Support.SpelledText.{pair_of};
 
+use crate::brief::Brief;
 use crate::spelled::Spelled;
 use dsr_base::split_once;
 use dsr_chain::SignedRequest;
 use dsr_desk::{Signature, Statement};
-use dsr_names::Actor;
+use dsr_names::{Actor, Refusal};
 use dsr_request::Request;
+use std::alloc::Global;
 use std::hash::{Hash, Hasher};
 use std::marker::Model;
 
@@ -92,56 +96,76 @@ impl Hash for Said {
     }
 }
 
-/// A request with what the signature beside it says.
-#[derive(Clone, Copy, Debug)]
+/// A request with what a text says of the signature beside it.
+#[derive(Drop)]
 pub(crate) struct SaidRequest {
     request: Request,
-    said: Said,
+    brief: Brief,
 }
 
 impl Model for SaidRequest {
+    ghost use Rattle.std.specs.Prelude.{◌≡◌};
+    ghost use Rattle.dsr_desk.specs.declared.statement.Statement.TheVariants.{Ask};
     ghost use Rattle.dsr_chain.specs.declared.signed_request.SignedRequest.{SignedRequest};
+    ghost use Rattle.dsr_script.specs.SignatureText.{spelled_at};
+    ghost use Rattle.dsr_script.specs.Support.AskText.{ask_of};
+    ghost use Rattle.dsr_script.specs.Support.Links.{said_in};
 
     ghost Value = { SignedRequest };
 
-    ghost view = { λ s. record { request = s.request; signature = s.said } };
+    ghost view = { λ s. ask_of s.request (said_in (Ask s.request) s.brief) };
 
-    ghost inverse = { λ s. record { request = s.request; said = s.signature } };
+    ghost invariant = { λ s. s.brief ≡ spelled_at (Ask s.request) (said_in (Ask s.request) s.brief) };
 }
 
 impl SaidRequest {
-    /// The request, and what the signature beside it says.
-    pub(crate) fn of(signed: &SignedRequest) -> SaidRequest
-        ensures { result ≡ signed.now }
+    /// The request, and what is said of the signature beside it. `NoMemory` where memory runs out.
+    pub(crate) fn of(alloc: Global, signed: &SignedRequest) -> Result<SaidRequest, Refusal>
+        ensures same { IfOk result (λ said. said ≡ signed.now) }
+        ensures refusal { IsOkUnless result Refusal.NoMemory }
     {
-        SaidRequest {
+        let said = Said::of(&signed.signature);
+        let spelled = Spelled::at(&said, &Statement::Ask(signed.request));
+        let brief = Brief::of(alloc, &spelled)?;
+        Ok(SaidRequest {
             request: signed.request,
-            said: Said::of(&signed.signature),
-        }
+            brief,
+        })
     }
 
-    /// The signed request that the bytes spell, as `c0#1:read:a~c0`. `None` exactly where they spell none.
-    pub(crate) fn read(bytes: &[u8]) -> Option<SaidRequest>
-        ensures { Reads IsSigned signed_text bytes.now result }
+    /// The signed request that the bytes spell, as `c0#1:read:a~c0`. The inner `None` comes exactly where they spell none. `NoMemory`
+    /// where memory runs out.
+    pub(crate) fn read(alloc: Global, bytes: &[u8]) -> Result<Option<SaidRequest>, Refusal>
+        ensures read { IfOk result (λ ask. Reads IsSigned signed_text bytes.now ask) }
+        ensures refusal { IsOkUnless result Refusal.NoMemory }
     {
         match split_once(bytes, b'~') {
-            None => None,
+            None => Ok(None),
             Some((request, spelled)) => {
-                SaidRequest::of_parts(Request::read(request), Spelled::read(spelled))
+                SaidRequest::of_parts(alloc, Request::read(request), Spelled::read(spelled))
             }
         }
     }
 
     /// The request with what is said of the signature beside it, where there are both and a signature is said.
-    fn of_parts(request: Option<Request>, spelled: Option<Spelled>) -> Option<SaidRequest>
-        ensures { (x : SignedRequest) → (result ≡ Some x) ↔ (pair_of request spelled ≡ Some (ask_parts x)) }
+    fn of_parts(
+        alloc: Global,
+        request: Option<Request>,
+        spelled: Option<Spelled>,
+    ) -> Result<Option<SaidRequest>, Refusal>
+        ensures made { IfOk result (λ ask. (x : SignedRequest) → (ask ≡ Some x) ↔ (pair_of request spelled ≡ Some (ask_parts x))) }
+        ensures refusal { IsOkUnless result Refusal.NoMemory }
     {
         match (request, spelled) {
-            (Some(request), Some(spelled)) => match spelled.said_at(&Statement::Ask(request)) {
-                Some(said) => Some(SaidRequest { request, said }),
-                None => None,
-            },
-            _ => None,
+            (Some(request), Some(spelled)) => {
+                let brief = Brief::of(alloc, &spelled)?;
+                if brief.is_said(&Statement::Ask(request)) {
+                    Ok(Some(SaidRequest { request, brief }))
+                } else {
+                    Ok(None)
+                }
+            }
+            _ => Ok(None),
         }
     }
 
@@ -153,9 +177,16 @@ impl SaidRequest {
     }
 
     /// What the signature beside it says.
-    pub(crate) fn said(&self) -> &Said
-        ensures { result.now ≡ self.now.signature }
+    pub(crate) fn said(&self) -> Said
+        ensures { result ≡ self.now.signature }
     {
-        &self.said
+        self.brief.said_in(&Statement::Ask(self.request))
+    }
+
+    /// What a text says of the signature beside it.
+    pub(crate) fn spelled(&self) -> Spelled
+        ensures { result ≡ spelled_at (Ask self.now.request) self.now.signature }
+    {
+        self.brief.spelled()
     }
 }

@@ -1,36 +1,43 @@
-ghost use Rattle.std.specs.Prelude.{◌≡◌, ◌≤◌, length, IfOk, IsOkUnless};
+ghost use Rattle.std.specs.Prelude.{◌≡◌, ◌≤◌, [], length, IfOk, IsOkUnless};
+ghost use Rattle.dsr_desk.specs.declared.statement.Statement.TheVariants.{Link};
 ghost use Rattle.dsr_chain.specs.Chain.{chain_of};
-ghost use Rattle.dsr_chain.specs.Support.SignedLists.{value_of};
+ghost use Rattle.dsr_chain.specs.Support.SignedLists.{value_of, content_of as content_in};
+ghost use Rattle.dsr_script.specs.ChainText.{spelled_links};
+ghost use Rattle.dsr_script.specs.Support.Links.{AreKept, said_by};
 
+use crate::brief::Brief;
 use crate::said::{Said, SaidRequest};
+use crate::spelled::Spelled;
 use dsr_chain::{Chain, SignedRequest, SlotValue};
-use dsr_desk::Signature;
+use dsr_desk::{Signature, Signers, Statement};
 use dsr_names::Refusal;
+use dsr_request::Requests;
 use std::alloc::Global;
 use std::marker::Model;
 
-/// A chain as data: at most 8 requests and at most 16 signatures.
+/// A chain as data: at most 8 requests and at most 16 signatures, of which it has what a text says.
 #[derive(Drop)]
 pub(crate) struct SaidChain {
     slot: u64,
     asks: Vec<SaidRequest>,
-    signatures: Vec<Said>,
+    links: Vec<Brief>,
 }
 
 impl Model for SaidChain {
-    ghost use Rattle.std.specs.Prelude.{length, ◌≤◌};
     ghost use Rattle.dsr_chain.specs.Chain.{Chain, chain_of};
-    ghost use Rattle.dsr_chain.specs.Support.SignedLists.{value_of};
+    ghost use Rattle.dsr_chain.specs.Support.SignedLists.{value_of, content_of as content_in};
+    ghost use Rattle.dsr_script.specs.Support.Links.{AreKept, said_by};
+    ghost use Rattle.std.specs.Prelude.{[]};
 
     ghost Value = { Chain };
 
-    ghost view = { λ c. chain_of c.slot (value_of c.asks.items) c.signatures.items };
+    ghost view = { λ c. chain_of c.slot (value_of c.asks.items) (said_by c.slot (content_in c.asks.items) [] c.links.items) };
 
-    ghost invariant = { λ c. (length c.asks.items ≤ 8) × (length c.signatures.items ≤ 16) };
+    ghost invariant = { λ c. AreKept c.slot c.asks.items c.links.items };
 }
 
 impl SaidChain {
-    ghost use Rattle.dsr_chain.specs.Content.{signed_in};
+    ghost use Rattle.dsr_chain.specs.Content.{signed_in, content};
 
     /// The chain as data. `NoMemory` where memory runs out.
     pub(crate) fn of(alloc: Global, chain: &Chain) -> Result<SaidChain, Refusal>
@@ -38,25 +45,20 @@ impl SaidChain {
         ensures refusal { IsOkUnless result Refusal.NoMemory }
     {
         let asks = said_value(alloc, &chain.value())?;
-        let signatures = all_said(alloc, chain.signatures())?;
+        let links = links_of(alloc, chain.slot(), &chain.content(), chain.signatures())?;
         Ok(SaidChain {
             slot: chain.slot(),
             asks,
-            signatures,
+            links,
         })
     }
 
     /// The chain of these parts.
-    pub(crate) fn of_parts(slot: u64, asks: Vec<SaidRequest>, signatures: Vec<Said>) -> SaidChain
-        requires asks { length asks.items ≤ 8 }
-        requires signatures { length signatures.items ≤ 16 }
-        ensures { result ≡ chain_of slot (value_of asks.items) signatures.items }
+    pub(crate) fn of_parts(slot: u64, asks: Vec<SaidRequest>, links: Vec<Brief>) -> SaidChain
+        requires { AreKept slot asks.items links.items }
+        ensures { result ≡ chain_of slot (value_of asks.items) (said_by slot (content_in asks.items) [] links.items) }
     {
-        SaidChain {
-            slot,
-            asks,
-            signatures,
-        }
+        SaidChain { slot, asks, links }
     }
 
     /// The slot that the chain is for.
@@ -75,12 +77,13 @@ impl SaidChain {
         self.asks.as_slice()
     }
 
-    /// Its signatures in their order.
-    pub(crate) fn signatures(&self) -> &[Said]
-        ensures same { result.now ≡ self.now.signatures }
-        ensures few { length self.now.signatures ≤ 16 }
+    /// What a text says of its signatures, in their order.
+    pub(crate) fn links(&self) -> &[Brief]
+        ensures said { said_by self.now.slot (content self.now.value) [] result.now ≡ self.now.signatures }
+        ensures kept { result.now ≡ spelled_links self.now.slot (content self.now.value) [] self.now.signatures }
+        ensures few { length result.now ≤ 16 }
     {
-        self.signatures.as_slice()
+        self.links.as_slice()
     }
 }
 
@@ -127,16 +130,36 @@ impl SaidChains {
     }
 }
 
-/// What these signatures say.
-fn all_said(alloc: Global, signatures: &[Signature]) -> Result<Vec<Said>, Refusal>
-    ensures same { IfOk result (λ said. said.items ≡ signatures.now) }
+/// What a text says of these signatures of a chain of this slot and content.
+fn links_of(
+    alloc: Global,
+    slot: u64,
+    content: &Option<Requests>,
+    signatures: &[Signature],
+) -> Result<Vec<Brief>, Refusal>
+    requires { length signatures.now ≤ 16 }
+    ensures same { IfOk result (λ links. links.items ≡ spelled_links slot content.now [] signatures.now) }
     ensures refusal { IsOkUnless result Refusal.NoMemory }
 {
-    let mut said = Vec::with_capacity(alloc, signatures.len())?;
+    let mut links = Vec::with_capacity(alloc, signatures.len())?;
+    let mut before = Signers::new();
     for signature in signatures {
-        said.push(Said::of(signature))?;
+        let spelled = Spelled::at(&Said::of(signature), &link_at(slot, content, before));
+        links.push(Brief::of(alloc, &spelled)?)?;
+        before.push(signature.signer());
     }
-    Ok(said)
+    Ok(links)
+}
+
+/// The statement that fits in a chain of this slot and content, after these signers.
+pub(crate) fn link_at(slot: u64, content: &Option<Requests>, before: Signers) -> Statement
+    ensures { result ≡ Link slot content.now before }
+{
+    Statement::Link {
+        slot,
+        value: *content,
+        before,
+    }
 }
 
 /// The requests of this value, with what the signatures beside them say.
@@ -158,7 +181,7 @@ fn said_requests(alloc: Global, signed: &[SignedRequest]) -> Result<Vec<SaidRequ
 {
     let mut said = Vec::with_capacity(alloc, signed.len())?;
     for ask in signed {
-        said.push(SaidRequest::of(ask))?;
+        said.push(SaidRequest::of(alloc, ask)?)?;
     }
     Ok(said)
 }

@@ -1,20 +1,17 @@
 //! How the parts of drafts are written.
 
-ghost use Rattle.std.specs.Prelude.{◌≡◌, ◌+◌, ◌≤◌, [], Some, length};
+ghost use Rattle.std.specs.Prelude.{Some};
 ghost use Rattle.std.specs.Fmt.{DisplaysOnOk};
-ghost use Rattle.dsr_base.specs.Joined.{more_joined, joined_or_dash};
-ghost use Rattle.dsr_desk.specs.declared.statement.Statement.TheVariants.{Link};
+ghost use Rattle.dsr_base.specs.Joined.{joined_or_dash};
 ghost use Rattle.dsr_chain.specs.Support.SignedLists.{value_of};
-ghost use Rattle.dsr_script.specs.ChainText.{signed_text, value_text, chain_text, spelled_links};
-ghost use Rattle.dsr_script.specs.SignatureText.{spelled_at, spelled_text};
+ghost use Rattle.dsr_script.specs.ChainText.{signed_text, value_text, chain_text};
+ghost use Rattle.dsr_script.specs.SignatureText.{spelled_text};
 
+use crate::brief::Brief;
 use crate::items::write_more;
-use crate::said::{Said, SaidRequest};
+use crate::said::SaidRequest;
 use crate::said_chain::SaidChain;
-use crate::said_text::content_of;
 use crate::spelled::Spelled;
-use dsr_desk::{Signers, Statement};
-use dsr_request::Requests;
 use std::fmt;
 
 impl fmt::Display for Spelled {
@@ -29,12 +26,21 @@ impl fmt::Display for Spelled {
     }
 }
 
+impl fmt::Display for Brief {
+    ghost output = { λ brief. Some (spelled_text brief) };
+
+    fn fmt<W: fmt::Write>(&self, f: &mut fmt::Formatter<W>) -> fmt::Result {
+        let spelled = self.spelled();
+        write!(f, "{spelled}")
+    }
+}
+
 impl fmt::Display for SaidRequest {
     ghost output = { λ ask. Some (signed_text ask) };
 
     fn fmt<W: fmt::Write>(&self, f: &mut fmt::Formatter<W>) -> fmt::Result {
         let request = self.request();
-        let spelled = Spelled::at(self.said(), &Statement::Ask(request));
+        let spelled = self.spelled();
         write!(f, "{request}~{spelled}")
     }
 }
@@ -44,11 +50,10 @@ impl fmt::Display for SaidChain {
 
     fn fmt<W: fmt::Write>(&self, f: &mut fmt::Formatter<W>) -> fmt::Result {
         let slot = self.slot();
-        let content = content_of(self.asks());
         write!(f, "{slot}/")?;
         write_value(self.asks(), f)?;
         f.write_str("/")?;
-        write_links(slot, &content, self.signatures(), f)
+        write_links(self.links(), f)
     }
 }
 
@@ -65,61 +70,15 @@ fn write_value<W: fmt::Write>(asks: &[SaidRequest], f: &mut fmt::Formatter<W>) -
     }
 }
 
-/// Writes the signatures of a chain of this slot and content: a dash where there is none.
-fn write_links<W: fmt::Write>(
-    slot: u64,
-    content: &Option<Requests>,
-    links: &[Said],
-    f: &mut fmt::Formatter<W>,
-) -> fmt::Result
-    requires { length links.now ≤ 16 }
-    ensures { DisplaysOnOk W.write_str_gives f.old result
-        (Some (joined_or_dash 43 spelled_text (spelled_links slot content.now [] links.now))) f.new }
+/// Writes what is said of the signatures of a chain: a dash where there is none.
+fn write_links<W: fmt::Write>(links: &[Brief], f: &mut fmt::Formatter<W>) -> fmt::Result
+    ensures { DisplaysOnOk W.write_str_gives f.old result (Some (joined_or_dash 43 spelled_text links.now)) f.new }
 {
     match links {
         [] => f.write_str("-"),
         [first, rest @ ..] => {
-            let mut before = Signers::new();
-            let spelled = spelled_link(slot, content, before, first);
-            write!(f, "{spelled}")?;
-            before.push(first.signer());
-            write_more_links(slot, content, before, rest, f)
+            write!(f, "{first}")?;
+            write_more(rest, f)
         }
     }
-}
-
-/// Writes further signatures of a chain, after these signers, each with a plus sign before it.
-fn write_more_links<W: fmt::Write>(
-    slot: u64,
-    content: &Option<Requests>,
-    before: Signers,
-    links: &[Said],
-    f: &mut fmt::Formatter<W>,
-) -> fmt::Result
-    requires { length before + length links.now ≤ 16 }
-    ensures { DisplaysOnOk W.write_str_gives f.old result
-        (Some (more_joined 43 spelled_text (spelled_links slot content.now before links.now))) f.new }
-{
-    match links {
-        [] => Ok(()),
-        [first, rest @ ..] => {
-            let spelled = spelled_link(slot, content, before, first);
-            write!(f, "+{spelled}")?;
-            let mut signers = before;
-            signers.push(first.signer());
-            write_more_links(slot, content, signers, rest, f)
-        }
-    }
-}
-
-/// What a text says of this signature in a chain of this slot and content, after these signers.
-fn spelled_link(slot: u64, content: &Option<Requests>, before: Signers, link: &Said) -> Spelled
-    ensures { result ≡ spelled_at (Link slot content.now before) link.now }
-{
-    let fitting = Statement::Link {
-        slot,
-        value: *content,
-        before,
-    };
-    Spelled::at(link, &fitting)
 }

@@ -1,32 +1,33 @@
 //! How the parts of drafts are read.
 
-ghost use Rattle.std.specs.Prelude.{◌≡◌, refl, ◌↔◌, ◌≤◌, List, [], Some, length, IfOk, IfSome, IsOkUnless};
+ghost use Rattle.std.specs.Prelude.{◌≡◌, refl, ◌↔◌, ◌≤◌, [], Some, length, IfOk, IfSome, IsTrue, IsOkUnless};
 ghost use Rattle.std.specs.Option.{option_map};
 ghost use Rattle.std.proofs.Common.{lit<};
 ghost use Rattle.dsr_base.specs.Joined.{joined_or_dash, AreUpTo};
 ghost use Rattle.dsr_base.specs.Reads.{Reads};
 ghost use Rattle.dsr_chain.specs.Chain.{Chain};
 ghost use Rattle.dsr_chain.specs.Support.SignedLists.{value_of, content_of as content_in};
-ghost use Rattle.dsr_desk.specs.Signature.{Signature};
 ghost use Rattle.dsr_replica.specs.Limits.{IsSigned};
 ghost use Rattle.dsr_script.specs.ChainText.{signed_text, value_text, chain_text, spelled_links, IsValue, IsSpelledChain};
 ghost use Rattle.dsr_script.specs.SignatureText.{spelled_text};
 ghost use Rattle.dsr_script.specs.Support.AskText.{ask_apart};
 ghost use Rattle.dsr_script.specs.Support.ChainParts.{chain_parts, chain_apart};
+ghost use Rattle.dsr_script.specs.Support.Links.{said_by};
 ghost use Rattle.dsr_script.specs.Support.SpelledText.{IsSpelled, spelled_apart, pair_of};
 
+use crate::brief::Brief;
 use crate::items::{Item, read_items};
-use crate::said::{Said, SaidRequest};
-use crate::said_chain::SaidChain;
+use crate::said::SaidRequest;
+use crate::said_chain::{SaidChain, link_at};
 use crate::spelled::Spelled;
 use dsr_base::{split_once, split_outside};
-use dsr_desk::{MOST_SIGNERS, Signers, Statement};
+use dsr_desk::{MOST_SIGNERS, Signers};
 use dsr_names::{Refusal, read_num};
 use dsr_request::{MOST_REQUESTS, Request, Requests};
 use std::alloc::Global;
 
 /// What is said of signatures is joined by plus signs.
-impl Item for Spelled {
+impl Item for Brief {
     ghost is = { IsSpelled };
 
     ghost text = { spelled_text };
@@ -35,8 +36,11 @@ impl Item for Spelled {
 
     const MARK: u8 = b'+';
 
-    fn read(_: Global, bytes: &[u8]) -> Result<Option<Spelled>, Refusal> {
-        Ok(Spelled::read(bytes))
+    fn read(alloc: Global, bytes: &[u8]) -> Result<Option<Brief>, Refusal> {
+        match Spelled::read(bytes) {
+            Some(spelled) => Ok(Some(Brief::of(alloc, &spelled)?)),
+            None => Ok(None),
+        }
     }
 
     ghost apart = { spelled_apart };
@@ -56,8 +60,8 @@ impl Item for SaidRequest {
 
     const MARK: u8 = b',';
 
-    fn read(_: Global, bytes: &[u8]) -> Result<Option<SaidRequest>, Refusal> {
-        Ok(SaidRequest::read(bytes))
+    fn read(alloc: Global, bytes: &[u8]) -> Result<Option<SaidRequest>, Refusal> {
+        SaidRequest::read(alloc, bytes)
     }
 
     ghost apart = { ask_apart };
@@ -112,7 +116,7 @@ fn chain_of_parts(
     alloc: Global,
     slot: Option<u64>,
     asks: Option<Vec<SaidRequest>>,
-    links: Option<Vec<Spelled>>,
+    links: Option<Vec<Brief>>,
 ) -> Result<Option<SaidChain>, Refusal>
     requires asks { IfSome asks (λ list. length list.items ≤ 8) }
     requires links { IfSome links (λ list. length list.items ≤ 16) }
@@ -123,9 +127,10 @@ fn chain_of_parts(
     match (slot, asks, links) {
         (Some(slot), Some(asks), Some(links)) => {
             let content = content_of(asks.as_slice());
-            match said_links(alloc, slot, &content, links.as_slice())? {
-                Some(signatures) => Ok(Some(SaidChain::of_parts(slot, asks, signatures))),
-                None => Ok(None),
+            if are_links(slot, &content, links.as_slice()) {
+                Ok(Some(SaidChain::of_parts(slot, asks, links)))
+            } else {
+                Ok(None)
             }
         }
         _ => Ok(None),
@@ -145,7 +150,7 @@ fn read_value(alloc: Global, bytes: &[u8]) -> Result<Option<Vec<SaidRequest>>, R
 }
 
 /// What the bytes say of a chain's signatures: `-` for none, or at most 16 joined by plus signs.
-fn read_links(alloc: Global, bytes: &[u8]) -> Result<Option<Vec<Spelled>>, Refusal>
+fn read_links(alloc: Global, bytes: &[u8]) -> Result<Option<Vec<Brief>>, Refusal>
     ensures read { IfOk result (λ links. Reads (AreUpTo IsSpelled 16) (joined_or_dash 43 spelled_text) bytes.now (option_map (λ list. list.items) links)) }
     ensures few { IfOk result (λ links. IfSome links (λ list. length list.items ≤ 16)) }
     ensures refusal { IsOkUnless result Refusal.NoMemory }
@@ -156,36 +161,19 @@ fn read_links(alloc: Global, bytes: &[u8]) -> Result<Option<Vec<Spelled>>, Refus
     read_items(alloc, bytes, MOST_SIGNERS)
 }
 
-/// The signatures of a chain of this slot and content of which these are said. `None` exactly where they are said of none.
-fn said_links(
-    alloc: Global,
-    slot: u64,
-    content: &Option<Requests>,
-    links: &[Spelled],
-) -> Result<Option<Vec<Said>>, Refusal>
+/// Whether these are said of signatures of a chain of this slot and content: that none is the long form of what fits its place.
+fn are_links(slot: u64, content: &Option<Requests>, links: &[Brief]) -> bool
     requires { length links.now ≤ 16 }
-    ensures said { IfOk result (λ said. (ss : List Signature)
-        → (option_map (λ list. list.items) said ≡ Some ss) ↔ (links.now ≡ spelled_links slot content.now [] ss)) }
-    ensures few { IfOk result (λ said. IfSome said (λ list. length list.items ≤ 16)) }
-    ensures refusal { IsOkUnless result Refusal.NoMemory }
+    ensures { IsTrue result ↔ (links.now ≡ spelled_links slot content.now [] (said_by slot content.now [] links.now)) }
 {
-    let mut said = Vec::with_capacity(alloc, links.len())?;
     let mut before = Signers::new();
     for link in links {
-        let fitting = Statement::Link {
-            slot,
-            value: *content,
-            before,
-        };
-        match link.said_at(&fitting) {
-            None => return Ok(None),
-            Some(one) => {
-                before.push(one.signer());
-                said.push(one)?;
-            }
+        if !link.is_said(&link_at(slot, content, before)) {
+            return false;
         }
+        before.push(link.signer());
     }
-    Ok(Some(said))
+    true
 }
 
 /// The requests without what is said of the signatures beside them, or `None` where there are none.

@@ -52,6 +52,13 @@ impl Spelled {
         }
     }
 
+    /// What is said of this signer's signature, on another statement than fits where there is one.
+    pub(crate) fn of_parts(signer: Actor, other: Option<Statement>) -> Spelled
+        ensures parts { (result.signer ≡ signer) × (result.other ≡ other) }
+    {
+        Spelled { signer, other }
+    }
+
     /// The signer.
     pub(crate) fn signer(&self) -> Actor
         ensures { result ≡ self.now.signer }

@@ -1,4 +1,8 @@
 use crate::Draft;
+use dsr_ledger::Reply;
+use dsr_names::NUMBER_END;
+use dsr_replica::{Chains, Envelope};
+use dsr_request::Answer;
 use std::alloc::Global;
 use std::fmt::Write;
 use std::test::Fail;
@@ -26,6 +30,23 @@ const TEXTS: [&str; 20] = [
     "seen 0",
     "seen 1099511627775",
 ];
+
+/// A reply of this number and place.
+fn reply(number: u64, place: u64) -> Envelope {
+    Envelope::Reply(Reply {
+        number,
+        place,
+        answer: Answer::Written,
+    })
+}
+
+/// The envelope of this round without chains.
+fn round_of(alloc: Global, round: u64) -> Envelope {
+    Envelope::Round {
+        round,
+        chains: Chains::of(Vec::new(alloc)),
+    }
+}
 
 /// The draft that the text spells, as text again.
 fn again(alloc: Global, text: &[u8]) -> Result<Option<String>, Fail> {
@@ -255,6 +276,31 @@ fn texts_with_any_byte_changed(rt: HostRuntime) -> Result<(), Fail> {
             }
             changed[place] = was;
         }
+    }
+    Ok(())
+}
+
+#[test]
+fn drafts_within_the_limits_fit(rt: HostRuntime) -> Result<(), Fail> {
+    let rows = [
+        (Envelope::Empty, true),
+        (Envelope::Seen(NUMBER_END - 1), true),
+        (Envelope::Seen(NUMBER_END), false),
+        (reply(1, 0), true),
+        (reply(0, 0), false),
+        (reply(NUMBER_END, 0), false),
+        (reply(1, NUMBER_END), false),
+        (round_of(rt.alloc(), NUMBER_END - 1), true),
+        (round_of(rt.alloc(), NUMBER_END), false),
+    ];
+    for (envelope, fits) in &rows {
+        let draft = Draft::of(rt.alloc(), envelope)?;
+        assert!(rt; draft.fits() == *fits);
+        let text = draft.to_string(rt.alloc())?;
+        assert!(rt;
+            Draft::read(rt.alloc(), text.as_bytes())?.is_some() == *fits,
+            "{text}"
+        );
     }
     Ok(())
 }

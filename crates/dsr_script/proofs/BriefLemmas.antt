@@ -1,0 +1,64 @@
+-- What is said of signatures, and the signatures.
+use Rattle.std.proofs.Common.{All, ◌≡◌, ℕ, ◌↔◌, Bool, true, false, cond, List, [], ◌∷◌, ◌++◌, Option, None, Some, refl, sym, ◌∙◌, ap, ap₂}
+use Rattle.std.specs.Prelude.{unwrap_or}
+use Rattle.std.specs.Bool.{Decides}
+use Rattle.std.proofs.lemmas.List.Elements.{All-cons, All-head, All-tail}
+use Rattle.std.proofs.lemmas.Option.{none-some}
+use Rattle.dsr_names.specs.declared.actor.Actor.{Actor}
+use Rattle.dsr_request.specs.Request.{Request}
+use Rattle.dsr_desk.specs.Signature.{Signature, signed}
+use Rattle.dsr_desk.specs.Support.StatementEquality.{statement_eq, statement_eq-Decides}
+use Rattle.dsr_desk.specs.declared.statement.Statement.{Statement}
+use Rattle.dsr_desk.specs.declared.statement.Statement.TheVariants.{Link}
+use Rattle.dsr_script.specs.SignatureText.{Spelled, spelled_at}
+use Rattle.dsr_script.specs.ChainText.{spelled_links}
+use Rattle.dsr_script.specs.Support.Links.{said_in, said_by}
+
+same_statement : (b : Bool) (fitting : Statement) (s : Signature) → Decides b (s.statement ≡ fitting) → unwrap_or (cond b None (Some s.statement)) fitting ≡ s.statement
+same_statement true fitting s decides = sym (decides.0 refl)
+same_statement false fitting s decides = refl
+
+-- a signature is what is said of it
+pub said_back : (fitting : Statement) (s : Signature) → said_in fitting (spelled_at fitting s) ≡ s
+said_back fitting s = ap (signed s.signer) (same_statement (statement_eq s.statement fitting) fitting s (statement_eq-Decides s.statement fitting))
+
+module _ (fitting : Statement) (x : Spelled) (r : Option Signature) (says : (s : Signature) → (r ≡ Some s) ↔ (x ≡ spelled_at fitting s)) where
+  pub is_said : (s : Signature) → r ≡ Some s → x ≡ spelled_at fitting (said_in fitting x)
+  is_said s is =
+      let said : x ≡ spelled_at fitting s = (says s).0 is in
+      said ∙ ap (spelled_at fitting) (sym (ap (said_in fitting) said ∙ said_back fitting s))
+
+  pub not_said : r ≡ None → x ≡ spelled_at fitting (said_in fitting x) → ⊥
+  not_said is e = none-some (said_in fitting x) (sym is ∙ (says (said_in fitting x)).1 e)
+
+-- so are those of a chain
+module _ (slot : ℕ) (value : Option (List Request)) where
+  pub links_back : (before : List Actor) (ss : List Signature) → said_by slot value before (spelled_links slot value before ss) ≡ ss
+  links_back before [] = refl
+  links_back before (s ∷ ss) = ap₂ (λ y ys. y ∷ ys) (said_back (Link slot value before) s) (links_back (before ++ s.signer ∷ []) ss)
+
+  -- nothing is said in the long form of what fits
+  abbrev pub AreShort : List Actor → List Spelled → Type 0
+  AreShort before xs = xs ≡ spelled_links slot value before (said_by slot value before xs)
+
+  -- the whole list is short where the rest is
+  pub record ShortOn (links : List Spelled) (before : List Actor) (rest : List Spelled) : Type 0 where
+    pub whole : AreShort before rest → AreShort [] links
+    pub part : AreShort [] links → AreShort before rest
+
+  -- each signature that is said has the property where each of the rest has it
+  pub record HeldOn (P : Signature → Type 0) (links : List Spelled) (before : List Actor) (rest : List Spelled) : Type 0 where
+    pub whole : All P (said_by slot value before rest) → All P (said_by slot value [] links)
+    pub part : All P (said_by slot value [] links) → All P (said_by slot value before rest)
+
+  pub held_on : (P : Signature → Type 0) (links : List Spelled) (before : List Actor) (x : Spelled) (rest : List Spelled) → HeldOn P links before (x ∷ rest)
+      → P (said_in (Link slot value before) x) → HeldOn P links (before ++ x.signer ∷ []) rest
+  held_on P links before x rest h one =
+      let s = said_in (Link slot value before) x in
+      let others = said_by slot value (before ++ x.signer ∷ []) rest in
+      record { whole = λ more. h.whole (All-cons P s others one more); part = λ all. All-tail P s others (h.part all) }
+
+  pub first_held : (P : Signature → Type 0) (links : List Spelled) (before : List Actor) (x : Spelled) (rest : List Spelled) → HeldOn P links before (x ∷ rest)
+      → All P (said_by slot value [] links) → P (said_in (Link slot value before) x)
+  first_held P links before x rest h all =
+      All-head P (said_in (Link slot value before) x) (said_by slot value (before ++ x.signer ∷ []) rest) (h.part all)

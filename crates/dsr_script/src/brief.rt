@@ -1,0 +1,81 @@
+ghost use Rattle.std.specs.Prelude.{◌≡◌, ◌↔◌, IfOk, IsTrue, IsOkUnless};
+ghost use Rattle.dsr_script.specs.SignatureText.{spelled_at};
+ghost use Rattle.dsr_script.specs.Support.Links.{said_in};
+
+use crate::said::Said;
+use crate::spelled::Spelled;
+use dsr_desk::Statement;
+use dsr_names::{Actor, Refusal};
+use std::alloc::Global;
+use std::marker::Model;
+
+/// What a text says of a signature, in little room: another statement than fits the place is kept apart.
+#[derive(Drop)]
+pub(crate) struct Brief {
+    signer: Actor,
+    other: Option<Box<Statement, Global>>,
+}
+
+impl Model for Brief {
+    ghost use Rattle.std.specs.Prelude.{box_value};
+    ghost use Rattle.std.specs.Option.{option_map};
+    ghost use Rattle.dsr_script.specs.SignatureText.{Spelled};
+
+    ghost Value = { Spelled };
+
+    ghost view = { λ b. record { signer = b.signer; other = option_map box_value b.other } };
+}
+
+impl Brief {
+    /// What is said, in little room. `NoMemory` where memory runs out.
+    pub(crate) fn of(alloc: Global, spelled: &Spelled) -> Result<Brief, Refusal>
+        ensures same { IfOk result (λ brief. brief ≡ spelled.now) }
+        ensures refusal { IsOkUnless result Refusal.NoMemory }
+    {
+        let other = match spelled.other() {
+            Some(statement) => Some(Box::new(alloc, statement)?),
+            None => None,
+        };
+        Ok(Brief {
+            signer: spelled.signer(),
+            other,
+        })
+    }
+
+    /// Who is to have signed.
+    pub(crate) fn signer(&self) -> Actor
+        ensures { result ≡ self.now.signer }
+    {
+        self.signer
+    }
+
+    /// What is said.
+    pub(crate) fn spelled(&self) -> Spelled
+        ensures { result ≡ self.now }
+    {
+        match &self.other {
+            Some(other) => Spelled::of_parts(self.signer, Some(other.copy())),
+            None => Spelled::of_parts(self.signer, None),
+        }
+    }
+
+    /// What the signature says, at the place that this statement fits.
+    pub(crate) fn said_in(&self, fitting: &Statement) -> Said
+        ensures { result ≡ said_in fitting.now self.now }
+    {
+        match &self.other {
+            Some(other) => Said::by(self.signer, other),
+            None => Said::by(self.signer, fitting),
+        }
+    }
+
+    /// Whether it is what a text says at the place that this statement fits: that it is no long form of that statement.
+    pub(crate) fn is_said(&self, fitting: &Statement) -> bool
+        ensures { IsTrue result ↔ (self.now ≡ spelled_at fitting.now (said_in fitting.now self.now)) }
+    {
+        match self.spelled().said_at(fitting) {
+            Some(_said) => true,
+            None => false,
+        }
+    }
+}
