@@ -1,80 +1,16 @@
 -- A text begins with a header in at most one way.
-use Rattle.std.proofs.Common.{All, ◌≡◌, ◌≢◌, ℕ, zero, suc, ◌<◌, ◌^◌, Bool, true, false, List, [], ◌∷◌, ◌++◌, ◌-◌, ◌≤◌, Option, None, Some, IfNone, get_or, take, drop, length, sym, ◌∙◌, ap, ap₂, subst, arith, append_assoc, lit<}
-use Rattle.std.specs.Prelude.{if◌then◌else◌}
-use Rattle.std.specs.Fmt.{decimal}
+use Rattle.std.proofs.Common.{◌≡◌, ℕ, true, false, List, [], ◌∷◌, ◌++◌, ◌-◌, ◌≤◌, Option, None, Some, IfNone, get_or, take, drop, length, sym, ◌∙◌, ap, ap₂, subst, arith, append_assoc, lit<}
 use Rattle.std.specs.Str.{bytes_eq}
 use Rattle.std.proofs.Math.Seq.{take-append_seam}
 use Rattle.std.proofs.lemmas.Bool.{false≢true}
 use Rattle.std.proofs.lemmas.List.{take-append-drop, take_all}
 use Rattle.std.proofs.lemmas.Slice.Eq.{bytes_eq-Decides}
-use Rattle.std.proofs.lemmas.List.Elements.{All-nil, All-cons, All-append, All-head, All-tail}
-use Rattle.dsr_base.specs.Bits.{is_bit_set}
-use Rattle.dsr_base.specs.Joined.{more_joined}
 use Rattle.dsr_base.specs.Split.{IsAbsent}
-use Rattle.dsr_base.proofs.Marks.{one_cut, not_absent, decimal_without_low, letter_then_without}
-use Rattle.dsr_names.specs.Actor.{replica_text}
+use Rattle.dsr_base.proofs.Marks.{one_cut, not_absent}
 use Rattle.dsr_names.specs.Shape.{Shape}
-use Rattle.dsr_names.specs.ShapeText.{shape_text, numbers_below, replicas_of, replicas_text, IsSpelled}
+use Rattle.dsr_names.specs.ShapeText.{shape_text, IsSpelled}
+use Rattle.dsr_script.proofs.FeedLemmas.{field_clean, shape_clean}
 use Rattle.dsr_script.specs.Header.{BeginsWithHeader, HasNoHeader}
-
--- ---- no line feed stands in the token of a shape
-
-abbrev IsClean : List ℕ → Type 0
-IsClean = IsAbsent 10
-
-clean_then : (byte : ℕ) (bytes : List ℕ) → byte ≢ 10 → IsClean bytes → IsClean (byte ∷ bytes)
-clean_then byte bytes other rest = All-cons (λ b. b ≢ 10) byte bytes other rest
-
-clean_append : (xs ys : List ℕ) → IsClean xs → IsClean ys → IsClean (xs ++ ys)
-clean_append xs ys first rest = All-append (λ b. b ≢ 10) xs ys first rest
-
-space_is_clean : ◌≢◌ {A = ℕ} 32 10
-space_is_clean e = omega arith
-
-plus_is_clean : ◌≢◌ {A = ℕ} 43 10
-plus_is_clean e = omega arith
-
-dash_is_clean : ◌≢◌ {A = ℕ} 45 10
-dash_is_clean e = omega arith
-
-abbrev AreReplicas : List ℕ → Type 0
-AreReplicas = All (λ (r : ℕ). r < 16)
-
-numbers_are_below : (test : ℕ → Bool) (n : ℕ) → n < 17 → AreReplicas (numbers_below test n)
-numbers_are_below test zero small = All-nil (λ (r : ℕ). r < 16)
-numbers_are_below test (suc n) small =
-    All-append (λ (r : ℕ). r < 16) (numbers_below test n) _ (numbers_are_below test n (omega (arith, small))) (last (test n))
-  where
-    last : (b : Bool) → AreReplicas (if b then n ∷ [] else [])
-    last true = All-cons (λ (r : ℕ). r < 16) n [] (omega (arith, small)) (All-nil (λ (r : ℕ). r < 16))
-    last false = All-nil (λ (r : ℕ). r < 16)
-
-replica_clean : (r : ℕ) → r < 16 → IsClean (replica_text r)
-replica_clean r small = letter_then_without 114 10 (decimal r) (lit< tt) (decimal_without_low 10 r (lit< tt) (omega (arith, small)))
-
-more_clean : (rs : List ℕ) → AreReplicas rs → IsClean (more_joined 43 replica_text rs)
-more_clean [] all = All-nil (λ b. b ≢ 10)
-more_clean (r ∷ rs) all =
-    clean_then 43 (replica_text r ++ more_joined 43 replica_text rs) plus_is_clean
-    (clean_append (replica_text r) (more_joined 43 replica_text rs) (replica_clean r (All-head (λ (r : ℕ). r < 16) r rs all))
-    (more_clean rs (All-tail (λ (r : ℕ). r < 16) r rs all)))
-
-replicas_clean : (rs : List ℕ) → AreReplicas rs → IsClean (replicas_text rs)
-replicas_clean [] all = clean_then 45 [] dash_is_clean (All-nil (λ b. b ≢ 10))
-replicas_clean (r ∷ rs) all =
-    clean_append (replica_text r) (more_joined 43 replica_text rs) (replica_clean r (All-head (λ (r : ℕ). r < 16) r rs all))
-    (more_clean rs (All-tail (λ (r : ℕ). r < 16) r rs all))
-
-number_clean : (n : ℕ) (rest : List ℕ) → n < 2 ^ 40 → IsClean rest → IsClean (decimal n ++ 32 ∷ rest)
-number_clean n rest small clean =
-    clean_append (decimal n) (32 ∷ rest) (decimal_without_low 10 n (lit< tt) (omega (arith, small))) (clean_then 32 rest space_is_clean clean)
-
-shape_clean : (shape : Shape) → IsSpelled shape → IsClean (shape_text shape)
-unfolding replicas_of
-shape_clean shape spelled =
-    let last = replicas_clean (replicas_of shape.traitors) (numbers_are_below (is_bit_set shape.traitors) 16 (lit< tt)) in
-    number_clean shape.n _ spelled.n_is_number
-    (number_clean shape.f _ spelled.f_is_number (number_clean shape.m (replicas_text (replicas_of shape.traitors)) spelled.m_is_number last))
 
 -- ---- the one way in which a text begins with a header
 
@@ -97,7 +33,7 @@ module _ (title text : List ℕ) where
         → (line ≡ title ++ 32 ∷ shape_text shape) × (after ≡ rest)
     same_header shape rest h =
         one_cut 10 line after (title ++ 32 ∷ shape_text shape) rest whole
-        (clean_append title (32 ∷ shape_text shape) titled (clean_then 32 (shape_text shape) space_is_clean (shape_clean shape h.spelled)))
+        (field_clean 32 title (shape_text shape) (lit< tt) titled (shape_clean shape h.spelled))
         (sym cut ∙ header_cut shape rest h)
 
     -- where the line begins with another title

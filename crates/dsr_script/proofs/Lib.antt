@@ -2,6 +2,7 @@ mod AskLemmas
 mod BriefLemmas
 mod ChainTextLemmas
 mod EnvelopeLemmas
+mod FeedLemmas
 mod FitLemmas
 mod HeaderLemmas
 mod HeldLemmas

@@ -1,5 +1,5 @@
 -- What reads the parts of a line of a serve script reads the line.
-use Rattle.std.proofs.Common.{◌≡◌, ◌≢◌, ℕ, ◌<◌, ◌^◌, Bool, true, false, List, [], ◌∷◌, ◌++◌, codes, None, Some, sym, ◌∙◌, ap, subst, arith, lit<}
+use Rattle.std.proofs.Common.{refl, ◌≡◌, ◌≢◌, ℕ, ◌<◌, ◌^◌, Bool, true, false, List, [], ◌∷◌, ◌++◌, codes, Option, None, Some, sym, ◌∙◌, ap, subst, arith, lit<}
 use Rattle.std.specs.Fmt.{decimal}
 use Rattle.std.specs.Str.{bytes_eq}
 use Rattle.std.proofs.lemmas.Bool.{false≢true}
@@ -21,6 +21,8 @@ use Rattle.dsr_script.specs.declared.serve_line.ServeLine.{ServeLine}
 use Rattle.dsr_script.specs.declared.serve_line.ServeLine.TheVariants.{Ask, Post}
 use Rattle.dsr_script.specs.ServeText.{line_word, line_rest, line_text, IsLine}
 use Rattle.dsr_script.specs.Script.{place_of}
+use Rattle.dsr_request.specs.Support.Texts.{op_without}
+use Rattle.dsr_script.proofs.FeedLemmas.{IsClean, field_clean, word_clean, number_clean, replica_clean, actor_clean, envelope_clean}
 
 -- ---- a client
 
@@ -74,6 +76,19 @@ IsScript p = (p.0 < 16) × IsRound p.1
 
 abbrev pub script_text : ℕ × (ℕ × (Actor × Envelope)) → List ℕ
 script_text p = replica_text p.0 ++ 32 ∷ round_text p.1
+
+-- ---- no line feed stands in a line
+
+pub line_clean : (line : ServeLine) → IsLine line → IsClean (line_text line)
+line_clean (Ask client op) is =
+    field_clean 32 (codes "ask") (line_rest (Ask client op)) (lit< tt) (word_clean (codes "ask") refl)
+    (field_clean 32 (client_text client) (op_text 32 op) (lit< tt) (actor_clean (Client client) is.0)
+    (op_without 10 32 op refl (λ (e : ◌≡◌ {A = ℕ} 32 10). omega arith) is.1))
+line_clean (Post place envelope) is =
+    field_clean 32 (codes "script") (line_rest (Post place envelope)) (lit< tt) (word_clean (codes "script") refl)
+    (field_clean 32 (replica_text place.from) _ (lit< tt) (replica_clean place.from is.0)
+    (field_clean 32 (decimal place.round) _ (lit< tt) (number_clean place.round (omega (arith, is.1)))
+    (field_clean 32 (actor_text place.to) (envelope_text envelope) (lit< tt) (actor_clean place.to is.2) (envelope_clean envelope is.3))))
 
 -- ---- the word
 

@@ -31,6 +31,12 @@ place_of from round to = record { from = from; round = round; to = to }
 abbrev pub draft_at : Script → Place → Option Envelope
 draft_at script place = lookup (place_eq place) script.drafts
 
+-- two scripts of which nobody can tell one from the other: of one shape, with the same operations of each client and the same drafts
+pub record SaysTheSame (script other : Script) : Type 0 where
+  pub shape : script.shape ≡ other.shape
+  pub ops : (client : ℕ) → ops_of script client ≡ ops_of other client
+  pub drafts : (place : Place) → draft_at script place ≡ draft_at other place
+
 -- the script has what these lines give: each client's operations, and the draft at each place
 pub record Gives (lines : List ServeLine) (script : Script) : Type 0 where
   pub ops : (client : ℕ) → ops_of script client ≡ asked_by lines client

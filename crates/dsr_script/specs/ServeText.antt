@@ -2,7 +2,6 @@
 -- `script R ROUND TO ENVELOPE`. Lines stand newest first: the last line is the first of the list.
 use Rattle.std.specs.Prelude.{◌≡◌, ℕ, ◌<◌, ◌^◌, true, nat_eq, if◌then◌else◌, List, [], ◌∷◌, ◌++◌, codes, Option, None, Some}
 use Rattle.std.specs.Fmt.{decimal}
-use Rattle.dsr_base.specs.Split.{IsAbsent}
 use Rattle.dsr_names.specs.Actor.{IsNumbered, actor_text, replica_text}
 use Rattle.dsr_names.specs.declared.actor.Actor.TheVariants.{Client}
 use Rattle.dsr_names.specs.Shape.{Shape, IsActor, is_traitor}
@@ -63,10 +62,9 @@ abbrev pub CanFollow : Shape → List ServeLine → ServeLine → Type 0
 CanFollow shape earlier (Ask client op) = IsActor shape (Client client)
 CanFollow shape earlier (Post place envelope) = IsTraitor shape place.from × IsActor shape place.to × (drafted_at earlier place ≡ None)
 
--- a line that can be the next one: a text can spell it, without a line feed, and it can follow the earlier ones
+-- a line that can be the next one: a text can spell it, and it can follow the earlier ones
 pub record IsNext (shape : Shape) (earlier : List ServeLine) (line : ServeLine) : Type 0 where
   pub is_line : IsLine line
-  pub whole : IsAbsent 10 (line_text line)
   pub follows : CanFollow shape earlier line
 
 -- each line can be the next one after those before it

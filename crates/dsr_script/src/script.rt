@@ -3,8 +3,8 @@ ghost use Rattle.std.specs.Option.{option_map};
 ghost use Rattle.dsr_names.specs.Shape.{IsActor};
 ghost use Rattle.dsr_script.specs.declared.place.Place.{Place};
 ghost use Rattle.dsr_script.specs.declared.serve_line.ServeLine.{ServeLine};
-ghost use Rattle.dsr_script.specs.ServeText.{CanFollow, IsTraitor};
-ghost use Rattle.dsr_script.specs.Script.{ops_of, draft_at, place_of, Gives, Spells, IsScriptRefusal};
+ghost use Rattle.dsr_script.specs.ServeText.{CanFollow, IsTraitor, AreLines, lines_text};
+ghost use Rattle.dsr_script.specs.Script.{Script, ops_of, draft_at, place_of, Gives, Spells, SaysTheSame, IsScriptRefusal};
 ghost use Rattle.dsr_script.specs.Support.PlaceEquality.{place_eq};
 ghost use Rattle.dsr_script.specs.Support.TakenLines.{HasTaken, IsLinesRefusal};
 
@@ -50,14 +50,18 @@ impl Script {
     pub fn read(alloc: Global, text: &[u8]) -> Result<Script, Refusal>
         ensures script { IfOk result (Spells text.now) }
         ensures refused { IfErr result (IsScriptRefusal text.now) }
+        ensures when { (other : Script) → Spells text.now other → IsOkUnless result Refusal.NoMemory }
+        ensures only { (other : Script) → Spells text.now other → IfOk result (SaysTheSame other) }
     {
         let header = match read_header(b"dsr-serve 1".as_slice(), text) {
             Ok(header) => header,
             Err(refusal) => return Err(refusal),
         };
         let mut script = Script::new(alloc, header.shape)?;
-        script.take_lines(alloc, header.rest)?;
-        Ok(script)
+        match script.take_lines(alloc, header.rest) {
+            Ok(()) => Ok(script),
+            Err(refusal) => Err(refusal),
+        }
     }
 
     /// The shape.
@@ -106,6 +110,8 @@ impl Script {
         requires { Gives [] self.old }
         ensures taken { OnOk result (HasTaken text.now self.new) }
         ensures refused { IfErr result (IsLinesRefusal self.old.shape text.now) }
+        ensures when { (all : List ServeLine) → AreLines self.old.shape all → text.now ≡ lines_text all → IsOkUnless result Refusal.NoMemory }
+        ensures only { (all : List ServeLine) → AreLines self.old.shape all → text.now ≡ lines_text all → OnOk result (Gives all self.new) }
         ensures shape { self.new.shape ≡ self.old.shape }
     {
         let mut rest = text;
