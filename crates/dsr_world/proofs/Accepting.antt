@@ -1,6 +1,5 @@
 -- What clients accept stands in the history: the reply of a loyal replica is behind it, and the request is one that its client posted.
 use Rattle.std.proofs.Common.{◌≡◌, ℕ, ◌<◌, List, ◌∷◌, length, length-append, inl, inr, refl, ap, sym, subst, arith}
-use Rattle.std.specs.Prelude.{map}
 use Rattle.dsr_base.specs.Member.{In, here}
 use Rattle.dsr_base.proofs.MemberLemmas.{In-append_right}
 use Rattle.dsr_names.specs.Shape.{Shape, IsLoyal, HasFewTraitors}
@@ -11,7 +10,6 @@ use Rattle.dsr_ledger.specs.declared.reply.Reply.{Reply as AReply}
 use Rattle.dsr_history.specs.History.{acted, StandsAt, IsReplyTo}
 use Rattle.dsr_desk.specs.Signature.{signed}
 use Rattle.dsr_desk.specs.declared.statement.Statement.TheVariants.{Ask as OnAsk}
-use Rattle.dsr_chain.specs.Content.{requests_in}
 use Rattle.dsr_chain.specs.Proper.{IsAsked}
 use Rattle.dsr_chain.specs.declared.signed_request.SignedRequest.{SignedRequest}
 use Rattle.dsr_replica.specs.declared.envelope.Envelope.TheVariants.{Ask, Reply}

@@ -1,12 +1,11 @@
 -- A client's seen front is within the history, and the request that it asks for next is not: so its place is not before the front.
-use Rattle.std.proofs.Common.{◌≡◌, ℕ, ◌≤◌, Bool, true, false, if◌then◌else◌, List, [], ◌∷◌, ◌++◌, None, Some, length, length-append, ◌⊎◌, inl, inr, refl, ap, sym, ◌∙◌, subst, arith}
+use Rattle.std.proofs.Common.{◌≡◌, ℕ, ◌≤◌, Bool, true, false, if◌then◌else◌, List, [], ◌∷◌, None, Some, length, length-append, ◌⊎◌, inl, inr, refl, ap, sym, ◌∙◌, subst, arith}
 use Rattle.std.specs.Option.{option_or}
 use Rattle.std.proofs.lemmas.Bool.{cases_lt, true≢false}
 use Rattle.std.proofs.lemmas.Bool.Decides.{Decides-eqb}
 use Rattle.dsr_base.specs.Growth.{Extends}
 use Rattle.dsr_base.specs.Member.{In, here, there}
 use Rattle.dsr_names.specs.Shape.{Shape, HasFewTraitors}
-use Rattle.dsr_names.specs.declared.actor.Actor.{Actor}
 use Rattle.dsr_names.specs.declared.actor.Actor.TheVariants.{Replica, Client}
 use Rattle.dsr_request.specs.Request.{Request}
 use Rattle.dsr_request.specs.declared.answer.Answer.{Answer}
@@ -16,7 +15,6 @@ use Rattle.dsr_chain.specs.declared.signed_request.SignedRequest.{SignedRequest}
 use Rattle.dsr_replica.specs.declared.envelope.Envelope.TheVariants.{Ask, Seen}
 use Rattle.dsr_replica.specs.declared.entry.Entry.{Entry}
 use Rattle.dsr_replica.specs.declared.entry.Entry.TheVariants.{Post}
-use Rattle.dsr_replica.proofs.Lemmas.{decided_later}
 use Rattle.dsr_client.specs.State.{seen}
 use Rattle.dsr_client.proofs.Lemmas.{seen_below}
 use Rattle.dsr_world.specs.History.{seen_by, history}

@@ -5,24 +5,24 @@ mod Asking
 mod Boxes
 mod Family
 mod Forging
-pub mod Lemmas
 mod Histories
 mod Issuing
+pub mod Lemmas
 mod Links
 mod Logs
+mod NextSteps
+mod Opening
 mod PlayLemmas
 mod PlayLineLemmas
 mod PlayPartLemmas
 mod Playing
-mod Righting
 mod Posts
 mod Proposing
+mod Righting
 mod Signing
+mod Spelled
 mod Stepping
 mod Within
-mod NextSteps
-mod Worlds
 mod WorldPosts
 mod WorldTakes
-mod Opening
-mod Spelled
+mod Worlds

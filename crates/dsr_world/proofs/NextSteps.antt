@@ -1,11 +1,10 @@
 -- What nothing refuses is a step that may be next.
-use Rattle.std.proofs.Common.{◌≡◌, ◌≢◌, ℕ, suc, ◌<◌, ◌≤◌, ◌^◌, ◌==◌, not, nat_lt, Bool, true, false, List, [], ◌∷◌, ◌++◌, Option, None, Some, length, if◌then◌else◌, ◌⊎◌, inl, inr, refl, ap, sym, ◌∙◌, subst, arith}
+use Rattle.std.proofs.Common.{◌≡◌, ◌≢◌, ℕ, suc, ◌<◌, ◌^◌, not, nat_lt, Bool, true, false, List, [], ◌∷◌, ◌++◌, Option, None, Some, length, if◌then◌else◌, refl, ap, sym, ◌∙◌, subst, arith}
 use Rattle.std.specs.Option.{option_map}
 use Rattle.std.proofs.lemmas.Bool.{true≢false}
 use Rattle.std.proofs.lemmas.Bool.Decides.{Decides-eqb, nat_tests}
 use Rattle.std.proofs.lemmas.Option.{none-some, same_Some}
-use Rattle.dsr_base.specs.Member.{In, here, there}
-use Rattle.dsr_names.specs.Shape.{Shape, is_traitor, IsActor, IsAllowed, HasFewTraitors}
+use Rattle.dsr_names.specs.Shape.{Shape, is_traitor, IsActor, IsAllowed}
 use Rattle.dsr_names.specs.declared.actor.Actor.{Actor}
 use Rattle.dsr_names.specs.declared.actor.Actor.TheVariants.{Replica, Client}
 use Rattle.dsr_request.specs.RequestText.{IsRequest}
@@ -13,7 +12,6 @@ use Rattle.dsr_chain.specs.declared.signed_request.SignedRequest.{SignedRequest}
 use Rattle.dsr_desk.specs.Signature.{Signature}
 use Rattle.dsr_replica.specs.declared.envelope.Envelope.{Envelope}
 use Rattle.dsr_replica.specs.declared.envelope.Envelope.TheVariants.{Ask, Seen}
-use Rattle.dsr_replica.specs.declared.entry.Entry.{Entry}
 use Rattle.dsr_replica.specs.declared.entry.Entry.TheVariants.{Post, Take}
 use Rattle.dsr_replica.specs.declared.step.Due.{Due}
 use Rattle.dsr_replica.specs.declared.step.Due.TheVariants.{Post as PostTo, Take as TakeFrom}
@@ -24,11 +22,11 @@ use Rattle.dsr_replica.specs.Envelope.{Carries}
 use Rattle.dsr_replica.specs.Limits.{IsEnvelope, IsSigned}
 use Rattle.dsr_replica.specs.Log.{posted_to, taken_from, due, rounds}
 use Rattle.dsr_replica.specs.Pick.{IsPick}
-use Rattle.dsr_client.specs.Conduct.{ask_of, next_number, chosen_beside, IsNext as IsNextOfClient}
+use Rattle.dsr_client.specs.Conduct.{ask_of, next_number, chosen_beside}
 use Rattle.dsr_client.specs.State.{outstanding, seen}
 use Rattle.dsr_world.specs.Event.{post_of, is_exhausted, is_traitor_of, is_undue, takes_from, is_used_up}
-use Rattle.dsr_world.specs.Run.{IsTraitor, IsMadeOrPosted, ForgesNothing, KeepsConduct, IsNextStep, IsRun}
-use Rattle.dsr_world.specs.Step.{Step, Logs, log_of}
+use Rattle.dsr_world.specs.Run.{IsMadeOrPosted, IsNextStep, IsRun}
+use Rattle.dsr_world.specs.Step.{Step, log_of}
 use Rattle.dsr_world.specs.Support.WorldFields.{IsSpelledPick}
 use Rattle.dsr_world.proofs.Asking.{outstanding_within}
 use Rattle.dsr_world.proofs.Issuing.{fronts}

@@ -11,7 +11,7 @@ use Rattle.dsr_script.specs.Header.{IsHeaderRefusal, HasBadShape, HasNoHeader}
 use Rattle.dsr_world.specs.declared.play_line.PlayLine.{PlayLine}
 use Rattle.dsr_world.specs.PlayText.{line_text, lines_text, IsPlayLine, IsNext, AreLines, all_events, events_of}
 use Rattle.dsr_world.specs.Play.{Play, BeginsWithLines, HasNoNext, IsBadAfter, play_title, IsPlayRefusal}
-use Rattle.dsr_world.specs.PlayedLines.{HasTaken}
+use Rattle.dsr_world.specs.Support.PlayedLines.{HasTaken}
 
 -- ---- what begins a rest
 

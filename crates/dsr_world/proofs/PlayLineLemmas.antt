@@ -22,7 +22,7 @@ use Rattle.dsr_world.specs.declared.event.Event.TheVariants.{Post, Plant, Take, 
 use Rattle.dsr_world.specs.declared.play_line.PlayLine.{PlayLine}
 use Rattle.dsr_world.specs.declared.play_line.PlayLine.TheVariants.{One, Posts, PostsAll, Plants, Takes, TakesAll, Asks, Hears, Replies}
 use Rattle.dsr_world.specs.PlayText.{line_word, line_rest, line_text, pick_text, IsPlayLine}
-use Rattle.dsr_world.specs.PlayParts.{IsLineOf, posts_line, asks_line, AreEnds, two_text, IsPosted, posted_text, IsChoice, choice_text, IsPlanted, planted_text, IsPlantedForAll, planted_for_all_text}
+use Rattle.dsr_world.specs.Support.PlayParts.{IsLineOf, posts_line, asks_line, AreEnds, two_text, IsPosted, posted_text, IsChoice, choice_text, IsPlanted, planted_text, IsPlantedForAll, planted_for_all_text}
 
 -- ---- words
 

@@ -19,7 +19,7 @@ use Rattle.dsr_request.specs.declared.op.Op.{Op}
 use Rattle.dsr_replica.specs.Pick.{IsClients}
 use Rattle.dsr_replica.specs.declared.step.Pick.{Pick}
 use Rattle.dsr_replica.specs.declared.step.Pick.TheVariants.{Plain, From, Begin}
-use Rattle.dsr_world.specs.PlayParts.{AreSpelledClients, clients_text, IsSaidPick, said_pick, IsChoice, choice_text}
+use Rattle.dsr_world.specs.Support.PlayParts.{AreSpelledClients, clients_text, IsSaidPick, said_pick, IsChoice, choice_text}
 
 -- ---- two readings with a space between them are the reading of the pair
 

@@ -1,5 +1,5 @@
 -- How the parties of a world go on standing for their logs.
-use Rattle.std.proofs.Common.{◌≡◌, ℕ, suc, ◌<◌, ◌^◌, not, nat_lt, Bool, true, false, List, [], ◌∷◌, Option, None, Some, length, reverse, if◌then◌else◌, refl, ap, ap₂, sym, ◌∙◌, subst, arith}
+use Rattle.std.proofs.Common.{◌≡◌, ℕ, suc, ◌<◌, ◌^◌, not, nat_lt, Bool, true, false, List, ◌∷◌, Option, None, Some, length, reverse, if◌then◌else◌, refl, ap, ap₂, sym, ◌∙◌, subst, arith}
 use Rattle.std.specs.Option.{option_map, is_none}
 use Rattle.std.proofs.lemmas.Option.{none-some, same_Some}
 use Rattle.std.proofs.lemmas.Bool.Decides.{nat_tests}
@@ -12,8 +12,7 @@ use Rattle.dsr_chain.specs.declared.signed_request.SignedRequest.{SignedRequest}
 use Rattle.dsr_replica.specs.declared.envelope.Envelope.{Envelope}
 use Rattle.dsr_replica.specs.declared.envelope.Envelope.TheVariants.{Ask}
 use Rattle.dsr_replica.specs.declared.entry.Entry.{Entry}
-use Rattle.dsr_replica.specs.declared.entry.Entry.TheVariants.{Post, Take}
-use Rattle.dsr_replica.specs.declared.step.Pick.{Pick}
+use Rattle.dsr_replica.specs.declared.entry.Entry.TheVariants.{Post}
 use Rattle.dsr_replica.specs.declared.step.Pick.TheVariants.{Begin}
 use Rattle.dsr_client.specs.Client.{MayBegin, StandsFor as StandsForClient}
 use Rattle.dsr_client.specs.Conduct.{ask_of, next_number, chosen_beside}

@@ -1,16 +1,13 @@
 -- Every run is right, and a client that took a reply from all loyal replicas has accepted one.
 use Rattle.std.proofs.Common.{◌≡◌, ℕ, zero, suc, ◌*◌, ◌<◌, true, List, ◌++◌, Some, refl, ap, sym, ◌∙◌, subst, arith}
-use Rattle.std.specs.Prelude.{map}
 use Rattle.dsr_base.specs.Bits.{count_below}
 use Rattle.dsr_base.specs.Member.{In}
 use Rattle.dsr_base.proofs.MemberLemmas.{In-append_left}
 use Rattle.dsr_names.specs.Shape.{Shape, IsLoyal, HasFewTraitors}
-use Rattle.dsr_names.specs.declared.actor.Actor.{Actor}
 use Rattle.dsr_names.specs.declared.actor.Actor.TheVariants.{Replica, Client}
 use Rattle.dsr_ledger.specs.declared.reply.Reply.{Reply as AReply}
-use Rattle.dsr_history.specs.History.{requests_of, StandsAt, IsLegal}
-use Rattle.dsr_history.proofs.Lemmas.{legal_acting, stands_once}
-use Rattle.dsr_chain.specs.Content.{requests_in}
+use Rattle.dsr_history.specs.History.{StandsAt}
+use Rattle.dsr_history.proofs.Lemmas.{stands_once}
 use Rattle.dsr_chain.specs.declared.signed_request.SignedRequest.{SignedRequest}
 use Rattle.dsr_quorum.proofs.Lemmas.{some_voter}
 use Rattle.dsr_replica.specs.declared.envelope.Envelope.TheVariants.{Reply}
@@ -18,7 +15,7 @@ use Rattle.dsr_replica.specs.declared.entry.Entry.{Entry}
 use Rattle.dsr_replica.specs.declared.entry.Entry.TheVariants.{Take}
 use Rattle.dsr_client.specs.State.{outstanding, accepted}
 use Rattle.dsr_client.proofs.Lemmas.{answered}
-use Rattle.dsr_world.specs.History.{accepted_by, most_decided, history}
+use Rattle.dsr_world.specs.History.{accepted_by, history}
 use Rattle.dsr_world.specs.Right.{issue_front, IsRightReply, IsRight}
 use Rattle.dsr_world.specs.Run.{IsRun}
 use Rattle.dsr_world.specs.Step.{Step, log_of}

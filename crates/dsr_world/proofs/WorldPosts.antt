@@ -1,61 +1,43 @@
 -- How the parts of a world go on standing for its run when a traitor posts, a client tells its seen front, and an actor takes.
-use Rattle.std.proofs.Common.{◌≡◌, ◌≢◌, ◌↔◌, ℕ, suc, ◌<◌, ◌^◌, ◌&&◌, ◌||◌, not, nat_lt, Bool, true, false, List, [], ◌∷◌, ◌++◌, Option, None, Some, length, length-append, reverse, if◌then◌else◌, ◌⊎◌, inl, inr, refl, ap, sym, ◌∙◌, subst, arith}
-use Rattle.std.specs.Prelude.{Any, slice_set, slice_index_or}
-use Rattle.std.specs.Option.{option_map, is_none}
+use Rattle.std.proofs.Common.{◌≡◌, ◌≢◌, ◌↔◌, ℕ, ◌<◌, ◌&&◌, not, Bool, true, false, List, [], ◌∷◌, None, Some, ◌⊎◌, inl, inr, refl, ap, sym, ◌∙◌, subst}
+use Rattle.std.specs.Prelude.{Any}
 use Rattle.std.proofs.lemmas.Bool.{true≢false}
-use Rattle.std.proofs.lemmas.Bool.Decides.{nat_tests}
-use Rattle.std.proofs.lemmas.List.{reverse-append, append-nil}
 use Rattle.std.proofs.lemmas.Option.{none-some, same_Some}
 use Rattle.dsr_base.specs.Member.{In, here, there}
 use Rattle.dsr_names.specs.Shape.{Shape, is_traitor, IsActor, IsAllowed, IsLoyal}
 use Rattle.dsr_names.specs.declared.actor.Actor.{Actor}
 use Rattle.dsr_names.specs.declared.actor.Actor.TheVariants.{Replica, Client}
 use Rattle.dsr_names.specs.declared.refusal.Refusal.{Refusal}
-use Rattle.dsr_names.specs.declared.refusal.Refusal.TheVariants.{NoActor, WrongRole, NotDue, Exhausted, BoxFull, Forged, NoMemory}
+use Rattle.dsr_names.specs.declared.refusal.Refusal.TheVariants.{NoActor, WrongRole, Exhausted, BoxFull, Forged, NoMemory}
 use Rattle.dsr_desk.specs.Signature.{Signature}
 use Rattle.dsr_replica.specs.declared.envelope.Envelope.{Envelope}
 use Rattle.dsr_replica.specs.declared.entry.Entry.{Entry}
-use Rattle.dsr_replica.specs.declared.entry.Entry.TheVariants.{Post as PostEntry, Take as TakeEntry}
-use Rattle.dsr_replica.specs.declared.step.Pick.{Pick}
+use Rattle.dsr_replica.specs.declared.entry.Entry.TheVariants.{Post as PostEntry}
 use Rattle.dsr_replica.specs.Envelope.{Carries}
 use Rattle.dsr_replica.specs.Log.{posted_to, taken_from}
-use Rattle.dsr_replica.specs.Pick.{IsPick}
-use Rattle.dsr_chain.specs.declared.signed_request.SignedRequest.{SignedRequest}
-use Rattle.dsr_replica.specs.declared.envelope.Envelope.TheVariants.{Empty, Round, Ask, Reply, Seen}
-use Rattle.dsr_client.specs.State.{State, asked_beside, state_after, outstanding, accepted}
-use Rattle.dsr_world.proofs.Logs.{log_cases}
-use Rattle.dsr_world.specs.declared.event.Event.TheVariants.{Post, Plant, Take, Tell}
-use Rattle.dsr_world.specs.Event.{is_actor, is_traitor_of, are_clients, is_full, is_used_up, is_exhausted, post_of, refusal_of, first_of, Answers, HasDone}
+use Rattle.dsr_replica.specs.declared.envelope.Envelope.TheVariants.{Seen}
+use Rattle.dsr_world.specs.declared.event.Event.TheVariants.{Plant, Tell}
+use Rattle.dsr_world.specs.Event.{is_actor, is_traitor_of, is_full, is_used_up, refusal_of, first_of, HasDone}
 use Rattle.dsr_world.specs.Run.{IsNextStep, IsTraitor}
 use Rattle.dsr_world.specs.Step.{Step, Logs, log_of}
-use Rattle.dsr_world.specs.Support.Boxes.{box_at, row_of, with_box, with_post, held_in, IsBoxOf}
-use Rattle.dsr_world.specs.Support.Party.{Plays, post_refusal}
-use Rattle.dsr_world.specs.Support.WorldFields.{place_of, IsSpelledPick, AreParts, AreBoxes, KnowsAll}
+use Rattle.dsr_world.specs.Support.Boxes.{box_at, with_box, with_post}
+use Rattle.dsr_world.specs.Support.Party.{Plays}
+use Rattle.dsr_world.specs.Support.WorldFields.{place_of, AreParts, KnowsAll}
 use Rattle.dsr_world.specs.declared.mail_boxes.MailBox.{MailBox}
 use Rattle.dsr_world.specs.declared.party.Party.{Party}
-use Rattle.dsr_world.proofs.NextSteps.{posts_next}
-use Rattle.dsr_world.proofs.Stepping.{place_below, played_step, boxes_posted, known_posted, known_still}
-use Rattle.std.specs.Prelude.{slice_get}
+use Rattle.dsr_world.proofs.Stepping.{boxes_posted, known_posted, known_still}
 use Rattle.std.proofs.lemmas.Bool.Decides.{Decides-eqb}
 use Rattle.dsr_replica.specs.Limits.{IsEnvelope}
 use Rattle.dsr_client.specs.State.{seen}
-use Rattle.dsr_replica.specs.Replica.{HasRoom}
-use Rattle.dsr_replica.specs.declared.step.Due.TheVariants.{Take as TakeFrom}
-use Rattle.dsr_replica.specs.Log.{due}
 use Rattle.dsr_script.specs.Held.{IsUnforged}
-use Rattle.dsr_world.specs.Event.{refusals, IsRefusedBy, is_own_client, are_two_clients, is_undue, step_of, in_box, AcceptsBy, IsForged, IsForgedAtLast}
-use Rattle.dsr_world.specs.Run.{IsRun, IsMadeOrPosted, HasPosted, ForgesNothing}
-use Rattle.dsr_world.specs.Support.Boxes.{without_letter}
-use Rattle.dsr_world.specs.Support.Party.{PlaysClient, CanTake, HasRoomToTake, TakesReply}
+use Rattle.dsr_world.specs.Event.{refusals, IsRefusedBy, are_two_clients, IsForged, IsForgedAtLast}
+use Rattle.dsr_world.specs.Run.{IsMadeOrPosted, HasPosted, ForgesNothing}
 use Rattle.dsr_world.specs.declared.party.Party.TheVariants.{Loyal, Traitor, Client as ClientParty}
-use Rattle.dsr_world.specs.Support.WorldFields.{ArePlayed, AreKeys, KnowsPosts}
-use Rattle.dsr_world.proofs.Boxes.{posted_entry, actors_within}
+use Rattle.dsr_world.proofs.Boxes.{actors_within}
 use Rattle.dsr_world.proofs.Forging.{all_made}
-use Rattle.dsr_world.proofs.NextSteps.{plants_next, tells_next, takes_next, take_due}
-use Rattle.dsr_world.proofs.Stepping.{played_on, played_same, boxes_taken}
-use Rattle.dsr_world.proofs.Within.{posted_within}
-use Rattle.dsr_world.proofs.Worlds.{NoneHolds, none_holds, last_fails, both_hold, actor_is, box_is_empty, empty_same, post_answers}
-use Rattle.dsr_base.proofs.MemberLemmas.{In-append_right}
+use Rattle.dsr_world.proofs.NextSteps.{plants_next, tells_next}
+use Rattle.dsr_world.proofs.Stepping.{played_on}
+use Rattle.dsr_world.proofs.Worlds.{none_holds, both_hold, actor_is, box_is_empty, empty_same, post_answers}
 
 not_true : (b : Bool) → not b ≡ false → b ≡ true
 not_true true e = refl

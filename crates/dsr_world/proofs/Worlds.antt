@@ -1,21 +1,20 @@
 -- How the parts of a world go on standing for its run, event by event.
-use Rattle.std.proofs.Common.{◌≡◌, ◌↔◌, ℕ, suc, ◌<◌, ◌^◌, ◌&&◌, ◌||◌, not, nat_lt, Bool, true, false, List, [], ◌∷◌, ◌++◌, Option, None, Some, length, length-append, reverse, if◌then◌else◌, ◌⊎◌, inl, inr, refl, ap, sym, ◌∙◌, subst, arith}
-use Rattle.std.specs.Prelude.{Any, slice_set, slice_index_or}
+use Rattle.std.proofs.Common.{◌≡◌, ◌↔◌, ℕ, suc, ◌<◌, ◌^◌, ◌&&◌, ◌||◌, not, nat_lt, Bool, true, false, List, [], ◌∷◌, ◌++◌, Option, None, Some, length, length-append, reverse, if◌then◌else◌, ◌⊎◌, inl, inr, refl, ap, sym, ◌∙◌, arith}
+use Rattle.std.specs.Prelude.{Any, slice_set}
 use Rattle.std.specs.Option.{option_map, is_none}
 use Rattle.std.proofs.lemmas.Bool.{true≢false}
 use Rattle.std.proofs.lemmas.Bool.Decides.{nat_tests}
 use Rattle.std.proofs.lemmas.List.{reverse-append, append-nil}
-use Rattle.std.proofs.lemmas.Option.{none-some, same_Some}
-use Rattle.dsr_base.specs.Member.{In, here, there}
-use Rattle.dsr_names.specs.Shape.{Shape, is_traitor, IsActor, IsAllowed, IsLoyal}
+use Rattle.std.proofs.lemmas.Option.{none-some}
+use Rattle.dsr_base.specs.Member.{In}
+use Rattle.dsr_names.specs.Shape.{Shape, IsActor, IsAllowed, IsLoyal}
 use Rattle.dsr_names.specs.declared.actor.Actor.{Actor}
 use Rattle.dsr_names.specs.declared.actor.Actor.TheVariants.{Replica, Client}
 use Rattle.dsr_names.specs.declared.refusal.Refusal.{Refusal}
 use Rattle.dsr_names.specs.declared.refusal.Refusal.TheVariants.{NoActor, WrongRole, NotDue, Exhausted, BoxFull}
 use Rattle.dsr_desk.specs.Signature.{Signature}
 use Rattle.dsr_replica.specs.declared.envelope.Envelope.{Envelope}
-use Rattle.dsr_replica.specs.declared.entry.Entry.{Entry}
-use Rattle.dsr_replica.specs.declared.entry.Entry.TheVariants.{Post as PostEntry, Take as TakeEntry}
+use Rattle.dsr_replica.specs.declared.entry.Entry.TheVariants.{Post as PostEntry}
 use Rattle.dsr_replica.specs.declared.step.Pick.{Pick}
 use Rattle.dsr_replica.specs.Envelope.{Carries}
 use Rattle.dsr_replica.specs.Log.{posted_to, taken_from}
@@ -24,17 +23,17 @@ use Rattle.dsr_chain.specs.declared.signed_request.SignedRequest.{SignedRequest}
 use Rattle.dsr_replica.specs.declared.envelope.Envelope.TheVariants.{Empty, Round, Ask, Reply, Seen}
 use Rattle.dsr_client.specs.State.{State, asked_beside, state_after, outstanding, accepted}
 use Rattle.dsr_world.proofs.Logs.{log_cases}
-use Rattle.dsr_world.specs.declared.event.Event.TheVariants.{Post, Plant, Take, Tell}
+use Rattle.dsr_world.specs.declared.event.Event.TheVariants.{Post}
 use Rattle.dsr_world.specs.Event.{is_actor, is_traitor_of, are_clients, is_full, is_used_up, is_exhausted, post_of, refusal_of, first_of, Answers, HasDone}
-use Rattle.dsr_world.specs.Run.{IsNextStep, IsTraitor}
+use Rattle.dsr_world.specs.Run.{IsNextStep}
 use Rattle.dsr_world.specs.Step.{Step, Logs, log_of}
 use Rattle.dsr_world.specs.Support.Boxes.{box_at, row_of, with_box, with_post, held_in, IsBoxOf}
 use Rattle.dsr_world.specs.Support.Party.{Plays, post_refusal}
-use Rattle.dsr_world.specs.Support.WorldFields.{place_of, IsSpelledPick, AreParts, AreBoxes, KnowsAll}
+use Rattle.dsr_world.specs.Support.WorldFields.{place_of, IsSpelledPick, AreParts, KnowsAll}
 use Rattle.dsr_world.specs.declared.mail_boxes.MailBox.{MailBox}
 use Rattle.dsr_world.specs.declared.party.Party.{Party}
 use Rattle.dsr_world.proofs.NextSteps.{posts_next}
-use Rattle.dsr_world.proofs.Stepping.{place_below, played_step, boxes_posted, known_posted, known_still}
+use Rattle.dsr_world.proofs.Stepping.{place_below, played_step, boxes_posted, known_posted}
 
 -- ---- what was not refused
 

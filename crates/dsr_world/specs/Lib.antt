@@ -2,9 +2,7 @@ pub mod Agreement
 pub mod Event
 pub mod History
 pub mod Play
-pub mod PlayParts
 pub mod PlayText
-pub mod PlayedLines
 pub mod Right
 pub mod Run
 pub mod Step

@@ -2,7 +2,7 @@ ghost use Rattle.std.specs.Prelude.{◌≡◌, ◌↔◌, ◌≤◌, ◌∷◌, 
 ghost use Rattle.dsr_world.specs.declared.play_line.PlayLine.{PlayLine};
 ghost use Rattle.dsr_world.specs.PlayText.{all_events, events_of};
 ghost use Rattle.dsr_world.specs.Play.{Spells, IsPlayRefusal};
-ghost use Rattle.dsr_world.specs.PlayedLines.{HasTaken, IsLinesRefusal};
+ghost use Rattle.dsr_world.specs.Support.PlayedLines.{HasTaken, IsLinesRefusal};
 
 use crate::event::Event;
 use crate::play_events::add_events;

@@ -3,10 +3,10 @@ ghost use Rattle.std.specs.Option.{option_zip};
 ghost use Rattle.dsr_base.specs.Reads.{Reads};
 ghost use Rattle.dsr_names.specs.declared.actor.Actor.TheVariants.{Replica, Client};
 ghost use Rattle.dsr_world.specs.PlayText.{line_text, line_rest, IsPlayLine};
-ghost use Rattle.dsr_world.specs.PlayParts.{IsLineOf, post_line, plant_line, take_line, tell_line, posts_line, plants_line, asks_line};
-ghost use Rattle.dsr_world.specs.PlayParts.{AreEnds, two_text, IsPosted, posted_text, IsChoice, choice_text, IsSaidPick, said_pick};
-ghost use Rattle.dsr_world.specs.PlayParts.{AreSpelledClients, clients_text, IsPlanted, planted_text, IsEnd, end_text};
-ghost use Rattle.dsr_world.specs.PlayParts.{IsPlantedForAll, planted_for_all_text};
+ghost use Rattle.dsr_world.specs.Support.PlayParts.{IsLineOf, post_line, plant_line, take_line, tell_line, posts_line, plants_line, asks_line};
+ghost use Rattle.dsr_world.specs.Support.PlayParts.{AreEnds, two_text, IsPosted, posted_text, IsChoice, choice_text, IsSaidPick, said_pick};
+ghost use Rattle.dsr_world.specs.Support.PlayParts.{AreSpelledClients, clients_text, IsPlanted, planted_text, IsEnd, end_text};
+ghost use Rattle.dsr_world.specs.Support.PlayParts.{IsPlantedForAll, planted_for_all_text};
 
 use crate::event::Event;
 use dsr_base::{Few, split_once};

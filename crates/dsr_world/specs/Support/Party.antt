@@ -1,5 +1,5 @@
 -- How an actor of a world stands for its log (this project).
-use Rattle.std.specs.Prelude.{◌≡◌, ◌≢◌, ℕ, suc, ◌<◌, ◌^◌, Bool, true, false, List, [], ◌∷◌, Option, None, Some, reverse, if◌then◌else◌}
+use Rattle.std.specs.Prelude.{◌≡◌, ◌≢◌, ℕ, ◌<◌, true, false, List, ◌∷◌, Option, None, Some, reverse, if◌then◌else◌}
 use Rattle.std.specs.Option.{is_none}
 use Rattle.dsr_names.specs.Shape.{Shape, is_traitor, IsActor}
 use Rattle.dsr_names.specs.declared.actor.Actor.{Actor}

@@ -1,4 +1,4 @@
-use Rattle.std.proofs.Common.{◌≡◌, Some, sym, ◌∙◌, ap₂, subst}
+use Rattle.std.proofs.Common.{◌∙◌, ap₂}
 use Rattle.dsr_replica.specs.Conduct.{envelope_to}
 use Rattle.dsr_world.proofs.party.post_round.Goals as goal
 

@@ -1,6 +1,6 @@
 use Rattle.std.proofs.Common.{sym, subst}
 use Rattle.dsr_base.specs.Reads.{Reads}
-use Rattle.dsr_world.specs.PlayParts.{IsChoice, choice_text}
+use Rattle.dsr_world.specs.Support.PlayParts.{IsChoice, choice_text}
 use Rattle.dsr_world.proofs.PlayPartLemmas.{reads_plain, reads_choice}
 use Rattle.dsr_world.proofs.play_line.read_choice.Goals as goal
 

@@ -1,6 +1,6 @@
 use Rattle.std.proofs.Common.{sym, subst}
 use Rattle.dsr_base.specs.Reads.{Reads}
-use Rattle.dsr_world.specs.PlayParts.{IsEnd, IsPlanted, end_text, planted_text}
+use Rattle.dsr_world.specs.Support.PlayParts.{IsEnd, IsPlanted, end_text, planted_text}
 use Rattle.dsr_names.specs.Actor.{IsNumbered, actor_text}
 use Rattle.dsr_world.proofs.PlayPartLemmas.{no_space, reads_zip, actor_spaceless}
 use Rattle.dsr_world.proofs.play_line.read_planted.Goals as goal

@@ -1,6 +1,6 @@
 use Rattle.std.proofs.Common.{sym, subst}
 use Rattle.dsr_base.specs.Reads.{Reads}
-use Rattle.dsr_world.specs.PlayParts.{IsPlantedForAll, planted_for_all_text}
+use Rattle.dsr_world.specs.Support.PlayParts.{IsPlantedForAll, planted_for_all_text}
 use Rattle.dsr_names.specs.Actor.{replica_text}
 use Rattle.dsr_script.specs.EnvelopeText.{envelope_text, IsSpelledEnvelope}
 use Rattle.std.proofs.Common.{ℕ, ◌<◌}

@@ -1,7 +1,7 @@
 use Rattle.std.proofs.Common.{codes, sym, subst}
 use Rattle.dsr_base.specs.Reads.{Reads}
 use Rattle.dsr_world.specs.PlayText.{line_rest}
-use Rattle.dsr_world.specs.PlayParts.{IsLineOf}
+use Rattle.dsr_world.specs.Support.PlayParts.{IsLineOf}
 use Rattle.dsr_world.proofs.PlayLineLemmas.{not_same_word, reads_posts}
 use Rattle.dsr_world.proofs.play_line.read_posts.Goals as goal
 

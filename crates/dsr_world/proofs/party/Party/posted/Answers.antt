@@ -1,5 +1,4 @@
 use Rattle.std.proofs.Common.{◌≡◌, None, Some, ap, subst}
-use Rattle.dsr_replica.specs.declared.entry.Entry.TheVariants.{Post}
 use Rattle.dsr_world.specs.Event.{post_of}
 use Rattle.dsr_world.specs.Support.Customer.{Customer}
 use Rattle.dsr_world.specs.Support.Party.{Plays, post_refusal}

@@ -1,4 +1,4 @@
-use Rattle.std.proofs.Common.{◌≡◌, ◌+◌, ◌<◌, ◌∷◌, ◌++◌, [], suc, reverse, refl, ap, ap₂, sym, ◌∙◌, subst, arith}
+use Rattle.std.proofs.Common.{◌≡◌, ◌+◌, ◌<◌, suc, reverse, refl, ap₂, sym, subst, arith}
 use Rattle.dsr_names.specs.declared.actor.Actor.TheVariants.{Replica, Client}
 use Rattle.dsr_world.specs.Support.Boxes.{AreSquare}
 use Rattle.dsr_world.specs.Support.WorldFields.{AreParts, AreOpened, AreKeysBelow}

@@ -1,22 +1,16 @@
-use Rattle.std.proofs.Common.{◌≡◌, ◌∷◌, ◌++◌, [], ◌⊎◌, None, Some, Err, inl, inr, reverse, refl, ap, ap₂, sym, ◌∙◌, subst}
-use Rattle.std.specs.Prelude.{slice_set}
-use Rattle.dsr_names.specs.Shape.{Shape, is_traitor, IsActor}
-use Rattle.dsr_names.specs.declared.actor.Actor.{Actor}
+use Rattle.std.proofs.Common.{◌≡◌, ◌∷◌, ◌++◌, [], None, reverse, ap, ap₂, sym, ◌∙◌, subst}
+use Rattle.dsr_names.specs.Shape.{IsActor}
 use Rattle.dsr_names.specs.declared.actor.Actor.TheVariants.{Replica}
-use Rattle.dsr_names.specs.declared.refusal.Refusal.{Refusal}
-use Rattle.dsr_names.specs.declared.refusal.Refusal.TheVariants.{Forged, NoMemory}
 use Rattle.dsr_replica.specs.declared.entry.Entry.TheVariants.{Post as PostEntry}
-use Rattle.dsr_replica.specs.Limits.{IsEnvelope}
-use Rattle.dsr_script.specs.Held.{IsUnforged}
 use Rattle.dsr_world.specs.declared.event.Event.TheVariants.{Plant}
-use Rattle.dsr_world.specs.Event.{refusal_of, is_full, is_used_up, IsForged, IsForgedAtLast, IsRefusedBy}
-use Rattle.dsr_world.specs.Run.{IsTraitor, ForgesNothing}
+use Rattle.dsr_world.specs.Event.{refusal_of, is_full, is_used_up}
+use Rattle.dsr_world.specs.Run.{ForgesNothing}
 use Rattle.dsr_world.specs.Step.{log_of}
 use Rattle.dsr_world.specs.Support.Boxes.{box_at, with_box, with_post}
 use Rattle.dsr_world.specs.Support.WorldFields.{place_of, AreParts}
 use Rattle.dsr_world.specs.World.{World}
 use Rattle.dsr_world.proofs.Worlds.{pushed}
-use Rattle.dsr_world.proofs.WorldPosts.{IsPlanted, cleared_plant, unforged_made, forged_plant, parts_after_plant}
+use Rattle.dsr_world.proofs.WorldPosts.{cleared_plant, parts_after_plant}
 use Rattle.dsr_world.proofs.world.World.plant.Goals as goal
 
 pub invariant_of-self-2 : goal.invariant_of-self-2

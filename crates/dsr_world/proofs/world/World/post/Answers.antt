@@ -1,5 +1,5 @@
-use Rattle.std.proofs.Common.{◌≡◌, ◌↔◌, ◌⊎◌, ◌∷◌, ◌++◌, [], ◌<◌, ◌^◌, None, Some, length, reverse, refl, ap, ap₂, sym, ◌∙◌, subst, arith}
-use Rattle.std.specs.Prelude.{Any, IfOk, slice_set, slice_index_or}
+use Rattle.std.proofs.Common.{◌≡◌, ◌↔◌, ◌⊎◌, ◌∷◌, ◌++◌, [], ◌<◌, ◌^◌, None, Some, length, reverse, ap, ap₂, sym, ◌∙◌, subst}
+use Rattle.std.specs.Prelude.{Any, slice_set, slice_index_or}
 use Rattle.dsr_base.specs.Member.{In}
 use Rattle.dsr_names.specs.declared.actor.Actor.{Actor}
 use Rattle.dsr_desk.specs.Signature.{Signature}
@@ -12,7 +12,7 @@ use Rattle.dsr_world.specs.Support.Boxes.{row_of, box_at, with_box, with_post}
 use Rattle.dsr_world.specs.Support.Party.{Plays}
 use Rattle.dsr_world.specs.Support.WorldFields.{place_of, AreParts}
 use Rattle.dsr_world.specs.World.{World}
-use Rattle.dsr_world.proofs.Worlds.{IsCleared, cleared, conduct_cleared, row_long, posts_few, pushed, parts_after_post, done_post}
+use Rattle.dsr_world.proofs.Worlds.{cleared, conduct_cleared, row_long, posts_few, pushed, parts_after_post, done_post}
 use Rattle.dsr_world.proofs.world.World.post.Goals as goal
 
 pub put-requires-clause-row : goal.put-requires-clause-row

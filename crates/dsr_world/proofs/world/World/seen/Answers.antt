@@ -1,8 +1,7 @@
 use Rattle.std.proofs.Common.{◌≡◌, ◌<◌, reverse, ap, sym, ◌∙◌, subst, arith}
 use Rattle.std.specs.Prelude.{slice_index_or}
-use Rattle.dsr_names.specs.Shape.{Shape}
 use Rattle.dsr_names.specs.declared.actor.Actor.TheVariants.{Client}
-use Rattle.dsr_world.specs.History.{accepted_by, seen_by}
+use Rattle.dsr_world.specs.History.{seen_by}
 use Rattle.dsr_world.specs.Step.{log_of}
 use Rattle.dsr_world.specs.Support.Party.{Plays}
 use Rattle.dsr_world.specs.World.{World}

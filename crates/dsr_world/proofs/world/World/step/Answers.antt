@@ -1,4 +1,4 @@
-use Rattle.std.proofs.Common.{◌≡◌, Err, sym, subst}
+use Rattle.std.proofs.Common.{sym, subst}
 use Rattle.dsr_names.specs.declared.refusal.Refusal.TheVariants.{Forged}
 use Rattle.dsr_world.specs.declared.event.Event.{Event}
 use Rattle.dsr_world.specs.Event.{IsForgedAtLast, IsRefusedBy}

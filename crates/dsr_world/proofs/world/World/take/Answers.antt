@@ -1,18 +1,10 @@
-use Rattle.std.proofs.Common.{◌≡◌, ◌↔◌, ◌⊎◌, ◌∷◌, ◌++◌, [], ◌<◌, ◌^◌, None, Some, length, reverse, refl, ap, ap₂, sym, ◌∙◌, subst, arith}
-use Rattle.std.specs.Prelude.{Any, IfOk, slice_set, slice_index_or}
-use Rattle.dsr_base.specs.Member.{In}
-use Rattle.dsr_names.specs.Shape.{IsActor}
-use Rattle.dsr_names.specs.declared.actor.Actor.{Actor}
-use Rattle.dsr_names.specs.declared.actor.Actor.TheVariants.{Client}
-use Rattle.dsr_replica.specs.declared.envelope.Envelope.TheVariants.{Seen}
-use Rattle.dsr_client.specs.State.{seen}
-use Rattle.dsr_desk.specs.Signature.{Signature}
-use Rattle.dsr_replica.specs.Envelope.{Carries}
+use Rattle.std.proofs.Common.{◌≡◌, ◌∷◌, ◌++◌, [], ◌<◌, None, Some, length, reverse, ap, ap₂, sym, ◌∙◌, subst, arith}
+use Rattle.std.specs.Prelude.{slice_set, slice_index_or}
 use Rattle.dsr_replica.specs.declared.entry.Entry.TheVariants.{Take as TakeEntry}
 use Rattle.dsr_world.specs.declared.event.Event.TheVariants.{Take}
-use Rattle.dsr_world.specs.Event.{refusal_of, is_full, is_used_up, HasDone}
+use Rattle.dsr_world.specs.Event.{refusal_of, HasDone}
 use Rattle.dsr_world.specs.Step.{log_of}
-use Rattle.dsr_world.specs.Support.Boxes.{row_of, box_at, with_box, without_letter}
+use Rattle.dsr_world.specs.Support.Boxes.{box_at, with_box, without_letter}
 use Rattle.dsr_world.specs.Support.Party.{Plays, CanTake, TakesReply}
 use Rattle.dsr_world.specs.Support.WorldFields.{place_of, AreParts}
 use Rattle.dsr_world.specs.World.{World}
@@ -20,7 +12,7 @@ use Rattle.std.proofs.lemmas.Option.{same_Some}
 use Rattle.std.proofs.lemmas.List.{get_or-set_same}
 use Rattle.dsr_world.proofs.Stepping.{place_below}
 use Rattle.dsr_world.proofs.Worlds.{pushed}
-use Rattle.dsr_world.proofs.WorldTakes.{IsTaken, cleared_take, can_take, parts_with_room, parts_after_take, done_take}
+use Rattle.dsr_world.proofs.WorldTakes.{cleared_take, can_take, parts_with_room, parts_after_take, done_take}
 use Rattle.dsr_world.proofs.world.World.take.Goals as goal
 
 pub invariant_of-self-in_default-room : goal.invariant_of-self-in_default-room

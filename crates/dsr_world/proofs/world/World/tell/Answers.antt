@@ -1,5 +1,5 @@
-use Rattle.std.proofs.Common.{◌≡◌, ◌↔◌, ◌⊎◌, ◌∷◌, ◌++◌, [], ◌<◌, ◌^◌, None, Some, length, reverse, refl, ap, ap₂, sym, ◌∙◌, subst, arith}
-use Rattle.std.specs.Prelude.{Any, IfOk, slice_set, slice_index_or}
+use Rattle.std.proofs.Common.{◌≡◌, ◌↔◌, ◌⊎◌, ◌∷◌, ◌++◌, [], None, reverse, ap, ap₂, sym, ◌∙◌, subst}
+use Rattle.std.specs.Prelude.{Any, slice_index_or}
 use Rattle.dsr_base.specs.Member.{In}
 use Rattle.dsr_names.specs.Shape.{IsActor}
 use Rattle.dsr_names.specs.declared.actor.Actor.{Actor}
@@ -12,12 +12,12 @@ use Rattle.dsr_replica.specs.declared.entry.Entry.TheVariants.{Post as PostEntry
 use Rattle.dsr_world.specs.declared.event.Event.TheVariants.{Tell}
 use Rattle.dsr_world.specs.Event.{refusal_of, is_full, is_used_up, HasDone}
 use Rattle.dsr_world.specs.Step.{log_of}
-use Rattle.dsr_world.specs.Support.Boxes.{row_of, box_at, with_box, with_post}
+use Rattle.dsr_world.specs.Support.Boxes.{box_at, with_box, with_post}
 use Rattle.dsr_world.specs.Support.Party.{Plays}
 use Rattle.dsr_world.specs.Support.WorldFields.{place_of, AreParts}
 use Rattle.dsr_world.specs.World.{World}
-use Rattle.dsr_world.proofs.Worlds.{pushed, post_answers}
-use Rattle.dsr_world.proofs.WorldPosts.{IsTold, cleared_tell, parts_after_tell, done_tell}
+use Rattle.dsr_world.proofs.Worlds.{pushed}
+use Rattle.dsr_world.proofs.WorldPosts.{cleared_tell, parts_after_tell, done_tell}
 use Rattle.dsr_world.proofs.world.World.tell.Goals as goal
 
 pub invariant_of-self-2 : goal.invariant_of-self-2
