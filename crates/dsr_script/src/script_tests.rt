@@ -272,6 +272,33 @@ fn a_text_cut_anywhere_is_bad_in_its_last_line(rt: HostRuntime) -> Result<(), Fa
 }
 
 #[test]
+fn no_line_before_a_changed_byte_is_bad(rt: HostRuntime) -> Result<(), Fail> {
+    let mut text = ROW.as_bytes().to_vec(rt.alloc())?;
+    let mut line: u64 = 1;
+    for place in 0..text.len() {
+        let was = text[place];
+        for other in b"\n 01rc+-,/~(" {
+            text[place] = *other;
+            let end = end_of(rt.alloc(), text.as_slice());
+            if end == Err(Refusal::NoMemory) {
+                return Ok(end?);
+            }
+            let is_possible = match end {
+                Ok(()) | Err(Refusal::BadShape) => true,
+                Err(Refusal::BadText { line: first }) => line <= first && first <= 5,
+                Err(_) => false,
+            };
+            assert!(rt; is_possible, "at byte {place}");
+        }
+        text[place] = was;
+        if was == b'\n' {
+            line = line.wrapping_add(1);
+        }
+    }
+    Ok(())
+}
+
+#[test]
 fn a_header_has_its_own_title(rt: HostRuntime) -> Result<(), Fail> {
     let text = b"dsr-transcript 2 3 1 1 -\nr0 post r0 empty\n".as_slice();
     let header = match read_header(b"dsr-transcript 2".as_slice(), text) {

@@ -5,6 +5,7 @@ use dsr_replica::{Chains, Envelope};
 use dsr_request::Answer;
 use std::alloc::Global;
 use std::fmt::Write;
+use std::process::Abort;
 use std::test::Fail;
 
 /// Texts of every case, with short and long forms, and at some limits.
@@ -251,26 +252,22 @@ fn texts_cut_at_every_byte(rt: HostRuntime) -> Result<(), Fail> {
     Ok(())
 }
 
-#[test]
-fn texts_with_any_byte_changed(rt: HostRuntime) -> Result<(), Fail> {
-    let texts = [
-        "empty",
-        "round 0 0/c0#1:read:a~c0/r0",
-        "round 1 3/idle/r1(0/idle/-)",
-        "ask c0#1:remove:a~r1(c0#2:read:b)",
-        "reply 1 0 held 5",
-        "seen 12",
-    ];
+/// Reads each of the texts with each byte changed to each of some others, and compares what is written of what was read.
+fn read_with_each_byte_changed<R: Abort>(
+    rt: &R,
+    alloc: Global,
+    texts: &[&str],
+) -> Result<(), Fail> {
     let others = b" 01rc+-,/~()\n";
-    let mut room = String::with_capacity(rt.alloc(), 1024)?;
+    let mut room = String::with_capacity(alloc, 1024)?;
     for text in texts {
-        let mut changed = text.as_bytes().to_vec(rt.alloc())?;
+        let mut changed = text.as_bytes().to_vec(alloc)?;
         for place in 0..changed.len() {
             let was = changed[place];
             for other in others {
                 changed[place] = *other;
                 assert!(rt;
-                    is_exact_in(rt.alloc(), changed.as_slice(), &mut room)?,
+                    is_exact_in(alloc, changed.as_slice(), &mut room)?,
                     "{text}"
                 );
             }
@@ -278,6 +275,21 @@ fn texts_with_any_byte_changed(rt: HostRuntime) -> Result<(), Fail> {
         }
     }
     Ok(())
+}
+
+#[test]
+fn texts_with_any_byte_changed(rt: HostRuntime) -> Result<(), Fail> {
+    read_with_each_byte_changed(&rt, rt.alloc(), &TEXTS[..9])
+}
+
+#[test]
+fn longer_texts_with_any_byte_changed(rt: HostRuntime) -> Result<(), Fail> {
+    read_with_each_byte_changed(&rt, rt.alloc(), &TEXTS[9..12])
+}
+
+#[test]
+fn asks_and_replies_with_any_byte_changed(rt: HostRuntime) -> Result<(), Fail> {
+    read_with_each_byte_changed(&rt, rt.alloc(), &TEXTS[12..])
 }
 
 #[test]
