@@ -158,11 +158,11 @@ fn a_lying_reply_is_not_accepted(rt: HostRuntime) -> Result<(), Fail> {
 #[test]
 fn a_told_front_is_seen(rt: HostRuntime) -> Result<(), Fail> {
     let text =
-        b"dsr-play 1 1 0 2 -\nasks c0 begin write a 1\nhears c0\nposts r0 from c0\ntakes *\nreplies c0\ntakes c0\ntell c0 c1\ntake c1 c0\nasks c1 begin read a\nhears c1\nposts r0 from c1\ntakes *\nreplies c1\ntakes c1\n";
+        b"dsr-play 1 1 0 2 -\nasks c0 begin write a 1\nhears c0\nposts r0 from c0\ntakes *\nreplies c0\ntakes c0\nasks c0 begin write a 2\nhears c0\nposts r0 from c0\ntakes *\nreplies c0\ntakes c0\nasks c0 begin write a 3\nhears c0\nposts r0 from c0\ntakes *\nreplies c0\ntakes c0\ntell c0 c1\ntake c1 c0\nasks c1 begin read a\nhears c1\nposts r0 from c1\ntakes *\nreplies c1\ntakes c1\n";
     let words = told(rt.alloc(), text.as_slice(), 2)?;
     assert_eq!(rt;
         words.as_str(),
-        "done 14 refused 0; c0 1 0 written; c0 saw 1; c1 1 1 held 1; c1 saw 2"
+        "done 26 refused 0; c0 1 0 written; c0 2 1 written; c0 3 2 written; c0 saw 3; c1 1 3 held 3; c1 saw 4"
     );
     Ok(())
 }
@@ -176,6 +176,36 @@ fn a_list_of_requests_acts_in_its_order(rt: HostRuntime) -> Result<(), Fail> {
         words.as_str(),
         "done 10 refused 0; c0 1 1 written; c0 saw 2; c1 1 0 removed none; c1 saw 1"
     );
+    Ok(())
+}
+
+#[test]
+fn a_chain_to_one_replica_alone_is_passed_on(rt: HostRuntime) -> Result<(), Fail> {
+    let text =
+        b"dsr-play 1 5 2 1 r0+r1\npost c0 r0 begin write a 1\nplants r0 empty\nplants r1 empty\nposts *\ntakes *\nplants r0 empty\nplant r1 r0 empty\nplant r1 r1 empty\nplant r1 r2 round 1 0/c0#1:write:a:1~c0/r0+r1\nplant r1 r3 empty\nplant r1 r4 empty\nposts *\ntakes *\nplants r0 empty\nplants r1 empty\nposts *\ntakes *\n";
+    let words = told(rt.alloc(), text.as_slice(), 1)?;
+    assert_eq!(rt; words.as_str(), "done 151 refused 0; c0 saw 0");
+    Ok(())
+}
+
+#[test]
+fn three_values_in_one_envelope_are_taken(rt: HostRuntime) -> Result<(), Fail> {
+    let text =
+        b"dsr-play 1 3 1 3 r0\npost c0 r0 begin write a 1\npost c1 r0 begin write a 2\npost c2 r0 begin write a 3\nplant r0 r0 empty\nplant r0 r1 round 0 0/c0#1:write:a:1~c0/r0 0/c1#1:write:a:2~c1/r0 0/c2#1:write:a:3~c2/r0\nplant r0 r2 round 0 0/c0#1:write:a:1~c0/r0 0/c1#1:write:a:2~c1/r0 0/c2#1:write:a:3~c2/r0\nposts *\ntakes *\nplants r0 empty\nposts *\ntakes *\n";
+    let words = told(rt.alloc(), text.as_slice(), 3)?;
+    assert_eq!(rt;
+        words.as_str(),
+        "done 39 refused 0; c0 saw 0; c1 saw 0; c2 saw 0"
+    );
+    Ok(())
+}
+
+#[test]
+fn a_request_twice_in_a_value_is_taken(rt: HostRuntime) -> Result<(), Fail> {
+    let text =
+        b"dsr-play 1 3 1 1 r0\npost c0 r0 begin write a 5\nplants r0 round 0 0/c0#1:write:a:5~c0,c0#1:write:a:5~c0/r0\nposts *\ntakes *\nplants r0 empty\nposts *\ntakes *\n";
+    let words = told(rt.alloc(), text.as_slice(), 1)?;
+    assert_eq!(rt; words.as_str(), "done 37 refused 0; c0 saw 0");
     Ok(())
 }
 
