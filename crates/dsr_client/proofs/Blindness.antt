@@ -45,11 +45,11 @@ module _ (shape other : Shape) (agree : AgreeButForTraitors shape other) where
   pub ask_blind : (me : ℕ) (log : List Entry) (pick : Pick) → ask_to shape me log pick ≡ ask_to other me log pick
   ask_blind me log pick = ap (λ s. option_map Ask (chosen_beside s.outstanding me (suc (length s.accepted)) pick)) (state_blind log)
 
-  actor_blind : (a : Actor) → IsActor shape a → IsActor other a
+  pub actor_blind : (a : Actor) → IsActor shape a → IsActor other a
   actor_blind (Replica r) inside = subst (λ n. r < n) agree.replicas inside
   actor_blind (Client c) inside = subst (λ m. c < m) agree.clients inside
 
-  next_blind : (me : ℕ) (log : List Entry) (entry : Entry) → IsNext shape me log entry → IsNext other me log entry
+  pub next_blind : (me : ℕ) (log : List Entry) (entry : Entry) → IsNext shape me log entry → IsNext other me log entry
   next_blind me log (Post (Replica q) envelope) next =
       (subst (λ n. q < n) agree.replicas next.0, (next.1.0, sym (ask_blind me log next.1.0) ∙ next.1.1))
   next_blind me log (Post (Client c) envelope) next = (subst (λ m. c < m) agree.clients next.0, next.1, next.2 ∙ ap Seen (seen_blind log))
