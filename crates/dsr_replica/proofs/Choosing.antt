@@ -2,7 +2,7 @@
 use Rattle.std.proofs.Common.{◌≡◌, ℕ, zero, suc, ◌-◌, ◌<◌, ◌≤◌, ◌==◌, Bool, true, false, List, [], ◌∷◌, ◌++◌, length, Option, None, Some, if◌then◌else◌, inl, inr, refl, ap, ap₂, sym, ◌∙◌, subst, arith}
 use Rattle.std.specs.Prelude.{◌^◌, IsSome, slice_get, slice_index_or, take, drop}
 use Rattle.std.specs.Option.{SomeIff, option_map}
-use Rattle.std.proofs.lemmas.Bool.{cases_lt, false_from_ne_true}
+use Rattle.std.proofs.lemmas.Bool.{cases_lt, false_from_ne_true, false≢true}
 use Rattle.std.proofs.lemmas.Bool.Decides.{nat_tests, Decides-eqb}
 use Rattle.std.proofs.lemmas.List.{take_all}
 use Rattle.std.proofs.lemmas.Option.{none-some, same_Some}
@@ -60,6 +60,18 @@ asks_of_more asks (client ∷ more) first ask found r is some few one rest put =
     let own : ask_of asks client ≡ Some ask = ap (ask_of asks) (sym is) ∙ sym one in
     let count = all_count asks more found others in
     some_from r (ask ∷ found) put (omega (arith, count, few)) ∙ sym (ap₂ put_before own others)
+
+-- ---- options
+
+-- what is there
+pub is_some : {A : Type 0} (o : Option A) → IsSome o → (v : A) × (o ≡ Some v)
+is_some None some = absurd (false≢true some)
+is_some (Some v) some = (v, refl)
+
+-- nothing is there where nothing is
+pub is_none : {A : Type 0} (o : Option A) → (IsSome o → ⊥) → o ≡ None
+is_none None none = refl
+is_none (Some v) none = absurd (none refl)
 
 -- ---- what a choice gives
 

@@ -1,4 +1,4 @@
-ghost use Rattle.std.specs.Prelude.{◌≡◌, ℕ, ◌<◌, ◌≤◌, ◌&&◌, None, IfOk, IsOkUnless, length, slice_index_or, slice_set};
+ghost use Rattle.std.specs.Prelude.{◌≡◌, ℕ, ◌<◌, ◌≤◌, ◌&&◌, ◌↔◌, None, IfOk, IsOkUnless, IsSome, IsTrue, length, slice_index_or, slice_set};
 ghost use Rattle.dsr_chain.specs.declared.signed_request.SignedRequest.{SignedRequest};
 ghost use Rattle.dsr_replica.specs.declared.envelope.Envelope.TheVariants.{Ask};
 ghost use Rattle.dsr_replica.specs.Held.{is_own_ask, gives_way, held_with};
@@ -70,6 +70,26 @@ impl Asks {
         let place = client.number() as usize;
         if is_to_be_held(shape, client, &self.list[place], &ask) {
             self.list[place] = Some(ask);
+        }
+    }
+
+    /// Whether an ask of each of these clients is held.
+    pub(crate) fn has_each(&self, clients: &[ClientId]) -> bool
+        ensures { IsTrue result ↔ IsSome (asks_of self.now clients.now) }
+    {
+        match clients {
+            [] => true,
+            [first, rest @ ..] => self.has(*first) && self.has_each(rest),
+        }
+    }
+
+    /// Whether an ask of this client is held.
+    fn has(&self, client: ClientId) -> bool
+        ensures { IsTrue result ↔ IsSome (ask_of self.now client) }
+    {
+        match self.list.as_slice().get(client.number() as usize) {
+            Some(ask) => ask.is_some(),
+            None => false,
         }
     }
 

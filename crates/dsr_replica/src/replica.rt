@@ -1,6 +1,8 @@
 ghost use Rattle.std.specs.Prelude.{◌≡◌, ℕ, suc, ◌+◌, ◌<◌, ◌≤◌, ◌^◌, ◌↔◌, ◌∷◌, [], List, Some, All, length, map, reverse, OnOk, IfOk, IsSome, IsTrue, IsOkUnless, None, Err, IfErr};
 ghost use Rattle.std.specs.Option.{option_map};
 ghost use Rattle.dsr_names.specs.Shape.{Shape, IsActor};
+ghost use Rattle.dsr_names.specs.Support.ActorEquality.{actor_eq};
+ghost use Rattle.dsr_chain.specs.Proper.{sender_of};
 ghost use Rattle.dsr_chain.specs.Content.{requests_in};
 ghost use Rattle.dsr_chain.specs.declared.slot_value.SlotValue.{SlotValue};
 ghost use Rattle.dsr_history.specs.History.{acted};
@@ -134,13 +136,13 @@ impl Replica {
         ensures pick { IsPick pick }
     {
         look_at(&pick);
-        let Some(value) = self.value_for(to, pick) else {
+        if !self.has_value(to, pick) {
             return Err(Refusal::NotDue);
-        };
+        }
         if self.flights.round() >= ROUND_END {
             return Err(Refusal::Exhausted);
         }
-        self.made(alloc, &value)
+        self.chosen(alloc, to, pick)
     }
 
     /// Posts to this replica by this choice. Requires that it is allowed.
@@ -152,10 +154,7 @@ impl Replica {
         ensures me { self.new.me ≡ self.old.me }
         ensures shape { self.new.shape ≡ self.old.shape }
     {
-        let Some(value) = self.value_for(to, pick) else {
-            return;
-        };
-        self.post(to, value);
+        self.post(to, pick);
     }
 
     /// Makes room for what the next take may decide. `NoMemory` where it is refused: then nothing changed, but that there may
@@ -243,6 +242,21 @@ impl Replica {
         }
     }
 
+    /// The envelope of the round in progress by this choice. Requires that the choice is allowed.
+    fn chosen(&self, alloc: Global, to: ReplicaId, pick: Pick) -> Result<Envelope, Refusal>
+        requires { IsSome (value_for self.now to pick) }
+        ensures made { (value : SlotValue) → value_for self.now to pick ≡ Some value
+            → IfOk result (λ envelope. envelope ≡ round_envelope self.now.round (posts_of self.now.me value self.now.slots)) }
+        ensures refusal { IsOkUnless result Refusal.NoMemory }
+        ensures in_flight { AreInFlight self.now.shape self.now.round self.now.slots (closed_slots self.now.shape self.now.round) }
+    {
+        if to.number() > 0 {
+            return self.made(alloc, &self.proposed);
+        }
+        let value = self.value_of(pick).unwrap_or(SlotValue::Idle);
+        self.made(alloc, &value)
+    }
+
     /// The envelope of the round in progress with the chains that are posted where this value is proposed.
     fn made(&self, alloc: Global, value: &SlotValue) -> Result<Envelope, Refusal>
         ensures made { IfOk result (λ envelope. envelope ≡ round_envelope self.now.round (posts_of self.now.me value.now self.now.slots)) }
@@ -258,24 +272,36 @@ impl Replica {
     fn is_allowed(&self, to: ReplicaId, pick: Pick) -> bool
         ensures { IsTrue result ↔ Allows self.now to pick }
     {
-        self.value_for(to, pick).is_some() && self.flights.round() < ROUND_END
+        self.has_value(to, pick) && self.flights.round() < ROUND_END
     }
 
-    /// The value with which the envelope to this replica is made, where the post is due and the choice is allowed.
-    fn value_for(&self, to: ReplicaId, pick: Pick) -> Option<SlotValue>
-        ensures { result ≡ value_for self.now to pick }
+    /// Whether the post to this replica is due, and the choice allowed there.
+    fn has_value(&self, to: ReplicaId, pick: Pick) -> bool
+        ensures { IsTrue result ↔ IsSome (value_for self.now to pick) }
     {
         if !is_due(self.due, to) {
-            return None;
-        }
-        if to.number() == 0 {
-            return self.value_of(pick);
+            return false;
         }
         match pick {
-            Pick::Plain => Some(self.proposed),
-            Pick::From(_) => None,
-            Pick::Begin(_) => None,
+            Pick::Plain => true,
+            Pick::From(clients) => to.number() == 0 && self.may_propose(clients),
+            Pick::Begin(_) => false,
         }
+    }
+
+    /// Whether the replica is the sender of the slot that begins with the round, and holds an ask of each of these clients.
+    fn may_propose(&self, clients: Clients) -> bool
+        ensures { IsTrue result ↔ IsSome (value_of self.now (From clients)) }
+    {
+        self.is_sender() && self.asks.has_each(clients.as_slice())
+    }
+
+    /// Whether the replica is the sender of the slot that begins with the round.
+    fn is_sender(&self) -> bool
+        ensures { result ≡ actor_eq self.now.me (sender_of self.now.shape self.now.round) }
+    {
+        let sender = Actor::Replica(self.flights.shape().sender(self.flights.round()));
+        self.key.signer() == sender
     }
 
     /// The value that the choice proposes at the post to replica 0.
@@ -293,8 +319,7 @@ impl Replica {
     fn value_from(&self, clients: Clients) -> Option<SlotValue>
         ensures { result ≡ value_of self.now (From clients) }
     {
-        let sender = Actor::Replica(self.flights.shape().sender(self.flights.round()));
-        if self.key.signer() != sender {
+        if !self.is_sender() {
             return None;
         }
         match self.asks.of(clients.as_slice()) {
@@ -303,14 +328,34 @@ impl Replica {
         }
     }
 
-    /// Posts to this replica with this value. Requires that the post is due, and the round below 2^36.
-    fn post(&mut self, to: ReplicaId, value: SlotValue)
-        requires due { self.old.next ≡ PostTo to }
-        requires below { self.old.round < 2 ^ 36 }
-        ensures { self.new ≡ record self.old { next = after_post_to self.old.shape.n to; proposed = value } }
+    /// Posts to this replica by this choice. Requires that it is allowed.
+    fn post(&mut self, to: ReplicaId, pick: Pick)
+        requires { Allows self.old to pick }
+        ensures { (value : SlotValue) → value_for self.old to pick ≡ Some value
+            → self.new ≡ record self.old { next = after_post_to self.old.shape.n to; proposed = value } }
     {
-        self.proposed = value;
+        if to.number() == 0 {
+            self.propose(pick);
+        }
         self.due = due_after(to, self.flights.shape().n());
+    }
+
+    /// Proposes what the choice proposes at the post to replica 0. It is a large value: what is idle already is left as it is.
+    fn propose(&mut self, pick: Pick)
+        ensures { (value : SlotValue) → value_of self.old pick ≡ Some value → self.new ≡ record self.old { proposed = value } }
+    {
+        match pick {
+            Pick::From(clients) => {
+                if let Some(value) = self.value_from(clients) {
+                    self.proposed = value;
+                }
+            }
+            Pick::Plain | Pick::Begin(_) => {
+                if let SlotValue::Act(_) = &self.proposed {
+                    self.proposed = SlotValue::Idle;
+                }
+            }
+        }
     }
 
     /// Goes on to the take from this replica. Requires that it is one of the shape, and that the round is below 2^36.

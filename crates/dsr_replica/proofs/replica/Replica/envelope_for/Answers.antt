@@ -9,32 +9,35 @@ use Rattle.dsr_replica.specs.Conduct.{envelope_with, envelope_to}
 use Rattle.dsr_replica.specs.Replica.{Replica, value_for}
 use Rattle.dsr_replica.specs.Envelope.{round_envelope}
 use Rattle.dsr_replica.specs.Support.Flights.{posts_of}
-use Rattle.dsr_replica.proofs.Choosing.{none_given, some_given, due_of, round_within}
+use Rattle.dsr_replica.proofs.Choosing.{none_given, some_given, due_of, round_within, is_some, is_none}
 use Rattle.dsr_replica.proofs.Posts.{envelope_made}
 use Rattle.dsr_replica.proofs.Standing.{rounds_are}
 use Rattle.dsr_replica.proofs.replica.Replica.envelope_for.Goals as goal
 
-pub returns-in_default-clause-not_due : goal.returns-in_default-clause-not_due
-returns-in_default-clause-not_due c = λ log stands.
-    (λ e. none_given c.args.self.now log c.args.to c.args.pick stands (sym c.value_for.ensures ∙ c.in_default.is), λ e. refl)
+pub returns-then-not-has_value-clause-not_due : goal.returns-then-not-has_value-clause-not_due
+returns-then-not-has_value-clause-not_due c = λ log stands.
+    let none = is_none (value_for c.args.self.now c.args.to c.args.pick) (λ some. absurd (false≢true (sym c.if-not-has_value.true ∙ c.has_value.ensures.1 some))) in
+    (λ e. none_given c.args.self.now log c.args.to c.args.pick stands none, λ e. refl)
 
-pub returns-in_default-clause-exhausted : goal.returns-in_default-clause-exhausted
-returns-in_default-clause-exhausted c = λ log stands.
-    let none = none_given c.args.self.now log c.args.to c.args.pick stands (sym c.value_for.ensures ∙ c.in_default.is) in
-    (λ e. absurd cc, λ both. absurd (false≢true (subst IsSome none both.0)))
+pub returns-then-not-has_value-clause-exhausted : goal.returns-then-not-has_value-clause-exhausted
+returns-then-not-has_value-clause-exhausted c = λ log stands.
+    let none = is_none (value_for c.args.self.now c.args.to c.args.pick) (λ some. absurd (false≢true (sym c.if-not-has_value.true ∙ c.has_value.ensures.1 some))) in
+    let given = none_given c.args.self.now log c.args.to c.args.pick stands none in
+    (λ e. absurd cc, λ both. absurd (false≢true (subst IsSome given both.0)))
 
 pub returns-then-round-ge-ROUND_END-clause-not_due : goal.returns-then-round-ge-ROUND_END-clause-not_due
 returns-then-round-ge-ROUND_END-clause-not_due c = λ log stands.
     let r = c.args.self.now in
-    let some = some_given r log c.args.to c.args.pick c.in-Some.value stands (sym c.value_for.ensures ∙ c.in-Some.is) in
-    (λ e. absurd cc, λ e. absurd (none-some (envelope_with r.shape r.me log c.in-Some.value) (sym e ∙ some)))
+    let value = is_some (value_for r c.args.to c.args.pick) (c.has_value.ensures.0 c.if-not-has_value.false) in
+    let some = some_given r log c.args.to c.args.pick value.0 stands value.1 in
+    (λ e. absurd cc, λ e. absurd (none-some (envelope_with r.shape r.me log value.0) (sym e ∙ some)))
 
 pub returns-then-round-ge-ROUND_END-clause-exhausted : goal.returns-then-round-ge-ROUND_END-clause-exhausted
 returns-then-round-ge-ROUND_END-clause-exhausted c = λ log stands.
     let r = c.args.self.now in
-    let valued : value_for r c.args.to c.args.pick ≡ Some c.in-Some.value = sym c.value_for.ensures ∙ c.in-Some.is in
-    let some = some_given r log c.args.to c.args.pick c.in-Some.value stands valued in
-    let next = ap (λ (x : Replica). x.next) c.self.view_is ∙ (due_of r c.args.to c.args.pick c.in-Some.value valued).0 in
+    let value = is_some (value_for r c.args.to c.args.pick) (c.has_value.ensures.0 c.if-not-has_value.false) in
+    let some = some_given r log c.args.to c.args.pick value.0 stands value.1 in
+    let next = ap (λ (x : Replica). x.next) c.self.view_is ∙ (due_of r c.args.to c.args.pick value.0 value.1).0 in
     let within : c.self.inside.flights.round ≤ 2 ^ 36 = round_within c.self.inside.due c.args.to c.self.inside.flights.round next c.self.invariant.within in
     let here = ap (λ (x : Replica). x.round) c.self.view_is in
     let counted = c.round.ensures.same in
@@ -45,18 +48,19 @@ returns-then-round-ge-ROUND_END-clause-exhausted c = λ log stands.
 pub returns-clause-given : goal.returns-clause-given
 returns-clause-given c = λ log stands.
     let r = c.args.self.now in
-    let valued : value_for r c.args.to c.args.pick ≡ Some c.in-Some.value = sym c.value_for.ensures ∙ c.in-Some.is in
-    let next = (due_of r c.args.to c.args.pick c.in-Some.value valued).0 in
-    IfOk-weaker c.made.result (λ envelope. envelope ≡ round_envelope r.round (posts_of r.me c.in-Some.value r.slots))
+    let value = is_some (value_for r c.args.to c.args.pick) (c.has_value.ensures.0 c.if-not-has_value.false) in
+    let next = (due_of r c.args.to c.args.pick value.0 value.1).0 in
+    IfOk-weaker c.chosen.result (λ envelope. envelope ≡ round_envelope r.round (posts_of r.me value.0 r.slots))
     (λ envelope. envelope_to r.shape r.me log c.args.to c.args.pick ≡ Some envelope)
-    (λ envelope e. some_given r log c.args.to c.args.pick c.in-Some.value stands valued
-    ∙ ap Some (sym (e ∙ envelope_made r log c.args.to c.in-Some.value c.made.ensures.in_flight stands next)))
-    c.made.ensures.made
+    (λ envelope e. some_given r log c.args.to c.args.pick value.0 stands value.1
+    ∙ ap Some (sym (e ∙ envelope_made r log c.args.to value.0 c.chosen.ensures.in_flight stands next)))
+    (c.chosen.ensures.made value.0 value.1)
 
 pub returns-clause-not_due : goal.returns-clause-not_due
 returns-clause-not_due c = λ log stands.
     let r = c.args.self.now in
-    let some = some_given r log c.args.to c.args.pick c.in-Some.value stands (sym c.value_for.ensures ∙ c.in-Some.is) in (
-      λ e. let other : NotDue ≡ NoMemory = subst (λ x. IfErr x (λ (y : Refusal). y ≡ NoMemory)) e c.made.ensures.refusal in absurd cc,
-      λ e. absurd (none-some (envelope_with r.shape r.me log c.in-Some.value) (sym e ∙ some)),
+    let value = is_some (value_for r c.args.to c.args.pick) (c.has_value.ensures.0 c.if-not-has_value.false) in
+    let some = some_given r log c.args.to c.args.pick value.0 stands value.1 in (
+      λ e. let other : NotDue ≡ NoMemory = subst (λ x. IfErr x (λ (y : Refusal). y ≡ NoMemory)) e c.chosen.ensures.refusal in absurd cc,
+      λ e. absurd (none-some (envelope_with r.shape r.me log value.0) (sym e ∙ some)),
     )
