@@ -38,7 +38,7 @@ longer_is_later xs ys long (inr (z ∷ zs, grown)) =
     absurd (omega (arith, long, count, same))
 
 -- the longer one of two lists is one of them, and at least as long as each
-longer_cases : {A : Type 0} (xs ys : List A) → ((length ys < length xs) × (longer xs ys ≡ xs)) ⊎ ((length xs ≤ length ys) × (longer xs ys ≡ ys))
+pub longer_cases : {A : Type 0} (xs ys : List A) → ((length ys < length xs) × (longer xs ys ≡ xs)) ⊎ ((length xs ≤ length ys) × (longer xs ys ≡ ys))
 longer_cases xs ys = elim (by_test (nat_lt (length ys) (length xs)) (Decides-ltb (length ys) (length xs)) xs ys) [
   | inl more ↦ inl (more.0, more.1)
   | inr fewer ↦ let not_more = fewer.0 in inr (omega (arith, not_more), fewer.1)
@@ -54,10 +54,10 @@ module _ (shape : Shape) (logs : Logs) where
   most = most_decided shape logs
 
   -- a traitor counts for nothing, a loyal replica where it has decided more
-  past_traitor : (p : ℕ) → is_traitor shape p ≡ true → most (suc p) ≡ most p
+  pub past_traitor : (p : ℕ) → is_traitor shape p ≡ true → most (suc p) ≡ most p
   past_traitor p traitor = if_is (is_traitor shape p) true (most p) (longer (decided_at shape logs p) (most p)) traitor
 
-  past_loyal : (p : ℕ) → is_traitor shape p ≡ false → most (suc p) ≡ longer (decided_at shape logs p) (most p)
+  pub past_loyal : (p : ℕ) → is_traitor shape p ≡ false → most (suc p) ≡ longer (decided_at shape logs p) (most p)
   past_loyal p loyal = if_is (is_traitor shape p) false (most p) (longer (decided_at shape logs p) (most p)) loyal
 
   -- these values are what one of the first replicas decided, a loyal one

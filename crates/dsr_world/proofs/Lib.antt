@@ -1,8 +1,12 @@
 mod Accepting
 mod Agreeing
+mod Agreements
 mod Alike
 mod Asking
+mod Blindness
 mod Boxes
+mod Deciding
+mod Ending
 mod Family
 mod Forging
 mod Histories
@@ -10,14 +14,17 @@ mod Issuing
 pub mod Lemmas
 mod Links
 mod Logs
+mod MoreTraitors
 mod NextSteps
 mod Opening
 mod PlayLemmas
 mod PlayLineLemmas
 mod PlayPartLemmas
+mod PlayWithin
 mod Playing
 mod Posts
 mod Proposing
+mod Repeating
 mod Righting
 mod Signing
 mod Spelled

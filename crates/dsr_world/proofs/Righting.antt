@@ -1,8 +1,9 @@
 -- Every run is right, and a client that took a reply from all loyal replicas has accepted one.
-use Rattle.std.proofs.Common.{◌≡◌, ℕ, zero, suc, ◌*◌, ◌<◌, true, List, ◌++◌, Some, refl, ap, sym, ◌∙◌, subst, arith}
+use Rattle.std.proofs.Common.{◌≡◌, ℕ, zero, suc, ◌*◌, ◌<◌, true, List, [], ◌∷◌, ◌++◌, Some, reverse, inl, inr, refl, ap, sym, ◌∙◌, subst, arith}
 use Rattle.dsr_base.specs.Bits.{count_below}
-use Rattle.dsr_base.specs.Member.{In}
-use Rattle.dsr_base.proofs.MemberLemmas.{In-append_left}
+use Rattle.std.proofs.lemmas.List.{reverse-append}
+use Rattle.dsr_base.specs.Member.{In, here, there}
+use Rattle.dsr_base.proofs.MemberLemmas.{In-append_left, In-append_right, In-append_cases, In-one}
 use Rattle.dsr_names.specs.Shape.{Shape, IsLoyal, HasFewTraitors}
 use Rattle.dsr_names.specs.declared.actor.Actor.TheVariants.{Replica, Client}
 use Rattle.dsr_ledger.specs.declared.reply.Reply.{Reply as AReply}
@@ -16,7 +17,7 @@ use Rattle.dsr_replica.specs.declared.entry.Entry.TheVariants.{Take}
 use Rattle.dsr_client.specs.State.{outstanding, accepted}
 use Rattle.dsr_client.proofs.Lemmas.{answered}
 use Rattle.dsr_world.specs.History.{accepted_by, history}
-use Rattle.dsr_world.specs.Right.{issue_front, IsRightReply, IsRight}
+use Rattle.dsr_world.specs.Right.{issue_front, IsRightReply, IsRight, TookAllReplies, HasReplyTo}
 use Rattle.dsr_world.specs.Run.{IsRun}
 use Rattle.dsr_world.specs.Step.{Step, log_of}
 use Rattle.dsr_world.proofs.Accepting.{WasPosted, stands_in, history_posted, reply_right, accepted_right}
@@ -27,6 +28,22 @@ use Rattle.dsr_world.proofs.Histories.{history_legal}
 count_all : (n : ℕ) → count_below (λ p. true) n ≡ n
 count_all zero = refl
 count_all (suc n) = let before = count_all n in omega (arith, before)
+
+-- ---- lists turned round
+
+In-reverse : {A : Type 0} (x : A) (xs : List A) → In x (reverse xs) → In x xs
+In-reverse x [] h = h
+In-reverse x (y ∷ xs) h =
+    elim (In-append_cases x (reverse xs) (y ∷ []) (subst (In x) (reverse-append (y ∷ []) xs) h)) [
+      | inl later ↦ there (In-reverse x xs later)
+      | inr last ↦ here (In-one x y last)
+    ]
+
+In-reversed : {A : Type 0} (x : A) (xs : List A) → In x xs → In x (reverse xs)
+In-reversed x [] h = h
+In-reversed x (y ∷ xs) (here e) = subst (In x) (sym (reverse-append (y ∷ []) xs)) (In-append_right x (reverse xs) (y ∷ []) (here e))
+In-reversed x (y ∷ xs) (there h) =
+    subst (In x) (sym (reverse-append (y ∷ []) xs)) (In-append_left x (reverse xs) (y ∷ []) (In-reversed x xs h))
 
 module _ (shape : Shape) (few : HasFewTraitors shape) where
   pub right_reply : (run : List Step) → IsRun shape run → (c : ℕ) (r : AReply) → In r (accepted_by shape (log_of run) c)
@@ -95,3 +112,21 @@ module _ (shape : Shape) (few : HasFewTraitors shape) where
           let reply = took p loyal in
           let same = agree q loyal_other w k is_number p reply.0 loyal (In-append_left (Take (Replica p) (Reply reply.0)) newer older reply.1) reply.2 in
           subst (λ r. In (Take (Replica p) (Reply r)) newer) same reply.1
+
+  -- in one word
+  pub all_taken_answered : 2 * shape.f < shape.n → (run : List Step) → IsRun shape run → (c number : ℕ) → TookAllReplies shape (log_of run (Client c)) number
+      → HasReplyTo number (accepted_by shape (log_of run) c)
+  all_taken_answered most run is c number h =
+      let reply = all_answered most run is c h.older h.newer h.parts h.ask h.asked
+      (λ p loyal. let took = h.took p loyal in (took.0, took.1, took.2 ∙ sym h.is_number)) in
+      (reply.0, reply.1, reply.2 ∙ h.is_number)
+
+  -- the replies in their order, as a world lends them
+  module _ (run : List Step) (is : IsRun shape run) (c : ℕ) (replies : List AReply) (same : replies ≡ reverse (accepted_by shape (log_of run) c)) where
+    pub lent_right : (reply : AReply) → In reply replies → IsRightReply shape (history shape (log_of run)) (log_of run (Client c)) reply
+    lent_right reply h = right_reply run is c reply (In-reverse reply (accepted_by shape (log_of run) c) (subst (In reply) same h))
+
+    pub lent_answered : 2 * shape.f < shape.n → (number : ℕ) → TookAllReplies shape (log_of run (Client c)) number → HasReplyTo number replies
+    lent_answered most number h =
+        let reply = all_taken_answered most run is c number h in
+        (reply.0, subst (In reply.0) (sym same) (In-reversed reply.0 (accepted_by shape (log_of run) c) reply.1), reply.2)

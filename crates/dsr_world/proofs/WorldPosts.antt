@@ -217,12 +217,6 @@ module _ (shape : Shape) (run : List Step) (parties : List Party) (rows : List (
       (λ y plays. planted_plays shape p (log_of run (Replica p)) (PostEntry to x) y traitor plays) empty
       (λ q bad. known_still shape run known (Replica p, PostEntry to x) (are.knows q bad) (λ t y e loyal. true≢false (sym traitor ∙ loyal.1)))
 
-  pub forged_plant : (p : ℕ) (to : Actor) (x : Envelope) → IsTraitor shape (Replica p) → ¬ IsUnforged keys known x → IsForged shape (log_of run) (Plant (Replica p) to x)
-  forged_plant p to x traitor forged made = forged (made_unforged p traitor x made)
-
-  pub unforged_plant : (p : ℕ) (to : Actor) (x : Envelope) → IsTraitor shape (Replica p) → IsUnforged keys known x → ¬ IsForged shape (log_of run) (Plant (Replica p) to x)
-  unforged_plant p to x traitor unforged is = is (unforged_made p traitor x unforged)
-
 -- the telling is the event
 pub done_tell : (shape : Shape) (run : List Step) (c : ℕ) (to : Actor)
     → HasDone shape ((Client c, PostEntry to (Seen (seen shape (log_of run (Client c))))) ∷ run) run (Tell (Client c) to) None

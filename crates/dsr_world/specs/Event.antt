@@ -165,7 +165,7 @@ pub record HasDone (shape : Shape) (later earlier : List Step) (event : Event) (
   pub went_on : later ≡ step ∷ earlier
   pub answers : Answers shape (log_of later) (log_of earlier) step reply
 
--- a traitor's post that nothing else refuses has a forged signature
+-- what a traitor is to post has a forged signature; in no other event can one be
 abbrev pub IsForged : Shape → Logs → Event → Type 0
 IsForged shape logs (Post from to pick) = ⊥
 IsForged shape logs (Plant from to draft) = ¬ ForgesNothing shape logs (PostEntry to draft)

@@ -1,6 +1,8 @@
 pub mod Agreement
+pub mod Blind
 pub mod Event
 pub mod History
+pub mod Outcome
 pub mod Play
 pub mod PlayText
 pub mod Right

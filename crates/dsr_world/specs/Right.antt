@@ -1,10 +1,10 @@
 -- When all that clients were told is right (Schneider 1990: the replies are those of one machine that processes the requests one
 -- after another; that a place is not before what the client had seen is this project's).
-use Rattle.std.specs.Prelude.{◌≡◌, ℕ, ◌<◌, ◌≤◌, ◌==◌, Bool, false, List, [], ◌∷◌, Option, None, Some, if◌then◌else◌}
+use Rattle.std.specs.Prelude.{◌≡◌, ℕ, ◌<◌, ◌≤◌, ◌==◌, Bool, false, List, [], ◌∷◌, ◌++◌, Option, None, Some, if◌then◌else◌}
 use Rattle.std.specs.Option.{option_or}
 use Rattle.dsr_base.specs.Growth.{Extends}
 use Rattle.dsr_base.specs.Member.{In}
-use Rattle.dsr_names.specs.Shape.{Shape}
+use Rattle.dsr_names.specs.Shape.{Shape, IsLoyal}
 use Rattle.dsr_names.specs.declared.actor.Actor.TheVariants.{Replica, Client}
 use Rattle.dsr_request.specs.Request.{Request}
 use Rattle.dsr_ledger.specs.declared.reply.Reply.{Reply as AReply}
@@ -14,7 +14,7 @@ use Rattle.dsr_replica.specs.declared.envelope.Envelope.{Envelope}
 use Rattle.dsr_replica.specs.declared.envelope.Envelope.TheVariants.{Empty, Round, Ask, Reply, Seen}
 use Rattle.dsr_replica.specs.declared.entry.Entry.{Entry}
 use Rattle.dsr_replica.specs.declared.entry.Entry.TheVariants.{Post, Take}
-use Rattle.dsr_client.specs.State.{seen}
+use Rattle.dsr_client.specs.State.{outstanding, seen}
 use Rattle.dsr_world.specs.History.{accepted_by, history}
 use Rattle.dsr_world.specs.Step.{Step, log_of}
 
@@ -50,6 +50,20 @@ pub record IsRightReply (shape : Shape) (history : List Request) (log : List Ent
   pub front : ℕ
   pub issued : issue_front shape reply.number log ≡ Some front
   pub not_before : front ≤ reply.place
+
+-- a client took, while its request of this number was outstanding, a reply to it from each loyal replica
+pub record TookAllReplies (shape : Shape) (log : List Entry) (number : ℕ) : Type 0 where
+  pub older : List Entry
+  pub newer : List Entry
+  pub parts : log ≡ newer ++ older
+  pub ask : SignedRequest
+  pub asked : outstanding shape older ≡ Some ask
+  pub is_number : ask.request.number ≡ number
+  pub took : (p : ℕ) → IsLoyal shape (Replica p) → (reply : AReply) × In (Take (Replica p) (Reply reply)) newer × (reply.number ≡ number)
+
+-- one of the replies has this number
+abbrev pub HasReplyTo : ℕ → List AReply → Type 0
+HasReplyTo number replies = (reply : AReply) × In reply replies × (reply.number ≡ number)
 
 -- a run is right: so is each reply that a client accepted; no number of a client stands twice in the history; and the history has
 -- only grown since any earlier time of the run

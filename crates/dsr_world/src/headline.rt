@@ -1,22 +1,14 @@
 //! The headline: what clients accept is right. Laws of runs, as the contracts of functions that do nothing.
 
-ghost use Rattle.std.specs.Prelude.{◌≡◌, ℕ, ◌*◌, ◌<◌, List, ◌++◌, Some};
-ghost use Rattle.dsr_base.specs.Growth.{Extends};
+ghost use Rattle.std.specs.Prelude.{ℕ, ◌*◌, ◌<◌, List};
 ghost use Rattle.dsr_base.specs.Member.{In};
-ghost use Rattle.dsr_names.specs.Shape.{Shape, IsLoyal, HasFewTraitors};
-ghost use Rattle.dsr_names.specs.declared.actor.Actor.{Actor};
-ghost use Rattle.dsr_names.specs.declared.actor.Actor.TheVariants.{Replica, Client};
+ghost use Rattle.dsr_names.specs.Shape.{Shape, HasFewTraitors};
+ghost use Rattle.dsr_names.specs.declared.actor.Actor.TheVariants.{Client};
 ghost use Rattle.dsr_ledger.specs.declared.reply.Reply.{Reply as AReply};
-ghost use Rattle.dsr_history.specs.History.{IsLegal};
-ghost use Rattle.dsr_chain.specs.declared.signed_request.SignedRequest.{SignedRequest};
-ghost use Rattle.dsr_replica.specs.declared.envelope.Envelope.TheVariants.{Reply};
-ghost use Rattle.dsr_replica.specs.declared.entry.Entry.{Entry};
-ghost use Rattle.dsr_replica.specs.declared.entry.Entry.TheVariants.{Take};
-ghost use Rattle.dsr_client.specs.State.{outstanding};
 ghost use Rattle.dsr_world.specs.History.{accepted_by, history};
-ghost use Rattle.dsr_world.specs.Right.{IsRightReply, IsRight};
+ghost use Rattle.dsr_world.specs.Right.{IsRightReply, IsRight, TookAllReplies, HasReplyTo};
 ghost use Rattle.dsr_world.specs.Run.{IsRun};
-ghost use Rattle.dsr_world.specs.Step.{Step, Logs, log_of};
+ghost use Rattle.dsr_world.specs.Step.{Step, log_of};
 
 /// Every run is right, where at most f replicas are traitors. For each reply that a client accepted, the request that the client
 /// posted under its number stands in the history at the reply's place, with the reply's answer, and that place is not before what the
@@ -32,9 +24,5 @@ pub fn runs_are_right()
 /// loyal replica while the request was outstanding, it has accepted a reply to it. What traitors do plays no part.
 pub fn clients_are_answered()
     ensures { (shape : Shape) (run : List Step) → HasFewTraitors shape → 2 * shape.f < shape.n → IsRun shape run
-        → (c : ℕ) (older newer : List Entry) → log_of run (Client c) ≡ newer ++ older
-        → (ask : SignedRequest) → outstanding shape older ≡ Some ask
-        → ((p : ℕ) → IsLoyal shape (Replica p)
-        → (reply : AReply) × In (Take (Replica p) (Reply reply)) newer × (reply.number ≡ ask.request.number))
-        → (reply : AReply) × In reply (accepted_by shape (log_of run) c) × (reply.number ≡ ask.request.number) }
+        → (c number : ℕ) → TookAllReplies shape (log_of run (Client c)) number → HasReplyTo number (accepted_by shape (log_of run) c) }
 {}

@@ -24,7 +24,7 @@ ghost use Rattle.dsr_replica.specs.Log.{posted_to, taken_from, rounds};
 ghost use Rattle.dsr_replica.specs.Posts.{WasTaken};
 ghost use Rattle.dsr_client.specs.Conduct.{IsClientLog};
 ghost use Rattle.dsr_client.specs.State.{outstanding};
-ghost use Rattle.dsr_world.specs.Agreement.{HasProposed, HasFewLinks};
+ghost use Rattle.dsr_world.specs.Agreement.{HasProposed, HasFewLinks, HasAgreement};
 ghost use Rattle.dsr_world.specs.History.{decided_at, history};
 ghost use Rattle.dsr_world.specs.Run.{IsRun, IsNextStep, AreLogs, HasPosted, IsMadeOrPosted, other_of, envelope_of};
 ghost use Rattle.dsr_world.specs.Step.{Step, Logs, with_step, log_of};
@@ -104,6 +104,11 @@ pub fn loyal_replicas_sign_few_links()
         → HasFewLinks (Replica p) (log_of run (Replica p)) slot 2 }
     ensures one { (shape : Shape) (run : List Step) → IsRun shape run → (slot : ℕ) → (p : ℕ) → IsLoyal shape (Replica p)
         → IsLoyal shape (sender_of shape slot) → HasFewLinks (Replica p) (log_of run (Replica p)) slot 1 }
+{}
+
+/// Agreement, validity, no forgery and few signatures in one: every run has them where at most f replicas are traitors.
+pub fn runs_agree()
+    ensures { (shape : Shape) (run : List Step) → HasFewTraitors shape → IsRun shape run → HasAgreement shape run }
 {}
 
 /// One history: where at most f replicas are traitors, what each loyal replica has processed is a prefix of the history, and the

@@ -24,4 +24,15 @@ impl Letters {
         let sent = kept.try_copy()?;
         Ok(Letters { kept, sent })
     }
+
+    /// A letter that was posted already, as two letters. `NoMemory` where one handle more is refused.
+    pub(crate) fn again(letter: &Letter) -> Result<Letters, Refusal>
+        ensures kept { IfOk result (λ letters. letters.kept ≡ letter.now) }
+        ensures sent { IfOk result (λ letters. letters.sent ≡ letter.now) }
+        ensures refusal { IsOkUnless result Refusal.NoMemory }
+    {
+        let kept = letter.try_copy()?;
+        let sent = letter.try_copy()?;
+        Ok(Letters { kept, sent })
+    }
 }

@@ -1,5 +1,5 @@
-ghost use Rattle.std.specs.Prelude.{reverse, ◌≡◌, ◌≢◌, ℕ, ◌∷◌, List, None, Some, IfOk, IfSome, IfNone, IsOk, OnOk, IsOkUnless, IsTrue, IsSome};
-ghost use Rattle.dsr_names.specs.Shape.{Shape};
+ghost use Rattle.std.specs.Prelude.{true, reverse, ◌≡◌, ◌≢◌, ℕ, ◌∷◌, List, None, Some, IfOk, IfSome, IfNone, IsOk, OnOk, IsOkUnless, IsTrue, IsSome};
+ghost use Rattle.dsr_names.specs.Shape.{Shape, is_traitor};
 ghost use Rattle.dsr_names.specs.declared.actor.Actor.{Actor};
 ghost use Rattle.dsr_names.specs.declared.actor.Actor.TheVariants.{Replica as ReplicaNumber, Client as ClientNumber};
 ghost use Rattle.dsr_replica.specs.declared.envelope.Envelope.{Envelope};
@@ -11,7 +11,7 @@ ghost use Rattle.dsr_replica.specs.Replica.{StandsFor, Allows};
 ghost use Rattle.dsr_client.specs.Client.{StandsFor as StandsForClient};
 ghost use Rattle.dsr_client.specs.State.{accepted, seen};
 ghost use Rattle.dsr_world.specs.Event.{post_of, takes_from, is_undue};
-ghost use Rattle.dsr_world.specs.Support.Party.{Plays, post_refusal, MayPost, CanPost, CanTake, HasRoomToTake, TakesReply, IsReplicaNumber};
+ghost use Rattle.dsr_world.specs.Support.Party.{Plays, PlaysReplica, post_refusal, CanTake, HasRoomToTake, TakesReply, IsReplicaNumber};
 
 use crate::customer::Customer;
 use dsr_client::Client;
@@ -104,6 +104,19 @@ impl Party {
         match self {
             Party::Loyal(_) | Party::Traitor => 0,
             Party::Client(customer) => customer.client().seen(),
+        }
+    }
+
+    /// The loyal replica, where it is one.
+    pub(crate) fn replica(&self) -> Option<&Replica>
+        ensures loyal { (shape : Shape) (p : ℕ) (log : List Entry) → Plays shape (ReplicaNumber p) log self.now
+            → IfSome result (λ replica. PlaysReplica shape p log replica.now) }
+        ensures traitor { (shape : Shape) (p : ℕ) (log : List Entry) → Plays shape (ReplicaNumber p) log self.now
+            → IfNone result (is_traitor shape p ≡ true) }
+    {
+        match self {
+            Party::Loyal(replica) => Some(replica),
+            Party::Traitor | Party::Client(_) => None,
         }
     }
 

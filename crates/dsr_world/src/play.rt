@@ -1,5 +1,6 @@
 ghost use Rattle.std.specs.Prelude.{◌≡◌, ◌↔◌, ◌≤◌, ◌∷◌, ◌++◌, [], length, IfOk, IfErr, OnOk, IsTrue, IsOkUnless};
 ghost use Rattle.dsr_world.specs.declared.play_line.PlayLine.{PlayLine};
+ghost use Rattle.dsr_world.specs.Outcome.{AreWithin};
 ghost use Rattle.dsr_world.specs.PlayText.{all_events, events_of};
 ghost use Rattle.dsr_world.specs.Play.{Spells, IsPlayRefusal};
 ghost use Rattle.dsr_world.specs.Support.PlayedLines.{HasTaken, IsLinesRefusal};
@@ -16,7 +17,8 @@ use std::marker::Model;
 /// The most events of a play.
 pub const MOST_EVENTS: usize = 1_000_000;
 
-/// What is to happen in one world: its shape, and the events in their order.
+/// What is to happen in one world: its shape, and the events in their order. What traitors are to post in them is within the limits
+/// of envelopes.
 #[derive(Drop)]
 pub struct Play {
     shape: Shape,
@@ -24,11 +26,14 @@ pub struct Play {
 }
 
 impl Model for Play {
+    ghost use Rattle.dsr_world.specs.Outcome.{AreWithin};
     ghost use Rattle.dsr_world.specs.Play.{Play};
 
     ghost Value = { Play };
 
     ghost view = { λ p. record { shape = p.shape; events = p.events.items } };
+
+    ghost invariant = { λ p. AreWithin p.events.items };
 }
 
 impl Play {
@@ -45,12 +50,15 @@ impl Play {
             Ok(header) => header,
             Err(refusal) => return Err(refusal),
         };
-        let mut play = Play {
+        let mut reading = Reading {
             shape: header.shape,
             events: Vec::new(alloc),
         };
-        play.take_lines(alloc, header.rest)?;
-        Ok(play)
+        reading.take_lines(alloc, header.rest)?;
+        Ok(Play {
+            shape: reading.shape,
+            events: reading.events,
+        })
     }
 
     /// The shape.
@@ -62,11 +70,29 @@ impl Play {
 
     /// The events, in their order, at most 1,000,000 of them.
     pub fn events(&self) -> &[Event]
-        ensures { result.now ≡ self.now.events }
+        ensures same { result.now ≡ self.now.events }
+        ensures within { AreWithin result.now }
     {
         self.events.as_slice()
     }
+}
 
+/// A play while its lines are read.
+#[derive(Drop)]
+struct Reading {
+    shape: Shape,
+    events: Vec<Event>,
+}
+
+impl Model for Reading {
+    ghost use Rattle.dsr_world.specs.Play.{Play};
+
+    ghost Value = { Play };
+
+    ghost view = { λ p. record { shape = p.shape; events = p.events.items } };
+}
+
+impl Reading {
     /// Takes in the lines after the header.
     fn take_lines(&mut self, alloc: Global, text: &[u8]) -> Result<(), Refusal>
         requires { self.old.events ≡ [] }

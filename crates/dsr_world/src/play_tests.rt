@@ -113,7 +113,8 @@ fn each_line_stands_for_its_events(rt: HostRuntime) -> Result<(), Fail> {
         ),
         (
             "dsr-play 1 3 1 2 r1\nposts *\n",
-            "post r0 r0 plain,post r0 r1 plain,post r0 r2 plain,post r2 r0 plain,post r2 r1 plain,post r2 r2 plain,",
+            "post r0 r0 plain,post r0 r1 plain,post r0 r2 plain,post r2 r0 plain,post r2 r1 plain,\
+                post r2 r2 plain,",
         ),
         (
             "dsr-play 1 3 1 2 r1\nplants r1 seen 1\n",
@@ -129,7 +130,9 @@ fn each_line_stands_for_its_events(rt: HostRuntime) -> Result<(), Fail> {
         ),
         (
             "dsr-play 1 3 1 2 r1\ntakes *\n",
-            "take r0 r0 envelope,take r0 r1 envelope,take r0 r2 envelope,take r1 r0 envelope,take r1 r1 envelope,take r1 r2 envelope,take r2 r0 envelope,take r2 r1 envelope,take r2 r2 envelope,",
+            "take r0 r0 envelope,take r0 r1 envelope,take r0 r2 envelope,take r1 r0 envelope,\
+                take r1 r1 envelope,take r1 r2 envelope,take r2 r0 envelope,take r2 r1 envelope,\
+                take r2 r2 envelope,",
         ),
         (
             "dsr-play 1 3 1 2 r1\nasks c1 begin read a\n",
@@ -201,42 +204,69 @@ fn rows_have_so_many_events(rt: HostRuntime) -> Result<(), Fail> {
     let rows = [
         // three-loyal
         (
-            "dsr-play 1 3 1 1 -\nasks c0 begin write a 5\nhears c0\nposts r0 from c0\nposts r1\nposts r2\ntakes *\nposts *\ntakes *\nreplies c0\ntakes c0\nasks c0 begin read a\nhears c0\nposts r0\nposts r1\nposts r2 from c0\ntakes *\nposts *\ntakes *\nreplies c0\ntakes c0\n",
+            "dsr-play 1 3 1 1 -\nasks c0 begin write a 5\nhears c0\nposts r0 from c0\nposts r1\n\
+                posts r2\ntakes *\nposts *\ntakes *\nreplies c0\ntakes c0\nasks c0 begin read a\n\
+                hears c0\nposts r0\nposts r1\nposts r2 from c0\ntakes *\nposts *\ntakes *\n\
+                replies c0\ntakes c0\n",
             Ok(96),
         ),
         // equivocation
         (
-            "dsr-play 1 3 1 2 r0\npost c0 r0 begin write a 1\npost c1 r0 begin write a 2\nplant r0 r0 empty\nplant r0 r1 round 0 0/c0#1:write:a:1~c0/r0\nplant r0 r2 round 0 0/c1#1:write:a:2~c1/r0\nposts *\ntakes *\nplants r0 empty\nposts *\ntakes *\n",
+            "dsr-play 1 3 1 2 r0\npost c0 r0 begin write a 1\npost c1 r0 begin write a 2\n\
+                plant r0 r0 empty\nplant r0 r1 round 0 0/c0#1:write:a:1~c0/r0\n\
+                plant r0 r2 round 0 0/c1#1:write:a:2~c1/r0\nposts *\ntakes *\nplants r0 empty\n\
+                posts *\ntakes *\n",
             Ok(38),
         ),
         // late-chains
         (
-            "dsr-play 1 3 1 1 r0\npost c0 r0 begin write a 1\nplants r0 empty\nposts *\ntakes *\nplant r0 r1 round 1 0/c0#1:write:a:1~c0/r0\nplant r0 r2 round 1 0/c0#1:write:a:1~c0/r0+r1\nplant r0 r2 empty\nplant r0 r0 empty\nposts *\ntakes *\n",
+            "dsr-play 1 3 1 1 r0\npost c0 r0 begin write a 1\nplants r0 empty\nposts *\ntakes *\n\
+                plant r0 r1 round 1 0/c0#1:write:a:1~c0/r0\n\
+                plant r0 r2 round 1 0/c0#1:write:a:1~c0/r0+r1\nplant r0 r2 empty\n\
+                plant r0 r0 empty\nposts *\ntakes *\n",
             Ok(38),
         ),
         // chain-to-one
         (
-            "dsr-play 1 5 2 1 r0+r1\npost c0 r0 begin write a 1\nplants r0 empty\nplants r1 empty\nposts *\ntakes *\nplants r0 empty\nplant r1 r0 empty\nplant r1 r1 empty\nplant r1 r2 round 1 0/c0#1:write:a:1~c0/r0+r1\nplant r1 r3 empty\nplant r1 r4 empty\nposts *\ntakes *\nplants r0 empty\nplants r1 empty\nposts *\ntakes *\n",
+            "dsr-play 1 5 2 1 r0+r1\npost c0 r0 begin write a 1\nplants r0 empty\nplants r1 empty\n\
+                posts *\ntakes *\nplants r0 empty\nplant r1 r0 empty\nplant r1 r1 empty\n\
+                plant r1 r2 round 1 0/c0#1:write:a:1~c0/r0+r1\nplant r1 r3 empty\n\
+                plant r1 r4 empty\nposts *\ntakes *\nplants r0 empty\nplants r1 empty\nposts *\n\
+                takes *\n",
             Ok(151),
         ),
         // three-values
         (
-            "dsr-play 1 3 1 3 r0\npost c0 r0 begin write a 1\npost c1 r0 begin write a 2\npost c2 r0 begin write a 3\nplant r0 r0 empty\nplant r0 r1 round 0 0/c0#1:write:a:1~c0/r0 0/c1#1:write:a:2~c1/r0 0/c2#1:write:a:3~c2/r0\nplant r0 r2 round 0 0/c0#1:write:a:1~c0/r0 0/c1#1:write:a:2~c1/r0 0/c2#1:write:a:3~c2/r0\nposts *\ntakes *\nplants r0 empty\nposts *\ntakes *\n",
+            "dsr-play 1 3 1 3 r0\npost c0 r0 begin write a 1\npost c1 r0 begin write a 2\n\
+                post c2 r0 begin write a 3\nplant r0 r0 empty\n\
+                plant r0 r1 round 0 0/c0#1:write:a:1~c0/r0 0/c1#1:write:a:2~c1/r0 0/c2#1:write:a:3~c2/r0\n\
+                plant r0 r2 round 0 0/c0#1:write:a:1~c0/r0 0/c1#1:write:a:2~c1/r0 0/c2#1:write:a:3~c2/r0\n\
+                posts *\ntakes *\nplants r0 empty\nposts *\ntakes *\n",
             Ok(39),
         ),
         // replayed-request
         (
-            "dsr-play 1 3 1 1 r1\nasks c0 begin write a 5\nhears c0\nposts r0 from c0\nplants r1 empty\nposts r2\ntakes *\nposts *\nplants r1 round 1 1/c0#1:write:a:5~c0/r1\ntakes *\nreplies c0\ntake c0 r0\ntake c0 r2\nposts *\nplants r1 empty\ntakes *\nreplies c0\ntake c0 r0\ntake c0 r2\n",
+            "dsr-play 1 3 1 1 r1\nasks c0 begin write a 5\nhears c0\nposts r0 from c0\n\
+                plants r1 empty\nposts r2\ntakes *\nposts *\n\
+                plants r1 round 1 1/c0#1:write:a:5~c0/r1\ntakes *\nreplies c0\ntake c0 r0\n\
+                take c0 r2\nposts *\nplants r1 empty\ntakes *\nreplies c0\ntake c0 r0\ntake c0 r2\n",
             Ok(68),
         ),
         // lying-replies
         (
-            "dsr-play 1 3 1 1 r2\nasks c0 begin write a 5\nplant r2 c0 reply 1 0 held 9\ntake c0 r2\nplant r2 c0 reply 1 0 held 9\ntake c0 r2\nhears c0\nposts r0 from c0\nposts r1\nplants r2 empty\ntakes *\nposts *\nplants r2 empty\ntakes *\nreplies c0\ntake c0 r0\ntake c0 r1\n",
+            "dsr-play 1 3 1 1 r2\nasks c0 begin write a 5\nplant r2 c0 reply 1 0 held 9\n\
+                take c0 r2\nplant r2 c0 reply 1 0 held 9\ntake c0 r2\nhears c0\nposts r0 from c0\n\
+                posts r1\nplants r2 empty\ntakes *\nposts *\nplants r2 empty\ntakes *\nreplies c0\n\
+                take c0 r0\ntake c0 r1\n",
             Ok(50),
         ),
         // told-front
         (
-            "dsr-play 1 1 0 2 -\nasks c0 begin write a 1\nhears c0\nposts r0 from c0\ntakes *\nreplies c0\ntakes c0\nasks c0 begin write a 2\nhears c0\nposts r0 from c0\ntakes *\nreplies c0\ntakes c0\nasks c0 begin write a 3\nhears c0\nposts r0 from c0\ntakes *\nreplies c0\ntakes c0\ntell c0 c1\ntake c1 c0\nasks c1 begin read a\nhears c1\nposts r0 from c1\ntakes *\nreplies c1\ntakes c1\n",
+            "dsr-play 1 1 0 2 -\nasks c0 begin write a 1\nhears c0\nposts r0 from c0\ntakes *\n\
+                replies c0\ntakes c0\nasks c0 begin write a 2\nhears c0\nposts r0 from c0\n\
+                takes *\nreplies c0\ntakes c0\nasks c0 begin write a 3\nhears c0\n\
+                posts r0 from c0\ntakes *\nreplies c0\ntakes c0\ntell c0 c1\ntake c1 c0\n\
+                asks c1 begin read a\nhears c1\nposts r0 from c1\ntakes *\nreplies c1\ntakes c1\n",
             Ok(26),
         ),
     ];

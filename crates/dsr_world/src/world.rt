@@ -1,6 +1,6 @@
-ghost use Rattle.std.specs.Prelude.{true, ◌++◌, IfSome, IsSome, ◌⊎◌, Any, OnOk, vec_len, vec_capacity, ◌≡◌, ◌≢◌, ◌↔◌, ◌&&◌, ℕ, ◌<◌, ◌+◌, [], ◌∷◌, List, Option, None, Some, Err, length, reverse, IfOk, IsOk, OnErr, IsTrue, IsOkUnless};
+ghost use Rattle.std.specs.Prelude.{true, ◌++◌, IfSome, IsSome, ◌⊎◌, Any, OnOk, vec_len, vec_capacity, ◌≡◌, ◌≢◌, ◌↔◌, ◌&&◌, ℕ, ◌<◌, ◌≤◌, ◌+◌, [], ◌∷◌, List, Option, None, Some, Err, length, reverse, slice_index_or, IfOk, IsOk, OnErr, IsTrue, IsOkUnless};
 ghost use Rattle.std.specs.Option.{option_to_list};
-ghost use Rattle.dsr_names.specs.Shape.{IsActor, is_traitor};
+ghost use Rattle.dsr_names.specs.Shape.{IsActor, IsLoyal, is_traitor};
 ghost use Rattle.dsr_names.specs.declared.actor.Actor.TheVariants.{Replica as ReplicaNumber, Client as ClientNumber};
 ghost use Rattle.dsr_world.specs.Support.Party.{Plays};
 ghost use Rattle.dsr_names.specs.declared.refusal.Refusal.TheVariants.{NoActor, WrongRole};
@@ -8,29 +8,38 @@ ghost use Rattle.dsr_replica.specs.declared.envelope.Envelope.{Envelope};
 ghost use Rattle.dsr_replica.specs.Limits.{IsEnvelope};
 ghost use Rattle.dsr_replica.specs.Pick.{IsPick};
 ghost use Rattle.dsr_world.specs.declared.event.Event.TheVariants.{Post, Plant, Take, Tell};
+ghost use Rattle.dsr_base.specs.Growth.{Extends};
 ghost use Rattle.dsr_base.specs.Member.{In};
+ghost use Rattle.dsr_history.specs.History.{IsLegal};
 ghost use Rattle.dsr_desk.specs.Signature.{Signature};
 ghost use Rattle.dsr_replica.specs.Envelope.{Carries};
 ghost use Rattle.dsr_names.specs.declared.actor.Actor.{Actor};
 ghost use Rattle.dsr_names.specs.declared.refusal.Refusal.{Refusal};
-ghost use Rattle.dsr_world.specs.Event.{HasDone, IsRefusedBy, IsForgedAtLast, IsWithin, is_actor, is_traitor_of, are_clients, is_own_client, are_two_clients, is_full, is_used_up, refusal_of, first_of};
+ghost use Rattle.dsr_world.specs.Event.{HasDone, IsRefusedBy, IsForgedAtLast, IsWithin, is_actor, is_traitor_of, are_clients, is_own_client, are_two_clients, is_full, is_used_up, post_of, refusal_of, first_of};
 ghost use Rattle.dsr_replica.specs.declared.entry.Entry.TheVariants.{Post as PostEntry};
-ghost use Rattle.dsr_world.specs.History.{accepted_by, seen_by};
+ghost use Rattle.dsr_world.specs.History.{accepted_by, decided_at, history, seen_by};
+ghost use Rattle.dsr_world.specs.Outcome.{AreWithin, HasEnded};
+ghost use Rattle.dsr_world.specs.Agreement.{HasAgreement};
+ghost use Rattle.dsr_world.specs.Right.{IsRight, IsRightReply, TookAllReplies, HasReplyTo};
+ghost use Rattle.dsr_ledger.specs.declared.reply.Reply.{Reply as AReply};
 ghost use Rattle.dsr_world.specs.Run.{IsRun, ForgesNothing};
 ghost use Rattle.dsr_world.specs.Step.{Step, log_of};
-ghost use Rattle.dsr_world.specs.Support.WorldFields.{place_of, IsSpelledPick, box_refusal};
+ghost use Rattle.dsr_world.specs.Support.WorldFields.{place_of, with_letter, IsSpelledPick, box_refusal};
 
 use crate::customer::Customer;
 use crate::event::Event;
 use crate::letters::Letters;
 use crate::mail_boxes::MailBoxes;
 use crate::party::Party;
+use crate::run_end::RunEnd;
 use dsr_client::Client;
 use dsr_desk::{Key, Keys};
 use dsr_ledger::Reply;
 use dsr_names::{Actor, ClientId, NUMBER_END, Refusal, ReplicaId, Shape};
-use dsr_replica::{Entry, Envelope, Pick, Replica};
+use dsr_replica::{Entry, Envelope, Letter, Pick, Replica};
+use dsr_request::Request;
 use dsr_script::{Draft, Known, build};
+use dsr_slot::Decision;
 use std::alloc::Global;
 use std::marker::Model;
 
@@ -43,6 +52,8 @@ pub struct World {
     boxes: MailBoxes,
     keys: Vec<Key>,
     known: Known,
+    /// The letter that each loyal replica last posted to replica 0, if it is kept.
+    letters: Vec<Option<Letter>>,
     entries: Vec<(Actor, Entry)>,
 }
 
@@ -82,6 +93,7 @@ impl World {
             boxes: MailBoxes::new(alloc, count)?,
             keys: traitors,
             known: Known::new(alloc),
+            letters: no_letters(alloc, shape.n())?,
             entries: Vec::new(alloc),
         })
     }
@@ -106,6 +118,10 @@ impl World {
         ensures same { IfOk result (λ replies. replies.now ≡ reverse (accepted_by self.now.shape (log_of self.now.run) client)) }
         ensures when { IsOk result ↔ client < self.now.shape.m }
         ensures refusal { IsOkUnless result Refusal.NoActor }
+        ensures right { (reply : AReply) → IfOk result (λ replies. In reply replies.now
+            → IsRightReply self.now.shape (history self.now.shape (log_of self.now.run)) (log_of self.now.run (ClientNumber client)) reply) }
+        ensures answered { (number : ℕ) → TookAllReplies self.now.shape (log_of self.now.run (ClientNumber client)) number
+            → IfOk result (λ replies. HasReplyTo number replies.now) }
     {
         if client.number() >= self.shape.m() {
             return Err(Refusal::NoActor);
@@ -123,6 +139,44 @@ impl World {
             return Err(Refusal::NoActor);
         }
         Ok(self.parties[place_of(&self.shape, &Actor::Client(client))].seen())
+    }
+
+    /// What a loyal replica decided of its closed slots, by their numbers. `NoActor` where it is no replica of the shape, `WrongRole`
+    /// where it is a traitor.
+    pub fn decided(&self, replica: ReplicaId) -> Result<&[Decision], Refusal>
+        ensures same { IfOk result (λ values. values.now ≡ reverse (decided_at self.now.shape (log_of self.now.run) replica)) }
+        ensures when { IsOk result ↔ IsLoyal self.now.shape (ReplicaNumber replica) }
+        ensures outside { (result ≡ Err Refusal.NoActor) ↔ self.now.shape.n ≤ replica }
+        ensures refusal { OnErr result (result ≡ Err Refusal.NoActor ⊎ result ≡ Err Refusal.WrongRole) }
+    {
+        if replica.number() >= self.shape.n() {
+            return Err(Refusal::NoActor);
+        }
+        match self.parties[replica.number() as usize].replica() {
+            Some(loyal) => Ok(loyal.decided()),
+            None => Err(Refusal::WrongRole),
+        }
+    }
+
+    /// The history: the requests that acted, in their order, by the loyal replica with the most closed slots.
+    pub fn history(&self) -> &[Request]
+        ensures same { result.now ≡ reverse (history self.now.shape (log_of self.now.run)) }
+        ensures legal { IsLegal (history self.now.shape (log_of self.now.run)) }
+        ensures grew { (earlier : List Step) → Extends self.now.run earlier
+            → Extends (history self.now.shape (log_of self.now.run)) (history self.now.shape (log_of earlier)) }
+    {
+        let mut history: &[Request] = &[];
+        let mut closed = 0;
+        for number in 0..self.shape.n() {
+            if let Some(replica) = self.parties[number as usize].replica() {
+                let decided = replica.decided();
+                if decided.len() > closed {
+                    closed = decided.len();
+                    history = replica.history();
+                }
+            }
+        }
+        history
     }
 
     /// Has the event happen, and returns the reply that a client accepts by it. Requires that a traitor's envelope is within the
@@ -149,6 +203,28 @@ impl World {
         }
     }
 
+    /// Has each of the events happen in turn, refused ones left out, and tells how many were done and refused. Requires that what
+    /// traitors are to post is within the limits.
+    pub fn run(&mut self, alloc: Global, events: &[Event]) -> RunEnd
+        requires { AreWithin events.now }
+        ensures ended { HasEnded self.old.shape self.new.run self.old.run events.now result }
+        ensures all { result.done + result.refused ≡ length events.now }
+        ensures grew { Extends self.new.run self.old.run }
+        ensures done { length self.new.run ≡ result.done + length self.old.run }
+        ensures shape { self.new.shape ≡ self.old.shape }
+        ensures run { IsRun self.new.shape self.new.run }
+        ensures agreement { HasAgreement self.new.shape self.new.run }
+        ensures right { IsRight self.new.shape self.new.run }
+    {
+        let mut end = RunEnd::new();
+        for event in events {
+            let outcome = self.step(alloc, event).err();
+            end = end.with(outcome);
+        }
+        let _n = self.shape.n();
+        end
+    }
+
     /// Has a loyal actor post.
     fn post(
         &mut self,
@@ -171,10 +247,10 @@ impl World {
         look_at(pick);
         let _n = self.shape.n();
         let (poster, taker) = (place_of(&self.shape, from), place_of(&self.shape, to));
-        let Ok(envelope) = self.parties[poster].envelope_for(alloc, *to, *pick) else {
+        let Ok(letters) = self.letters_for(alloc, from, to, pick) else {
             return Err(Refusal::NoMemory);
         };
-        let letters = Letters::of(alloc, envelope)?;
+        let again = letters.kept.try_copy()?;
         make_room(&mut self.entries)?;
         learn(
             &mut self.known,
@@ -182,6 +258,7 @@ impl World {
             letters.kept.envelope(),
         )?;
         self.parties[poster].posted(*to, *pick);
+        keep_letter(&mut self.letters, from, to, again);
         self.boxes.put(poster, taker, letters.sent);
         self.entries.push_reserved((
             *from,
@@ -191,6 +268,43 @@ impl World {
             },
         ));
         Ok(None)
+    }
+
+    /// The letters of a loyal actor's post, which nothing refuses. A replica posts one letter to all others in a round. `NoMemory`
+    /// where memory runs out or one handle more is refused.
+    fn letters_for(
+        &self,
+        alloc: Global,
+        from: &Actor,
+        to: &Actor,
+        pick: &Pick,
+    ) -> Result<Letters, Refusal>
+        requires { refusal_of self.now.shape (log_of self.now.run) (Post from.now to.now pick.now) ≡ None }
+        ensures given { IfOk result (λ letters. post_of self.now.shape (log_of self.now.run from.now) from.now to.now pick.now ≡ Some letters.kept) }
+        ensures sent { IfOk result (λ letters. letters.sent ≡ letters.kept) }
+        ensures refusal { IsOkUnless result Refusal.NoMemory }
+    {
+        if let Some(letter) = self.posted_before(from, to, pick) {
+            return Letters::again(letter);
+        }
+        let poster = place_of(&self.shape, from);
+        let Ok(envelope) = self.parties[poster].envelope_for(alloc, *to, *pick) else {
+            return Err(Refusal::NoMemory);
+        };
+        Letters::of(alloc, envelope)
+    }
+
+    /// The letter that a loyal actor has posted already, where it posts it again: that of the round in progress, to another replica.
+    fn posted_before(&self, from: &Actor, to: &Actor, pick: &Pick) -> Option<&Letter>
+        requires { refusal_of self.now.shape (log_of self.now.run) (Post from.now to.now pick.now) ≡ None }
+        ensures { IfSome result (λ letter. post_of self.now.shape (log_of self.now.run from.now) from.now to.now pick.now ≡ Some letter.now) }
+    {
+        match (from, to, pick) {
+            (Actor::Replica(poster), Actor::Replica(taker), Pick::Plain) if taker.number() > 0 => {
+                self.letters[poster.number() as usize].as_ref()
+            }
+            _ => None,
+        }
     }
 
     /// Has an actor take.
@@ -504,6 +618,32 @@ fn learn(known: &mut Known, keys: &[Key], envelope: &Envelope) -> Result<(), Ref
         Ok(())
     } else {
         known.learn(envelope)
+    }
+}
+
+/// For so many replicas, that no letter is kept. `NoMemory` where memory runs out.
+fn no_letters(alloc: Global, replicas: u8) -> Result<Vec<Option<Letter>>, Refusal>
+    ensures count { IfOk result (λ letters. length letters.items ≡ replicas) }
+    ensures none { IfOk result (λ letters. (p : ℕ) → slice_index_or letters.items p None ≡ None) }
+    ensures refusal { IsOkUnless result Refusal.NoMemory }
+{
+    let mut letters = Vec::with_capacity(alloc, replicas as usize)?;
+    for _ in 0..replicas {
+        letters.push(None)?;
+    }
+    Ok(letters)
+}
+
+/// Keeps what a replica posts to replica 0.
+fn keep_letter(letters: &mut Vec<Option<Letter>>, from: &Actor, to: &Actor, letter: Letter)
+    requires { (p : ℕ) → from.now ≡ ReplicaNumber p → p < length letters.old.items }
+    ensures { letters.new.items ≡ with_letter from.now to.now letter letters.old.items }
+{
+    match (from, to) {
+        (Actor::Replica(poster), Actor::Replica(taker)) if taker.number() == 0 => {
+            letters[poster.number() as usize] = Some(letter);
+        }
+        _ => {}
     }
 }
 

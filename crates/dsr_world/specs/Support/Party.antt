@@ -14,8 +14,8 @@ use Rattle.dsr_replica.specs.declared.step.Due.TheVariants.{Take as TakeFrom}
 use Rattle.dsr_replica.specs.declared.step.Pick.{Pick}
 use Rattle.dsr_replica.specs.declared.step.Pick.TheVariants.{Plain, From, Begin}
 use Rattle.dsr_replica.specs.Limits.{IsEnvelope}
-use Rattle.dsr_replica.specs.Replica.{Replica, HasRoom, StandsFor, Allows}
-use Rattle.dsr_client.specs.Client.{Client as ClientValue, MayBegin, StandsFor as StandsForClient}
+use Rattle.dsr_replica.specs.Replica.{Replica, HasRoom, StandsFor}
+use Rattle.dsr_client.specs.Client.{StandsFor as StandsForClient}
 use Rattle.dsr_client.specs.State.{accepted}
 use Rattle.dsr_world.specs.Event.{post_of, is_exhausted, AcceptsBy}
 use Rattle.dsr_world.specs.Support.Customer.{Customer}
@@ -51,19 +51,6 @@ post_refusal shape log me to pick =
     if is_none (post_of shape log me to pick) then Some NotDue
     else if is_exhausted shape log me to pick then Some Exhausted
     else None
-
--- the client can post by this choice
-abbrev pub MayPost : ClientValue → Pick → Type 0
-MayPost client Plain = Unit {0}
-MayPost client (From clients) = Unit {0}
-MayPost client (Begin op) = MayBegin client
-
--- the party can post to this actor by this choice
-abbrev pub CanPost : Party → Actor → Pick → Type 0
-CanPost (Loyal r) (ReplicaNumber q) pick = Allows r q pick
-CanPost (Loyal r) (ClientNumber c) pick = Unit {0}
-CanPost Traitor to pick = Unit {0}
-CanPost (Client x) to pick = MayPost x.client pick
 
 -- the party can take this envelope from this actor: what it takes is due, within the limits, and there is room for it
 abbrev pub CanTake : Party → Actor → Envelope → Type 0

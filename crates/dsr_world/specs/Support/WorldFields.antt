@@ -1,5 +1,5 @@
 -- How a world stands in its fields (this project).
-use Rattle.std.specs.Prelude.{◌≡◌, ◌↔◌, ℕ, ◌+◌, ◌<◌, true, [], List, Option, None, Some, Any, if◌then◌else◌, length, reverse, slice_index_or}
+use Rattle.std.specs.Prelude.{◌≡◌, ◌↔◌, ℕ, zero, suc, ◌+◌, ◌++◌, ◌∷◌, ◌<◌, true, false, [], List, Option, None, Some, Any, if◌then◌else◌, length, reverse, slice_index_or, slice_set}
 use Rattle.dsr_base.specs.Member.{In}
 use Rattle.dsr_names.specs.Shape.{Shape, is_traitor, IsActor, IsLoyal}
 use Rattle.dsr_names.specs.declared.actor.Actor.{Actor}
@@ -10,6 +10,7 @@ use Rattle.dsr_request.specs.OpText.{IsOp}
 use Rattle.dsr_desk.specs.Signature.{Signature}
 use Rattle.dsr_replica.specs.declared.step.Pick.{Pick}
 use Rattle.dsr_replica.specs.declared.step.Pick.TheVariants.{Plain, From, Begin}
+use Rattle.dsr_replica.specs.declared.envelope.Envelope.{Envelope}
 use Rattle.dsr_replica.specs.Log.{posted_to, taken_from}
 use Rattle.dsr_world.specs.Event.{is_full, is_used_up}
 use Rattle.dsr_world.specs.Run.{IsTraitor, HasPosted, IsRun}
@@ -58,9 +59,23 @@ pub record AreParts (shape : Shape) (run : List Step) (parties : List Party) (ro
   pub held : AreKeys shape keys
   pub knows : KnowsAll shape (log_of run) known
 
+-- there is a place for each replica, and the letter that is kept of a loyal one, if one is, is what it last posted to replica 0
+pub record AreLetters (shape : Shape) (logs : Logs) (letters : List (Option Envelope)) : Type 0 where
+  pub count : length letters ≡ shape.n
+  pub last : (p : ℕ) → is_traitor shape p ≡ false → (x : Envelope) → slice_index_or letters p None ≡ Some x
+      → (older : List Envelope) × (posted_to (Replica 0) (logs (Replica p)) ≡ older ++ x ∷ [])
+
+-- the letters that are kept after a post: what a replica posts to replica 0 is
+abbrev pub with_letter : Actor → Actor → Envelope → List (Option Envelope) → List (Option Envelope)
+with_letter (Replica p) (Replica zero) x letters = slice_set letters p (Some x)
+with_letter (Replica p) (Replica (suc q)) x letters = letters
+with_letter (Replica p) (Client c) x letters = letters
+with_letter (Client c) to x letters = letters
+
 -- the fields of a world stand for the run that its entries are
 abbrev pub IsWorldFields : Inside → Type 0
 IsWorldFields a = AreParts a.shape (reverse a.entries.items) a.parties.items a.boxes a.keys.items a.known.signatures
+    × AreLetters a.shape (log_of (reverse a.entries.items)) a.letters.items
 
 -- the shape and the run
 abbrev pub world_of : Inside → World

@@ -1,10 +1,13 @@
-use Rattle.std.proofs.Common.{◌≡◌, ◌<◌, reverse, ap, sym, ◌∙◌, subst, arith}
+use Rattle.std.proofs.Common.{◌≡◌, ◌*◌, ◌<◌, reverse, ap, sym, ◌∙◌, subst, arith}
 use Rattle.std.specs.Prelude.{slice_index_or}
+use Rattle.dsr_names.specs.Shape.{HasFewTraitors}
 use Rattle.dsr_names.specs.declared.actor.Actor.TheVariants.{Client}
 use Rattle.dsr_world.specs.History.{accepted_by}
+use Rattle.dsr_world.specs.Run.{IsRun}
 use Rattle.dsr_world.specs.Step.{log_of}
 use Rattle.dsr_world.specs.Support.Party.{Plays}
 use Rattle.dsr_world.specs.World.{World}
+use Rattle.dsr_world.proofs.Righting.{lent_right, lent_answered}
 use Rattle.dsr_world.proofs.world.World.accepted.Goals as goal
 
 pub returns-clause-same : goal.returns-clause-same
@@ -17,5 +20,40 @@ returns-clause-same c =
     let inside : c.args.client < a.shape.m = omega (arith, below, number, size) in
     let plays : Plays a.shape (Client c.args.client) log c.index.result.now =
     subst (Plays a.shape (Client c.args.client) log) (sym (c.index.ensures ∙ ap (λ k. slice_index_or a.parties.items k c.index.result.now) c.place_of.ensures))
-    (c.self.invariant.played.each (Client c.args.client) inside c.index.result.now) in
+    (c.self.invariant.0.played.each (Client c.args.client) inside c.index.result.now) in
     subst (λ (w : World). c.accepted.result.now ≡ reverse (accepted_by w.shape (log_of w.run) c.args.client)) c.self.view_is (c.accepted.ensures a.shape c.args.client log plays)
+
+pub returns-clause-right : goal.returns-clause-right
+returns-clause-right c reply =
+    let a = c.self.inside in
+    let log = log_of (reverse a.entries.items) (Client c.args.client) in
+    let below = c.if-number-m.false in
+    let number = c.number.ensures.same in
+    let size = c.m.ensures.same in
+    let inside : c.args.client < a.shape.m = omega (arith, below, number, size) in
+    let plays : Plays a.shape (Client c.args.client) log c.index.result.now =
+    subst (Plays a.shape (Client c.args.client) log) (sym (c.index.ensures ∙ ap (λ k. slice_index_or a.parties.items k c.index.result.now) c.place_of.ensures))
+    (c.self.invariant.0.played.each (Client c.args.client) inside c.index.result.now) in
+    let same = subst (λ (w : World). c.accepted.result.now ≡ reverse (accepted_by w.shape (log_of w.run) c.args.client)) c.self.view_is (c.accepted.ensures a.shape c.args.client log plays) in
+    let world = c.args.self.now in
+    let few = subst (λ (w : World). HasFewTraitors w.shape) c.self.view_is c.m.ensures.allowed.few_traitors in
+    let is = subst (λ (w : World). IsRun w.shape w.run) c.self.view_is c.self.invariant.0.is_run in
+    lent_right world.shape few world.run is c.args.client c.accepted.result.now same reply
+
+pub returns-clause-answered : goal.returns-clause-answered
+returns-clause-answered c wanted =
+    let a = c.self.inside in
+    let log = log_of (reverse a.entries.items) (Client c.args.client) in
+    let below = c.if-number-m.false in
+    let number = c.number.ensures.same in
+    let size = c.m.ensures.same in
+    let inside : c.args.client < a.shape.m = omega (arith, below, number, size) in
+    let plays : Plays a.shape (Client c.args.client) log c.index.result.now =
+    subst (Plays a.shape (Client c.args.client) log) (sym (c.index.ensures ∙ ap (λ k. slice_index_or a.parties.items k c.index.result.now) c.place_of.ensures))
+    (c.self.invariant.0.played.each (Client c.args.client) inside c.index.result.now) in
+    let same = subst (λ (w : World). c.accepted.result.now ≡ reverse (accepted_by w.shape (log_of w.run) c.args.client)) c.self.view_is (c.accepted.ensures a.shape c.args.client log plays) in
+    let world = c.args.self.now in
+    let few = subst (λ (w : World). HasFewTraitors w.shape) c.self.view_is c.m.ensures.allowed.few_traitors in
+    let most = subst (λ (w : World). 2 * w.shape.f < w.shape.n) c.self.view_is c.m.ensures.allowed.most_loyal in
+    let is = subst (λ (w : World). IsRun w.shape w.run) c.self.view_is c.self.invariant.0.is_run in
+    lent_answered world.shape few world.run is c.args.client c.accepted.result.now same most wanted

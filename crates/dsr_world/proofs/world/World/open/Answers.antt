@@ -1,8 +1,10 @@
-use Rattle.std.proofs.Common.{◌≡◌, ◌+◌, ◌<◌, suc, reverse, refl, ap₂, sym, subst, arith}
+use Rattle.std.proofs.Common.{◌≡◌, ◌+◌, ◌<◌, ◌∙◌, suc, reverse, refl, ap₂, sym, subst, arith}
 use Rattle.dsr_names.specs.declared.actor.Actor.TheVariants.{Replica, Client}
 use Rattle.dsr_world.specs.Support.Boxes.{AreSquare}
-use Rattle.dsr_world.specs.Support.WorldFields.{AreParts, AreOpened, AreKeysBelow}
+use Rattle.dsr_world.specs.Step.{log_of}
+use Rattle.dsr_world.specs.Support.WorldFields.{AreParts, AreLetters, AreOpened, AreKeysBelow}
 use Rattle.dsr_world.proofs.Opening.{none_opened, one_opened, no_keys, more_keys, opened}
+use Rattle.dsr_world.proofs.Repeating.{no_letters_kept}
 use Rattle.dsr_world.proofs.world.World.open.Goals as goal
 
 pub loop-number-init : goal.loop-number-init
@@ -55,9 +57,12 @@ invariant_of-result c =
     let last = c.loop-number-2-test.false in
     let most = c.loop-number-2.auto.number-end in
     let all : c.args.shape.n + c.loop-number-2.number ≡ c.args.shape.n + c.args.shape.m = let is = c.m-number-end.ensures.same in omega (arith, last, most, is) in
-    let size : c.n.result + c.m.result ≡ c.args.shape.n + c.args.shape.m = ap₂ (λ a b. a + b) c.n.ensures.same c.m.ensures.same in
-    subst (λ es. AreParts c.args.shape (reverse es) c.loop-number-2.parties.items c.in_ok-new.field-0 c.loop-number.traitors.items c.new-3.result.signatures)
-    (sym c.new-4.ensures.items)
-    (opened c.args.shape c.loop-number-2.parties.items c.in_ok-new.field-0 c.loop-number.traitors.items c.new-3.result.signatures
-    (subst (λ k. AreOpened c.args.shape k c.loop-number-2.parties.items) all c.loop-number-2.invariant.0) c.loop-number-2.invariant.1
-    (subst (λ k. AreSquare k c.in_ok-new.field-0) size c.in_ok-new.ensures.count) c.in_ok-new.ensures.empty c.new-3.ensures.none)
+    let size : c.n.result + c.m.result ≡ c.args.shape.n + c.args.shape.m = ap₂ (λ a b. a + b) c.n.ensures.same c.m.ensures.same in (
+      subst (λ es. AreParts c.args.shape (reverse es) c.loop-number-2.parties.items c.in_ok-new.field-0 c.loop-number.traitors.items c.new-3.result.signatures)
+          (sym c.new-4.ensures.items)
+          (opened c.args.shape c.loop-number-2.parties.items c.in_ok-new.field-0 c.loop-number.traitors.items c.new-3.result.signatures
+          (subst (λ k. AreOpened c.args.shape k c.loop-number-2.parties.items) all c.loop-number-2.invariant.0) c.loop-number-2.invariant.1
+          (subst (λ k. AreSquare k c.in_ok-new.field-0) size c.in_ok-new.ensures.count) c.in_ok-new.ensures.empty c.new-3.ensures.none),
+      subst (λ es. AreLetters c.args.shape (log_of (reverse es)) c.in_ok-no_letters.field-0.items) (sym c.new-4.ensures.items)
+          (no_letters_kept c.args.shape c.in_ok-no_letters.field-0.items (c.in_ok-no_letters.ensures.count ∙ c.n-2.ensures.same) c.in_ok-no_letters.ensures.none),
+    )

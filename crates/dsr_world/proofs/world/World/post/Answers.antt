@@ -1,6 +1,7 @@
 use Rattle.std.proofs.Common.{◌≡◌, ◌↔◌, ◌⊎◌, ◌∷◌, ◌++◌, [], ◌<◌, ◌^◌, None, Some, length, reverse, ap, ap₂, sym, ◌∙◌, subst}
 use Rattle.std.specs.Prelude.{Any, slice_set, slice_index_or}
 use Rattle.dsr_base.specs.Member.{In}
+use Rattle.dsr_names.specs.Shape.{IsActor}
 use Rattle.dsr_names.specs.declared.actor.Actor.{Actor}
 use Rattle.dsr_desk.specs.Signature.{Signature}
 use Rattle.dsr_replica.specs.Envelope.{Carries}
@@ -10,9 +11,10 @@ use Rattle.dsr_world.specs.Event.{refusal_of, post_of, HasDone}
 use Rattle.dsr_world.specs.Step.{log_of}
 use Rattle.dsr_world.specs.Support.Boxes.{row_of, box_at, with_box, with_post}
 use Rattle.dsr_world.specs.Support.Party.{Plays}
-use Rattle.dsr_world.specs.Support.WorldFields.{place_of, AreParts}
+use Rattle.dsr_world.specs.Support.WorldFields.{place_of, with_letter, AreParts, AreLetters}
 use Rattle.dsr_world.specs.World.{World}
 use Rattle.dsr_world.proofs.Worlds.{cleared, conduct_cleared, row_long, posts_few, pushed, parts_after_post, done_post}
+use Rattle.dsr_world.proofs.Repeating.{letters_posted}
 use Rattle.dsr_world.proofs.world.World.post.Goals as goal
 
 pub put-requires-clause-row : goal.put-requires-clause-row
@@ -23,7 +25,7 @@ put-requires-clause-row c =
     let is = cleared a.shape (log_of (reverse a.entries.items)) c.args.from.now c.args.to.now c.args.pick.now none in
     subst (λ k. k < length (row_of a.boxes c.place_of-poster.result)) (sym c.place_of-taker.ensures)
     (subst (λ k. place_of a.shape c.args.to.now < length (row_of a.boxes k)) (sym c.place_of-poster.ensures)
-    (row_long a.shape (reverse a.entries.items) a.parties.items a.boxes a.keys.items a.known.signatures c.self.invariant c.args.from.now c.args.to.now is.actor is.other))
+    (row_long a.shape (reverse a.entries.items) a.parties.items a.boxes a.keys.items a.known.signatures c.self.invariant.0 c.args.from.now c.args.to.now is.actor is.other))
 
 pub put-requires-clause-few : goal.put-requires-clause-few
 put-requires-clause-few c =
@@ -33,7 +35,7 @@ put-requires-clause-few c =
     let is = cleared a.shape (log_of (reverse a.entries.items)) c.args.from.now c.args.to.now c.args.pick.now none in
     subst (λ k. (box_at a.boxes c.place_of-poster.result k).posts < 2 ^ 40) (sym c.place_of-taker.ensures)
     (subst (λ k. (box_at a.boxes k (place_of a.shape c.args.to.now)).posts < 2 ^ 40) (sym c.place_of-poster.ensures)
-    (posts_few a.shape (reverse a.entries.items) a.parties.items a.boxes a.keys.items a.known.signatures c.self.invariant c.args.from.now c.args.to.now is.actor is.other is.used))
+    (posts_few a.shape (reverse a.entries.items) a.parties.items a.boxes a.keys.items a.known.signatures c.self.invariant.0 c.args.from.now c.args.to.now is.actor is.other is.used))
 
 pub invariant_of-self-2 : goal.invariant_of-self-2
 invariant_of-self-2 c =
@@ -46,36 +48,39 @@ invariant_of-self-2 c =
     (sym c.post_refusal.ensures ∙ c.in_default.is) in
     let is = cleared a.shape (log_of run) from to pick none in
     let conduct = conduct_cleared a.shape (log_of run) from to pick is in
-    let at_first : Plays a.shape from (log_of run from) c.index.result.now =
-    subst (Plays a.shape from (log_of run from)) (sym (c.index.ensures ∙ ap (λ k. slice_index_or a.parties.items k c.index.result.now) c.place_of-poster.ensures))
-    (c.self.invariant.played.each from is.actor c.index.result.now) in
-    let given : post_of a.shape (log_of run from) from to pick ≡ Some c.in-Ok.envelope = c.in-Ok.ensures.given a.shape from (log_of run from) at_first conduct in
+    let given : post_of a.shape (log_of run from) from to pick ≡ Some c.in-Ok.letters.kept =
+    subst (λ (w : World). post_of w.shape (log_of w.run from) from to pick ≡ Some c.in-Ok.letters.kept) (sym c.self.view_is) c.in-Ok.ensures.given in
     let at_last : Plays a.shape from (log_of run from) c.index_mut.result.now =
     subst (Plays a.shape from (log_of run from)) (sym (c.index_mut.ensures.value ∙ ap (λ k. slice_index_or a.parties.items k c.index_mut.result.now) c.place_of-poster.ensures))
-    (c.self.invariant.played.each from is.actor c.index_mut.result.now) in
-    let plays : Plays a.shape from (PostEntry to c.in-Ok.envelope ∷ log_of run from) c.posted.new.self =
-    c.posted.ensures.plays a.shape from (log_of run from) c.in-Ok.envelope at_last conduct given in
-    let same : c.envelope.result.now ≡ c.in-Ok.envelope = c.envelope.ensures ∙ c.in_ok-letters.ensures.kept in
+    (c.self.invariant.0.played.each from is.actor c.index_mut.result.now) in
+    let plays : Plays a.shape from (PostEntry to c.in-Ok.letters.kept ∷ log_of run from) c.posted.new.self =
+    c.posted.ensures.plays a.shape from (log_of run from) c.in-Ok.letters.kept at_last conduct given in
+    let same : c.envelope.result.now ≡ c.in-Ok.letters.kept = c.envelope.ensures in
     let learned : (holder : Actor) → Any (λ h. h ≡ holder) a.keys.items → (s : Signature)
-    → In s c.learn.new.known.signatures ↔ (In s a.known.signatures ⊎ Carries c.in-Ok.envelope s) =
+    → In s c.learn.new.known.signatures ↔ (In s a.known.signatures ⊎ Carries c.in-Ok.letters.kept s) =
     λ holder h s. subst (λ y. In s c.learn.new.known.signatures ↔ (In s a.known.signatures ⊎ Carries y s)) same
     (c.in_ok-learn.ensures.learned holder (subst (Any (λ h. h ≡ holder)) (sym c.as_slice.ensures.value) h) s) in
-    let parts = parts_after_post a.shape run a.parties.items a.boxes a.keys.items a.known.signatures c.self.invariant from to pick c.in-Ok.envelope c.posted.new.self
+    let parts = parts_after_post a.shape run a.parties.items a.boxes a.keys.items a.known.signatures c.self.invariant.0 from to pick c.in-Ok.letters.kept c.posted.new.self
     c.learn.new.known.signatures c.n-n.ensures.allowed c.look_at.ensures.pick c.look_at.ensures.spelled is given plays learned in
-    let entry : c.push_reserved.new.self.items ≡ a.entries.items ++ (from, PostEntry to c.in-Ok.envelope) ∷ [] =
-    c.push_reserved.ensures.items ∙ ap₂ (λ es x. es ++ (from, PostEntry to x) ∷ []) c.make_room.ensures.same c.in_ok-letters.ensures.kept in
-    let went : reverse c.push_reserved.new.self.items ≡ (from, PostEntry to c.in-Ok.envelope) ∷ run =
-    pushed a.entries.items c.push_reserved.new.self.items (from, PostEntry to c.in-Ok.envelope) entry in
+    let entry : c.push_reserved.new.self.items ≡ a.entries.items ++ (from, PostEntry to c.in-Ok.letters.kept) ∷ [] =
+    c.push_reserved.ensures.items ∙ ap (λ es. es ++ (from, PostEntry to c.in-Ok.letters.kept) ∷ []) c.make_room.ensures.same in
+    let went : reverse c.push_reserved.new.self.items ≡ (from, PostEntry to c.in-Ok.letters.kept) ∷ run =
+    pushed a.entries.items c.push_reserved.new.self.items (from, PostEntry to c.in-Ok.letters.kept) entry in
     let box : c.put.new.self ≡ with_box a.boxes (place_of a.shape from) (place_of a.shape to)
-    (with_post (box_at a.boxes (place_of a.shape from) (place_of a.shape to)) c.in-Ok.envelope) =
+    (with_post (box_at a.boxes (place_of a.shape from) (place_of a.shape to)) c.in-Ok.letters.kept) =
     c.put.ensures
-    ∙ (ap (λ x. with_box a.boxes c.place_of-poster.result c.place_of-taker.result (with_post (box_at a.boxes c.place_of-poster.result c.place_of-taker.result) x)) c.in_ok-letters.ensures.sent
-    ∙ ap₂ (λ k l. with_box a.boxes k l (with_post (box_at a.boxes k l) c.in-Ok.envelope)) c.place_of-poster.ensures c.place_of-taker.ensures) in
-    subst (λ r. AreParts a.shape r (slice_set a.parties.items c.place_of-poster.result c.posted.new.self) c.put.new.self a.keys.items c.learn.new.known.signatures) (sym went)
-    (subst (λ k. AreParts a.shape ((from, PostEntry to c.in-Ok.envelope) ∷ run) (slice_set a.parties.items k c.posted.new.self) c.put.new.self a.keys.items c.learn.new.known.signatures)
-    (sym c.place_of-poster.ensures)
-    (subst (λ rows. AreParts a.shape ((from, PostEntry to c.in-Ok.envelope) ∷ run) (slice_set a.parties.items (place_of a.shape from) c.posted.new.self) rows a.keys.items
-    c.learn.new.known.signatures) (sym box) parts))
+    ∙ (ap (λ x. with_box a.boxes c.place_of-poster.result c.place_of-taker.result (with_post (box_at a.boxes c.place_of-poster.result c.place_of-taker.result) x)) c.in-Ok.ensures.sent
+    ∙ ap₂ (λ k l. with_box a.boxes k l (with_post (box_at a.boxes k l) c.in-Ok.letters.kept)) c.place_of-poster.ensures c.place_of-taker.ensures) in (
+      subst (λ r. AreParts a.shape r (slice_set a.parties.items c.place_of-poster.result c.posted.new.self) c.put.new.self a.keys.items c.learn.new.known.signatures) (sym went)
+          (subst (λ k. AreParts a.shape ((from, PostEntry to c.in-Ok.letters.kept) ∷ run) (slice_set a.parties.items k c.posted.new.self) c.put.new.self a.keys.items c.learn.new.known.signatures)
+          (sym c.place_of-poster.ensures)
+          (subst (λ rows. AreParts a.shape ((from, PostEntry to c.in-Ok.letters.kept) ∷ run) (slice_set a.parties.items (place_of a.shape from) c.posted.new.self) rows a.keys.items
+          c.learn.new.known.signatures) (sym box) parts)),
+      subst (λ r. AreLetters a.shape (log_of r) c.keep_letter.new.letters.items) (sym went)
+          (subst (AreLetters a.shape (log_of ((from, PostEntry to c.in-Ok.letters.kept) ∷ run)))
+          (sym (c.keep_letter.ensures ∙ ap (λ x. with_letter from to x a.letters.items) c.in_ok-again.ensures.same))
+          (letters_posted a.shape run a.letters.items c.self.invariant.1 from to c.in-Ok.letters.kept (λ p e. subst (IsActor a.shape) e is.actor))),
+    )
 
 pub returns-clause-done : goal.returns-clause-done
 returns-clause-done c =
@@ -88,13 +93,11 @@ returns-clause-done c =
     (sym c.post_refusal.ensures ∙ c.in_default.is) in
     let is = cleared a.shape (log_of run) from to pick none in
     let conduct = conduct_cleared a.shape (log_of run) from to pick is in
-    let at_first : Plays a.shape from (log_of run from) c.index.result.now =
-    subst (Plays a.shape from (log_of run from)) (sym (c.index.ensures ∙ ap (λ k. slice_index_or a.parties.items k c.index.result.now) c.place_of-poster.ensures))
-    (c.self.invariant.played.each from is.actor c.index.result.now) in
-    let given : post_of a.shape (log_of run from) from to pick ≡ Some c.in-Ok.envelope = c.in-Ok.ensures.given a.shape from (log_of run from) at_first conduct in
-    let entry : c.push_reserved.new.self.items ≡ a.entries.items ++ (from, PostEntry to c.in-Ok.envelope) ∷ [] =
-    c.push_reserved.ensures.items ∙ ap₂ (λ es x. es ++ (from, PostEntry to x) ∷ []) c.make_room.ensures.same c.in_ok-letters.ensures.kept in
-    let went : reverse c.push_reserved.new.self.items ≡ (from, PostEntry to c.in-Ok.envelope) ∷ run =
-    pushed a.entries.items c.push_reserved.new.self.items (from, PostEntry to c.in-Ok.envelope) entry in
+    let given : post_of a.shape (log_of run from) from to pick ≡ Some c.in-Ok.letters.kept =
+    subst (λ (w : World). post_of w.shape (log_of w.run from) from to pick ≡ Some c.in-Ok.letters.kept) (sym c.self.view_is) c.in-Ok.ensures.given in
+    let entry : c.push_reserved.new.self.items ≡ a.entries.items ++ (from, PostEntry to c.in-Ok.letters.kept) ∷ [] =
+    c.push_reserved.ensures.items ∙ ap (λ es. es ++ (from, PostEntry to c.in-Ok.letters.kept) ∷ []) c.make_room.ensures.same in
+    let went : reverse c.push_reserved.new.self.items ≡ (from, PostEntry to c.in-Ok.letters.kept) ∷ run =
+    pushed a.entries.items c.push_reserved.new.self.items (from, PostEntry to c.in-Ok.letters.kept) entry in
     subst (λ (w : World). HasDone w.shape (reverse c.push_reserved.new.self.items) w.run (Post from to pick) None) c.self.view_is
-    (subst (λ r. HasDone a.shape r run (Post from to pick) None) (sym went) (done_post a.shape run from to pick c.in-Ok.envelope given))
+    (subst (λ r. HasDone a.shape r run (Post from to pick) None) (sym went) (done_post a.shape run from to pick c.in-Ok.letters.kept given))

@@ -17,5 +17,5 @@ returns-clause-same c =
     let inside : c.args.client < a.shape.m = omega (arith, below, number, size) in
     let plays : Plays a.shape (Client c.args.client) log c.index.result.now =
     subst (Plays a.shape (Client c.args.client) log) (sym (c.index.ensures ∙ ap (λ k. slice_index_or a.parties.items k c.index.result.now) c.place_of.ensures))
-    (c.self.invariant.played.each (Client c.args.client) inside c.index.result.now) in
+    (c.self.invariant.0.played.each (Client c.args.client) inside c.index.result.now) in
     subst (λ (w : World). c.seen.result ≡ seen_by w.shape (log_of w.run) c.args.client) c.self.view_is (c.seen.ensures a.shape c.args.client log plays)

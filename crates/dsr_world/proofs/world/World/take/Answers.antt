@@ -6,13 +6,14 @@ use Rattle.dsr_world.specs.Event.{refusal_of, HasDone}
 use Rattle.dsr_world.specs.Step.{log_of}
 use Rattle.dsr_world.specs.Support.Boxes.{box_at, with_box, without_letter}
 use Rattle.dsr_world.specs.Support.Party.{Plays, CanTake, TakesReply}
-use Rattle.dsr_world.specs.Support.WorldFields.{place_of, AreParts}
+use Rattle.dsr_world.specs.Support.WorldFields.{place_of, AreParts, AreLetters}
 use Rattle.dsr_world.specs.World.{World}
 use Rattle.std.proofs.lemmas.Option.{same_Some}
 use Rattle.std.proofs.lemmas.List.{get_or-set_same}
 use Rattle.dsr_world.proofs.Stepping.{place_below}
 use Rattle.dsr_world.proofs.Worlds.{pushed}
 use Rattle.dsr_world.proofs.WorldTakes.{cleared_take, can_take, parts_with_room, parts_after_take, done_take}
+use Rattle.dsr_world.proofs.Repeating.{letters_taken}
 use Rattle.dsr_world.proofs.world.World.take.Goals as goal
 
 pub invariant_of-self-in_default-room : goal.invariant_of-self-in_default-room
@@ -26,12 +27,14 @@ invariant_of-self-in_default-room c =
     let is = cleared_take a.shape (log_of run) at from none in
     let before : Plays a.shape at (log_of run at) c.index_mut.result.now =
     subst (Plays a.shape at (log_of run at)) (sym (c.index_mut.ensures.value ∙ ap (λ k. slice_index_or a.parties.items k c.index_mut.result.now) c.place_of-taker.ensures))
-    (c.self.invariant.played.each at is.actor c.index_mut.result.now) in
-    let plays : Plays a.shape at (log_of run at) c.room.new.self = c.room.ensures.plays a.shape at (log_of run at) before in
-    subst (λ es. AreParts a.shape (reverse es) (slice_set a.parties.items c.place_of-taker.result c.room.new.self) a.boxes a.keys.items a.known.signatures)
-    (sym c.make_room.ensures.same)
-    (subst (λ k. AreParts a.shape run (slice_set a.parties.items k c.room.new.self) a.boxes a.keys.items a.known.signatures) (sym c.place_of-taker.ensures)
-    (parts_with_room a.shape run a.parties.items a.boxes a.keys.items a.known.signatures c.self.invariant at c.room.new.self is.actor plays))
+    (c.self.invariant.0.played.each at is.actor c.index_mut.result.now) in
+    let plays : Plays a.shape at (log_of run at) c.room.new.self = c.room.ensures.plays a.shape at (log_of run at) before in (
+      subst (λ es. AreParts a.shape (reverse es) (slice_set a.parties.items c.place_of-taker.result c.room.new.self) a.boxes a.keys.items a.known.signatures)
+          (sym c.make_room.ensures.same)
+          (subst (λ k. AreParts a.shape run (slice_set a.parties.items k c.room.new.self) a.boxes a.keys.items a.known.signatures) (sym c.place_of-taker.ensures)
+          (parts_with_room a.shape run a.parties.items a.boxes a.keys.items a.known.signatures c.self.invariant.0 at c.room.new.self is.actor plays)),
+      subst (λ es. AreLetters a.shape (log_of (reverse es)) a.letters.items) (sym c.make_room.ensures.same) c.self.invariant.1,
+    )
 
 pub taken-reply-requires : goal.taken-reply-requires
 taken-reply-requires c =
@@ -44,10 +47,10 @@ taken-reply-requires c =
     let is = cleared_take a.shape (log_of run) at from none in
     let before : Plays a.shape at (log_of run at) c.index_mut.result.now =
     subst (Plays a.shape at (log_of run at)) (sym (c.index_mut.ensures.value ∙ ap (λ k. slice_index_or a.parties.items k c.index_mut.result.now) c.place_of-taker.ensures))
-    (c.self.invariant.played.each at is.actor c.index_mut.result.now) in
+    (c.self.invariant.0.played.each at is.actor c.index_mut.result.now) in
     let plays : Plays a.shape at (log_of run at) c.room.new.self = c.room.ensures.plays a.shape at (log_of run at) before in
     let long : place_of a.shape at < length a.parties.items =
-    let below = place_below a.shape at is.actor in let count = c.self.invariant.played.count in omega (arith, below, count) in
+    let below = place_below a.shape at is.actor in let count = c.self.invariant.0.played.count in omega (arith, below, count) in
     let again : c.index_mut-2.result.now ≡ c.room.new.self =
     c.index_mut-2.ensures.value
     ∙ (ap (λ k. slice_index_or (slice_set a.parties.items k c.room.new.self) k c.index_mut-2.result.now) c.place_of-taker.ensures
@@ -55,7 +58,7 @@ taken-reply-requires c =
     let full : (box_at a.boxes (place_of a.shape from) (place_of a.shape at)).letter ≡ Some c.in-Ok.envelope =
     ap₂ (λ k l. (box_at a.boxes k l).letter) (sym c.place_of-poster.ensures) (sym c.place_of-taker.ensures) ∙ c.in-Ok.ensures.same in
     subst (λ x. CanTake x from c.in-Ok.envelope) (sym again)
-    (can_take a.shape run a.parties.items a.boxes a.keys.items a.known.signatures c.self.invariant at from c.in-Ok.envelope c.room.new.self
+    (can_take a.shape run a.parties.items a.boxes a.keys.items a.known.signatures c.self.invariant.0 at from c.in-Ok.envelope c.room.new.self
     c.n-n.ensures.allowed is full plays c.in-Ok-room.ensures.room)
 
 pub invariant_of-self-2 : goal.invariant_of-self-2
@@ -69,10 +72,10 @@ invariant_of-self-2 c =
     let is = cleared_take a.shape (log_of run) at from none in
     let before : Plays a.shape at (log_of run at) c.index_mut.result.now =
     subst (Plays a.shape at (log_of run at)) (sym (c.index_mut.ensures.value ∙ ap (λ k. slice_index_or a.parties.items k c.index_mut.result.now) c.place_of-taker.ensures))
-    (c.self.invariant.played.each at is.actor c.index_mut.result.now) in
+    (c.self.invariant.0.played.each at is.actor c.index_mut.result.now) in
     let plays : Plays a.shape at (log_of run at) c.room.new.self = c.room.ensures.plays a.shape at (log_of run at) before in
     let long : place_of a.shape at < length a.parties.items =
-    let below = place_below a.shape at is.actor in let count = c.self.invariant.played.count in omega (arith, below, count) in
+    let below = place_below a.shape at is.actor in let count = c.self.invariant.0.played.count in omega (arith, below, count) in
     let again : c.index_mut-2.result.now ≡ c.room.new.self =
     c.index_mut-2.ensures.value
     ∙ (ap (λ k. slice_index_or (slice_set a.parties.items k c.room.new.self) k c.index_mut-2.result.now) c.place_of-taker.ensures
@@ -88,18 +91,20 @@ invariant_of-self-2 c =
     pushed a.entries.items c.push_reserved.new.self.items (at, TakeEntry from c.in-Ok.envelope) entry in
     let after : Plays a.shape at (TakeEntry from c.in-Ok.envelope ∷ log_of run at) c.taken-reply.new.self =
     c.taken-reply.ensures.plays a.shape at (log_of run at) (subst (Plays a.shape at (log_of run at)) (sym again) plays) in
-    let roomy = parts_with_room a.shape run a.parties.items a.boxes a.keys.items a.known.signatures c.self.invariant at c.room.new.self is.actor plays in
+    let roomy = parts_with_room a.shape run a.parties.items a.boxes a.keys.items a.known.signatures c.self.invariant.0 at c.room.new.self is.actor plays in
     let parts = parts_after_take a.shape run (slice_set a.parties.items (place_of a.shape at) c.room.new.self) a.boxes a.keys.items a.known.signatures roomy at from
     c.in-Ok.envelope c.taken-reply.new.self c.n-n.ensures.allowed is full after in
     let box : c.take-letter.new.self ≡ with_box a.boxes (place_of a.shape from) (place_of a.shape at) (without_letter (box_at a.boxes (place_of a.shape from) (place_of a.shape at))) =
-    c.take-letter.ensures.rest ∙ ap₂ (λ k l. with_box a.boxes k l (without_letter (box_at a.boxes k l))) c.place_of-poster.ensures c.place_of-taker.ensures in
-    subst (λ r. AreParts a.shape r (slice_set (slice_set a.parties.items c.place_of-taker.result c.room.new.self) c.place_of-taker.result c.taken-reply.new.self)
-    c.take-letter.new.self a.keys.items a.known.signatures) (sym went)
-    (subst (λ k. AreParts a.shape ((at, TakeEntry from c.in-Ok.envelope) ∷ run) (slice_set (slice_set a.parties.items k c.room.new.self) k c.taken-reply.new.self)
-    c.take-letter.new.self a.keys.items a.known.signatures) (sym c.place_of-taker.ensures)
-    (subst (λ rows. AreParts a.shape ((at, TakeEntry from c.in-Ok.envelope) ∷ run)
-    (slice_set (slice_set a.parties.items (place_of a.shape at) c.room.new.self) (place_of a.shape at) c.taken-reply.new.self)
-    rows a.keys.items a.known.signatures) (sym box) parts))
+    c.take-letter.ensures.rest ∙ ap₂ (λ k l. with_box a.boxes k l (without_letter (box_at a.boxes k l))) c.place_of-poster.ensures c.place_of-taker.ensures in (
+      subst (λ r. AreParts a.shape r (slice_set (slice_set a.parties.items c.place_of-taker.result c.room.new.self) c.place_of-taker.result c.taken-reply.new.self)
+          c.take-letter.new.self a.keys.items a.known.signatures) (sym went)
+          (subst (λ k. AreParts a.shape ((at, TakeEntry from c.in-Ok.envelope) ∷ run) (slice_set (slice_set a.parties.items k c.room.new.self) k c.taken-reply.new.self)
+          c.take-letter.new.self a.keys.items a.known.signatures) (sym c.place_of-taker.ensures)
+          (subst (λ rows. AreParts a.shape ((at, TakeEntry from c.in-Ok.envelope) ∷ run)
+          (slice_set (slice_set a.parties.items (place_of a.shape at) c.room.new.self) (place_of a.shape at) c.taken-reply.new.self)
+          rows a.keys.items a.known.signatures) (sym box) parts)),
+      subst (λ r. AreLetters a.shape (log_of r) a.letters.items) (sym went) (letters_taken a.shape run a.letters.items c.self.invariant.1 at from c.in-Ok.envelope),
+    )
 
 pub returns-clause-done : goal.returns-clause-done
 returns-clause-done c =
@@ -112,10 +117,10 @@ returns-clause-done c =
     let is = cleared_take a.shape (log_of run) at from none in
     let before : Plays a.shape at (log_of run at) c.index_mut.result.now =
     subst (Plays a.shape at (log_of run at)) (sym (c.index_mut.ensures.value ∙ ap (λ k. slice_index_or a.parties.items k c.index_mut.result.now) c.place_of-taker.ensures))
-    (c.self.invariant.played.each at is.actor c.index_mut.result.now) in
+    (c.self.invariant.0.played.each at is.actor c.index_mut.result.now) in
     let plays : Plays a.shape at (log_of run at) c.room.new.self = c.room.ensures.plays a.shape at (log_of run at) before in
     let long : place_of a.shape at < length a.parties.items =
-    let below = place_below a.shape at is.actor in let count = c.self.invariant.played.count in omega (arith, below, count) in
+    let below = place_below a.shape at is.actor in let count = c.self.invariant.0.played.count in omega (arith, below, count) in
     let again : c.index_mut-2.result.now ≡ c.room.new.self =
     c.index_mut-2.ensures.value
     ∙ (ap (λ k. slice_index_or (slice_set a.parties.items k c.room.new.self) k c.index_mut-2.result.now) c.place_of-taker.ensures
@@ -133,4 +138,4 @@ returns-clause-done c =
     c.taken-reply.ensures.accepted a.shape at (log_of run at) (subst (Plays a.shape at (log_of run at)) (sym again) plays) in
     subst (λ (w : World). HasDone w.shape (reverse c.push_reserved.new.self.items) w.run (Take at from) c.taken-reply.result) c.self.view_is
     (subst (λ r. HasDone a.shape r run (Take at from) c.taken-reply.result) (sym went)
-    (done_take a.shape run a.parties.items a.boxes a.keys.items a.known.signatures c.self.invariant at from c.in-Ok.envelope c.taken-reply.result is.actor is.other full takes))
+    (done_take a.shape run a.parties.items a.boxes a.keys.items a.known.signatures c.self.invariant.0 at from c.in-Ok.envelope c.taken-reply.result is.actor is.other full takes))

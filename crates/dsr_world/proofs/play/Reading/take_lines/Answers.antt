@@ -1,6 +1,6 @@
 use Rattle.std.proofs.Common.{rules, ◌∙◌, arith}
 use Rattle.dsr_world.proofs.PlayLemmas.{none_read, too_many, bad_after, cannot_follow, one_more, shorter}
-use Rattle.dsr_world.proofs.play.Play.take_lines.Goals as goal
+use Rattle.dsr_world.proofs.play.Reading.take_lines.Goals as goal
 
 -- the line is read as none
 pub returns-in_default-2-clause-refused : goal.returns-in_default-2-clause-refused

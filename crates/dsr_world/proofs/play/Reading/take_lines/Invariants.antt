@@ -1,6 +1,6 @@
 use Rattle.std.proofs.Common.{◌≡◌, ◌+◌, ◌≤◌, length}
 use Rattle.dsr_world.proofs.PlayLemmas.{TakenSoFar}
-use Rattle.dsr_world.proofs.play.Play.take_lines.Given as goal
+use Rattle.dsr_world.proofs.play.Reading.take_lines.Given as goal
 
 -- the lines before the rest were taken in
 abbrev pub invariant-loop-rest : goal.invariant-loop-rest

@@ -1,0 +1,66 @@
+ghost use Rattle.std.specs.Prelude.{◌≡◌, ◌<◌, ◌≤◌, ◌+◌, ◌++◌, ◌∷◌, [], List, Option};
+ghost use Rattle.dsr_names.specs.declared.refusal.Refusal.{Refusal};
+ghost use Rattle.dsr_world.specs.Outcome.{Counts, starved_by};
+
+use dsr_names::Refusal;
+
+/// How a list of events ended.
+#[derive(Clone, Copy, Debug, PartialEq, Eq)]
+pub struct RunEnd {
+    /// How many events were done.
+    pub done: u64,
+    /// How many events were refused.
+    pub refused: u64,
+    /// How many of the refused ones were so because memory ran out.
+    pub starved: u64,
+    /// The first refusal, with the index of its event, from 0.
+    pub first: Option<(u64, Refusal)>,
+}
+
+impl RunEnd {
+    /// The end of no events.
+    pub(crate) fn new() -> RunEnd
+        ensures { Counts [] result }
+    {
+        RunEnd {
+            done: 0,
+            refused: 0,
+            starved: 0,
+            first: None,
+        }
+    }
+
+    /// The end with one event more, and what that was refused with, if it was.
+    pub(crate) fn with(self, outcome: Option<Refusal>) -> RunEnd
+        requires few { self.done + self.refused < 18446744073709551615 }
+        requires starved { self.starved ≤ self.refused }
+        ensures counts { (outcomes : List (Option Refusal)) → Counts outcomes self → Counts (outcomes ++ outcome ∷ []) result }
+        ensures starved { result.starved ≤ result.refused }
+    {
+        match outcome {
+            None => RunEnd {
+                done: self.done + 1,
+                refused: self.refused,
+                starved: self.starved,
+                first: self.first,
+            },
+            Some(refusal) => RunEnd {
+                done: self.done,
+                refused: self.refused + 1,
+                starved: self.starved + starved_by(refusal),
+                first: self.first.or(Some((self.done + self.refused, refusal))),
+            },
+        }
+    }
+}
+
+/// 1 where memory ran out, else 0.
+fn starved_by(refusal: Refusal) -> u64
+    ensures same { result ≡ starved_by refusal }
+    ensures small { result ≤ 1 }
+{
+    match refusal {
+        Refusal::NoMemory => 1,
+        _ => 0,
+    }
+}
