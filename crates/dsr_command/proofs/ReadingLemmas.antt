@@ -4,16 +4,17 @@ use Rattle.clap.specs.Kinds.{HasKind, IsAmong, Kinds}
 use Rattle.clap.specs.Values.{kind_of}
 use Rattle.clap.specs.Walk.{Text}
 use Rattle.clap.specs.Faults.{fault_of}
+use Rattle.clap.specs.Simple.{subcommand_of}
 use Rattle.clap.specs.declared.error.Error.{Error}
 use Rattle.clap.specs.declared.error.kind.ErrorKind.{ErrorKind}
 use Rattle.clap.specs.declared.error.kind.ErrorKind.TheVariants.{DisplayHelp, InvalidSubcommand, OutOfMemory, TooManyValues, UnknownArgument}
 use Rattle.dsr_command.specs.Asked.{Asked, asked_of, has_two_hyphens, help, task, unknown}
-use Rattle.dsr_command.specs.CommandLine.{command_line}
+use Rattle.dsr_command.specs.CommandLine.{command_line, task_entered}
 use Rattle.dsr_command.specs.Readings.{OnHelp, OnUsage}
 use Rattle.dsr_command.specs.declared.Reading.{Reading}
 use Rattle.dsr_command.specs.declared.Reading.TheVariants as reading
-use Rattle.dsr_command.specs.declared.Task.TheVariants.{Apply}
-use Rattle.dsr_command.proofs.WordLemmas.{Comes, IsRefused, asked}
+use Rattle.dsr_command.specs.declared.Task.{Task}
+use Rattle.dsr_command.proofs.WordLemmas.{Comes, IsEntered, IsRefused, asked, entered_as_asked}
 
 -- what is said of a help text may say less
 on_help : (r : Reading) (P Q : Type 0) → (P → Q) → OnHelp r P → OnHelp r Q
@@ -44,12 +45,13 @@ refused_is_some kinds (inl h) none = one_is_some kinds _ _ h none
 refused_is_some kinds (inr (inl h)) none = one_is_some kinds _ _ h none
 refused_is_some kinds (inr (inr h)) none = one_is_some kinds _ _ h none
 
--- where the parse passes and no word is `--`, the task was asked for
-taken : (a : Asked) (sep : Bool) (kinds : Kinds) → Comes a sep kinds → kinds ≡ [] → sep ≡ false → a ≡ task Apply
-taken (task Apply) sep kinds h none without = refl
-taken help sep kinds h none without = absurd (one_is_some kinds _ _ h none)
-taken unknown sep kinds (inl h) none without = absurd (refused_is_some kinds h none)
-taken unknown sep kinds (inr h) none without = absurd (true≢false (sym h.1 ∙ without))
+-- where the parse passes and no word is `--`, the task that it entered was asked for
+taken : (words : List Text) (a : Asked) (sep : Bool) (kinds : Kinds) → Comes a sep kinds → IsEntered words a → kinds ≡ [] → sep ≡ false
+    → a ≡ task (task_entered (subcommand_of command_line words))
+taken words (task named) sep kinds h entered none without = entered
+taken words help sep kinds h entered none without = absurd (one_is_some kinds _ _ h none)
+taken words unknown sep kinds (inl h) entered none without = absurd (refused_is_some kinds h none)
+taken words unknown sep kinds (inr h) entered none without = absurd (true≢false (sym h.1 ∙ without))
 
 -- where it passes and a word is `--`, nothing known was
 separator_taken : (a : Asked) (sep : Bool) (kinds : Kinds) → Comes a sep kinds → kinds ≡ [] → sep ≡ true → a ≡ unknown
@@ -99,8 +101,10 @@ faulted help sep kinds k h among other = go (subst (λ (ks : Kinds). IsAmong k k
 faulted unknown sep kinds k h among other = refl
 
 -- `clap` takes the words, and none of them is `--`
-pub taken_is_task : (words : List Text) → fault_of command_line words ≡ [] → has_two_hyphens words ≡ false → asked_of words ≡ task Apply
-taken_is_task words none without = taken _ (has_two_hyphens words) (fault_of command_line words) (asked words) none without
+pub taken_is_task : (words : List Text) (named : Task) → fault_of command_line words ≡ [] → has_two_hyphens words ≡ false
+    → named ≡ task_entered (subcommand_of command_line words) → asked_of words ≡ task named
+taken_is_task words named none without is =
+    taken words _ (has_two_hyphens words) (fault_of command_line words) (asked words) (entered_as_asked words) none without ∙ ap task (sym is)
 
 -- `clap` takes the words, and one of them is `--`
 pub separator_is_unknown : (words : List Text) → fault_of command_line words ≡ [] → has_two_hyphens words ≡ true → asked_of words ≡ unknown

@@ -1,5 +1,5 @@
 -- What `clap` makes of the program's words is what `asked_of` says.
-use Rattle.std.proofs.Common.{◌≡◌, ◌∙◌, ◌⊎◌, ◌||◌, ℕ, Bool, true, false, refl, sym, ap, ap₂, subst, arith, inl, inr, List, [], ◌∷◌, None, codes, length, is_some, not, take, true≢false}
+use Rattle.std.proofs.Common.{◌≡◌, ◌∙◌, ◌⊎◌, ◌||◌, ℕ, Bool, true, false, refl, sym, ap, ap₂, subst, arith, inl, inr, List, [], ◌∷◌, None, Some, codes, length, fold, is_some, not, take, true≢false}
 use Rattle.std.specs.Prelude.{◌==◌, if◌then◌else◌}
 use Rattle.std.specs.List.{before_first, list_any, prefix_len}
 use Rattle.std.specs.Str.{bytes_eq, chars}
@@ -8,25 +8,27 @@ use Rattle.std.proofs.lemmas.List.{take_all}
 use Rattle.std.proofs.lemmas.Bool.Decides.{Decides-eqb}
 use Rattle.clap.specs.Kinds.{Kinds, or_else}
 use Rattle.clap.specs.Lexer.{has_byte, long_of}
-use Rattle.clap.specs.Faults.{check_fault, defaults_fault, entered_fault, fault_of, flag_word_fault, level_fault, settle_fault, step_fault, turn_fault}
-use Rattle.clap.specs.Simple.{App, Shape, built, entered, names_of}
-use Rattle.clap.specs.Walk.{Held, Names, Rule, Step, Text, Walk, finished, idle, long_or_other, nothing_held, settled, subcommand_met, value, walk_from}
+use Rattle.clap.specs.Faults.{check_fault, defaults_fault, entered_fault, fault_of, flag_word_fault, level_fault, settle_fault, step_fault, turn_fault, walk_fault}
+use Rattle.clap.specs.Simple.{App, Shape, built, entered, names_of, subcommand_of}
+use Rattle.clap.specs.Walk.{Held, Names, Rule, Step, Text, Walk, finished, idle, long_or_other, nothing_held, settled, subcommand_met, value, walk_from, walked}
 use Rattle.clap.specs.declared.error.kind.ErrorKind.TheVariants.{DisplayHelp, InvalidSubcommand, TooManyValues, UnknownArgument}
 use Rattle.clap.proofs.FaultLemmas.{stopped_fault}
 use Rattle.clap.proofs.OnLiterals.{clap_on_literals}
 use Rattle.clap.proofs.WalkLemmas.{walk_stopped}
-use Rattle.dsr_command.specs.Asked.{Asked, asked_after_apply, asked_of, has_two_hyphens, help, is_help, task, unknown}
-use Rattle.dsr_command.specs.CommandLine.{command_line}
+use Rattle.dsr_command.specs.Asked.{Asked, asked_after, asked_of, has_two_hyphens, help, is_help, task, unknown}
+use Rattle.dsr_command.specs.CommandLine.{command_line, task_entered}
+use Rattle.dsr_command.specs.declared.Task.{Task}
+use Rattle.dsr_command.specs.declared.Task.TheVariants.{Apply, Play}
 
 -- the command as a parse builds it
 abbrev app : App
 app = built command_line
 
--- its flags, which are those of `apply` too: `--help` and `-h`
+-- its flags, which are those of its subcommands too: `--help` and `-h`
 abbrev flags : List Rule
 flags = app.top.rules
 
--- the command or its subcommand, which differ in no more than these
+-- the command or a subcommand, which differ in no more than these
 abbrev shape : Text → Bool → Shape
 shape name is_leaf = record app.top { name = name; is_leaf = is_leaf }
 
@@ -168,9 +170,9 @@ by_turn false sep kinds more rest (inl h) = rw h (inl (inl refl))
 by_turn false sep kinds more rest (inr (inl h)) = rw h (inl (inr (inl refl)))
 by_turn false sep kinds more rest (inr (inr h)) = rw h (inl (inr (inr refl)))
 
--- `apply` as a parse builds it
-abbrev leaf : Shape
-leaf = shape (codes "apply") true
+-- a subcommand as a parse builds it
+abbrev leaf : Text → Shape
+leaf name = shape name true
 
 -- the kinds of the parse, by those of its walk over the words and where the walk ends
 abbrev after_walk : Kinds → Walk → Kinds
@@ -182,59 +184,145 @@ or_else-nil : (kinds : Kinds) → or_else kinds [] ≡ kinds
 or_else-nil [] = refl
 or_else-nil (k ∷ ks) = refl
 
+-- the kinds of the parse where its walk stops at a subcommand's name
+abbrev stopped_kinds : Text → List Text → Kinds
+stopped_kinds name rest = after_walk [] (record (walk_from nothing_held) { stopped = Some (name, rest) })
+
+-- a walk that stopped at a name has met all words after it
+after_name : (name : Text) (rest : List Text)
+    → after_walk (walk_fault app.top (names_of app) (record (walk_from nothing_held) { stopped = Some (name, []) }) rest)
+    (fold (walked flags (names_of app)) (record (walk_from nothing_held) { stopped = Some (name, []) }) rest)
+    ≡ stopped_kinds name rest
+after_name name rest = ap₂ after_walk (stopped_fault app.top (names_of app) (walk_from nothing_held) (name, []) rest)
+    (sym (walk_stopped flags (names_of app) (walk_from nothing_held) name [] rest))
+
 -- after `apply` the parse is that of `apply`
-apply_fault : (rest : List Text) → fault_of command_line (codes "apply" ∷ rest) ≡ level_fault leaf [] nothing_held rest false []
+apply_fault : (rest : List Text) → fault_of command_line (codes "apply" ∷ rest) ≡ level_fault (leaf (codes "apply")) [] nothing_held rest false []
 unfolding clap_on_literals
-apply_fault rest = ap₂ after_walk (stopped_fault app.top (names_of app) (walk_from nothing_held) (codes "apply", []) rest)
-    (sym (walk_stopped flags (names_of app) (walk_from nothing_held) (codes "apply") [] rest))
-    ∙ or_else-nil (level_fault leaf [] nothing_held rest false [])
+apply_fault rest = after_name (codes "apply") rest ∙ or_else-nil (level_fault (leaf (codes "apply")) [] nothing_held rest false [])
+
+-- after `play` it is that of `play`
+play_fault : (rest : List Text) → fault_of command_line (codes "play" ∷ rest) ≡ level_fault (leaf (codes "play")) [] nothing_held rest false []
+unfolding clap_on_literals
+play_fault rest = after_name (codes "play") rest ∙ or_else-nil (level_fault (leaf (codes "play")) [] nothing_held rest false [])
 
 -- the parse of these words comes to what they ask for
 abbrev Asks : List Text → Type 0
 Asks words = Comes (asked_of words) (has_two_hyphens words) (fault_of command_line words)
 
--- the same of the words after `apply`
-abbrev Says : List Text → Type 0
-Says words = Comes (asked_after_apply words) (has_two_hyphens words) (level_fault leaf [] nothing_held words false [])
+-- the same of the words after a task's name
+abbrev Says : Task → Text → List Text → Type 0
+Says named name words = Comes (asked_after named words) (has_two_hyphens words) (level_fault (leaf name) [] nothing_held words false [])
 
-after_apply : (rest : List Text) → Asks (codes "apply" ∷ rest)
+-- whatever words follow a task's name
+says : (named : Task) (name : Text) (words : List Text) → Says named name words
 unfolding clap_on_literals
-after_apply [] = (refl, refl)
-after_apply (word ∷ rest) = go (bytes_eq word (codes "--")) refl
+says named name [] = (refl, refl)
+says named name (word ∷ rest) = go (bytes_eq word (codes "--")) refl
   where
-    at_separator : (rest : List Text) → Says (codes "--" ∷ rest)
+    at_separator : (rest : List Text) → Says named name (codes "--" ∷ rest)
     at_separator [] = inr (refl, refl)
     at_separator (more ∷ rest) = inl (inl refl)
 
-    says : (b : Bool) → bytes_eq word (codes "--") ≡ b → Says (word ∷ rest)
-    says true e = subst (λ (w : Text). Says (w ∷ rest)) (sym ((bytes_eq-Decides word (codes "--")).0 e)) (at_separator rest)
-    says false e = by_turn (is_help word) (has_two_hyphens (word ∷ rest)) (turn_fault leaf [] (walk_from nothing_held) word) _ _ (turn (codes "apply") true [] word refl e)
+    go : (b : Bool) → bytes_eq word (codes "--") ≡ b → Says named name (word ∷ rest)
+    go true e = subst (λ (w : Text). Says named name (w ∷ rest)) (sym ((bytes_eq-Decides word (codes "--")).0 e)) (at_separator rest)
+    go false e = by_turn (is_help word) (has_two_hyphens (word ∷ rest)) (turn_fault (leaf name) [] (walk_from nothing_held) word) _ _ (turn name true [] word refl e)
 
-    go : (b : Bool) → bytes_eq word (codes "--") ≡ b → Asks (codes "apply" ∷ word ∷ rest)
-    go b e = subst (λ (kinds : Kinds). Comes (asked_after_apply (word ∷ rest)) (has_two_hyphens (word ∷ rest)) kinds) (sym (apply_fault (word ∷ rest))) (says b e)
+after_apply : (rest : List Text) → Asks (codes "apply" ∷ rest)
+after_apply rest = subst (λ (kinds : Kinds). Comes (asked_after Apply rest) (has_two_hyphens rest) kinds) (sym (apply_fault rest)) (says Apply (codes "apply") rest)
+
+after_play : (rest : List Text) → Asks (codes "play" ∷ rest)
+after_play rest = subst (λ (kinds : Kinds). Comes (asked_after Play rest) (has_two_hyphens rest) kinds) (sym (play_fault rest)) (says Play (codes "play") rest)
 
 after_separator : (rest : List Text) → Asks (codes "--" ∷ rest)
 unfolding clap_on_literals
 after_separator [] = inr (refl, refl)
 after_separator (word ∷ rest) = inl (inr (inr refl))
 
+-- a text that is not the other one is not, the other way round
+turned_eq : (a b : Text) → bytes_eq a b ≡ false → bytes_eq b a ≡ false
+turned_eq a b other = go (bytes_eq b a) refl
+  where
+    go : (t : Bool) → bytes_eq b a ≡ t → t ≡ false
+    go false e = refl
+    go true e = absurd (true≢false (sym ((bytes_eq-Decides a b).1 (sym ((bytes_eq-Decides b a).0 e))) ∙ other))
+
+-- a word that names no task and is not `--`
+after_other : (word : Text) (rest : List Text) → bytes_eq word (codes "apply") ≡ false → bytes_eq word (codes "play") ≡ false
+    → bytes_eq word (codes "--") ≡ false → Asks (word ∷ rest)
+unfolding clap_on_literals
+after_other word rest no_apply no_play other =
+    let unmet : subcommand_met (names_of app) idle word ≡ None =
+    rw (turned_eq word (codes "apply") no_apply, turned_eq word (codes "play") no_play) refl in
+    rw (no_apply, no_play) (by_turn (is_help word) (has_two_hyphens (word ∷ rest)) (turn_fault app.top (names_of app) (walk_from nothing_held) word) _ _
+    (turn (codes "dsr") false (names_of app) word unmet other))
+
 pub asked : (words : List Text) → Asks words
 unfolding clap_on_literals
 asked [] = (refl, refl)
 asked (word ∷ rest) = first (bytes_eq word (codes "apply")) refl
   where
-    unnamed : bytes_eq word (codes "apply") ≡ false → (b : Bool) → bytes_eq (codes "apply") word ≡ b → b ≡ false
-    unnamed other false e = refl
-    unnamed other true e =
-        absurd (true≢false (sym ((bytes_eq-Decides word (codes "apply")).1 (sym ((bytes_eq-Decides (codes "apply") word).0 e))) ∙ other))
+    third : (b : Bool) → bytes_eq word (codes "--") ≡ b → bytes_eq word (codes "apply") ≡ false → bytes_eq word (codes "play") ≡ false → Asks (word ∷ rest)
+    third true e no_apply no_play = subst (λ (w : Text). Asks (w ∷ rest)) (sym ((bytes_eq-Decides word (codes "--")).0 e)) (after_separator rest)
+    third false e no_apply no_play = after_other word rest no_apply no_play e
 
-    second : bytes_eq word (codes "apply") ≡ false → (b : Bool) → bytes_eq word (codes "--") ≡ b → Asks (word ∷ rest)
-    second other true e = subst (λ (w : Text). Asks (w ∷ rest)) (sym ((bytes_eq-Decides word (codes "--")).0 e)) (after_separator rest)
-    second other false e =
-        let unmet : subcommand_met (names_of app) idle word ≡ None = rw (unnamed other (bytes_eq (codes "apply") word) refl) refl in
-        rw other (by_turn (is_help word) (has_two_hyphens (word ∷ rest)) (turn_fault app.top (names_of app) (walk_from nothing_held) word) _ _
-        (turn (codes "dsr") false (names_of app) word unmet e))
+    second : (b : Bool) → bytes_eq word (codes "play") ≡ b → bytes_eq word (codes "apply") ≡ false → Asks (word ∷ rest)
+    second true e no_apply = subst (λ (w : Text). Asks (w ∷ rest)) (sym ((bytes_eq-Decides word (codes "play")).0 e)) (after_play rest)
+    second false e no_apply = third (bytes_eq word (codes "--")) refl no_apply e
 
     first : (b : Bool) → bytes_eq word (codes "apply") ≡ b → Asks (word ∷ rest)
     first true e = subst (λ (w : Text). Asks (w ∷ rest)) (sym ((bytes_eq-Decides word (codes "apply")).0 e)) (after_apply rest)
-    first false e = second e (bytes_eq word (codes "--")) refl
+    first false e = second (bytes_eq word (codes "play")) refl e
+
+-- ---- the task that was entered
+
+-- a task that is asked for is the one that the parse entered
+abbrev pub IsEntered : List Text → Asked → Type 0
+IsEntered words (task named) = task named ≡ task (task_entered (subcommand_of command_line words))
+IsEntered words help = Unit {0}
+IsEntered words unknown = Unit {0}
+
+-- the subcommand at which the walk stopped
+stopped_at : (name : Text) (rest : List Text)
+    → entered app (fold (walked flags (names_of app)) (record (walk_from nothing_held) { stopped = Some (name, []) }) rest).stopped
+    ≡ entered app (Some (name, rest))
+stopped_at name rest = ap (λ (w : Walk). entered app w.stopped) (sym (walk_stopped flags (names_of app) (walk_from nothing_held) name [] rest))
+
+apply_entered : (rest : List Text) → task_entered (subcommand_of command_line (codes "apply" ∷ rest)) ≡ Apply
+unfolding clap_on_literals
+apply_entered rest = ap task_entered (stopped_at (codes "apply") rest)
+
+play_entered : (rest : List Text) → task_entered (subcommand_of command_line (codes "play" ∷ rest)) ≡ Play
+unfolding clap_on_literals
+play_entered rest = ap task_entered (stopped_at (codes "play") rest)
+
+-- what follows a task's name asks for that task, or for none
+after_entered : (words rest : List Text) (named : Task) → task_entered (subcommand_of command_line words) ≡ named → IsEntered words (asked_after named rest)
+after_entered words [] named is = ap task (sym is)
+after_entered words (word ∷ rest) named is = by_help (is_help word)
+  where
+    by_help : (b : Bool) → IsEntered words (if b then help else unknown)
+    by_help true = tt
+    by_help false = tt
+
+pub entered_as_asked : (words : List Text) → IsEntered words (asked_of words)
+unfolding clap_on_literals
+entered_as_asked [] = refl
+entered_as_asked (word ∷ rest) = first (bytes_eq word (codes "apply")) refl
+  where
+    by_help : (b : Bool) → IsEntered (word ∷ rest) (if b then help else unknown)
+    by_help true = tt
+    by_help false = tt
+
+    second : (b : Bool) → bytes_eq word (codes "play") ≡ b
+        → IsEntered (word ∷ rest) (if b then asked_after Play rest else (if is_help word then help else unknown))
+    second true e = after_entered (word ∷ rest) rest Play
+        (subst (λ (w : Text). task_entered (subcommand_of command_line (w ∷ rest)) ≡ Play) (sym ((bytes_eq-Decides word (codes "play")).0 e)) (play_entered rest))
+    second false e = by_help (is_help word)
+
+    first : (b : Bool) → bytes_eq word (codes "apply") ≡ b
+        → IsEntered (word ∷ rest) (if b then asked_after Apply rest
+        else (if bytes_eq word (codes "play") then asked_after Play rest else (if is_help word then help else unknown)))
+    first true e = after_entered (word ∷ rest) rest Apply
+        (subst (λ (w : Text). task_entered (subcommand_of command_line (w ∷ rest)) ≡ Apply) (sym ((bytes_eq-Decides word (codes "apply")).0 e)) (apply_entered rest))
+    first false e = second (bytes_eq word (codes "play")) refl

@@ -4,7 +4,7 @@ use Rattle.std.specs.Prelude.{nat_eq}
 use Rattle.std.specs.List.{list_any, starts_with}
 use Rattle.std.specs.Str.{bytes_eq, chars}
 use Rattle.dsr_command.specs.declared.Task.{Task}
-use Rattle.dsr_command.specs.declared.Task.TheVariants.{Apply}
+use Rattle.dsr_command.specs.declared.Task.TheVariants.{Apply, Play}
 
 -- what words can ask for: a task, the text of the help, or nothing that the program knows
 pub data Asked : Type 0 where
@@ -25,13 +25,14 @@ has_two_hyphens words = list_any (λ word. bytes_eq word (codes "--")) words
 abbrev pub asked_by_other : List ℕ → Asked
 asked_by_other word = if is_help word then help else unknown
 
--- what is asked for by `apply` and the words after it: the task itself takes none
-abbrev pub asked_after_apply : List (List ℕ) → Asked
-asked_after_apply [] = task Apply
-asked_after_apply (word ∷ rest) = asked_by_other word
+-- what is asked for by a task's name and the words after it: the task itself takes none
+abbrev pub asked_after : Task → List (List ℕ) → Asked
+asked_after named [] = task named
+asked_after named (word ∷ rest) = asked_by_other word
 
 -- what the words ask for: `apply` is also what no word at all means
 abbrev pub asked_of : List (List ℕ) → Asked
 asked_of [] = task Apply
 asked_of (word ∷ rest) =
-    if bytes_eq word (codes "apply") then asked_after_apply rest else asked_by_other word
+    if bytes_eq word (codes "apply") then asked_after Apply rest
+    else (if bytes_eq word (codes "play") then asked_after Play rest else asked_by_other word)

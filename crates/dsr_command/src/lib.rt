@@ -2,16 +2,16 @@
 #![tactic(auto)]
 
 ghost use Rattle.std.specs.Prelude.{◌≡◌, ◌≢◌, ◌++◌, ◌≤◌, IfOk, codes, false, length, map};
-ghost use Rattle.clap.specs.Words.{FailsBy, app_of, fault_of, kind_of, new_app};
+ghost use Rattle.clap.specs.Words.{FailsBy, app_of, fault_of, kind_of, new_app, subcommand_of, subcommand_rows_of};
 ghost use Rattle.clap.specs.declared.builder.command.Command.TheViews.{out-Command as fields_of};
 ghost use Rattle.clap.specs.declared.error.kind.ErrorKind.TheVariants.{DisplayHelp, OutOfMemory, UnknownArgument};
 ghost use Rattle.dsr_command.specs.Asked.{asked_of, has_two_hyphens, help, task, unknown};
-ghost use Rattle.dsr_command.specs.CommandLine.{command_line, program};
+ghost use Rattle.dsr_command.specs.CommandLine.{command_line, program, task_entered};
 ghost use Rattle.dsr_command.specs.ShownTexts.{IsHelp, IsUsage, title, usage_title};
 ghost use Rattle.dsr_command.specs.Readings.{IfDo, IfHelp, IfUsage, OnHelp, OnUsage};
 
 use clap::error::ErrorKind;
-use clap::{Command, Error};
+use clap::{ArgMatches, Command, Error};
 use std::alloc::{AllocError, Global};
 use std::convert::AsStr;
 
@@ -20,6 +20,7 @@ const TITLE: &str = "dsr keeps a directory of named registers, each free or hold
 
 const ABOUT: &str =
     "Clients send it numbered requests: read, write, swap (compare-and-set), remove. It answers each of them.\n\
+`dsr apply` is one directory. `dsr play` is one that replicas keep together, though some of them are traitors.\n\
 Without a command it does what `dsr apply` does.";
 
 const EXAMPLES: &str = "Example:\n  \
@@ -27,9 +28,10 @@ $ printf 'c0 1 write a 5\\nc1 1 swap a 5 6\\nc0 2 read a\\n' | dsr apply\n  \
 0 written\n  \
 1 swapped\n  \
 2 held 6\n\n\
-`dsr apply --help` says how a request is written, and what its answer means.\n\n\
+`dsr apply --help` says how a request is written, and what its answer means; `dsr play --help` the same of plays\n\
+and reports.\n\n\
 Exit status:\n  \
-0  the whole input was answered, or help was shown\n  \
+0  the answers, the report or the help was written\n  \
 1  the input was refused, or reading or writing failed\n  \
 2  the words of the command line were not understood\n  \
 3  memory ran out";
@@ -65,13 +67,56 @@ the lines before it are answered, `dsr: bad text in line N` is printed on standa
 is 1. Most often the last line feed is missing, the line ends with CRLF, it has a tab or two spaces, a number\n\
 has a leading zero, or the request's number is 0.";
 
+const PLAY_ABOUT: &str =
+    "Read a play of replicas and clients from standard input, and write what came of it";
+
+const PLAY_EXAMPLE: &str =
+    "A play begins with the line `dsr-play 1 N F M TRAITORS`: N replicas, 1 to 16; at most F traitors among them, with\n\
+N >= 2F+1; M clients, 1 to 32; and who the traitors are, as r0+r2, or - for none. What follows is played line by\n\
+line. Each line ends with a line feed, the last one too.\n\n  \
+post A B           the actor A posts to B what the protocol has it post\n  \
+post A B from C    the same; the replica A proposes what it holds of the clients C, as c0+c1\n  \
+post A B begin OP  the client A posts a new request to B; OP as in `dsr apply --help`\n  \
+plant A B E        the traitor A posts the envelope E to B\n  \
+take A B           A takes what B posted to it\n  \
+tell A B           the client A tells the client B how far it has seen\n  \
+posts A, posts A from C, posts *   A, or each loyal replica, posts to all replicas\n  \
+plants A E                         A plants for all replicas\n  \
+takes A, takes *                   A, or each replica, takes from all replicas\n  \
+asks A, asks A begin OP            the client A posts to all replicas\n  \
+hears A, replies A                 all replicas take from the client A, or the loyal ones post to it\n\n\
+In a round a replica posts to all replicas, then takes from all. In its own slot's first round it may propose.\n\
+E is empty; round NUMBER and chains; ask REQUEST~c0; reply NUMBER PLACE ANSWER; or seen PLACE. A chain is\n\
+SLOT/VALUE/SIGNERS, as 0/c0#1:write:a:5~c0/r0+r1 or 0/idle/r0.\n\n\
+The report:\n  \
+done N, refused N      events that were done, and that were refused and changed nothing\n  \
+first I E NAME         the first refused event, counted from 0, and why\n  \
+accepted C K PLACE A   the client C accepted the answer A, and its place, for its request K\n  \
+seen C PLACE           how far C has seen: all places before this one\n  \
+decided R VALUES       what the loyal replica R decided, slot by slot; - where no slot is closed\n  \
+history N              how many requests acted; then each of them after its place\n\n\
+Example:\n  \
+$ printf 'dsr-play 1 1 0 1 -\\nasks c0 begin write a 7\\nhears c0\\nposts r0 from c0\\ntakes *\\nreplies c0\\ntakes c0\\n' | dsr play\n  \
+done 6\n  \
+refused 0\n  \
+accepted c0 1 0 written\n  \
+seen c0 1\n  \
+decided r0 c0#1:write:a:7\n  \
+history 1\n  \
+0 c0#1:write:a:7\n\n\
+Nothing is played before the end of the input, which has at most 16,777,216 bytes and stands for at most 1,000,000\n\
+events. Of a play with a bad line N nothing is played: `dsr: bad text in line N` is printed on standard error, and\n\
+the exit status is 1; where N, F, M or TRAITORS are outside their limits, it is `dsr: the shape is not allowed`.\n\
+Refused events are no fault: the status is 0, or 3 where one was refused because memory ran out.";
+
 /// What a text for unknown words begins with.
 const USAGE_TITLE: &str = "error: ";
 
 /// What a text for unknown words ends with.
 const TIPS: &str = "\n  \
 tip: to answer the requests in a file, run `dsr apply < FILE`\n  \
-tip: to see what a request looks like, run `dsr apply --help`\n";
+tip: to play the play in a file, run `dsr play < FILE`\n  \
+tip: to see what they look like, run `dsr apply --help` or `dsr play --help`\n";
 
 /// The most bytes of what `clap` says that are shown.
 const MOST_SAID: usize = 3_800;
@@ -84,6 +129,8 @@ const TOO_LONG: &str = "what is to be said of these words is too long to be show
 pub enum Task {
     /// Answer the request lines of standard input, one line for each.
     Apply,
+    /// Play the play of standard input, and report what came of it.
+    Play,
 }
 
 /// What a command line says.
@@ -111,19 +158,30 @@ pub fn read_words<S: AsStr>(alloc: Global, words: &[S]) -> Reading
     ensures told { IfUsage result IsUsage }
 {
     match parse(alloc, words) {
-        Ok(()) if has_separator(words) => separator_refused(alloc),
-        Ok(()) => Reading::Do(Task::Apply),
+        Ok(_) if has_separator(words) => separator_refused(alloc),
+        Ok(task) => Reading::Do(task),
         Err(error) => reading_of(alloc, &error),
     }
 }
 
-/// Whether `clap` takes the words.
-fn parse<S: AsStr>(alloc: Global, words: &[S]) -> Result<(), Error>
-    ensures { FailsBy (fault_of command_line (map S.text words.now)) result }
+/// The task that the words name, where `clap` takes them.
+fn parse<S: AsStr>(alloc: Global, words: &[S]) -> Result<Task, Error>
+    ensures taken { FailsBy (fault_of command_line (map S.text words.now)) result }
+    ensures task { IfOk result (λ named. named ≡ task_entered (subcommand_of command_line (map S.text words.now))) }
 {
     let command = dsr_command(alloc)?;
-    command.try_get_matches_from(words)?;
-    Ok(())
+    let matches = command.try_get_matches_from(words)?;
+    Ok(task_of(&matches))
+}
+
+/// The task whose name was met.
+fn task_of(matches: &ArgMatches<'_>) -> Task
+    ensures { result ≡ task_entered (subcommand_rows_of matches.now) }
+{
+    match matches.subcommand_name() {
+        Some("play") => Task::Play,
+        _ => Task::Apply,
+    }
 }
 
 /// Whether a word is `--`, which `clap` reads over and the program does not know.
@@ -222,7 +280,8 @@ fn dsr_command<'a>(alloc: Global) -> Result<Command<'a>, AllocError>
         × ((fields_of command).has_globals ≡ false)) }
 {
     let dsr = dsr_alone(alloc)?;
-    dsr.subcommand(apply_command(alloc))
+    let dsr = dsr.subcommand(apply_command(alloc))?;
+    dsr.subcommand(play_command(alloc))
 }
 
 fn dsr_alone<'a>(alloc: Global) -> Result<Command<'a>, AllocError>
@@ -244,6 +303,15 @@ fn apply_command<'a>(alloc: Global) -> Command<'a>
     Command::new(alloc, "apply")
         .about(APPLY_ABOUT)
         .after_help(APPLY_EXAMPLE)
+}
+
+fn play_command<'a>(alloc: Global) -> Command<'a>
+    ensures app { app_of result ≡ new_app (codes "play") }
+    ensures local { (fields_of result).has_globals ≡ false }
+{
+    Command::new(alloc, "play")
+        .about(PLAY_ABOUT)
+        .after_help(PLAY_EXAMPLE)
 }
 
 #[cfg(test)]
