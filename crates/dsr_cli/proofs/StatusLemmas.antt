@@ -6,11 +6,10 @@ use Rattle.dsr_command.specs.Readings.{IfDo, IfHelp, IfUsage, OnHelp, OnNoMemory
 use Rattle.dsr_command.specs.ShownTexts.{IsHelp, IsUsage}
 use Rattle.dsr_command.specs.declared.Reading.{Reading}
 use Rattle.dsr_command.specs.declared.Reading.TheVariants as reading
-use Rattle.dsr_command.specs.declared.Task.TheVariants.{Apply}
 use Rattle.dsr_names.specs.Refusal.{refusal_line}
 use Rattle.dsr_names.specs.Streams.{CanFailToTake, SentAll, SentPrefix}
 use Rattle.dsr_names.specs.declared.refusal.Refusal.TheVariants.{WriteFailed}
-use Rattle.dsr_cli.specs.Status.{Run, RanOut, StatusFor, Told, IsUnwritten, WhatApplyLeft, WhatShowingLeft}
+use Rattle.dsr_cli.specs.Status.{Run, RanOut, StatusFor, Told, IsUnwritten, WhatShowingLeft, WhatTaskLeft}
 
 -- a status of 0 and any other are the two ways in which showing a help ends
 pub showing_left : (text : List ℕ) (status : ℕ) (run : Run)
@@ -25,17 +24,17 @@ showing_left text (suc n) run whole part =
 
 -- where memory ran out as the words were read, whatever they ask for
 ran_out : (asked : Asked) (status : ℕ) (run : Run) → RanOut status run → StatusFor asked status run
-ran_out (task Apply) status run h = inr h
+ran_out (task named) status run h = inr h
 ran_out help status run h = inr h
 ran_out unknown status run h = inr h
 
 -- what each reading leads to is what the words ask for
 pub status_for : (asked : Asked) (r : Reading) (status : ℕ) (run : Run)
     → IfDo r (λ done. asked ≡ task done) → OnHelp r (asked ≡ help) → OnUsage r (asked ≡ unknown) → IfHelp r IsHelp → IfUsage r IsUsage
-    → IfDo r (λ _. WhatApplyLeft status run) → IfHelp r (λ text. WhatShowingLeft text status run)
+    → IfDo r (λ done. WhatTaskLeft done status run) → IfHelp r (λ text. WhatShowingLeft text status run)
     → IfUsage r (λ text. (status ≡ 2) × IsUnwritten run × Told text run) → OnNoMemory r (RanOut status run)
     → StatusFor asked status run
-status_for asked (reading.Do Apply) status run t h u help_text usage_text done shown told out =
+status_for asked (reading.Do named) status run t h u help_text usage_text done shown told out =
     subst (λ a. StatusFor a status run) (sym t) (inl done)
 status_for asked (reading.Help text) status run t h u help_text usage_text done shown told out =
     subst (λ a. StatusFor a status run) (sym h) (inl (record { text = string_bytes text; is = help_text; left = shown }))

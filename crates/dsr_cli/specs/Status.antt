@@ -7,7 +7,9 @@ use Rattle.dsr_names.specs.declared.refusal.Refusal.TheVariants.{NoMemory, Write
 use Rattle.dsr_history.specs.Applied.{AppliedAll, WrittenAfter}
 use Rattle.dsr_command.specs.Asked.{Asked, task, help, unknown}
 use Rattle.dsr_command.specs.ShownTexts.{IsHelp, IsUsage}
-use Rattle.dsr_command.specs.declared.Task.TheVariants.{Apply}
+use Rattle.dsr_command.specs.declared.Task.{Task}
+use Rattle.dsr_command.specs.declared.Task.TheVariants.{Apply, Play}
+use Rattle.dsr_cli.specs.Played.{LeftAfterPlay, PlayedAll}
 
 -- what a run of the program had and left: its input and output, and its error stream before and after
 pub record Run : Type 1 where
@@ -43,6 +45,11 @@ pub record EndedBy (After : Refusal → Streams → Type 0) (status : ℕ) (run 
 abbrev pub WhatApplyLeft : ℕ → Run → Type 0
 WhatApplyLeft status run = ((status ≡ 0) × AppliedAll run.io) ⊎ EndedBy WrittenAfter status run
 
+-- after 0 the whole report of a play went out, and no event of it was refused because memory ran out; another status is that of a
+-- refusal
+abbrev pub WhatPlayLeft : ℕ → Run → Type 0
+WhatPlayLeft status run = ((status ≡ 0) × PlayedAll run.io) ⊎ EndedBy LeftAfterPlay status run
+
 -- the status is 1, and that writing failed was told: a prefix of the text went out, to a sink that may not take all of it
 pub record ShowedPart (text : List ℕ) (status : ℕ) (run : Run) : Type 0 where
   pub status_is : status ≡ 1
@@ -72,10 +79,15 @@ pub record ToldUsage (status : ℕ) (run : Run) : Type 0 where
   pub told : Told text run
   pub unwritten : IsUnwritten run
 
--- what the status says, by what was asked: `apply` was done or refused, help was shown or could not be, or nothing was
+-- what a task left, by its status
+abbrev pub WhatTaskLeft : Task → ℕ → Run → Type 0
+WhatTaskLeft Apply status run = WhatApplyLeft status run
+WhatTaskLeft Play status run = WhatPlayLeft status run
+
+-- what the status says, by what was asked: the task was done or refused, help was shown or could not be, or nothing was
 -- asked that the program knows; in each case memory may have run out before anything was written
 abbrev pub StatusFor : Asked → ℕ → Run → Type 0
-StatusFor (task Apply) status run = WhatApplyLeft status run ⊎ RanOut status run
+StatusFor (task named) status run = WhatTaskLeft named status run ⊎ RanOut status run
 StatusFor help status run = ShowedHelp status run ⊎ RanOut status run
 StatusFor unknown status run = ToldUsage status run ⊎ RanOut status run
 

@@ -1,6 +1,8 @@
 //! The program `dsr` over any words, reader and writers.
 #![tactic(auto)]
 
+mod play;
+mod report;
 #[cfg(test)]
 mod tests;
 
@@ -11,8 +13,9 @@ ghost use Rattle.dsr_names.specs.declared.refusal.Refusal.TheVariants.{WriteFail
 ghost use Rattle.dsr_names.specs.Streams.{CanFailToTake, Sent, SentAll, SentPrefix, streams};
 ghost use Rattle.dsr_command.specs.Asked.{asked_of};
 ghost use Rattle.dsr_command.specs.Readings.{IfDo, IfHelp, IfUsage, OnNoMemory, OnNoTask};
-ghost use Rattle.dsr_cli.specs.Status.{StatusFor, RanOut, WhatApplyLeft, WhatShowingLeft, IfNoTask, run_of, status_of};
+ghost use Rattle.dsr_cli.specs.Status.{StatusFor, RanOut, WhatApplyLeft, WhatPlayLeft, WhatShowingLeft, WhatTaskLeft, IfNoTask, run_of, status_of};
 
+use crate::play::run_play;
 use dsr_command::{Reading, Task, read_words};
 use dsr_history::run_apply;
 use dsr_names::{Refusal, Sink, Source, tell, tell_refusal, write_output};
@@ -34,8 +37,11 @@ pub const NO_MEMORY: u8 = 3;
 /// Does what the words ask for and answers the program's exit status: 0 where it was done, 1 after a refusal other
 /// than running out of memory, 2 after words that the program does not know, and 3 where memory ran out. The words are those
 /// after the program's own name; none means `apply`. A refusal is told on `errors` as `dsr: ` and its text, a usage
-/// fault by its text; the help goes to `output`. With 0 nothing is written on `errors`. Only `apply`
-/// reads the input. Each of the three is called at most `MOST_CALLS` times.
+/// fault by its text; the help goes to `output`. With 0 nothing is written on `errors`. Only `apply` and `play`
+/// read the input. Each of the three is called at most `MOST_CALLS` times.
+///
+/// The events of a play that are refused are part of its report, and no refusal of the play; but where memory ran out for some of
+/// them, the report is written and then `NoMemory` told.
 pub fn run<S: AsStr, I: Source, O: Sink, E: Sink>(
     alloc: Global,
     words: &[S],
@@ -63,7 +69,7 @@ fn obey<I: Source, O: Sink, E: Sink>(
     output: &mut O,
     errors: &mut E,
 ) -> u8
-    ensures task { IfDo reading (λ _. WhatApplyLeft result
+    ensures task { IfDo reading (λ named. WhatTaskLeft named result
         (run_of (streams (I.input input.old) (O.output output.old) (O.output output.new)) (E.output errors.old) (E.output errors.new))) }
     ensures help { IfHelp reading (λ text. WhatShowingLeft text result
         (run_of (streams (I.input input.old) (O.output output.old) (O.output output.new)) (E.output errors.old) (E.output errors.new))) }
@@ -79,12 +85,13 @@ fn obey<I: Source, O: Sink, E: Sink>(
 {
     match reading {
         Reading::Do(Task::Apply) => apply(alloc, input, output, errors),
+        Reading::Do(Task::Play) => play_out(alloc, input, output, errors),
         Reading::Help(text) => show_help(text.as_str(), output, errors),
         Reading::Usage(text) => {
             tell(errors, text.as_bytes());
             USAGE_FAULT
         }
-        Reading::NoMemory => report(errors, Refusal::NoMemory),
+        Reading::NoMemory => refuse(errors, Refusal::NoMemory),
     }
 }
 
@@ -104,7 +111,27 @@ fn apply<I: Source, O: Sink, E: Sink>(
 {
     match run_apply(alloc, input, output) {
         Ok(()) => DONE,
-        Err(refusal) => report(errors, refusal),
+        Err(refusal) => refuse(errors, refusal),
+    }
+}
+
+/// Plays the play of the input, and reports on the output what came of it.
+fn play_out<I: Source, O: Sink, E: Sink>(
+    alloc: Global,
+    input: &mut I,
+    output: &mut O,
+    errors: &mut E,
+) -> u8
+    ensures left { WhatPlayLeft result
+        (run_of (streams (I.input input.old) (O.output output.old) (O.output output.new)) (E.output errors.old) (E.output errors.new)) }
+    ensures quiet { result ≡ 0 → errors.new ≡ errors.old }
+    ensures reads { (I.input input.new).calls ≤ (I.input input.old).calls + most_calls }
+    ensures writes { (O.output output.new).calls ≤ (O.output output.old).calls + most_calls }
+    ensures tells { (E.output errors.new).calls ≤ (E.output errors.old).calls + most_calls }
+{
+    match run_play(alloc, input, output) {
+        Ok(()) => DONE,
+        Err(refusal) => refuse(errors, refusal),
     }
 }
 
@@ -120,12 +147,12 @@ fn show_help<O: Sink, E: Sink>(text: &str, output: &mut O, errors: &mut E) -> u8
 {
     match write_output(output, text.as_bytes()) {
         Ok(()) => DONE,
-        Err(refusal) => report(errors, refusal),
+        Err(refusal) => refuse(errors, refusal),
     }
 }
 
 /// Tells the refusal, and gives the status that it ends the program with.
-fn report<E: Sink>(errors: &mut E, refusal: Refusal) -> u8
+fn refuse<E: Sink>(errors: &mut E, refusal: Refusal) -> u8
     ensures status { result ≡ status_of refusal }
     ensures some { 0 < result }
     ensures told { Sent (refusal_line refusal) (E.output errors.old) (E.output errors.new) }

@@ -8,7 +8,7 @@ pub returns-in-Err-clause-left : goal.returns-in-Err-clause-left
 returns-in-Err-clause-left g c =
     inr (record {
       refusal = c.in-Err.refusal;
-      status_is = c.report.ensures.status;
-      told = c.report.ensures.told;
+      status_is = c.refuse.ensures.status;
+      told = c.refuse.ensures.told;
       left = c.in-Err.ensures.refused;
     })

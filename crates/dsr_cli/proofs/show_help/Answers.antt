@@ -11,10 +11,10 @@ returns-in-Err-clause-part g c =
     let room = g.O.Sink.output c.args.output.now in
     let sent = g.O.Sink.output c.write_output.new.sink in
     let before = g.E.Sink.output c.args.errors.now in
-    let after = g.E.Sink.output c.report.new.errors in
+    let after = g.E.Sink.output c.refuse.new.errors in
     λ some. (
-      c.report.ensures.status ∙ ap status_of is,
+      c.refuse.ensures.status ∙ ap status_of is,
       subst (λ bytes. CanFailToTake (length bytes) room) c.as_bytes.ensures.value c.in-Err.ensures.failed,
       subst (λ bytes. SentPrefix bytes room sent) c.as_bytes.ensures.value c.in-Err.ensures.prefix,
-      subst (λ e. Sent (refusal_line e) before after) is c.report.ensures.told,
+      subst (λ e. Sent (refusal_line e) before after) is c.refuse.ensures.told,
     )

@@ -1,0 +1,70 @@
+//! Plays: from a text to the report of what came of it.
+
+ghost use Rattle.std.specs.Prelude.{◌≡◌, ◌+◌, ◌≤◌, IfOk, IfErr, OnOk, string_bytes};
+ghost use Rattle.dsr_names.specs.Limits.{most_calls};
+ghost use Rattle.dsr_names.specs.Streams.{streams};
+ghost use Rattle.dsr_world.specs.Play.{IsPlayRefusal};
+ghost use Rattle.dsr_cli.specs.Played.{HasPlayed, LeftAfterPlay, PlayedAll};
+
+use crate::report::report_of;
+use dsr_names::{Refusal, Sink, Source, read_input, write_output};
+use dsr_world::{Play, World};
+use std::alloc::Global;
+
+/// The report of a play, and how many of its events were refused because memory ran out.
+#[derive(Drop)]
+struct Outcome {
+    report: String,
+    starved: u64,
+}
+
+/// Plays the play that the text spells, in a world of its own.
+fn outcome_of(alloc: Global, text: &[u8]) -> Result<Outcome, Refusal>
+    ensures played { IfOk result (λ outcome. HasPlayed text.now outcome.starved (string_bytes outcome.report)) }
+    ensures refused { IfErr result (IsPlayRefusal text.now) }
+{
+    let play = match Play::read(alloc, text) {
+        Ok(play) => play,
+        Err(refusal) => return Err(refusal),
+    };
+    let Ok(mut world) = World::open(alloc, play.shape()) else {
+        return Err(Refusal::NoMemory);
+    };
+    let end = world.run(alloc, play.events());
+    let Ok(report) = report_of(alloc, &world, &end) else {
+        return Err(Refusal::NoMemory);
+    };
+    Ok(Outcome {
+        report,
+        starved: end.starved,
+    })
+}
+
+/// Reads a play, plays it in a world of its own, and writes the report of what came of it. Nothing is played before the end of the
+/// text, and nothing written before the end of the play.
+///
+/// `BadShape` and `BadText` say what is wrong with the text; after them, and after `ReadFailed`, nothing was written. After
+/// `WriteFailed` a prefix of the report was. `NoMemory` where memory ran out: where some events were refused for that, the whole
+/// report was written, and else nothing. What was read is gone. When `ReadFailed` and `WriteFailed` come, and how often each of the
+/// two is called, is as in `run_apply`.
+pub(crate) fn run_play<S: Source, K: Sink>(
+    alloc: Global,
+    source: &mut S,
+    sink: &mut K,
+) -> Result<(), Refusal>
+    ensures done { OnOk result (PlayedAll (streams (S.input source.old) (K.output sink.old) (K.output sink.new))) }
+    ensures refused { IfErr result (λ e. LeftAfterPlay e (streams (S.input source.old) (K.output sink.old) (K.output sink.new))) }
+    ensures reads { (S.input source.new).calls ≤ (S.input source.old).calls + most_calls }
+    ensures writes { (K.output sink.new).calls ≤ (K.output sink.old).calls + most_calls }
+{
+    let text = read_input(alloc, source)?;
+    let outcome = match outcome_of(alloc, text.as_slice()) {
+        Ok(outcome) => outcome,
+        Err(refusal) => return Err(refusal),
+    };
+    match write_output(sink, outcome.report.as_bytes()) {
+        Ok(()) if outcome.starved == 0 => Ok(()),
+        Ok(()) => Err(Refusal::NoMemory),
+        Err(refusal) => Err(refusal),
+    }
+}
