@@ -3,7 +3,8 @@
 
 Runs the built program on some examples with its 1st, 2nd, 3rd .. allocation refused, until a run meets no refusal. A run
 that met one must end with status 3, write nothing on standard output, and say so on standard error; the last one must do
-what it does with ample memory.
+what it does with ample memory. A play may also be reported whole, where one of its events was refused for that: then the report says
+so, and for each event whether it was done.
 
 Then it runs the tests of the crates below the command line whose calls can return that memory was refused, one by one and
 in the same way. A test that meets a refusal must pass, or end with that error, or with an assertion that got that error
@@ -22,7 +23,8 @@ import tempfile
 
 TOP = os.path.dirname(os.path.dirname(os.path.realpath(__file__)))
 PROGRAM = f"{TOP}/crates/dsr/out/dsr"
-EXAMPLES = ["first-lines", "swaps", "repeated-numbers", "full-table"]
+EXAMPLES = [("apply", "first-lines"), ("apply", "swaps"), ("apply", "repeated-numbers"), ("apply", "full-table"),
+            ("play", "one-replica"), ("play", "three-loyal")]
 # The crates whose tests end with an error where memory was refused; those of dsr_base and dsr_request allocate only what they
 # print. dsr_rotation, dsr_quorum and dsr_client allocate nothing. dsr_command and dsr_cli say it otherwise: their calls are in the runs of the program.
 CRATES = ["dsr_base", "dsr_names", "dsr_request", "dsr_register", "dsr_ledger", "dsr_history", "dsr_desk", "dsr_chain", "dsr_slot",
@@ -45,17 +47,28 @@ def refused_run(command, nth, refuser, note, text=b""):
     return run, os.path.exists(note)
 
 
-def fault_of(words, text, wanted, refuser, note):
+def tells_of_starved(report, wanted):
+    """Whether this is the report of a play of as many events as in the wanted one, of which one was refused for want of memory."""
+    counts = re.compile(rb"done (\d+)\nrefused (\d+)\n")
+    has, whole = counts.match(report), counts.match(wanted)
+    return bool(has and whole and report.endswith(b"\n") and sum(map(int, has.groups())) == sum(map(int, whole.groups()))
+                and re.match(rb"first \d+ E12 NoMemory\n", report[has.end():]) and re.search(rb"^history \d+$", report, re.M))
+
+
+def fault_of(word, text, wanted, refuser, note):
     """What is wrong with the runs on this text, or None; how many allocations were refused, and how often that ended the run."""
-    ended = 0
+    ended = reported = 0
     for nth in range(1, MOST_RUNS):
-        run, refused = refused_run([PROGRAM, *words], nth, refuser, note, text)
+        run, refused = refused_run([PROGRAM, word], nth, refuser, note, text)
         if not refused:
             if (run.returncode, run.stdout) != (0, wanted):
                 return f"with no refusal its status is {run.returncode}, or its output differs", nth - 1, ended
+            if word == "play" and not reported:
+                return "no event that was refused is reported", nth - 1, ended
             return (None if ended else "no refusal ended it"), nth - 1, ended
-        if (run.returncode, run.stdout, run.stderr) == (3, b"", b"dsr: no memory\n"):
-            ended += 1
+        starved = word == "play" and tells_of_starved(run.stdout, wanted)
+        if (run.returncode, run.stderr) == (3, b"dsr: no memory\n") and (starved or not run.stdout):
+            ended, reported = ended + 1, reported + bool(starved)
         elif (run.returncode, run.stdout, run.stderr) != (0, wanted, b""):
             return f"with allocation {nth} refused its status is {run.returncode}, and it wrote {run.stdout[:80]!r} and {run.stderr[:80]!r}", nth, ended
     return f"there is still a refusal after {MOST_RUNS} runs", MOST_RUNS, ended
@@ -95,9 +108,9 @@ def main():
     with tempfile.TemporaryDirectory(prefix="dsr-allocations-") as room:
         refuser = f"{room}/refuse.so"
         subprocess.run(["cc", "-shared", "-fPIC", "-O1", "-o", refuser, f"{TOP}/tests/refuse.c", "-ldl"], check=True)
-        for name in EXAMPLES:
+        for word, name in EXAMPLES:
             stem = f"{TOP}/examples/{name}"
-            fault, count, ended = fault_of(["apply"], read(f"{stem}.apply"), read(f"{stem}.out"), refuser, f"{room}/refused")
+            fault, count, ended = fault_of(word, read(f"{stem}.{word}"), read(f"{stem}.out"), refuser, f"{room}/refused")
             passed, failed = passed + (fault is None), failed + (fault is not None)
             print(f"{name}: {fault or f'ok, each of {count} allocations refused in turn, {ended} times with status 3'}", flush=True)
         for crate in CRATES:

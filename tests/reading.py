@@ -6,7 +6,8 @@ tests/reading.py --write    Writes the tables anew.
 
 A table stands after a line `<!-- definitions of FILE: FUNCTION, .. -->`. It has the definitions that the contracts of these
 functions name, those that these name, and so on, as far as they stand in a `specs/` of this repository; and the types of the
-code that they name. The tests of equality in `specs/Support/` are left out, as docs/READING.md says.
+code that they name. The tests of equality in `specs/Support/` are left out, as docs/READING.md says. Under it stands how many lines
+these definitions have, without comments.
 """
 
 import glob
@@ -16,7 +17,7 @@ import sys
 
 TOP = os.path.dirname(os.path.dirname(os.path.realpath(__file__)))
 READING = f"{TOP}/docs/READING.md"
-TABLE = re.compile(r"(<!-- definitions of (.*?) -->\n\n)((?:\|.*\n)*)")
+TABLE = re.compile(r"(<!-- definitions of (.*?) -->\n\n)((?:\|.*\n)*(?:\n\d+ lines of definitions, and \d+ of types of the code\.\n)?)")
 IMPORT = re.compile(r"use (Rattle\.[\w.+]+)\.\{(.*?)\}", re.S)
 DEFINITION = re.compile(r"(?:(?:abbrev|unfoldable|data|record|pub) )+([\w-]+)")
 WORD = re.compile(r"[A-Za-z_][\w-]*")
@@ -111,17 +112,25 @@ def definitions_for(functions):
     return found
 
 
+def length_of(path, line):
+    """How many lines a definition or a type of the code has, without the comments."""
+    lines = lines_of(path)
+    end = lines.index("}", line - 1) + 1 if "/src/" in path else lines.index("", line)
+    return sum(not text.lstrip().startswith(("//", "--")) for text in lines[line - 1:end])
+
+
 def table_of(named):
     functions = []
     for part in re.findall(r"(\S+): ([^;]+)", named):
         functions += [(part[0], function.strip()) for function in part[1].split(",")]
     found = definitions_for(functions)
     order = [line.split(":")[0] for line in lines_of(f"{TOP}/crates.txt") if ":" in line]
-    rows = []
+    rows, counts = [], {True: 0, False: 0}
     for path in sorted(found, key=lambda path: (-order.index(path.split("/crates/")[1].split("/")[0]), "/src/" in path, path)):
         names = sorted(found[path].items(), key=lambda item: item[1])
         rows.append(f"| `{os.path.relpath(path, TOP)}` | {', '.join(f'`{name}` {line}' for name, line in names)} |")
-    return "\n".join([*HEAD, *rows]) + "\n"
+        counts["/src/" in path] += sum(length_of(path, line) for _, line in names)
+    return "\n".join([*HEAD, *rows, "", f"{counts[False]} lines of definitions, and {counts[True]} of types of the code."]) + "\n"
 
 
 def main():

@@ -1,7 +1,7 @@
 #!/usr/bin/env python3
 """The samples of the documents, run: tests/samples.py, with no arguments.
 
-1. Each `$ COMMAND` with the lines it prints, as README.md and the two helps show them, is run by a shell, and must print
+1. Each `$ COMMAND` with the lines it prints, as README.md and the helps show them, is run by a shell, and must print
    just that. In the helps `dsr` stands for `./dsr`.
 2. Each block of docs/FORMATS.md whose lines are a request and, after two or more spaces, its answer: the program must answer
    the requests so.
@@ -17,7 +17,7 @@ import subprocess
 import sys
 
 TOP = os.path.dirname(os.path.dirname(os.path.realpath(__file__)))
-HELPS = [["--help"], ["apply", "--help"]]
+HELPS = [["--help"], ["apply", "--help"], ["play", "--help"]]
 
 
 def text_of(path):
