@@ -10,6 +10,7 @@ use crate::report::report_of;
 use dsr_names::{Refusal, Sink, Source, read_input, write_output};
 use dsr_world::{Play, World};
 use std::alloc::Global;
+use std::mem::forget;
 
 /// The report of a play, and how many of its events were refused because memory ran out.
 #[derive(Drop)]
@@ -34,6 +35,9 @@ fn outcome_of(alloc: Global, text: &[u8]) -> Result<Outcome, Refusal>
     let Ok(report) = report_of(alloc, &world, &end) else {
         return Err(Refusal::NoMemory);
     };
+    // The program ends soon: to free a world letter by letter would take a seventh of the time of a long play.
+    forget(world);
+    forget(play);
     Ok(Outcome {
         report,
         starved: end.starved,

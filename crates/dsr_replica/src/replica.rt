@@ -253,8 +253,26 @@ impl Replica {
         if to.number() > 0 {
             return self.made(alloc, &self.proposed);
         }
-        let value = self.value_of(pick).unwrap_or(SlotValue::Idle);
-        self.made(alloc, &value)
+        match pick {
+            Pick::From(clients) => self.made_from(alloc, clients),
+            Pick::Plain | Pick::Begin(_) => self.made(alloc, &SlotValue::Idle),
+        }
+    }
+
+    /// The envelope of the round in progress, which proposes the asks held of these clients. It holds a large value for a while, so it
+    /// is kept out of its caller. Requires that the choice is allowed.
+    #[inline(never)]
+    fn made_from(&self, alloc: Global, clients: Clients) -> Result<Envelope, Refusal>
+        requires { IsSome (value_of self.now (From clients)) }
+        ensures made { (value : SlotValue) → value_of self.now (From clients) ≡ Some value
+            → IfOk result (λ envelope. envelope ≡ round_envelope self.now.round (posts_of self.now.me value self.now.slots)) }
+        ensures refusal { IsOkUnless result Refusal.NoMemory }
+        ensures in_flight { AreInFlight self.now.shape self.now.round self.now.slots (closed_slots self.now.shape self.now.round) }
+    {
+        match self.value_from(clients) {
+            Some(value) => self.made(alloc, &value),
+            None => self.made(alloc, &SlotValue::Idle),
+        }
     }
 
     /// The envelope of the round in progress with the chains that are posted where this value is proposed.
@@ -302,17 +320,6 @@ impl Replica {
     {
         let sender = Actor::Replica(self.flights.shape().sender(self.flights.round()));
         self.key.signer() == sender
-    }
-
-    /// The value that the choice proposes at the post to replica 0.
-    fn value_of(&self, pick: Pick) -> Option<SlotValue>
-        ensures { result ≡ value_of self.now pick }
-    {
-        match pick {
-            Pick::Plain => Some(SlotValue::Idle),
-            Pick::From(clients) => self.value_from(clients),
-            Pick::Begin(_) => None,
-        }
     }
 
     /// The asks held of these clients as a value, where the replica is the sender of the slot that begins with the round.
