@@ -13,6 +13,7 @@ mod party;
 mod play;
 mod play_events;
 mod play_line;
+mod replies;
 mod run_end;
 mod world;
 

@@ -31,6 +31,7 @@ use crate::event::Event;
 use crate::letters::Letters;
 use crate::mail_boxes::MailBoxes;
 use crate::party::Party;
+use crate::replies::Replies;
 use crate::run_end::RunEnd;
 use dsr_client::Client;
 use dsr_desk::{Key, Keys};
@@ -54,6 +55,7 @@ pub struct World {
     known: Known,
     /// The letter that each loyal replica last posted to replica 0, if it is kept.
     letters: Vec<Option<Letter>>,
+    replies: Replies,
     entries: Vec<(Actor, Entry)>,
 }
 
@@ -94,6 +96,7 @@ impl World {
             keys: traitors,
             known: Known::new(alloc),
             letters: no_letters(alloc, shape.n())?,
+            replies: Replies::for_clients(alloc, shape.m())?,
             entries: Vec::new(alloc),
         })
     }
@@ -251,6 +254,7 @@ impl World {
             return Err(Refusal::NoMemory);
         };
         let again = letters.kept.try_copy()?;
+        self.replies.note(to, &letters.kept)?;
         make_room(&mut self.entries)?;
         learn(
             &mut self.known,
@@ -291,7 +295,7 @@ impl World {
         let Ok(envelope) = self.parties[poster].envelope_for(alloc, *to, *pick) else {
             return Err(Refusal::NoMemory);
         };
-        Letters::of(alloc, envelope)
+        self.replies.letters_of(alloc, to, envelope)
     }
 
     /// The letter that a loyal actor has posted already, where it posts it again: that of the round in progress, to another replica.

@@ -25,6 +25,6 @@ returns-clause-given c =
     (c.self.invariant.0.played.each from is.actor c.index.result.now) in
     let given : post_of a.shape (log_of run from) from to pick ≡ Some c.in-Ok.envelope = c.in-Ok.ensures.given a.shape from (log_of run from) at_first conduct in
     let seen = subst (λ (w : World). post_of w.shape (log_of w.run from) from to pick ≡ Some c.in-Ok.envelope) c.self.view_is given in
-    IfOk-weaker c.of.result (λ (letters : Letters). letters.kept ≡ c.in-Ok.envelope)
+    IfOk-weaker c.letters_of.result (λ (letters : Letters). letters.kept ≡ c.in-Ok.envelope)
     (λ (letters : Letters). post_of c.args.self.now.shape (log_of c.args.self.now.run from) from to pick ≡ Some letters.kept)
-    (λ letters e. seen ∙ ap Some (sym e)) c.of.ensures.kept
+    (λ letters e. seen ∙ ap Some (sym e)) c.letters_of.ensures.kept

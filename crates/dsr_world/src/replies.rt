@@ -1,0 +1,72 @@
+ghost use Rattle.std.specs.Prelude.{◌≡◌, IfOk, IfSome, IsOkUnless};
+
+use crate::letters::Letters;
+use dsr_names::{Actor, Refusal};
+use dsr_replica::{Envelope, Letter};
+use std::alloc::Global;
+
+/// The letter that was last posted to each client, if one was. All replicas that are loyal give a client one reply, so the next one to
+/// post it posts this letter again. Nothing rests on what is kept here: a letter is posted again only where it is the same.
+#[derive(Drop)]
+pub(crate) struct Replies {
+    last: Vec<Option<Letter>>,
+}
+
+impl Replies {
+    /// For so many clients, none. `NoMemory` where memory runs out.
+    pub(crate) fn for_clients(alloc: Global, clients: u8) -> Result<Replies, Refusal>
+        ensures refusal { IsOkUnless result Refusal.NoMemory }
+    {
+        let mut last = Vec::with_capacity(alloc, clients as usize)?;
+        for _ in 0..clients {
+            last.push(None)?;
+        }
+        Ok(Replies { last })
+    }
+
+    /// The envelope as two letters to this actor: where it is what was last posted to it, that letter. `NoMemory` where memory runs
+    /// out or one handle more is refused.
+    pub(crate) fn letters_of(
+        &self,
+        alloc: Global,
+        to: &Actor,
+        envelope: Envelope,
+    ) -> Result<Letters, Refusal>
+        ensures kept { IfOk result (λ letters. letters.kept ≡ envelope) }
+        ensures sent { IfOk result (λ letters. letters.sent ≡ letters.kept) }
+        ensures refusal { IsOkUnless result Refusal.NoMemory }
+    {
+        match self.same_before(to, &envelope) {
+            Some(letter) => Letters::again(letter),
+            None => Letters::of(alloc, envelope),
+        }
+    }
+
+    /// Notes what is posted to a client. `NoMemory` where one handle more is refused.
+    pub(crate) fn note(&mut self, to: &Actor, letter: &Letter) -> Result<(), Refusal>
+        ensures refusal { IsOkUnless result Refusal.NoMemory }
+    {
+        let Actor::Client(client) = to else {
+            return Ok(());
+        };
+        if let Some(last) = self.last.get_mut(client.number() as usize) {
+            *last = Some(letter.try_copy()?);
+        }
+        Ok(())
+    }
+
+    /// The letter that was last posted to this actor, where it is a client, and the envelope the same.
+    fn same_before(&self, to: &Actor, envelope: &Envelope) -> Option<&Letter>
+        ensures { IfSome result (λ letter. letter.now ≡ envelope.now) }
+    {
+        let Actor::Client(client) = to else {
+            return None;
+        };
+        let letter = self.last.get(client.number() as usize)?.as_ref()?;
+        if letter.envelope().same(envelope) {
+            Some(letter)
+        } else {
+            None
+        }
+    }
+}
