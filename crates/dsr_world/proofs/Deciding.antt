@@ -1,5 +1,5 @@
 -- The history of a world is found replica by replica: what the loyal one of the first replicas with the most closed slots has.
-use Rattle.std.proofs.Common.{◌≡◌, ℕ, suc, ◌+◌, ◌<◌, ◌≤◌, nat_lt, true, false, List, length, reverse, if◌then◌else◌, ◌⊎◌, inl, inr, refl, ap, sym, ◌∙◌, subst, arith}
+use Rattle.std.proofs.Common.{◌≡◌, ℕ, suc, ◌+◌, ◌<◌, ◌≤◌, true, false, List, length, reverse, inl, inr, refl, ap, sym, ◌∙◌, arith}
 use Rattle.std.specs.Prelude.{map}
 use Rattle.std.proofs.lemmas.List.{length-reverse}
 use Rattle.dsr_names.specs.Shape.{Shape, is_traitor}
@@ -10,10 +10,8 @@ use Rattle.dsr_chain.specs.Content.{requests_in}
 use Rattle.dsr_chain.specs.declared.slot_value.SlotValue.{SlotValue}
 use Rattle.dsr_replica.specs.Decided.{decided_requests, decided_values}
 use Rattle.dsr_replica.specs.declared.entry.Entry.{Entry}
-use Rattle.dsr_replica.specs.Replica.{Replica as AReplica, StandsFor}
 use Rattle.dsr_world.specs.History.{decided_at, longer, most_decided}
 use Rattle.dsr_world.specs.Step.{Logs}
-use Rattle.dsr_world.specs.Support.Party.{PlaysReplica}
 use Rattle.dsr_world.proofs.Histories.{past_traitor, past_loyal, longer_cases}
 
 -- these are the history and the number of closed slots of the loyal one of the first replicas with the most closed slots

@@ -1,35 +1,50 @@
--- The letters that a world keeps: of a loyal replica what it last posted to replica 0, which it posts to the others of the round too.
-use Rattle.std.proofs.Common.{◌≡◌, ◌==◌, ℕ, zero, suc, ◌<◌, Bool, true, false, List, [], ◌∷◌, ◌++◌, length, Option, None, Some, if◌then◌else◌, ◌⊎◌, inl, inr, refl, ap, sym, ◌∙◌, subst, arith}
-use Rattle.std.specs.Option.{is_none}
+-- The letters that a world keeps: of each loyal actor what it last posted to replica 0. A replica posts that to the others of the round
+-- too, and a client while its request is outstanding.
+use Rattle.std.proofs.Common.{◌≡◌, ◌==◌, ℕ, ◌+◌, zero, suc, ◌<◌, true, false, List, [], ◌∷◌, ◌++◌, length, Option, None, Some, if◌then◌else◌, inl, inr, refl, ap, sym, ◌∙◌, subst, arith}
+use Rattle.std.specs.Option.{is_none, option_map}
 use Rattle.std.specs.Prelude.{slice_get, slice_index_or, slice_set}
 use Rattle.std.proofs.lemmas.Bool.Decides.{Decides-eqb, nat_tests}
 use Rattle.std.proofs.lemmas.Option.{none-some, same_Some}
-use Rattle.dsr_names.specs.Shape.{Shape, is_traitor}
+use Rattle.dsr_base.specs.Member.{In, here}
+use Rattle.dsr_base.proofs.MemberLemmas.{In-append_right}
+use Rattle.dsr_names.specs.Shape.{Shape, is_traitor, IsActor, IsLoyal}
 use Rattle.dsr_names.specs.declared.actor.Actor.{Actor}
 use Rattle.dsr_names.specs.declared.actor.Actor.TheVariants.{Replica, Client}
+use Rattle.dsr_chain.specs.declared.signed_request.SignedRequest.{SignedRequest}
 use Rattle.dsr_replica.specs.declared.envelope.Envelope.{Envelope}
+use Rattle.dsr_replica.specs.declared.envelope.Envelope.TheVariants.{Ask}
 use Rattle.dsr_replica.specs.declared.entry.Entry.{Entry}
 use Rattle.dsr_replica.specs.declared.entry.Entry.TheVariants.{Post, Take}
 use Rattle.dsr_replica.specs.declared.step.Due.{Due}
 use Rattle.dsr_replica.specs.declared.step.Due.TheVariants.{Post as PostTo, Take as TakeFrom}
 use Rattle.dsr_replica.specs.declared.step.Pick.TheVariants.{Plain}
-use Rattle.dsr_replica.specs.Conduct.{is_due, envelope_to}
+use Rattle.dsr_replica.specs.Conduct.{is_due}
 use Rattle.dsr_replica.specs.Counts.{posts_at}
 use Rattle.dsr_replica.specs.Log.{posted_to, due, rounds}
 use Rattle.dsr_replica.proofs.Lemmas.{counts}
+use Rattle.dsr_client.specs.Conduct.{next_number, chosen_beside, ask_to}
+use Rattle.dsr_client.specs.State.{outstanding}
+use Rattle.dsr_client.proofs.Lemmas.{numbered}
 use Rattle.dsr_world.specs.Event.{post_of}
 use Rattle.dsr_world.specs.Run.{IsRun}
 use Rattle.dsr_world.specs.Step.{Step, log_of}
-use Rattle.dsr_world.specs.Support.WorldFields.{AreLetters, with_letter}
-use Rattle.dsr_world.proofs.Logs.{log_cases, log_loyal}
+use Rattle.dsr_world.specs.Support.Party.{IsOutstandingAsk}
+use Rattle.dsr_world.specs.Support.WorldFields.{AreLetters, place_of, kept_of, with_letter}
+use Rattle.dsr_world.proofs.Asking.{was_asked}
+use Rattle.dsr_world.proofs.Boxes.{posted_entry}
+use Rattle.dsr_world.proofs.Stepping.{place_below, same_place}
+use Rattle.dsr_world.proofs.Logs.{log_cases, log_loyal, log_client}
 use Rattle.dsr_world.proofs.Worlds.{IsCleared}
 use Rattle.std.proofs.lemmas.List.{get_or-set_same, get_or-set_other, length-set, length_push}
 use Rattle.std.proofs.lemmas.Bool.{true≢false, cond-true, cond-false, cases_Bool, false_from_ne_true}
 
 -- no letter is kept at first
-pub no_letters_kept : (shape : Shape) (letters : List (Option Envelope)) → length letters ≡ shape.n
-    → ((p : ℕ) → slice_index_or letters p None ≡ None) → AreLetters shape (log_of []) letters
-no_letters_kept shape letters count none = record { count = count; last = λ p loyal x kept. absurd (none-some x (sym (none p) ∙ kept)) }
+pub no_letters_kept : (shape : Shape) (letters : List (Option Envelope)) → length letters ≡ shape.n + shape.m
+    → ((place : ℕ) → slice_index_or letters place None ≡ None) → AreLetters shape (log_of []) letters
+no_letters_kept shape letters count none = record {
+  count = count;
+  last = λ who loyal x kept. absurd (none-some x (sym (none (place_of shape who)) ∙ kept));
+}
 
 -- the entry posts nothing to replica 0
 abbrev Leaves : Entry → Type 0
@@ -45,8 +60,9 @@ posted_same (Post (Replica (suc q)) x) log leaves =
 posted_same (Post (Client c) x) log leaves = refl
 posted_same (Take from x) log leaves = refl
 
-same_number : (p r : ℕ) → Replica p ≡ Replica r → p ≡ r
-same_number p r e = cc
+loyal_is : (shape : Shape) (who : Actor) → IsLoyal shape who → IsActor shape who
+loyal_is shape (Replica p) loyal = loyal.0
+loyal_is shape (Client c) loyal = loyal
 
 -- a post that is made is due
 due_at : (d : Due) (q : ℕ) (x : Envelope) (o : Option Envelope) → (if is_due d q then o else None) ≡ Some x → d ≡ PostTo q
@@ -70,68 +86,72 @@ first_posted : (q t : ℕ) → posts_at (PostTo (suc q)) t 0 ≡ suc t
 first_posted q t = grind (arith, nat_tests)
 
 module _ (shape : Shape) (run : List Step) (letters : List (Option Envelope)) (are : AreLetters shape (log_of run) letters) where
-  -- a step leaves them right where no loyal replica posts to replica 0
-  letters_left : (step : Step) → ((p : ℕ) → is_traitor shape p ≡ false → step.0 ≡ Replica p → Leaves step.1) → AreLetters shape (log_of (step ∷ run)) letters
+  -- a step leaves them right where it is no loyal actor's post to replica 0
+  letters_left : (step : Step) → (IsLoyal shape step.0 → Leaves step.1) → AreLetters shape (log_of (step ∷ run)) letters
   letters_left step leaves = record {
     count = are.count;
-    last = λ p loyal x kept.
-        let before = are.last p loyal x kept in
-        elim (log_cases step run (Replica p)) [
-          | inl own ↦ (before.0, ap (posted_to (Replica 0)) own.1 ∙ (posted_same step.1 (log_of run (Replica p)) (leaves p loyal own.0) ∙ before.1))
+    last = λ who loyal x kept.
+        let before = are.last who loyal x kept in
+        elim (log_cases step run who) [
+          | inl own ↦
+              let left = leaves (subst (IsLoyal shape) (sym own.0) loyal) in
+              (before.0, ap (posted_to (Replica 0)) own.1 ∙ (posted_same step.1 (log_of run who) left ∙ before.1))
           | inr other ↦ (before.0, ap (posted_to (Replica 0)) other.1 ∙ before.1)
         ];
   }
 
-  -- so does each take, each step of a client, and each of a traitor
+  -- so do each take, what a client tells another, and each step of a traitor
   pub letters_taken : (a from : Actor) (x : Envelope) → AreLetters shape (log_of ((a, Take from x) ∷ run)) letters
-  letters_taken a from x = letters_left (a, Take from x) (λ p loyal own. tt)
+  letters_taken a from x = letters_left (a, Take from x) (λ loyal. tt)
 
-  pub letters_of_client : (c : ℕ) (entry : Entry) → AreLetters shape (log_of ((Client c, entry) ∷ run)) letters
-  letters_of_client c entry = letters_left (Client c, entry) (λ p loyal own. absurd cc)
+  pub letters_told : (c d : ℕ) (x : Envelope) → AreLetters shape (log_of ((Client c, Post (Client d) x) ∷ run)) letters
+  letters_told c d x = letters_left (Client c, Post (Client d) x) (λ loyal. tt)
 
   pub letters_of_traitor : (p : ℕ) (entry : Entry) → is_traitor shape p ≡ true → AreLetters shape (log_of ((Replica p, entry) ∷ run)) letters
-  letters_of_traitor p entry traitor = letters_left (Replica p, entry) (λ q loyal own.
-      let same : p ≡ q = cc in absurd (true≢false (sym traitor ∙ (ap (is_traitor shape) same ∙ loyal))))
+  letters_of_traitor p entry traitor = letters_left (Replica p, entry) (λ loyal. absurd (true≢false (sym traitor ∙ loyal.1)))
 
-  -- a post of a loyal actor to replica 0 is kept
-  letters_first : (p : ℕ) (x : Envelope) → p < shape.n → AreLetters shape (log_of ((Replica p, Post (Replica 0) x) ∷ run)) (slice_set letters p (Some x))
-  letters_first p x inside = record {
-    count = length-set letters p (Some x) ∙ are.count;
-    last = by_replica;
+  -- a post to replica 0 is kept
+  letters_first : (from : Actor) (x : Envelope) → IsActor shape from
+      → AreLetters shape (log_of ((from, Post (Replica 0) x) ∷ run)) (slice_set letters (place_of shape from) (Some x))
+  letters_first from x actor = record {
+    count = length-set letters (place_of shape from) (Some x) ∙ are.count;
+    last = by_actor;
   }
     where
-      by_replica : (r : ℕ) → is_traitor shape r ≡ false → (y : Envelope) → slice_index_or (slice_set letters p (Some x)) r None ≡ Some y
-          → (older : List Envelope) × (posted_to (Replica 0) (log_of ((Replica p, Post (Replica 0) x) ∷ run) (Replica r)) ≡ older ++ y ∷ [])
-      by_replica r loyal y kept =
-          let long : p < length letters = let count = are.count in omega (arith, inside, count) in
-          elim (log_cases (Replica p, Post (Replica 0) x) run (Replica r)) [
-            | inl own ↦
-                let same : p ≡ r = same_number p r own.0 in
-                let stored : slice_index_or (slice_set letters p (Some x)) r None ≡ Some x =
-                subst (λ k. slice_index_or (slice_set letters p (Some x)) k None ≡ Some x) same (get_or-set_same letters p (Some x) None long) in
-                let is : x ≡ y = same_Some x y (sym stored ∙ kept) in
-                (posted_to (Replica 0) (log_of run (Replica r)), ap (posted_to (Replica 0)) own.1 ∙ ap (λ z. posted_to (Replica 0) (log_of run (Replica r)) ++ z ∷ []) is)
-            | inr other ↦
-                let stored = get_or-set_other letters p r (Some x) None (λ same. other.0 (ap Replica (sym same))) in
-                let before = are.last r loyal y (sym stored ∙ kept) in
-                (before.0, ap (posted_to (Replica 0)) other.1 ∙ before.1)
-          ]
+      by_actor : (who : Actor) → IsLoyal shape who → (y : Envelope)
+          → slice_index_or (slice_set letters (place_of shape from) (Some x)) (place_of shape who) None ≡ Some y
+          → (older : List Envelope) × (posted_to (Replica 0) (log_of ((from, Post (Replica 0) x) ∷ run) who) ≡ older ++ y ∷ [])
+      by_actor who loyal y kept = elim (log_cases (from, Post (Replica 0) x) run who) [
+        | inl own ↦
+            let long : place_of shape from < length letters =
+            let below = place_below shape from actor in let count = are.count in omega (arith, below, count) in
+            let stored : slice_index_or (slice_set letters (place_of shape from) (Some x)) (place_of shape who) None ≡ Some x =
+            subst (λ a. slice_index_or (slice_set letters (place_of shape from) (Some x)) (place_of shape a) None ≡ Some x) own.0
+            (get_or-set_same letters (place_of shape from) (Some x) None long) in
+            let is : x ≡ y = same_Some x y (sym stored ∙ kept) in
+            (posted_to (Replica 0) (log_of run who), ap (posted_to (Replica 0)) own.1 ∙ ap (λ z. posted_to (Replica 0) (log_of run who) ++ z ∷ []) is)
+        | inr other ↦
+            let stored = get_or-set_other letters (place_of shape from) (place_of shape who) (Some x) None
+            (λ same. other.0 (same_place shape from who actor (loyal_is shape who loyal) (sym same))) in
+            let before = are.last who loyal y (sym stored ∙ kept) in
+            (before.0, ap (posted_to (Replica 0)) other.1 ∙ before.1)
+      ]
 
-  pub letters_posted : (from to : Actor) (x : Envelope) → ((p : ℕ) → from ≡ Replica p → p < shape.n)
-      → AreLetters shape (log_of ((from, Post to x) ∷ run)) (with_letter from to x letters)
-  letters_posted (Replica p) (Replica zero) x inside = letters_first p x (inside p refl)
-  letters_posted (Replica p) (Replica (suc q)) x inside = letters_left (Replica p, Post (Replica (suc q)) x) (λ r loyal own. tt)
-  letters_posted (Replica p) (Client c) x inside = letters_left (Replica p, Post (Client c) x) (λ r loyal own. tt)
-  letters_posted (Client c) to x inside = letters_of_client c (Post to x)
+  pub letters_posted : (from to : Actor) (x : Envelope) → IsActor shape from
+      → AreLetters shape (log_of ((from, Post to x) ∷ run)) (with_letter (place_of shape from) (kept_of to x) letters)
+  letters_posted from (Replica zero) x actor = letters_first from x actor
+  letters_posted from (Replica (suc q)) x actor = letters_left (from, Post (Replica (suc q)) x) (λ loyal. tt)
+  letters_posted from (Client c) x actor = letters_left (from, Post (Client c) x) (λ loyal. tt)
 
   -- what a loyal replica posts next to another than replica 0, by the plain choice, is the letter that is kept, if one is
-  pub posts_again : IsRun shape run → (p q : ℕ) → is_traitor shape p ≡ false → 0 < shape.n → (x y : Envelope) → slice_index_or letters p None ≡ Some x
+  pub posts_again : IsRun shape run → (p q : ℕ) → IsLoyal shape (Replica p) → (x y : Envelope) → slice_index_or letters p None ≡ Some x
       → post_of shape (log_of run (Replica p)) (Replica p) (Replica (suc q)) Plain ≡ Some y
       → post_of shape (log_of run (Replica p)) (Replica p) (Replica (suc q)) Plain ≡ Some x
-  posts_again is p q loyal some x y kept given =
+  posts_again is p q loyal x y kept given =
+      let some : 0 < shape.n = omega (arith, loyal.0) in
       let log = log_of run (Replica p) in
-      let before = are.last p loyal x kept in
-      let counted = counts shape (Replica p) some log (log_loyal shape p loyal run is) in
+      let before = are.last (Replica p) loyal x kept in
+      let counted = counts shape (Replica p) some log (log_loyal shape p loyal.1 run is) in
       let next : due shape log ≡ PostTo (suc q) = due_at (due shape log) (suc q) y (slice_get (posted_to (Replica 0) log) (rounds shape log)) given in
       let long : length (posted_to (Replica 0) log) ≡ suc (rounds shape log) =
       counted.posts 0 some ∙ (ap (λ d. posts_at d (rounds shape log) 0) next ∙ first_posted q (rounds shape log)) in
@@ -148,4 +168,27 @@ module _ (shape : Shape) (run : List Step) (letters : List (Option Envelope)) (a
   again_posted is p zero later cleared x kept = absurd (omega (arith, later))
   again_posted is p (suc q) later cleared x kept =
       let given = some_of (post_of shape (log_of run (Replica p)) (Replica p) (Replica (suc q)) Plain) cleared.given in
-      posts_again is p q cleared.honest (omega (arith, cleared.actor)) x given.0 kept given.1
+      posts_again is p q (cleared.actor, cleared.honest) x given.0 kept given.1
+
+  -- what a client asks by the plain choice is the letter that is kept, if that is an ask of the number that is outstanding: an ask of
+  -- that number was posted, and two that were posted are the same
+  pub asked_again : IsRun shape run → (c : ℕ) → c < shape.m → (x : Envelope) → slice_index_or letters (place_of shape (Client c)) None ≡ Some x
+      → IsOutstandingAsk shape (log_of run (Client c)) x → ask_to shape c (log_of run (Client c)) Plain ≡ Some x
+  asked_again is c inside x kept (ask, same, number) = by_current (outstanding shape log) refl number ∙ ap Some (sym same)
+    where
+      log : List Entry
+      log = log_of run (Client c)
+
+      posted : In (Post (Replica 0) (Ask ask)) log
+      posted =
+          let before = are.last (Client c) inside x kept in
+          let last = subst (In x) (sym before.1) (In-append_right x before.0 (x ∷ []) (here refl)) in
+          subst (λ y. In (Post (Replica 0) y) log) same (posted_entry (Replica 0) log x last)
+
+      by_current : (o : Option SignedRequest) → outstanding shape log ≡ o → option_map (λ current. current.request.number) o ≡ Some ask.request.number
+          → option_map Ask (chosen_beside o c (next_number shape log) Plain) ≡ Some (Ask ask)
+      by_current None current e = absurd (none-some ask.request.number e)
+      by_current (Some other) current e =
+          let asked = was_asked shape log other current in
+          let once = (numbered shape c log (log_client shape c run is)).once in
+          ap (λ a. Some (Ask a)) (once asked.replica 0 other ask asked.posted posted (same_Some other.request.number ask.request.number e))

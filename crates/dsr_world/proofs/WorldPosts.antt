@@ -30,7 +30,7 @@ use Rattle.std.proofs.lemmas.Bool.Decides.{Decides-eqb}
 use Rattle.dsr_replica.specs.Limits.{IsEnvelope}
 use Rattle.dsr_client.specs.State.{seen}
 use Rattle.dsr_script.specs.Held.{IsUnforged}
-use Rattle.dsr_world.specs.Event.{refusals, IsRefusedBy, are_two_clients, IsForged, IsForgedAtLast}
+use Rattle.dsr_world.specs.Event.{refusals, IsRefusedBy, are_two_clients, IsForgedAtLast}
 use Rattle.dsr_world.specs.Run.{IsMadeOrPosted, HasPosted, ForgesNothing}
 use Rattle.dsr_world.specs.declared.party.Party.TheVariants.{Loyal, Traitor, Client as ClientParty}
 use Rattle.dsr_world.proofs.Boxes.{actors_within}

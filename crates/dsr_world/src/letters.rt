@@ -1,6 +1,7 @@
-ghost use Rattle.std.specs.Prelude.{◌≡◌, IfOk, IsOkUnless};
+ghost use Rattle.std.specs.Prelude.{◌≡◌, ℕ, ◌<◌, None, IfOk, IsOkUnless, length, slice_index_or};
+ghost use Rattle.dsr_world.specs.Support.WorldFields.{kept_of, with_letter};
 
-use dsr_names::Refusal;
+use dsr_names::{Actor, Refusal};
 use dsr_replica::{Envelope, Letter};
 use std::alloc::Global;
 
@@ -34,5 +35,39 @@ impl Letters {
         let kept = letter.try_copy()?;
         let sent = letter.try_copy()?;
         Ok(Letters { kept, sent })
+    }
+}
+
+/// For so many actors, that no letter is kept. `NoMemory` where memory runs out.
+pub(crate) fn no_letters(alloc: Global, count: usize) -> Result<Vec<Option<Letter>>, Refusal>
+    ensures count { IfOk result (λ letters. length letters.items ≡ count) }
+    ensures none { IfOk result (λ letters. (place : ℕ) → slice_index_or letters.items place None ≡ None) }
+    ensures refusal { IsOkUnless result Refusal.NoMemory }
+{
+    let mut letters = Vec::with_capacity(alloc, count)?;
+    for _ in 0..count {
+        letters.push(None)?;
+    }
+    Ok(letters)
+}
+
+/// The letter of a post that is kept, once more: what is posted to replica 0. `NoMemory` where one handle more is refused.
+pub(crate) fn kept_of(to: &Actor, letter: &Letter) -> Result<Option<Letter>, Refusal>
+    ensures kept { IfOk result (λ kept. kept ≡ kept_of to.now letter.now) }
+    ensures refusal { IsOkUnless result Refusal.NoMemory }
+{
+    match to {
+        Actor::Replica(taker) if taker.number() == 0 => Ok(Some(letter.try_copy()?)),
+        _ => Ok(None),
+    }
+}
+
+/// Keeps the letter of a post at its poster's place, where it is to be kept.
+pub(crate) fn keep_letter(letters: &mut Vec<Option<Letter>>, place: usize, letter: Option<Letter>)
+    requires { place < length letters.old.items }
+    ensures { letters.new.items ≡ with_letter place letter letters.old.items }
+{
+    if let Some(letter) = letter {
+        letters[place] = Some(letter);
     }
 }

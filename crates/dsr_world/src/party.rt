@@ -11,7 +11,7 @@ ghost use Rattle.dsr_replica.specs.Replica.{StandsFor, Allows};
 ghost use Rattle.dsr_client.specs.Client.{StandsFor as StandsForClient};
 ghost use Rattle.dsr_client.specs.State.{accepted, seen};
 ghost use Rattle.dsr_world.specs.Event.{post_of, takes_from, is_undue};
-ghost use Rattle.dsr_world.specs.Support.Party.{Plays, PlaysReplica, post_refusal, CanTake, HasRoomToTake, TakesReply, IsReplicaNumber};
+ghost use Rattle.dsr_world.specs.Support.Party.{Plays, PlaysReplica, post_refusal, CanTake, HasRoomToTake, TakesReply, IsReplicaNumber, IsOutstandingAsk};
 
 use crate::customer::Customer;
 use dsr_client::Client;
@@ -104,6 +104,19 @@ impl Party {
         match self {
             Party::Loyal(_) | Party::Traitor => 0,
             Party::Client(customer) => customer.client().seen(),
+        }
+    }
+
+    /// Whether the envelope is an ask of the number that is outstanding with this client; no envelope is with others.
+    pub(crate) fn has_outstanding(&self, envelope: &Envelope) -> bool
+        ensures { (shape : Shape) (c : ℕ) (log : List Entry) → Plays shape (ClientNumber c) log self.now
+            → IsTrue result → IsOutstandingAsk shape log envelope.now }
+    {
+        match (self, envelope) {
+            (Party::Client(customer), Envelope::Ask(ask)) => {
+                customer.client().outstanding() == Some(ask.request.number())
+            }
+            _ => false,
         }
     }
 

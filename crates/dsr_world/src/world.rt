@@ -17,6 +17,8 @@ ghost use Rattle.dsr_names.specs.declared.actor.Actor.{Actor};
 ghost use Rattle.dsr_names.specs.declared.refusal.Refusal.{Refusal};
 ghost use Rattle.dsr_world.specs.Event.{HasDone, IsRefusedBy, IsForgedAtLast, IsWithin, is_actor, is_traitor_of, are_clients, is_own_client, are_two_clients, is_full, is_used_up, post_of, refusal_of, first_of};
 ghost use Rattle.dsr_replica.specs.declared.entry.Entry.TheVariants.{Post as PostEntry};
+ghost use Rattle.dsr_replica.specs.declared.step.Pick.TheVariants.{Plain};
+ghost use Rattle.dsr_client.specs.Conduct.{ask_to};
 ghost use Rattle.dsr_world.specs.History.{accepted_by, decided_at, history, seen_by};
 ghost use Rattle.dsr_world.specs.Outcome.{AreWithin, HasEnded};
 ghost use Rattle.dsr_world.specs.Agreement.{HasAgreement};
@@ -24,11 +26,11 @@ ghost use Rattle.dsr_world.specs.Right.{IsRight, IsRightReply, TookAllReplies, H
 ghost use Rattle.dsr_ledger.specs.declared.reply.Reply.{Reply as AReply};
 ghost use Rattle.dsr_world.specs.Run.{IsRun, ForgesNothing};
 ghost use Rattle.dsr_world.specs.Step.{Step, log_of};
-ghost use Rattle.dsr_world.specs.Support.WorldFields.{place_of, with_letter, IsSpelledPick, box_refusal};
+ghost use Rattle.dsr_world.specs.Support.WorldFields.{place_of, IsSpelledPick, box_refusal};
 
 use crate::customer::Customer;
 use crate::event::Event;
-use crate::letters::Letters;
+use crate::letters::{Letters, keep_letter, kept_of, no_letters};
 use crate::mail_boxes::MailBoxes;
 use crate::party::Party;
 use crate::replies::Replies;
@@ -53,7 +55,7 @@ pub struct World {
     boxes: MailBoxes,
     keys: Vec<Key>,
     known: Known,
-    /// The letter that each loyal replica last posted to replica 0, if it is kept.
+    /// The letter that each loyal actor last posted to replica 0, at the actor's place, if it is kept.
     letters: Vec<Option<Letter>>,
     replies: Replies,
     entries: Vec<(Actor, Entry)>,
@@ -95,7 +97,7 @@ impl World {
             boxes: MailBoxes::new(alloc, count)?,
             keys: traitors,
             known: Known::new(alloc),
-            letters: no_letters(alloc, shape.n())?,
+            letters: no_letters(alloc, count)?,
             replies: Replies::for_clients(alloc, shape.m())?,
             entries: Vec::new(alloc),
         })
@@ -253,7 +255,7 @@ impl World {
         let Ok(letters) = self.letters_for(alloc, from, to, pick) else {
             return Err(Refusal::NoMemory);
         };
-        let again = letters.kept.try_copy()?;
+        let again = kept_of(to, &letters.kept)?;
         self.replies.note(to, &letters.kept)?;
         make_room(&mut self.entries)?;
         learn(
@@ -262,7 +264,7 @@ impl World {
             letters.kept.envelope(),
         )?;
         self.parties[poster].posted(*to, *pick);
-        keep_letter(&mut self.letters, from, to, again);
+        keep_letter(&mut self.letters, poster, again);
         self.boxes.put(poster, taker, letters.sent);
         self.entries.push_reserved((
             *from,
@@ -274,8 +276,9 @@ impl World {
         Ok(None)
     }
 
-    /// The letters of a loyal actor's post, which nothing refuses. A replica posts one letter to all others in a round. `NoMemory`
-    /// where memory runs out or one handle more is refused.
+    /// The letters of a loyal actor's post, which nothing refuses. What a replica posts to replica 0 it posts as the same letter to the
+    /// others of the round, and what a client asks replica 0 it asks the others by the same letter. `NoMemory` where memory runs out or
+    /// one handle more is refused.
     fn letters_for(
         &self,
         alloc: Global,
@@ -298,16 +301,32 @@ impl World {
         self.replies.letters_of(alloc, to, envelope)
     }
 
-    /// The letter that a loyal actor has posted already, where it posts it again: that of the round in progress, to another replica.
+    /// The letter that a loyal actor has posted to replica 0 already, where it posts it again: a replica's of the round in progress, to
+    /// another replica, or a client's ask of the outstanding request.
     fn posted_before(&self, from: &Actor, to: &Actor, pick: &Pick) -> Option<&Letter>
         requires { refusal_of self.now.shape (log_of self.now.run) (Post from.now to.now pick.now) ≡ None }
         ensures { IfSome result (λ letter. post_of self.now.shape (log_of self.now.run from.now) from.now to.now pick.now ≡ Some letter.now) }
     {
         match (from, to, pick) {
-            (Actor::Replica(poster), Actor::Replica(taker), Pick::Plain) if taker.number() > 0 => {
-                self.letters[poster.number() as usize].as_ref()
+            (Actor::Replica(_), Actor::Replica(taker), Pick::Plain) if taker.number() > 0 => {
+                self.letters[place_of(&self.shape, from)].as_ref()
             }
+            (Actor::Client(client), Actor::Replica(_), Pick::Plain) => self.asked_before(*client),
             _ => None,
+        }
+    }
+
+    /// The ask that a client has posted to replica 0 already, where its request is outstanding still.
+    fn asked_before(&self, client: ClientId) -> Option<&Letter>
+        requires { client < self.now.shape.m }
+        ensures { IfSome result (λ letter. ask_to self.now.shape client (log_of self.now.run (ClientNumber client)) Plain ≡ Some letter.now) }
+    {
+        let place = place_of(&self.shape, &Actor::Client(client));
+        let letter = self.letters[place].as_ref()?;
+        if self.parties[place].has_outstanding(letter.envelope()) {
+            Some(letter)
+        } else {
+            None
         }
     }
 
@@ -379,7 +398,8 @@ impl World {
         Ok(None)
     }
 
-    /// Has a traitor post.
+    /// Has a traitor post. It is kept out of `step`, whose frame it would make ten times as large.
+    #[inline(never)]
     fn plant(
         &mut self,
         alloc: Global,
@@ -622,32 +642,6 @@ fn learn(known: &mut Known, keys: &[Key], envelope: &Envelope) -> Result<(), Ref
         Ok(())
     } else {
         known.learn(envelope)
-    }
-}
-
-/// For so many replicas, that no letter is kept. `NoMemory` where memory runs out.
-fn no_letters(alloc: Global, replicas: u8) -> Result<Vec<Option<Letter>>, Refusal>
-    ensures count { IfOk result (λ letters. length letters.items ≡ replicas) }
-    ensures none { IfOk result (λ letters. (p : ℕ) → slice_index_or letters.items p None ≡ None) }
-    ensures refusal { IsOkUnless result Refusal.NoMemory }
-{
-    let mut letters = Vec::with_capacity(alloc, replicas as usize)?;
-    for _ in 0..replicas {
-        letters.push(None)?;
-    }
-    Ok(letters)
-}
-
-/// Keeps what a replica posts to replica 0.
-fn keep_letter(letters: &mut Vec<Option<Letter>>, from: &Actor, to: &Actor, letter: Letter)
-    requires { (p : ℕ) → from.now ≡ ReplicaNumber p → p < length letters.old.items }
-    ensures { letters.new.items ≡ with_letter from.now to.now letter letters.old.items }
-{
-    match (from, to) {
-        (Actor::Replica(poster), Actor::Replica(taker)) if taker.number() == 0 => {
-            letters[poster.number() as usize] = Some(letter);
-        }
-        _ => {}
     }
 }
 

@@ -1,22 +1,23 @@
 -- How an actor of a world stands for its log (this project).
 use Rattle.std.specs.Prelude.{◌≡◌, ◌≢◌, ℕ, ◌<◌, true, false, List, ◌∷◌, Option, None, Some, reverse, if◌then◌else◌}
-use Rattle.std.specs.Option.{is_none}
+use Rattle.std.specs.Option.{is_none, option_map}
 use Rattle.dsr_names.specs.Shape.{Shape, is_traitor, IsActor}
 use Rattle.dsr_names.specs.declared.actor.Actor.{Actor}
 use Rattle.dsr_names.specs.declared.actor.Actor.TheVariants.{Replica as ReplicaNumber, Client as ClientNumber}
 use Rattle.dsr_names.specs.declared.refusal.Refusal.{Refusal}
 use Rattle.dsr_names.specs.declared.refusal.Refusal.TheVariants.{NotDue, Exhausted}
 use Rattle.dsr_ledger.specs.declared.reply.Reply.{Reply as AReply}
+use Rattle.dsr_chain.specs.declared.signed_request.SignedRequest.{SignedRequest}
 use Rattle.dsr_replica.specs.declared.envelope.Envelope.{Envelope}
+use Rattle.dsr_replica.specs.declared.envelope.Envelope.TheVariants.{Ask}
 use Rattle.dsr_replica.specs.declared.entry.Entry.{Entry}
 use Rattle.dsr_replica.specs.declared.entry.Entry.TheVariants.{Take}
 use Rattle.dsr_replica.specs.declared.step.Due.TheVariants.{Take as TakeFrom}
 use Rattle.dsr_replica.specs.declared.step.Pick.{Pick}
-use Rattle.dsr_replica.specs.declared.step.Pick.TheVariants.{Plain, From, Begin}
 use Rattle.dsr_replica.specs.Limits.{IsEnvelope}
 use Rattle.dsr_replica.specs.Replica.{Replica, HasRoom, StandsFor}
 use Rattle.dsr_client.specs.Client.{StandsFor as StandsForClient}
-use Rattle.dsr_client.specs.State.{accepted}
+use Rattle.dsr_client.specs.State.{outstanding, accepted}
 use Rattle.dsr_world.specs.Event.{post_of, is_exhausted, AcceptsBy}
 use Rattle.dsr_world.specs.Support.Customer.{Customer}
 use Rattle.dsr_world.specs.declared.party.Party.{Party}
@@ -74,3 +75,8 @@ TakesReply shape (ClientNumber c) log from envelope reply = AcceptsBy reply (acc
 abbrev pub IsReplicaNumber : Actor → Type 0
 IsReplicaNumber (ReplicaNumber p) = Unit {0}
 IsReplicaNumber (ClientNumber c) = ⊥
+
+-- the envelope is an ask of the number that is outstanding with the client
+abbrev pub IsOutstandingAsk : Shape → List Entry → Envelope → Type 0
+IsOutstandingAsk shape log envelope =
+    (ask : SignedRequest) × (envelope ≡ Ask ask) × (option_map (λ current. current.request.number) (outstanding shape log) ≡ Some ask.request.number)

@@ -1,5 +1,5 @@
 -- How a world stands in its fields (this project).
-use Rattle.std.specs.Prelude.{◌≡◌, ◌↔◌, ℕ, zero, suc, ◌+◌, ◌++◌, ◌∷◌, ◌<◌, true, false, [], List, Option, None, Some, Any, if◌then◌else◌, length, reverse, slice_index_or, slice_set}
+use Rattle.std.specs.Prelude.{◌≡◌, ◌↔◌, ℕ, zero, suc, ◌+◌, ◌++◌, ◌∷◌, ◌<◌, true, [], List, Option, None, Some, Any, if◌then◌else◌, length, reverse, slice_index_or, slice_set}
 use Rattle.dsr_base.specs.Member.{In}
 use Rattle.dsr_names.specs.Shape.{Shape, is_traitor, IsActor, IsLoyal}
 use Rattle.dsr_names.specs.declared.actor.Actor.{Actor}
@@ -59,18 +59,22 @@ pub record AreParts (shape : Shape) (run : List Step) (parties : List Party) (ro
   pub held : AreKeys shape keys
   pub knows : KnowsAll shape (log_of run) known
 
--- there is a place for each replica, and the letter that is kept of a loyal one, if one is, is what it last posted to replica 0
+-- there is a place for each actor, and the letter that is kept of a loyal one, if one is, is what it last posted to replica 0
 pub record AreLetters (shape : Shape) (logs : Logs) (letters : List (Option Envelope)) : Type 0 where
-  pub count : length letters ≡ shape.n
-  pub last : (p : ℕ) → is_traitor shape p ≡ false → (x : Envelope) → slice_index_or letters p None ≡ Some x
-      → (older : List Envelope) × (posted_to (Replica 0) (logs (Replica p)) ≡ older ++ x ∷ [])
+  pub count : length letters ≡ shape.n + shape.m
+  pub last : (who : Actor) → IsLoyal shape who → (x : Envelope) → slice_index_or letters (place_of shape who) None ≡ Some x
+      → (older : List Envelope) × (posted_to (Replica 0) (logs who) ≡ older ++ x ∷ [])
 
--- the letters that are kept after a post: what a replica posts to replica 0 is
-abbrev pub with_letter : Actor → Actor → Envelope → List (Option Envelope) → List (Option Envelope)
-with_letter (Replica p) (Replica zero) x letters = slice_set letters p (Some x)
-with_letter (Replica p) (Replica (suc q)) x letters = letters
-with_letter (Replica p) (Client c) x letters = letters
-with_letter (Client c) to x letters = letters
+-- the letter of a post that is kept: what is posted to replica 0
+abbrev pub kept_of : Actor → Envelope → Option Envelope
+kept_of (Replica zero) x = Some x
+kept_of (Replica (suc q)) x = None
+kept_of (Client c) x = None
+
+-- the letters that are kept after a post: the one that is kept of it, if one is, stands at the poster's place
+abbrev pub with_letter : ℕ → Option Envelope → List (Option Envelope) → List (Option Envelope)
+with_letter place None letters = letters
+with_letter place (Some x) letters = slice_set letters place (Some x)
 
 -- the fields of a world stand for the run that its entries are
 abbrev pub IsWorldFields : Inside → Type 0

@@ -1,5 +1,4 @@
-use Rattle.std.proofs.Common.{◌≡◌, ◌∷◌, ◌++◌, ◌+◌, [], List, Option, Some, refl, sym, ◌∙◌, ap, subst}
-use Rattle.dsr_names.specs.declared.refusal.Refusal.{Refusal}
+use Rattle.std.proofs.Common.{◌∷◌, ◌++◌, ◌+◌, [], refl, sym, ap, subst}
 use Rattle.dsr_world.specs.declared.run_end.RunEnd.{RunEnd}
 use Rattle.dsr_world.specs.Outcome.{Counts}
 use Rattle.dsr_world.proofs.Ending.{counts_done, counts_refused}

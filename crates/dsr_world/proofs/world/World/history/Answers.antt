@@ -1,4 +1,4 @@
-use Rattle.std.proofs.Common.{◌≡◌, ◌<◌, length, reverse, ap, sym, ◌∙◌, subst, arith}
+use Rattle.std.proofs.Common.{◌<◌, length, reverse, ap, sym, ◌∙◌, subst, arith}
 use Rattle.dsr_names.specs.Shape.{HasFewTraitors}
 use Rattle.dsr_names.specs.declared.actor.Actor.TheVariants.{Replica}
 use Rattle.dsr_history.specs.History.{acted}

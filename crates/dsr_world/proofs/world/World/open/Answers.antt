@@ -64,5 +64,5 @@ invariant_of-result c =
           (subst (λ k. AreOpened c.args.shape k c.loop-number-2.parties.items) all c.loop-number-2.invariant.0) c.loop-number-2.invariant.1
           (subst (λ k. AreSquare k c.in_ok-new.field-0) size c.in_ok-new.ensures.count) c.in_ok-new.ensures.empty c.new-3.ensures.none),
       subst (λ es. AreLetters c.args.shape (log_of (reverse es)) c.in_ok-no_letters.field-0.items) (sym c.new-4.ensures.items)
-          (no_letters_kept c.args.shape c.in_ok-no_letters.field-0.items (c.in_ok-no_letters.ensures.count ∙ c.n-2.ensures.same) c.in_ok-no_letters.ensures.none),
+          (no_letters_kept c.args.shape c.in_ok-no_letters.field-0.items (c.in_ok-no_letters.ensures.count ∙ size) c.in_ok-no_letters.ensures.none),
     )

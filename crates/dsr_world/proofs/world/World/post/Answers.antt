@@ -1,7 +1,6 @@
 use Rattle.std.proofs.Common.{◌≡◌, ◌↔◌, ◌⊎◌, ◌∷◌, ◌++◌, [], ◌<◌, ◌^◌, None, Some, length, reverse, ap, ap₂, sym, ◌∙◌, subst}
 use Rattle.std.specs.Prelude.{Any, slice_set, slice_index_or}
 use Rattle.dsr_base.specs.Member.{In}
-use Rattle.dsr_names.specs.Shape.{IsActor}
 use Rattle.dsr_names.specs.declared.actor.Actor.{Actor}
 use Rattle.dsr_desk.specs.Signature.{Signature}
 use Rattle.dsr_replica.specs.Envelope.{Carries}
@@ -78,8 +77,8 @@ invariant_of-self-2 c =
           c.learn.new.known.signatures) (sym box) parts)),
       subst (λ r. AreLetters a.shape (log_of r) c.keep_letter.new.letters.items) (sym went)
           (subst (AreLetters a.shape (log_of ((from, PostEntry to c.in-Ok.letters.kept) ∷ run)))
-          (sym (c.keep_letter.ensures ∙ ap (λ x. with_letter from to x a.letters.items) c.in_ok-again.ensures.same))
-          (letters_posted a.shape run a.letters.items c.self.invariant.1 from to c.in-Ok.letters.kept (λ p e. subst (IsActor a.shape) e is.actor))),
+          (sym (c.keep_letter.ensures ∙ ap₂ (λ k o. with_letter k o a.letters.items) c.place_of-poster.ensures c.in_ok-again.ensures.kept))
+          (letters_posted a.shape run a.letters.items c.self.invariant.1 from to c.in-Ok.letters.kept is.actor)),
     )
 
 pub returns-clause-done : goal.returns-clause-done

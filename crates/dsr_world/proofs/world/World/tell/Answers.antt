@@ -18,7 +18,7 @@ use Rattle.dsr_world.specs.Support.WorldFields.{place_of, AreParts, AreLetters}
 use Rattle.dsr_world.specs.World.{World}
 use Rattle.dsr_world.proofs.Worlds.{pushed}
 use Rattle.dsr_world.proofs.WorldPosts.{cleared_tell, parts_after_tell, done_tell}
-use Rattle.dsr_world.proofs.Repeating.{letters_of_client}
+use Rattle.dsr_world.proofs.Repeating.{letters_told}
 use Rattle.dsr_world.proofs.world.World.tell.Goals as goal
 
 pub invariant_of-self-2 : goal.invariant_of-self-2
@@ -60,7 +60,7 @@ invariant_of-self-2 c =
     (c.place_of-taker.ensures ∙ ap (place_of a.shape) is.to_is)) in (
       subst (λ r. AreParts a.shape r a.parties.items c.put.new.self a.keys.items c.learn.new.known.signatures) (sym went)
           (subst (λ rows. AreParts a.shape ((Client is.c, PostEntry (Client is.d) x) ∷ run) a.parties.items rows a.keys.items c.learn.new.known.signatures) (sym box) parts),
-      subst (λ r. AreLetters a.shape (log_of r) a.letters.items) (sym went) (letters_of_client a.shape run a.letters.items c.self.invariant.1 is.c (PostEntry (Client is.d) x)),
+      subst (λ r. AreLetters a.shape (log_of r) a.letters.items) (sym went) (letters_told a.shape run a.letters.items c.self.invariant.1 is.c is.d x),
     )
 
 pub returns-clause-done : goal.returns-clause-done

@@ -1,6 +1,6 @@
 use Rattle.std.proofs.Common.{◌≡◌, ℕ, length}
 use Rattle.std.specs.Prelude.{None, slice_index_or}
-use Rattle.dsr_world.proofs.world.no_letters.Given as goal
+use Rattle.dsr_world.proofs.letters.no_letters.Given as goal
 
 -- no letter so far
 abbrev pub invariant-loop : goal.invariant-loop

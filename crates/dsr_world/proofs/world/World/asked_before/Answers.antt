@@ -1,0 +1,36 @@
+use Rattle.std.proofs.Common.{◌≡◌, ◌<◌, ◌∙◌, None, Some, length, reverse, ap, sym, subst, arith}
+use Rattle.std.specs.Prelude.{slice_index_or}
+use Rattle.std.proofs.lemmas.List.{get_or_default}
+use Rattle.dsr_names.specs.declared.actor.Actor.TheVariants.{Client}
+use Rattle.dsr_replica.specs.declared.step.Pick.TheVariants.{Plain}
+use Rattle.dsr_client.specs.Conduct.{ask_to}
+use Rattle.dsr_world.specs.Step.{log_of}
+use Rattle.dsr_world.specs.Support.Party.{Plays, IsOutstandingAsk}
+use Rattle.dsr_world.specs.Support.WorldFields.{place_of}
+use Rattle.dsr_world.specs.World.{World}
+use Rattle.dsr_world.proofs.Repeating.{asked_again}
+use Rattle.dsr_world.proofs.Stepping.{place_below}
+use Rattle.dsr_world.proofs.world.World.asked_before.Goals as goal
+
+pub returns-then-has_outstanding : goal.returns-then-has_outstanding
+returns-then-has_outstanding c =
+    let a = c.self.inside in
+    let client = c.args.client in
+    let run = reverse a.entries.items in
+    let letter = c.in_ok-letter.letter.now in
+    let inside = subst (λ (w : World). client < w.shape.m) (sym c.self.view_is) c.requires in
+    let long : place_of a.shape (Client client) < length a.letters.items =
+    let below = place_below a.shape (Client client) inside in let count = c.self.invariant.1.count in omega (arith, below, count) in
+    let kept : slice_index_or a.letters.items (place_of a.shape (Client client)) None ≡ Some letter =
+    sym (get_or_default a.letters.items (place_of a.shape (Client client)) c.index.result.now None long)
+    ∙ (ap (λ k. slice_index_or a.letters.items k c.index.result.now) (sym c.place_of-place.ensures)
+    ∙ (sym c.index.ensures ∙ sym c.in_ok-letter.ensures.value)) in
+    let plays : Plays a.shape (Client client) (log_of run (Client client)) c.index-2.result.now =
+    subst (Plays a.shape (Client client) (log_of run (Client client)))
+    (sym (c.index-2.ensures ∙ ap (λ k. slice_index_or a.parties.items k c.index-2.result.now) c.place_of-place.ensures))
+    (c.self.invariant.0.played.each (Client client) inside c.index-2.result.now) in
+    let asks = c.has_outstanding.ensures a.shape client (log_of run (Client client)) plays c.if-has_outstanding.true in
+    let again : ask_to a.shape client (log_of run (Client client)) Plain ≡ Some letter =
+    asked_again a.shape run a.letters.items c.self.invariant.1 c.self.invariant.0.is_run client inside letter kept
+    (subst (IsOutstandingAsk a.shape (log_of run (Client client))) c.envelope.ensures asks) in
+    subst (λ (w : World). ask_to w.shape client (log_of w.run (Client client)) Plain ≡ Some letter) c.self.view_is again
