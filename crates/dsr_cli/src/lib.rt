@@ -42,6 +42,8 @@ pub const NO_MEMORY: u8 = 3;
 ///
 /// The events of a play that are refused are part of its report, and no refusal of the play; but where memory ran out for some of
 /// them, the report is written and then `NoMemory` told.
+///
+/// It is for a program that ends after it: what a play took is not freed.
 pub fn run<S: AsStr, I: Source, O: Sink, E: Sink>(
     alloc: Global,
     words: &[S],

@@ -35,7 +35,7 @@ fn outcome_of(alloc: Global, text: &[u8]) -> Result<Outcome, Refusal>
     let Ok(report) = report_of(alloc, &world, &end) else {
         return Err(Refusal::NoMemory);
     };
-    // The program ends soon: to free a world letter by letter would take a seventh of the time of a long play.
+    // The program ends soon, and to free a world letter by letter takes a tenth of the time of a long play.
     forget(world);
     forget(play);
     Ok(Outcome {
