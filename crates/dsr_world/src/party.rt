@@ -1,4 +1,4 @@
-ghost use Rattle.std.specs.Prelude.{true, reverse, ◌≡◌, ◌≢◌, ℕ, ◌∷◌, List, None, Some, IfOk, IfSome, IfNone, IsOk, OnOk, IsOkUnless, IsTrue, IsSome};
+ghost use Rattle.std.specs.Prelude.{true, reverse, ◌≡◌, ◌≢◌, ◌↔◌, ℕ, ◌∷◌, List, None, Some, IfOk, IfSome, IfNone, IsOk, OnOk, IsOkUnless, IsTrue, IsSome};
 ghost use Rattle.dsr_names.specs.Shape.{Shape, is_traitor};
 ghost use Rattle.dsr_names.specs.declared.actor.Actor.{Actor};
 ghost use Rattle.dsr_names.specs.declared.actor.Actor.TheVariants.{Replica as ReplicaNumber, Client as ClientNumber};
@@ -110,7 +110,7 @@ impl Party {
     /// Whether the envelope is an ask of the number that is outstanding with this client; no envelope is with others.
     pub(crate) fn has_outstanding(&self, envelope: &Envelope) -> bool
         ensures { (shape : Shape) (c : ℕ) (log : List Entry) → Plays shape (ClientNumber c) log self.now
-            → IsTrue result → IsOutstandingAsk shape log envelope.now }
+            → IsTrue result ↔ IsOutstandingAsk shape log envelope.now }
     {
         match (self, envelope) {
             (Party::Client(customer), Envelope::Ask(ask)) => {

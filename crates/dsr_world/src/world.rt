@@ -308,8 +308,8 @@ impl World {
         ensures { IfSome result (λ letter. post_of self.now.shape (log_of self.now.run from.now) from.now to.now pick.now ≡ Some letter.now) }
     {
         match (from, to, pick) {
-            (Actor::Replica(_), Actor::Replica(taker), Pick::Plain) if taker.number() > 0 => {
-                self.letters[place_of(&self.shape, from)].as_ref()
+            (Actor::Replica(poster), Actor::Replica(taker), Pick::Plain) if taker.number() > 0 => {
+                self.letters[poster.number() as usize].as_ref()
             }
             (Actor::Client(client), Actor::Replica(_), Pick::Plain) => self.asked_before(*client),
             _ => None,

@@ -29,7 +29,7 @@ returns-then-has_outstanding c =
     subst (Plays a.shape (Client client) (log_of run (Client client)))
     (sym (c.index-2.ensures ∙ ap (λ k. slice_index_or a.parties.items k c.index-2.result.now) c.place_of-place.ensures))
     (c.self.invariant.0.played.each (Client client) inside c.index-2.result.now) in
-    let asks = c.has_outstanding.ensures a.shape client (log_of run (Client client)) plays c.if-has_outstanding.true in
+    let asks = (c.has_outstanding.ensures a.shape client (log_of run (Client client)) plays).0 c.if-has_outstanding.true in
     let again : ask_to a.shape client (log_of run (Client client)) Plain ≡ Some letter =
     asked_again a.shape run a.letters.items c.self.invariant.1 c.self.invariant.0.is_run client inside letter kept
     (subst (IsOutstandingAsk a.shape (log_of run (Client client))) c.envelope.ensures asks) in

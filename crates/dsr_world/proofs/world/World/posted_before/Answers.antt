@@ -10,10 +10,8 @@ use Rattle.dsr_replica.specs.declared.step.Pick.TheVariants.{Plain}
 use Rattle.dsr_world.specs.declared.event.Event.TheVariants.{Post}
 use Rattle.dsr_world.specs.Event.{refusal_of, post_of}
 use Rattle.dsr_world.specs.Step.{log_of}
-use Rattle.dsr_world.specs.Support.WorldFields.{place_of}
 use Rattle.dsr_world.specs.World.{World}
 use Rattle.dsr_world.proofs.Repeating.{again_posted}
-use Rattle.dsr_world.proofs.Stepping.{place_below}
 use Rattle.dsr_world.proofs.Worlds.{IsCleared, cleared}
 use Rattle.dsr_world.proofs.world.World.posted_before.Goals as goal
 
@@ -29,7 +27,7 @@ returns-in-Replica-Replica-Plain c =
     let to = c.args.to.now in
     let pick = c.args.pick.now in
     let run = reverse a.entries.items in
-    let p = c.in-Replica-Replica-Plain.field-0-0 in
+    let p = c.in-Replica-Replica-Plain.poster in
     let t = c.in-Replica-Replica-Plain.taker in
     let none = subst (λ (w : World). refusal_of w.shape (log_of w.run) (Post from to pick) ≡ None) (sym c.self.view_is) c.requires in
     let is = cleared a.shape (log_of run) from to pick none in
@@ -38,12 +36,10 @@ returns-in-Replica-Replica-Plain c =
     (subst (λ (x : Actor). IsCleared a.shape (log_of run) (Replica p) x pick) c.in-Replica-Replica-Plain.is-1
     (subst (λ (x : Actor). IsCleared a.shape (log_of run) x to pick) c.in-Replica-Replica-Plain.is-0 is)) in
     let later : 0 < t = let same = c.number.ensures.same in let more = c.if-number-gt0.true in omega (arith, same, more) in
-    let inside : place_of a.shape from < length a.letters.items =
-    let below = place_below a.shape from is.actor in let count = c.self.invariant.1.count in omega (arith, below, count) in
+    let inside : p < length a.letters.items = let below = of_replica.actor in let count = c.self.invariant.1.count in omega (arith, below, count) in
     let stored : option_copied c.as_ref.result ≡ slice_index_or a.letters.items p None =
-    c.as_ref.ensures.value ∙ (c.index.ensures ∙ (ap (λ k. slice_index_or a.letters.items k c.index.result.now) c.place_of.ensures
-    ∙ (get_or_default a.letters.items (place_of a.shape from) c.index.result.now None inside
-    ∙ ap (λ (x : Actor). slice_index_or a.letters.items (place_of a.shape x) None) c.in-Replica-Replica-Plain.is-0))) in
+    c.as_ref.ensures.value ∙ (c.index.ensures ∙ (ap (λ k. slice_index_or a.letters.items k c.index.result.now) c.number-in-Replica-Replica-Plain.ensures.same
+    ∙ get_or_default a.letters.items p c.index.result.now None inside)) in
     if_held (λ (x : Envelope). post_of c.args.self.now.shape (log_of c.args.self.now.run from) from to pick ≡ Some x) c.as_ref.result
     (slice_index_or a.letters.items p None) stored (λ x kept.
     subst (λ (w : World). post_of w.shape (log_of w.run from) from to pick ≡ Some x) c.self.view_is
