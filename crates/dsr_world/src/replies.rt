@@ -5,8 +5,8 @@ use dsr_names::{Actor, Refusal};
 use dsr_replica::{Envelope, Letter};
 use std::alloc::Global;
 
-/// The letter that was last posted to each client, if one was. All replicas that are loyal give a client one reply, so the next one to
-/// post it posts this letter again. Nothing rests on what is kept here: a letter is posted again only where it is the same.
+/// The letter that was last made for a post to each client, if one was. All loyal replicas give a client the same reply, so the next one
+/// to post it posts this letter again. Nothing rests on what is kept here: a letter is posted again only where it is the same.
 #[derive(Drop)]
 pub(crate) struct Replies {
     last: Vec<Option<Letter>>,
@@ -24,7 +24,7 @@ impl Replies {
         Ok(Replies { last })
     }
 
-    /// The envelope as two letters to this actor: where it is what was last posted to it, that letter. `NoMemory` where memory runs
+    /// The envelope as two letters to this actor: where the last one to it holds the same, that letter. `NoMemory` where memory runs
     /// out or one handle more is refused.
     pub(crate) fn letters_of(
         &self,
@@ -42,7 +42,7 @@ impl Replies {
         }
     }
 
-    /// Notes what is posted to a client. `NoMemory` where one handle more is refused.
+    /// Notes the letter of a post, where it is one to a client. `NoMemory` where one handle more is refused.
     pub(crate) fn note(&mut self, to: &Actor, letter: &Letter) -> Result<(), Refusal>
         ensures refusal { IsOkUnless result Refusal.NoMemory }
     {
@@ -55,7 +55,7 @@ impl Replies {
         Ok(())
     }
 
-    /// The letter that was last posted to this actor, where it is a client, and the envelope the same.
+    /// The last letter to this actor, where it is a client, and the letter holds this envelope.
     fn same_before(&self, to: &Actor, envelope: &Envelope) -> Option<&Letter>
         ensures { IfSome result (λ letter. letter.now ≡ envelope.now) }
     {
