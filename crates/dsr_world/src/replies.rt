@@ -1,6 +1,6 @@
 ghost use Rattle.std.specs.Prelude.{◌≡◌, IfOk, IfSome, IsOkUnless};
 
-use crate::letters::Letters;
+use crate::letters::{Letters, no_letters};
 use dsr_names::{Actor, Refusal};
 use dsr_replica::{Envelope, Letter};
 use std::alloc::Global;
@@ -17,10 +17,7 @@ impl Replies {
     pub(crate) fn for_clients(alloc: Global, clients: u8) -> Result<Replies, Refusal>
         ensures refusal { IsOkUnless result Refusal.NoMemory }
     {
-        let mut last = Vec::with_capacity(alloc, clients as usize)?;
-        for _ in 0..clients {
-            last.push(None)?;
-        }
+        let last = no_letters(alloc, clients as usize)?;
         Ok(Replies { last })
     }
 
