@@ -10,9 +10,9 @@ use Rattle.dsr_world.specs.Outcome.{HasEnded}
 use Rattle.dsr_world.specs.Play.{Play, Spells, IsPlayRefusal}
 use Rattle.dsr_world.specs.Right.{IsRight}
 use Rattle.dsr_world.specs.Run.{IsRun}
-use Rattle.dsr_world.specs.Step.{Step}
+use Rattle.dsr_world.specs.Step.{Step, log_of}
 use Rattle.dsr_world.specs.declared.run_end.RunEnd.{RunEnd}
-use Rattle.dsr_cli.specs.Report.{IsReport}
+use Rattle.dsr_cli.specs.Report.{report_text}
 
 -- the text spells a play whose events made this run of a new world, in which what clients accepted is right; so many events were refused
 -- because memory ran out; and this is the report
@@ -25,7 +25,7 @@ pub record HasPlayed (text : List ℕ) (starved : ℕ) (report : List ℕ) : Typ
   pub right : IsRight play.shape run
   pub ended : HasEnded play.shape run [] play.events end
   pub starved_is : end.starved ≡ starved
-  pub reported : IsReport end report
+  pub reported : report ≡ report_text play.shape (log_of run) end
 
 -- all events of the play were done, or refused for another reason than memory, and the whole report went out
 pub record PlayedAll (s : Streams) : Type 0 where

@@ -1,67 +1,53 @@
 //! What came of a play, as lines of text.
 
-ghost use Rattle.std.specs.Prelude.{◌≡◌, ◌<◌, IfOk, string_bytes};
-ghost use Rattle.dsr_cli.specs.Report.{IsReport};
+ghost use Rattle.std.specs.Prelude.{◌≡◌, ◌<◌, ◌++◌, IfOk, OnOk, IsOkUnless, reverse, string_bytes};
+ghost use Rattle.dsr_world.specs.Step.{log_of};
+ghost use Rattle.dsr_world.specs.History.{history};
+ghost use Rattle.dsr_cli.specs.Report.{report_text, end_text, replies_text, accepted_text, seen_text, decided_line, decided_text, history_text};
 
 use dsr_desk::Content;
 use dsr_ledger::Reply;
 use dsr_names::{ClientId, Refusal, ReplicaId};
+use dsr_request::Request;
 use dsr_slot::Decision;
 use dsr_world::{RunEnd, World};
 use std::alloc::Global;
-use std::fmt;
 use std::fmt::Write;
 
 /// The report of a world after its events ended so: how many were done and refused, what each client accepted, how far each has seen,
 /// what each loyal replica decided, and the history. `NoMemory` where memory runs out.
 pub(crate) fn report_of(alloc: Global, world: &World, end: &RunEnd) -> Result<String, Refusal>
-    ensures { IfOk result (λ report. IsReport end.now (string_bytes report)) }
+    ensures text { IfOk result (λ report. string_bytes report ≡ report_text world.now.shape (log_of world.now.run) end.now) }
+    ensures refusal { IsOkUnless result Refusal.NoMemory }
 {
-    let mut rest = String::new(alloc);
-    let Ok(()) = write_rest(&mut rest, world) else {
-        return Err(Refusal::NoMemory);
-    };
-    let ending = Ending(*end);
-    match format!(in alloc; "{ending}{rest}") {
-        Ok(report) => Ok(report),
-        Err(_) => Err(Refusal::NoMemory),
-    }
+    let mut report = String::new(alloc);
+    write_end(&mut report, end)?;
+    write_accepted(&mut report, world)?;
+    write_seen(&mut report, world)?;
+    write_decided(&mut report, world)?;
+    write_history(&mut report, world.history())?;
+    Ok(report)
 }
 
-/// How events ended, as the first lines of a report say it: how many were done and how many refused, and the first refusal, if there
-/// is one.
-#[derive(Clone, Copy)]
-struct Ending(RunEnd);
-
-impl fmt::Display for Ending {
-    ghost use Rattle.std.specs.Prelude.{Some};
-    ghost use Rattle.dsr_cli.specs.Report.{end_text};
-
-    ghost output = { λ ending. Some (end_text ending.0) };
-
-    fn fmt<W: fmt::Write>(&self, f: &mut fmt::Formatter<W>) -> fmt::Result {
-        let (done, refused) = (self.0.done, self.0.refused);
-        write!(f, "done {done}\nrefused {refused}\n")?;
-        match self.0.first {
-            None => Ok(()),
-            Some((index, refusal)) => {
-                let (code, word) = (refusal.code(), refusal.word());
-                writeln!(f, "first {index} E{code} {word}")
-            }
-        }
+/// Writes how the events ended: how many were done and how many refused, and the first refusal, if there is one.
+fn write_end(out: &mut String, end: &RunEnd) -> Result<(), Refusal>
+    ensures text { OnOk result (string_bytes out.new ≡ string_bytes out.old ++ end_text end.now) }
+    ensures refusal { IsOkUnless result Refusal.NoMemory }
+{
+    let (done, refused) = (end.done, end.refused);
+    write!(out, "done {done}\nrefused {refused}\n")?;
+    if let Some((index, refusal)) = end.first {
+        let (code, word) = (refusal.code(), refusal.word());
+        writeln!(out, "first {index} E{code} {word}")?;
     }
-}
-
-/// Writes what a report says of the world after its first lines.
-fn write_rest<W: Write>(out: &mut W, world: &World) -> fmt::Result {
-    write_accepted(out, world)?;
-    write_seen(out, world)?;
-    write_decided(out, world)?;
-    write_history(out, world)
+    Ok(())
 }
 
 /// Writes the replies that each client accepted.
-fn write_accepted<W: Write>(out: &mut W, world: &World) -> fmt::Result {
+fn write_accepted(out: &mut String, world: &World) -> Result<(), Refusal>
+    ensures text { OnOk result (string_bytes out.new ≡ string_bytes out.old ++ accepted_text world.now.shape (log_of world.now.run)) }
+    ensures refusal { IsOkUnless result Refusal.NoMemory }
+{
     for number in 0..world.shape().m() {
         let client = client(number);
         let Ok(replies) = world.accepted(client) else {
@@ -72,8 +58,11 @@ fn write_accepted<W: Write>(out: &mut W, world: &World) -> fmt::Result {
     Ok(())
 }
 
-/// Writes the replies that this client accepted.
-fn write_replies<W: Write>(out: &mut W, client: ClientId, replies: &[Reply]) -> fmt::Result {
+/// Writes the replies that this client accepted, in their order.
+fn write_replies(out: &mut String, client: ClientId, replies: &[Reply]) -> Result<(), Refusal>
+    ensures text { OnOk result (string_bytes out.new ≡ string_bytes out.old ++ replies_text client (reverse replies.now)) }
+    ensures refusal { IsOkUnless result Refusal.NoMemory }
+{
     for reply in replies {
         let (number, place, answer) = (reply.number, reply.place, reply.answer);
         writeln!(out, "accepted {client} {number} {place} {answer}")?;
@@ -82,7 +71,10 @@ fn write_replies<W: Write>(out: &mut W, client: ClientId, replies: &[Reply]) -> 
 }
 
 /// Writes the seen front of each client.
-fn write_seen<W: Write>(out: &mut W, world: &World) -> fmt::Result {
+fn write_seen(out: &mut String, world: &World) -> Result<(), Refusal>
+    ensures text { OnOk result (string_bytes out.new ≡ string_bytes out.old ++ seen_text world.now.shape (log_of world.now.run)) }
+    ensures refusal { IsOkUnless result Refusal.NoMemory }
+{
     for number in 0..world.shape().m() {
         let client = client(number);
         let Ok(seen) = world.seen(client) else {
@@ -94,7 +86,10 @@ fn write_seen<W: Write>(out: &mut W, world: &World) -> fmt::Result {
 }
 
 /// Writes what each loyal replica decided.
-fn write_decided<W: Write>(out: &mut W, world: &World) -> fmt::Result {
+fn write_decided(out: &mut String, world: &World) -> Result<(), Refusal>
+    ensures text { OnOk result (string_bytes out.new ≡ string_bytes out.old ++ decided_text world.now.shape (log_of world.now.run)) }
+    ensures refusal { IsOkUnless result Refusal.NoMemory }
+{
     for number in 0..world.shape().n() {
         let replica = replica(number);
         // A traitor is asked for nothing.
@@ -106,11 +101,14 @@ fn write_decided<W: Write>(out: &mut W, world: &World) -> fmt::Result {
 }
 
 /// Writes what this replica decided, slot by slot.
-fn write_decisions<W: Write>(
-    out: &mut W,
+fn write_decisions(
+    out: &mut String,
     replica: ReplicaId,
     decisions: &[Decision],
-) -> fmt::Result {
+) -> Result<(), Refusal>
+    ensures text { OnOk result (string_bytes out.new ≡ string_bytes out.old ++ decided_line replica (reverse decisions.now)) }
+    ensures refusal { IsOkUnless result Refusal.NoMemory }
+{
     write!(out, "decided {replica}")?;
     if decisions.is_empty() {
         write!(out, " -")?;
@@ -119,15 +117,19 @@ fn write_decisions<W: Write>(
         let content = Content(decision.content());
         write!(out, " {content}")?;
     }
-    writeln!(out)
+    writeln!(out)?;
+    Ok(())
 }
 
 /// Writes the requests that acted, each after its place.
-fn write_history<W: Write>(out: &mut W, world: &World) -> fmt::Result {
-    let history = world.history();
+fn write_history(out: &mut String, history: &[Request]) -> Result<(), Refusal>
+    ensures text { OnOk result (string_bytes out.new ≡ string_bytes out.old ++ history_text (reverse history.now)) }
+    ensures refusal { IsOkUnless result Refusal.NoMemory }
+{
     let count = history.len();
     writeln!(out, "history {count}")?;
-    for (place, request) in history.iter().enumerate() {
+    for place in 0..count {
+        let request = &history[place];
         writeln!(out, "{place} {request}")?;
     }
     Ok(())
