@@ -27,7 +27,7 @@ use Rattle.dsr_client.specs.State.{outstanding, seen}
 use Rattle.dsr_world.specs.Event.{post_of, is_exhausted, is_traitor_of, is_undue, takes_from, is_used_up}
 use Rattle.dsr_world.specs.Run.{IsMadeOrPosted, IsNextStep, IsRun}
 use Rattle.dsr_world.specs.Step.{Step, log_of}
-use Rattle.dsr_world.specs.Support.WorldFields.{IsSpelledPick}
+use Rattle.dsr_world.specs.Support.WorldFields.{HasSpelledOp}
 use Rattle.dsr_world.proofs.Asking.{outstanding_within}
 use Rattle.dsr_world.proofs.Issuing.{fronts}
 use Rattle.dsr_world.proofs.Within.{loyal_next_within, history_within}
@@ -39,7 +39,7 @@ below_not a b e = grind (arith, nat_tests)
 
 -- an ask of a choice is within the limits
 ask_within : (shape : Shape) (allowed : IsAllowed shape) (older : List Step) (is : IsRun shape older) (c : ℕ) → c < shape.m → (o : Option SignedRequest)
-    → outstanding shape (log_of older (Client c)) ≡ o → (pick : Pick) → IsSpelledPick pick
+    → outstanding shape (log_of older (Client c)) ≡ o → (pick : Pick) → HasSpelledOp pick
     → is_exhausted shape (log_of older (Client c)) (Client c) (Replica 0) pick ≡ false → (x : Envelope)
     → option_map Ask (chosen_beside o c (next_number shape (log_of older (Client c))) pick) ≡ Some x → IsEnvelope x
 ask_within shape allowed older is c inside None o_is Plain good more x e = absurd (none-some x e)
@@ -76,7 +76,7 @@ module _ (shape : Shape) (allowed : IsAllowed shape) (older : List Step) (is : I
   reply_next p c (Begin op) x inside e = absurd (none-some x e)
 
   -- a loyal actor's post
-  pub posts_next : (from to : Actor) (pick : Pick) (x : Envelope) → IsActor shape from → IsActor shape to → IsPick pick → IsSpelledPick pick
+  pub posts_next : (from to : Actor) (pick : Pick) (x : Envelope) → IsActor shape from → IsActor shape to → IsPick pick → HasSpelledOp pick
       → is_traitor_of shape from ≡ false → post_of shape (log_of older from) from to pick ≡ Some x
       → is_exhausted shape (log_of older from) from to pick ≡ false → is_used_up (log_of older) from to ≡ false
       → posted_to to (log_of older from) ≡ taken_from from (log_of older to) → IsNextStep shape (log_of older) (from, Post to x)

@@ -1,16 +1,19 @@
 -- One more line of a play.
-use Rattle.std.proofs.Common.{◌≡◌, ◌≢◌, ◌↔◌, ℕ, ◌+◌, ◌<◌, ◌≤◌, Bool, true, false, List, [], ◌∷◌, ◌++◌, length, None, Some, inl, inr, IsTrue, refl, sym, ◌∙◌, ap, subst, arith, append_assoc, length-append}
-use Rattle.std.proofs.lemmas.Bool.{false≢true}
+use Rattle.std.proofs.Common.{◌≡◌, ◌≢◌, ◌↔◌, ◌⊎◌, ℕ, ◌+◌, ◌<◌, ◌≤◌, Bool, true, false, List, [], ◌∷◌, ◌++◌, length, None, Some, inl, inr, IsTrue, refl, sym, ◌∙◌, ap, ap₂, subst, arith, append_assoc, length-append}
+use Rattle.std.specs.Prelude.{◌==◌}
+use Rattle.std.proofs.lemmas.Bool.{false≢true, eqb-true}
+use Rattle.std.proofs.lemmas.List.{append-nil}
 use Rattle.dsr_base.specs.Reads.{Reads}
 use Rattle.dsr_base.specs.Split.{IsAbsent}
 use Rattle.dsr_base.proofs.Marks.{one_cut, not_absent}
 use Rattle.dsr_base.proofs.ReadsLemmas.{not_read, was_read, only_read}
 use Rattle.dsr_names.specs.Shape.{Shape}
 use Rattle.dsr_names.specs.declared.refusal.Refusal.{Refusal}
-use Rattle.dsr_script.specs.Header.{IsHeaderRefusal, HasBadShape, HasNoHeader}
+use Rattle.dsr_script.specs.Header.{BeginsWithHeader, IsHeaderRefusal, HasBadShape, HasNoHeader}
+use Rattle.dsr_world.specs.declared.event.Event.{Event}
 use Rattle.dsr_world.specs.declared.play_line.PlayLine.{PlayLine}
 use Rattle.dsr_world.specs.PlayText.{line_text, lines_text, IsPlayLine, IsNext, AreLines, all_events, events_of}
-use Rattle.dsr_world.specs.Play.{Play, BeginsWithLines, HasNoNext, IsBadAfter, play_title, IsPlayRefusal}
+use Rattle.dsr_world.specs.Play.{Play, Spells, BeginsWithLines, HasNoNext, IsBadAfter, play_title, IsPlayRefusal}
 use Rattle.dsr_world.specs.Support.PlayedLines.{HasTaken}
 
 -- ---- what begins a rest
@@ -38,6 +41,68 @@ module _ (shape : Shape) (lines : List PlayLine) (rest : List ℕ) where
         cannot (subst (λ (l : PlayLine). length (all_events shape (l ∷ lines)) ≤ 1000000)
         (sym (only_read IsPlayLine line_text bytes line reads other next.is_line (first_is other later next e))) next.follows)
 
+-- ---- the first of several lines
+
+-- the first of these lines, and those after it
+record Oldest (more : List PlayLine) : Type 0 where
+  pub first : PlayLine
+  pub later : List PlayLine
+  pub same : more ≡ later ++ first ∷ []
+  pub text : lines_text more ≡ line_text first ++ 10 ∷ lines_text later
+
+oldest : (more : List PlayLine) → (more ≡ []) ⊎ Oldest more
+oldest [] = inl refl
+oldest (line ∷ earlier) = inr (elim (oldest earlier) [
+  | inl none ↦ record {
+    first = line;
+    later = [];
+    same = ap (λ xs. line ∷ xs) none;
+    text = ap (λ xs. lines_text xs ++ (line_text line ++ 10 ∷ [])) none;
+  }
+  | inr o ↦ record {
+    first = o.first;
+    later = line ∷ o.later;
+    same = ap (λ xs. line ∷ xs) o.same;
+    text =
+        ap (λ xs. xs ++ (line_text line ++ 10 ∷ [])) o.text
+        ∙ append_assoc (line_text o.first) (10 ∷ lines_text o.later) (line_text line ++ 10 ∷ []);
+  }
+])
+
+earlier_lines : (shape : Shape) (later lines : List PlayLine) → AreLines shape (later ++ lines) → AreLines shape lines
+earlier_lines shape [] lines each = each
+earlier_lines shape (line ∷ later) lines each = earlier_lines shape later lines each.1
+
+-- all lines of a text are these and more, which the rest spells
+pub record HasMore (lines : List PlayLine) (rest : List ℕ) (all : List PlayLine) : Type 0 where
+  pub more : List PlayLine
+  pub same : all ≡ more ++ lines
+  pub spelled : rest ≡ lines_text more
+
+-- where there is a rest, the first of those more lines can be the next one
+record HasNext (shape : Shape) (lines : List PlayLine) (rest : List ℕ) (all : List PlayLine) : Type 0 where
+  pub first : PlayLine
+  pub later : List PlayLine
+  pub next : IsNext shape lines first
+  pub same : all ≡ later ++ first ∷ lines
+  pub spelled : rest ≡ line_text first ++ 10 ∷ lines_text later
+
+has_next : (shape : Shape) (lines : List PlayLine) (rest : List ℕ) (all : List PlayLine) → AreLines shape all → rest ≢ [] → HasMore lines rest all
+    → HasNext shape lines rest all
+has_next shape lines rest all each some m = elim (oldest m.more) [
+  | inl none ↦ absurd (some (m.spelled ∙ ap lines_text none))
+  | inr o ↦
+      let same : all ≡ o.later ++ o.first ∷ lines =
+      m.same ∙ (ap (λ xs. xs ++ lines) o.same ∙ append_assoc o.later (o.first ∷ []) lines) in
+      record {
+        first = o.first;
+        later = o.later;
+        next = (earlier_lines shape o.later (o.first ∷ lines) (subst (AreLines shape) same each)).0;
+        same = same;
+        spelled = m.spelled ∙ o.text;
+      }
+]
+
 -- ---- lines taken in
 
 -- the lines before the rest were taken in, and the header is counted with them
@@ -46,9 +111,17 @@ pub record TakenSoFar (text rest : List ℕ) (number : ℕ) (play : Play) : Type
   pub begins : BeginsWithLines text play.shape lines rest
   pub events : play.events ≡ all_events play.shape lines
   pub counted : number ≡ length lines + 1
+  pub only : (all : List PlayLine) → AreLines play.shape all → text ≡ lines_text all → HasMore lines rest all
 
 pub none_yet : (text : List ℕ) (play : Play) → play.events ≡ [] → TakenSoFar text text 1 play
-none_yet text play none = record { lines = []; begins = record { each = tt; cut = refl }; events = none; counted = refl }
+none_yet text play none =
+    record {
+      lines = [];
+      begins = record { each = tt; cut = refl };
+      events = none;
+      counted = refl;
+      only = λ all each e. record { more = all; same = sym (append-nil all); spelled = e };
+    }
 
 pub all_taken : (text rest : List ℕ) (number : ℕ) (play : Play) → TakenSoFar text rest number play → rest ≡ [] → HasTaken text play
 all_taken text rest number play s e =
@@ -59,6 +132,10 @@ pub bad_after : (text rest : List ℕ) (number : ℕ) (play : Play) (shape : Sha
 bad_after text rest number play shape s same some none =
     subst (λ x. IsBadAfter x text (number + 1)) same
     (record { lines = s.lines; rest = rest; begins = s.begins; some = some; none = none s.lines s.events; counted = omega (arith, s.counted) })
+
+no_bytes : (bytes after : List ℕ) → bytes ++ 10 ∷ after ≡ [] → ⊥
+no_bytes [] after e = cc
+no_bytes (b ∷ bytes) after e = cc
 
 -- what `take` says of a line
 pub record Takes (line : PlayLine) (play later : Play) (can : Bool) : Type 0 where
@@ -92,7 +169,40 @@ one_more text rest bytes after number line play later can s cut whole reads take
           };
       events = given ∙ ap (λ x. all_events x (line ∷ s.lines)) (sym takes.shape);
       counted = omega (arith, s.counted);
+      only = λ all each e.
+          let each_before : AreLines play.shape all = subst (λ x. AreLines x all) takes.shape each in
+          let n = has_next play.shape s.lines rest all each_before (λ none. no_bytes bytes after (sym cut ∙ none)) (s.only all each_before e) in
+          let both = one_cut 10 bytes after (line_text n.first) (lines_text n.later) whole n.next.whole (sym cut ∙ n.spelled) in
+          let first_is : line ≡ n.first = only_read IsPlayLine line_text bytes line reads n.first n.next.is_line both.0 in
+          record {
+            more = n.later;
+            same = n.same ∙ ap (λ x. n.later ++ x ∷ s.lines) (sym first_is);
+            spelled = both.1;
+          };
     }
+
+-- where some line is bad, no lines are the text
+pub no_lines : (text rest : List ℕ) (number : ℕ) (play : Play) → TakenSoFar text rest number play → rest ≢ []
+    → ((lines : List PlayLine) → play.events ≡ all_events play.shape lines → HasNoNext play.shape lines rest)
+    → (all : List PlayLine) → AreLines play.shape all → text ≡ lines_text all → ⊥
+no_lines text rest number play s some none all each e =
+    let n = has_next play.shape s.lines rest all each some (s.only all each e) in
+    none s.lines s.events n.first (lines_text n.later) n.next (n.spelled ∙ sym (ended n.first (lines_text n.later)))
+
+-- a test for no rest
+pub no_rest : (rest : List ℕ) (r : Bool) → r ≡ (length rest == 0) → r ≡ true → rest ≡ []
+no_rest [] r is holds = refl
+no_rest (b ∷ rest) r is holds = let none : ⊥ = omega (arith, eqb-true (length (b ∷ rest)) 0 (sym is ∙ holds)) in absurd none
+
+-- where no rest is left, no other lines are the text
+pub only_lines : (text rest : List ℕ) (number : ℕ) (play : Play) → TakenSoFar text rest number play → rest ≡ []
+    → (all : List PlayLine) → AreLines play.shape all → text ≡ lines_text all → play.events ≡ all_events play.shape all
+only_lines text rest number play s none all each e =
+    let m = s.only all each e in
+    elim (oldest m.more) [
+      | inl no_more ↦ s.events ∙ ap (all_events play.shape) (sym (m.same ∙ ap (λ xs. xs ++ s.lines) no_more))
+      | inr o ↦ absurd (no_bytes (line_text o.first) (lines_text o.later) (sym o.text ∙ (sym m.spelled ∙ none)))
+    ]
 
 -- a line has at least one byte
 pub shorter : (rest bytes after : List ℕ) → rest ≡ bytes ++ 10 ∷ after → length after < length rest
@@ -104,3 +214,27 @@ shorter rest bytes after cut = subst (λ r. length after < length r) (sym cut) (
 pub header_refused : (title text : List ℕ) (e : Refusal) → title ≡ play_title → IsHeaderRefusal title text e → IsPlayRefusal text e
 header_refused title text e same (inl h) = subst (IsPlayRefusal text) (sym h.0) (subst (λ t. HasBadShape t text) same h.1)
 header_refused title text e same (inr h) = subst (IsPlayRefusal text) (sym h.0) (inl (refl, subst (λ t. HasNoHeader t text) same h.1))
+
+-- ---- a whole text
+
+abbrev pub make_play : Shape → List Event → Play
+make_play shape events = record { shape = shape; events = events }
+
+module _ (title text after : List ℕ) (shape : Shape) (titled : title ≡ play_title)
+    (only : (shape' : Shape) (rest : List ℕ) → BeginsWithHeader title text shape' rest → (shape ≡ shape') × (after ≡ rest)) (play : Play)
+    (s : Spells text play) where
+  -- the header that a play is spelled by is the one that was read
+  pub its_header : (shape ≡ play.shape) × (after ≡ s.after)
+  its_header = only play.shape s.after (subst (λ t. BeginsWithHeader t text play.shape s.after) (sym titled) s.header)
+
+  -- and its lines are those after that header
+  pub its_lines : AreLines shape s.lines × (after ≡ lines_text s.lines)
+  its_lines = (
+    subst (λ x. AreLines x s.lines) (sym its_header.0) s.begins.each,
+    its_header.1 ∙ (s.begins.cut ∙ append-nil (lines_text s.lines)),
+  )
+
+  -- so the play that has the events which they stand for is that play
+  pub same_play : (events : List Event) → events ≡ all_events shape s.lines → make_play shape events ≡ play
+  same_play events given =
+      ap₂ make_play its_header.0 (given ∙ (ap (λ x. all_events x s.lines) its_header.0 ∙ sym s.events))

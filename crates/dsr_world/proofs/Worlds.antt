@@ -29,7 +29,7 @@ use Rattle.dsr_world.specs.Run.{IsNextStep}
 use Rattle.dsr_world.specs.Step.{Step, Logs, log_of}
 use Rattle.dsr_world.specs.Support.Boxes.{box_at, row_of, with_box, with_post, held_in, IsBoxOf}
 use Rattle.dsr_world.specs.Support.Party.{Plays, post_refusal}
-use Rattle.dsr_world.specs.Support.WorldFields.{place_of, IsSpelledPick, AreParts, KnowsAll}
+use Rattle.dsr_world.specs.Support.WorldFields.{place_of, HasSpelledOp, AreParts, KnowsAll}
 use Rattle.dsr_world.specs.declared.mail_boxes.MailBox.{MailBox}
 use Rattle.dsr_world.specs.declared.party.Party.{Party}
 use Rattle.dsr_world.proofs.NextSteps.{posts_next}
@@ -182,7 +182,7 @@ module _ (shape : Shape) (run : List Step) (parties : List Party) (rows : List (
       below_end a b e = grind (arith, nat_tests)
 
   -- after a loyal actor's post that nothing refused
-  pub parts_after_post : (from to : Actor) (pick : Pick) (x : Envelope) (party : Party) (new : List Signature) → IsAllowed shape → IsPick pick → IsSpelledPick pick
+  pub parts_after_post : (from to : Actor) (pick : Pick) (x : Envelope) (party : Party) (new : List Signature) → IsAllowed shape → IsPick pick → HasSpelledOp pick
       → IsCleared shape (log_of run) from to pick → post_of shape (log_of run from) from to pick ≡ Some x
       → Plays shape from (PostEntry to x ∷ log_of run from) party
       → ((holder : Actor) → Any (λ h. h ≡ holder) keys → (s : Signature) → In s new ↔ (In s known ⊎ Carries x s))

@@ -194,7 +194,7 @@ IsRefusedBy shape logs event refusal =
     ⊎ ((refusal ≡ Forged) × IsForgedAtLast shape logs event)
     ⊎ ((refusal ≡ NoMemory) × MayBeDone shape logs event)
 
--- an event that a text can spell: so is what a traitor is to post, and all choices are
+-- an event that a text can spell, as every event of the code is, but for what a traitor is to post
 abbrev pub IsSpelledEvent : Event → Type 0
 IsSpelledEvent (Post from to pick) = Unit {0}
 IsSpelledEvent (Plant from to draft) = IsSpelledEnvelope draft

@@ -65,8 +65,8 @@ pub record TookAllReplies (shape : Shape) (log : List Entry) (number : ℕ) : Ty
 abbrev pub HasReplyTo : ℕ → List AReply → Type 0
 HasReplyTo number replies = (reply : AReply) × In reply replies × (reply.number ≡ number)
 
--- a run is right: so is each reply that a client accepted; no number of a client stands twice in the history; and the history has
--- only grown since any earlier time of the run
+-- a run is right where each reply that a client accepted is right; no number of a client stands twice in the history; and the history
+-- has only grown since any earlier time of the run
 pub record IsRight (shape : Shape) (run : List Step) : Type 0 where
   pub replies : (c : ℕ) → c < shape.m → (reply : AReply) → In reply (accepted_by shape (log_of run) c)
       → IsRightReply shape (history shape (log_of run)) (log_of run (Client c)) reply

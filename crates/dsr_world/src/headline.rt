@@ -12,8 +12,8 @@ ghost use Rattle.dsr_world.specs.Step.{Step, log_of};
 
 /// Every run is right, where at most f replicas are traitors. For each reply that a client accepted, the request that the client
 /// posted under its number stands in the history at the reply's place, with the reply's answer, and that place is not before what the
-/// client had seen when it first asked; no number of a client stands in the history twice; and the history has that of each earlier
-/// time in it.
+/// client had seen when it first asked; no number of a client stands in the history twice; and the history of each earlier time is a
+/// prefix of it.
 pub fn runs_are_right()
     ensures right { (shape : Shape) (run : List Step) → HasFewTraitors shape → IsRun shape run → IsRight shape run }
     ensures replies { (shape : Shape) (run : List Step) → HasFewTraitors shape → IsRun shape run → (c : ℕ) (reply : AReply)

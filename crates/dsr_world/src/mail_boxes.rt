@@ -129,7 +129,7 @@ impl MailBoxes {
     {
         match self.letter(from, to) {
             Some(letter) => letter.envelope().try_copy(alloc),
-            None => Err(Refusal::NoMemory),
+            None => unreachable!(),
         }
     }
 

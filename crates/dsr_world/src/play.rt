@@ -1,8 +1,8 @@
-ghost use Rattle.std.specs.Prelude.{◌≡◌, ◌↔◌, ◌≤◌, ◌∷◌, ◌++◌, [], length, IfOk, IfErr, OnOk, IsTrue, IsOkUnless};
+ghost use Rattle.std.specs.Prelude.{◌≡◌, ◌↔◌, ◌≤◌, ◌∷◌, ◌++◌, [], List, length, IfOk, IfErr, OnOk, IsTrue, IsOkUnless};
 ghost use Rattle.dsr_world.specs.declared.play_line.PlayLine.{PlayLine};
 ghost use Rattle.dsr_world.specs.Outcome.{AreWithin};
-ghost use Rattle.dsr_world.specs.PlayText.{all_events, events_of};
-ghost use Rattle.dsr_world.specs.Play.{Spells, IsPlayRefusal};
+ghost use Rattle.dsr_world.specs.PlayText.{all_events, events_of, lines_text, AreLines};
+ghost use Rattle.dsr_world.specs.Play.{Play as APlay, Spells, IsPlayRefusal};
 ghost use Rattle.dsr_world.specs.Support.PlayedLines.{HasTaken, IsLinesRefusal};
 
 use crate::event::Event;
@@ -45,6 +45,8 @@ impl Play {
     pub fn read(alloc: Global, text: &[u8]) -> Result<Play, Refusal>
         ensures play { IfOk result (Spells text.now) }
         ensures refused { IfErr result (IsPlayRefusal text.now) }
+        ensures when { (other : APlay) → Spells text.now other → IsOkUnless result Refusal.NoMemory }
+        ensures only { (other : APlay) → Spells text.now other → IfOk result (λ play. play ≡ other) }
     {
         let header = match read_header(b"dsr-play 1".as_slice(), text) {
             Ok(header) => header,
@@ -54,11 +56,13 @@ impl Play {
             shape: header.shape,
             events: Vec::new(alloc),
         };
-        reading.take_lines(alloc, header.rest)?;
-        Ok(Play {
-            shape: reading.shape,
-            events: reading.events,
-        })
+        match reading.take_lines(alloc, header.rest) {
+            Ok(()) => Ok(Play {
+                shape: reading.shape,
+                events: reading.events,
+            }),
+            Err(refusal) => Err(refusal),
+        }
     }
 
     /// The shape.
@@ -98,6 +102,9 @@ impl Reading {
         requires { self.old.events ≡ [] }
         ensures taken { OnOk result (HasTaken text.now self.new) }
         ensures refused { IfErr result (IsLinesRefusal self.old.shape text.now) }
+        ensures when { (all : List PlayLine) → AreLines self.old.shape all → text.now ≡ lines_text all → IsOkUnless result Refusal.NoMemory }
+        ensures only { (all : List PlayLine) → AreLines self.old.shape all → text.now ≡ lines_text all
+            → OnOk result (self.new.events ≡ all_events self.old.shape all) }
         ensures shape { self.new.shape ≡ self.old.shape }
     {
         let mut rest = text;

@@ -26,7 +26,7 @@ ghost use Rattle.dsr_world.specs.Right.{IsRight, IsRightReply, TookAllReplies, H
 ghost use Rattle.dsr_ledger.specs.declared.reply.Reply.{Reply as AReply};
 ghost use Rattle.dsr_world.specs.Run.{IsRun, ForgesNothing};
 ghost use Rattle.dsr_world.specs.Step.{Step, log_of};
-ghost use Rattle.dsr_world.specs.Support.WorldFields.{place_of, IsSpelledPick, box_refusal};
+ghost use Rattle.dsr_world.specs.Support.WorldFields.{place_of, HasSpelledOp, box_refusal};
 
 use crate::customer::Customer;
 use crate::event::Event;
@@ -184,7 +184,7 @@ impl World {
         history
     }
 
-    /// Has the event happen, and returns the reply that a client accepts by it. Requires that a traitor's envelope is within the
+    /// Makes the event happen, and returns the reply that a client accepts by it. Requires that a traitor's envelope is within the
     /// limits.
     ///
     /// Refused with the first of these that holds: `NoActor` where an actor is not one of the shape; `WrongRole` where it is not the
@@ -208,8 +208,9 @@ impl World {
         }
     }
 
-    /// Has each of the events happen in turn, refused ones left out, and tells how many were done and refused. Requires that what
-    /// traitors are to post is within the limits.
+    /// Makes each of the events happen in turn, refused ones left out, and returns how many were done and refused. An event for which
+    /// memory runs out is refused with `NoMemory`, and counted in `starved` too. Requires that what traitors are to post is within the
+    /// limits.
     pub fn run(&mut self, alloc: Global, events: &[Event]) -> RunEnd
         requires { AreWithin events.now }
         ensures ended { HasEnded self.old.shape self.new.run self.old.run events.now result }
@@ -605,7 +606,7 @@ fn is_own_client(one: &Actor, other: &Actor) -> bool
 /// Looks at the choice, from which on it is known that it can be made.
 fn look_at(pick: &Pick)
     ensures pick { IsPick pick.now }
-    ensures spelled { IsSpelledPick pick.now }
+    ensures spelled { HasSpelledOp pick.now }
 {
     match pick {
         Pick::Plain => {}
@@ -703,10 +704,10 @@ fn replica_of(number: u8) -> ReplicaId
     requires { number < 16 }
     ensures { result ≡ number }
 {
-    match ReplicaId::new(number) {
-        Ok(replica) => replica,
-        Err(_) => ReplicaId::FIRST,
-    }
+    let Ok(replica) = ReplicaId::new(number) else {
+        unreachable!()
+    };
+    replica
 }
 
 /// The client of this number, which is below 32.
@@ -714,8 +715,8 @@ fn client_of(number: u8) -> ClientId
     requires { number < 32 }
     ensures { result ≡ number }
 {
-    match ClientId::new(number) {
-        Ok(client) => client,
-        Err(_) => ClientId::FIRST,
-    }
+    let Ok(client) = ClientId::new(number) else {
+        unreachable!()
+    };
+    client
 }

@@ -2,7 +2,9 @@
 
 use crate::{Event, Play, RunEnd, World};
 use dsr_desk::Content;
-use dsr_names::{ClientId, Refusal, ReplicaId};
+use dsr_names::{Actor, ClientId, Refusal, ReplicaId};
+use dsr_replica::Entry;
+use dsr_script::Draft;
 use std::alloc::Global;
 use std::fmt::Write;
 use std::test::Fail;
@@ -90,6 +92,21 @@ fn tell_decided(words: &mut String, world: &World, replica: ReplicaId) -> Result
         Err(refusal) => return Err(refusal)?,
     }
     Ok(())
+}
+
+/// What one actor posted to another, by the entries of the world.
+fn posts(alloc: Global, world: &World, from: &str, to: &str) -> Result<String, Fail> {
+    let ends = (Actor::read(from.as_bytes()), Actor::read(to.as_bytes()));
+    let mut words = String::new(alloc);
+    for (actor, entry) in world.entries() {
+        if let Entry::Post { to, envelope } = entry {
+            if (Some(*actor), Some(*to)) == ends {
+                let draft = Draft::of(alloc, envelope.envelope())?;
+                write!(words, "{draft}; ")?;
+            }
+        }
+    }
+    Ok(words)
 }
 
 #[test]
@@ -251,6 +268,21 @@ fn three_values_in_one_envelope_are_taken(rt: HostRuntime) -> Result<(), Fail> {
     assert_eq!(rt;
         words.as_str(),
         "done 39 refused 0; c0 saw 0; c1 saw 0; c2 saw 0; r0 traitor; r1 idle; r2 idle; history"
+    );
+    Ok(())
+}
+
+#[test]
+fn a_third_value_is_not_relayed(rt: HostRuntime) -> Result<(), Fail> {
+    let text = b"dsr-play 1 3 1 3 r0\npost c0 r0 begin write a 1\npost c1 r0 begin write a 2\n\
+            post c2 r0 begin write a 3\nplant r0 r0 empty\n\
+            plants r0 round 0 0/c0#1:write:a:1~c0/r0 0/c1#1:write:a:2~c1/r0 0/c2#1:write:a:3~c2/r0\n\
+            posts r1\nposts r2\ntake r0 r0\ntakes *\nposts r1\n";
+    let played = play_out(rt.alloc(), text.as_slice())?;
+    let words = posts(rt.alloc(), &played.world, "r1", "r0")?;
+    assert_eq!(rt;
+        words.as_str(),
+        "empty; round 1 0/c0#1:write:a:1~c0/r0+r1 0/c1#1:write:a:2~c1/r0+r1 1/idle/r1; "
     );
     Ok(())
 }

@@ -86,10 +86,10 @@ abbrev pub world_of : Inside → World
 world_of a = record { shape = a.shape; run = reverse a.entries.items }
 
 -- the operation of a choice is one that a text can spell
-abbrev pub IsSpelledPick : Pick → Type 0
-IsSpelledPick Plain = Unit {0}
-IsSpelledPick (From clients) = Unit {0}
-IsSpelledPick (Begin op) = IsOp op
+abbrev pub HasSpelledOp : Pick → Type 0
+HasSpelledOp Plain = Unit {0}
+HasSpelledOp (From clients) = Unit {0}
+HasSpelledOp (Begin op) = IsOp op
 
 -- what the box from one actor to another refuses a post with
 abbrev pub box_refusal : Logs → Actor → Actor → Option Refusal
