@@ -69,7 +69,7 @@ def declared_type(crate, name):
     """The file and line of a type of the code."""
     for path in glob.glob(f"{TOP}/crates/{crate}/src/*.rt"):
         for number, line in enumerate(lines_of(path), 1):
-            if re.match(rf"pub (enum|struct) {name}\b", line):
+            if re.match(rf"pub(\(crate\))? (enum|struct) {name}\b", line):
                 return path, number
     raise SystemExit(f"there is no type {name} in {crate}")
 
@@ -137,8 +137,9 @@ def main():
     with open(READING, encoding="utf-8") as file:
         text = file.read()
     if sys.argv[1:] == ["--write"]:
+        text = TABLE.sub(lambda table: table[1] + table_of(table[2]), text)
         with open(READING, "w", encoding="utf-8") as file:
-            file.write(TABLE.sub(lambda table: table[1] + table_of(table[2]), text))
+            file.write(text)
         return 0
     passed = failed = 0
     for _, named, table in TABLE.findall(text):
