@@ -1,8 +1,8 @@
 //! Plays: from a text to the report of what came of it.
 
-ghost use Rattle.std.specs.Prelude.{◌≡◌, ◌+◌, ◌≤◌, IfOk, IfErr, OnOk, string_bytes};
+ghost use Rattle.std.specs.Prelude.{◌≡◌, ◌⊎◌, ◌+◌, ◌<◌, ◌≤◌, Err, IfOk, IfErr, OnOk, OnErr, length, string_bytes};
 ghost use Rattle.dsr_names.specs.Limits.{most_calls};
-ghost use Rattle.dsr_names.specs.Streams.{streams};
+ghost use Rattle.dsr_names.specs.Streams.{CanFailToTake, SentAll, SentPrefix, streams};
 ghost use Rattle.dsr_world.specs.Play.{IsPlayRefusal};
 ghost use Rattle.dsr_cli.specs.Played.{HasPlayed, LeftAfterPlay, PlayedAll};
 
@@ -66,6 +66,20 @@ pub(crate) fn run_play<S: Source, K: Sink>(
         Ok(outcome) => outcome,
         Err(refusal) => return Err(refusal),
     };
+    give_out(sink, &outcome)
+}
+
+/// Writes the report, and then tells `NoMemory` where some events were refused for that.
+fn give_out<K: Sink>(sink: &mut K, outcome: &Outcome) -> Result<(), Refusal>
+    ensures done { OnOk result ((outcome.now.starved ≡ 0)
+        × SentAll (string_bytes outcome.now.report) (K.output sink.old) (K.output sink.new)) }
+    ensures starved { result ≡ Err Refusal.NoMemory → (0 < outcome.now.starved)
+        × SentAll (string_bytes outcome.now.report) (K.output sink.old) (K.output sink.new) }
+    ensures failed { result ≡ Err Refusal.WriteFailed → CanFailToTake (length (string_bytes outcome.now.report)) (K.output sink.old)
+        × SentPrefix (string_bytes outcome.now.report) (K.output sink.old) (K.output sink.new) }
+    ensures refusals { OnErr result (result ≡ Err Refusal.NoMemory ⊎ result ≡ Err Refusal.WriteFailed) }
+    ensures writes { (K.output sink.new).calls ≤ (K.output sink.old).calls + most_calls }
+{
     match write_output(sink, outcome.report.as_bytes()) {
         Ok(()) if outcome.starved == 0 => Ok(()),
         Ok(()) => Err(Refusal::NoMemory),

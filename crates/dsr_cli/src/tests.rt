@@ -87,7 +87,7 @@ const REPORT: &str =
 fn plays_are_reported(rt: HostRuntime) {
     let alloc = rt.alloc();
     runs(&rt, alloc, &["play"], PLAY, 0, REPORT, "");
-    // A slot that is not closed, an event that is refused, and one that has a value of two requests.
+    // A slot that is not closed, an event that is refused, and a slot that has a value of two requests.
     runs(
         &rt,
         alloc,

@@ -19,10 +19,11 @@ use Rattle.dsr_replica.specs.Conduct.{envelope_to, reply_to}
 use Rattle.dsr_replica.specs.Limits.{IsEnvelope}
 use Rattle.dsr_replica.specs.Log.{posted_to, taken_from, due, rounds}
 use Rattle.dsr_client.specs.Conduct.{next_number, ask_to}
-use Rattle.dsr_script.specs.EnvelopeText.{IsSpelledEnvelope}
 use Rattle.dsr_world.specs.declared.event.Event.{Event}
 use Rattle.dsr_world.specs.declared.event.Event.TheVariants.{Post, Plant, Take, Tell}
+use Rattle.dsr_world.specs.declared.play_line.PlayLine.TheVariants.{One}
 use Rattle.dsr_world.specs.History.{accepted_by, seen_by}
+use Rattle.dsr_world.specs.PlayText.{IsPlayLine}
 use Rattle.dsr_world.specs.Run.{ForgesNothing}
 use Rattle.dsr_world.specs.Step.{Step, Logs, log_of}
 
@@ -194,9 +195,6 @@ IsRefusedBy shape logs event refusal =
     ⊎ ((refusal ≡ Forged) × IsForgedAtLast shape logs event)
     ⊎ ((refusal ≡ NoMemory) × MayBeDone shape logs event)
 
--- an event that a text can spell, as every event of the code is, but for what a traitor is to post
+-- an event that a text can spell, as a line of a play
 abbrev pub IsSpelledEvent : Event → Type 0
-IsSpelledEvent (Post from to pick) = Unit {0}
-IsSpelledEvent (Plant from to draft) = IsSpelledEnvelope draft
-IsSpelledEvent (Take at from) = Unit {0}
-IsSpelledEvent (Tell from to) = Unit {0}
+IsSpelledEvent event = IsPlayLine (One event)

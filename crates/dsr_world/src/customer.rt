@@ -72,7 +72,7 @@ impl Customer {
         };
     }
 
-    /// Makes room for one more accepted reply. `NoMemory` where it is refused: then nothing changed.
+    /// Makes room for one more accepted reply. `NoMemory` where it is refused: then nothing changed but the room.
     pub(crate) fn room(&mut self) -> Result<(), Refusal>
         ensures same { self.new ≡ record self.old { room = self.new.room } }
         ensures room { OnOk result (0 < self.new.room) }

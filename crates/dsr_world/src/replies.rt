@@ -1,4 +1,5 @@
-ghost use Rattle.std.specs.Prelude.{◌≡◌, IfOk, IfSome, IsOkUnless};
+ghost use Rattle.std.specs.Prelude.{◌≡◌, IfOk, IfSome, IsOk, IsOkUnless};
+ghost use Rattle.dsr_world.specs.Support.Party.{IsReplicaNumber};
 
 use crate::letters::{Letters, no_letters};
 use dsr_names::{Actor, Refusal};
@@ -39,9 +40,11 @@ impl Replies {
         }
     }
 
-    /// Notes the letter of a post, where it is one to a client. `NoMemory` where one handle more is refused.
+    /// Notes the letter of a post, where it is one to a client. `NoMemory` where one handle more is refused, and never of a post to a
+    /// replica.
     pub(crate) fn note(&mut self, to: &Actor, letter: &Letter) -> Result<(), Refusal>
         ensures refusal { IsOkUnless result Refusal.NoMemory }
+        ensures replica { IsReplicaNumber to.now → IsOk result }
     {
         let Actor::Client(client) = to else {
             return Ok(());

@@ -646,7 +646,7 @@ fn learn(known: &mut Known, keys: &[Key], envelope: &Envelope) -> Result<(), Ref
     }
 }
 
-/// The party of a replica of the shape, and its key where it is a traitor. `NoMemory` where memory runs out.
+/// The party of a replica of the shape, and its key where it is a traitor. `NoMemory` where memory runs out, or the key was taken.
 fn replica_party(
     alloc: Global,
     shape: &Shape,
@@ -671,7 +671,7 @@ fn replica_party(
     }
 }
 
-/// The party of a client of the shape. `NoMemory` where memory runs out.
+/// The party of a client of the shape. `NoMemory` where memory runs out, or the key was taken.
 fn client_party(alloc: Global, shape: &Shape, keys: &mut Keys, number: u8) -> Result<Party, Refusal>
     requires inside { number < shape.now.m }
     ensures plays { IfOk result (Plays shape.now (ClientNumber number) []) }
