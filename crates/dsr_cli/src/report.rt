@@ -2,7 +2,6 @@
 
 ghost use Rattle.std.specs.Prelude.{◌≡◌, ◌<◌, ◌++◌, IfOk, OnOk, IsOkUnless, reverse, string_bytes};
 ghost use Rattle.dsr_world.specs.Step.{log_of};
-ghost use Rattle.dsr_world.specs.History.{history};
 ghost use Rattle.dsr_cli.specs.Report.{report_text, end_text, replies_text, accepted_text, seen_text, decided_line, decided_text, history_text};
 
 use dsr_desk::Content;
