@@ -2,13 +2,14 @@ mod AskLemmas
 mod BriefLemmas
 mod ChainTextLemmas
 mod EnvelopeLemmas
-mod FeedLemmas
+pub mod FeedLemmas
 mod FitLemmas
 mod HeaderLemmas
 mod HeldLemmas
 mod ItemsLemmas
 mod KeptLemmas
 mod KnownLemmas
+pub mod LinesLemmas
 mod PairLemmas
 mod ScriptLemmas
 mod ServeLemmas

@@ -3,6 +3,7 @@ pub mod EnvelopeText
 pub mod Header
 pub mod Held
 pub mod Known
+pub mod Lines
 pub mod Script
 pub mod ServeText
 pub mod SignatureText

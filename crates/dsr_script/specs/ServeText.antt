@@ -12,6 +12,7 @@ use Rattle.dsr_script.specs.declared.place.Place.{Place}
 use Rattle.dsr_script.specs.declared.serve_line.ServeLine.{ServeLine}
 use Rattle.dsr_script.specs.declared.serve_line.ServeLine.TheVariants.{Ask, Post}
 use Rattle.dsr_script.specs.EnvelopeText.{envelope_text, IsSpelledEnvelope}
+use Rattle.dsr_script.specs.Lines.{TextKind}
 use Rattle.dsr_script.specs.Support.PlaceEquality.{place_eq}
 
 -- ---- one line
@@ -62,17 +63,6 @@ abbrev pub CanFollow : Shape → List ServeLine → ServeLine → Type 0
 CanFollow shape earlier (Ask client op) = IsActor shape (Client client)
 CanFollow shape earlier (Post place envelope) = IsTraitor shape place.from × IsActor shape place.to × (drafted_at earlier place ≡ None)
 
--- a line that can be the next one: a text can spell it, and it can follow the earlier ones
-pub record IsNext (shape : Shape) (earlier : List ServeLine) (line : ServeLine) : Type 0 where
-  pub is_line : IsLine line
-  pub follows : CanFollow shape earlier line
-
--- each line can be the next one after those before it
-abbrev pub AreLines : Shape → List ServeLine → Type 0
-AreLines shape [] = Unit {0}
-AreLines shape (line ∷ earlier) = IsNext shape earlier line × AreLines shape earlier
-
--- the text of lines, each with its line feed
-abbrev pub lines_text : List ServeLine → List ℕ
-lines_text [] = []
-lines_text (line ∷ earlier) = lines_text earlier ++ (line_text line ++ 10 ∷ [])
+-- serve scripts, as texts of a header and lines
+abbrev pub serve_scripts : TextKind ServeLine
+serve_scripts = record { title = codes "dsr-serve 1"; line_text = line_text; IsLine = IsLine; CanFollow = CanFollow }

@@ -1,9 +1,10 @@
 ghost use Rattle.std.specs.Prelude.{◌≡◌, ◌↔◌, ℕ, ◌<◌, ◌∷◌, ◌++◌, [], List, None, Some, if◌then◌else◌, nat_eq, IfOk, IfErr, OnOk, IsTrue, IsOkUnless};
 ghost use Rattle.std.specs.Option.{option_map};
 ghost use Rattle.dsr_names.specs.Shape.{IsActor};
+ghost use Rattle.dsr_script.specs.Lines.{AreLines, lines_text};
 ghost use Rattle.dsr_script.specs.declared.place.Place.{Place};
 ghost use Rattle.dsr_script.specs.declared.serve_line.ServeLine.{ServeLine};
-ghost use Rattle.dsr_script.specs.ServeText.{CanFollow, IsTraitor, AreLines, lines_text};
+ghost use Rattle.dsr_script.specs.ServeText.{CanFollow, IsTraitor, serve_scripts};
 ghost use Rattle.dsr_script.specs.Script.{Script, ops_of, draft_at, place_of, Gives, Spells, SaysTheSame, IsScriptRefusal};
 ghost use Rattle.dsr_script.specs.Support.PlaceEquality.{place_eq};
 ghost use Rattle.dsr_script.specs.Support.TakenLines.{HasTaken, IsLinesRefusal};
@@ -108,10 +109,12 @@ impl Script {
     /// Takes in the lines after the header.
     fn take_lines(&mut self, alloc: Global, text: &[u8]) -> Result<(), Refusal>
         requires { Gives [] self.old }
-        ensures taken { OnOk result (HasTaken text.now self.new) }
-        ensures refused { IfErr result (IsLinesRefusal self.old.shape text.now) }
-        ensures when { (all : List ServeLine) → AreLines self.old.shape all → text.now ≡ lines_text all → IsOkUnless result Refusal.NoMemory }
-        ensures only { (all : List ServeLine) → AreLines self.old.shape all → text.now ≡ lines_text all → OnOk result (Gives all self.new) }
+        ensures taken { OnOk result (HasTaken serve_scripts self.old.shape (λ lines. Gives lines self.new) text.now) }
+        ensures refused { IfErr result (IsLinesRefusal serve_scripts self.old.shape text.now) }
+        ensures when { (all : List ServeLine) → AreLines serve_scripts self.old.shape all → text.now ≡ lines_text serve_scripts all
+            → IsOkUnless result Refusal.NoMemory }
+        ensures only { (all : List ServeLine) → AreLines serve_scripts self.old.shape all → text.now ≡ lines_text serve_scripts all
+            → OnOk result (Gives all self.new) }
         ensures shape { self.new.shape ≡ self.old.shape }
     {
         let mut rest = text;

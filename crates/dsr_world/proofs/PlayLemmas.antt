@@ -1,240 +1,108 @@
--- One more line of a play.
-use Rattle.std.proofs.Common.{◌≡◌, ◌≢◌, ◌↔◌, ◌⊎◌, ℕ, ◌+◌, ◌<◌, ◌≤◌, Bool, true, false, List, [], ◌∷◌, ◌++◌, length, None, Some, inl, inr, IsTrue, refl, sym, ◌∙◌, ap, ap₂, subst, arith, append_assoc, length-append}
-use Rattle.std.specs.Prelude.{◌==◌}
-use Rattle.std.proofs.lemmas.Bool.{false≢true, eqb-true}
-use Rattle.std.proofs.lemmas.List.{append-nil}
-use Rattle.dsr_base.specs.Reads.{Reads}
-use Rattle.dsr_base.specs.Split.{IsAbsent}
-use Rattle.dsr_base.proofs.Marks.{one_cut, not_absent}
-use Rattle.dsr_base.proofs.ReadsLemmas.{not_read, was_read, only_read}
+-- One more line of a play, and whole plays.
+use Rattle.std.proofs.Common.{◌≡◌, ◌↔◌, ℕ, ◌<◌, ◌≤◌, Bool, true, false, List, ◌∷◌, ◌++◌, codes, length, IsTrue, refl, sym, ◌∙◌, ap, ap₂, subst, arith, lit<}
+use Rattle.std.proofs.lemmas.Bool.{false≢true}
+use Rattle.dsr_base.specs.Joined.{joined}
+use Rattle.dsr_names.specs.Actor.{IsNumbered, actor_text, client_text, replica_text}
+use Rattle.dsr_names.specs.declared.actor.Actor.{Actor}
+use Rattle.dsr_names.specs.declared.actor.Actor.TheVariants.{Client}
 use Rattle.dsr_names.specs.Shape.{Shape}
-use Rattle.dsr_names.specs.declared.refusal.Refusal.{Refusal}
-use Rattle.dsr_script.specs.Header.{BeginsWithHeader, IsHeaderRefusal, HasBadShape, HasNoHeader}
+use Rattle.dsr_request.specs.OpText.{op_text}
+use Rattle.dsr_request.specs.Support.Texts.{op_without}
+use Rattle.dsr_replica.specs.declared.step.Pick.{Pick}
+use Rattle.dsr_replica.specs.declared.step.Pick.TheVariants.{Plain, From, Begin}
+use Rattle.dsr_script.specs.EnvelopeText.{envelope_text}
+use Rattle.dsr_script.proofs.FeedLemmas.{IsClean, clean_nil, clean_append, field_clean, word_clean, joined_clean, replica_clean, actor_clean, envelope_clean}
+use Rattle.dsr_script.proofs.LinesLemmas.{TakenSoFar}
 use Rattle.dsr_world.specs.declared.event.Event.{Event}
+use Rattle.dsr_world.specs.declared.event.Event.TheVariants.{Post, Plant, Take, Tell}
 use Rattle.dsr_world.specs.declared.play_line.PlayLine.{PlayLine}
-use Rattle.dsr_world.specs.PlayText.{line_text, lines_text, IsPlayLine, IsNext, AreLines, all_events, events_of}
-use Rattle.dsr_world.specs.Play.{Play, Spells, BeginsWithLines, HasNoNext, IsBadAfter, play_title, IsPlayRefusal}
-use Rattle.dsr_world.specs.Support.PlayedLines.{HasTaken}
+use Rattle.dsr_world.specs.declared.play_line.PlayLine.TheVariants.{One, Posts, PostsAll, Plants, Takes, TakesAll, Asks, Hears, Replies}
+use Rattle.dsr_world.specs.PlayText.{line_text, line_rest, pick_text, ends_text, IsPlayLine, IsSpelledPick, CanFollow, all_events, events_of, plays}
+use Rattle.dsr_world.specs.Play.{Play, Spells}
 
--- ---- what begins a rest
+-- ---- no line feed stands in a line
 
-ended : (line : PlayLine) (after : List ℕ) → (line_text line ++ 10 ∷ []) ++ after ≡ line_text line ++ 10 ∷ after
-ended line after = append_assoc (line_text line) (10 ∷ []) after
+client_clean : (c : ℕ) → c < 32 → IsClean (client_text c)
+client_clean c small = actor_clean (Client c) small
 
-module _ (shape : Shape) (lines : List PlayLine) (rest : List ℕ) where
-  -- with no line feed no line does
-  pub no_feed : IsAbsent 10 rest → HasNoNext shape lines rest
-  no_feed whole line after next e = not_absent 10 (line_text line) after (subst (IsAbsent 10) (e ∙ ended line after) whole)
+pick_clean : (pick : Pick) → IsSpelledPick pick → IsClean (pick_text pick)
+pick_clean Plain is = clean_nil
+pick_clean (From clients) is =
+    clean_append (codes " from ") (joined 43 client_text clients) (word_clean (codes " from ") refl)
+    (joined_clean (λ (c : ℕ). c < 32) client_text 43 (lit< tt) client_clean clients is.1)
+pick_clean (Begin op) is =
+    clean_append (codes " begin ") (op_text 32 op) (word_clean (codes " begin ") refl) (op_without 10 32 op refl (λ (e : ◌≡◌ {A = ℕ} 32 10). omega arith) is)
 
-  module _ (bytes after : List ℕ) (cut : rest ≡ bytes ++ 10 ∷ after) (whole : IsAbsent 10 bytes) where
-    first_is : (line : PlayLine) (later : List ℕ) → IsNext shape lines line → rest ≡ (line_text line ++ 10 ∷ []) ++ later → bytes ≡ line_text line
-    first_is line later next e = (one_cut 10 bytes after (line_text line) later whole next.whole (sym cut ∙ (e ∙ ended line later))).0
+ends_clean : (a b : Actor) → IsNumbered a → IsNumbered b → IsClean (ends_text a b)
+ends_clean a b one other = field_clean 32 (actor_text a) (actor_text b) (lit< tt) (actor_clean a one) (actor_clean b other)
 
-    -- where the first line is read as none
-    pub none_read : Reads IsPlayLine line_text bytes None → HasNoNext shape lines rest
-    none_read reads line later next e = not_read IsPlayLine line_text bytes reads line next.is_line (first_is line later next e)
+rest_clean : (line : PlayLine) → IsPlayLine line → IsClean (line_rest line)
+rest_clean (One (Post from to pick)) is =
+    field_clean 32 (actor_text from) (actor_text to ++ pick_text pick) (lit< tt) (actor_clean from is.0)
+    (clean_append (actor_text to) (pick_text pick) (actor_clean to is.1) (pick_clean pick is.2))
+rest_clean (One (Plant from to envelope)) is =
+    field_clean 32 (actor_text from) _ (lit< tt) (actor_clean from is.0)
+    (field_clean 32 (actor_text to) (envelope_text envelope) (lit< tt) (actor_clean to is.1) (envelope_clean envelope is.2))
+rest_clean (One (Take at from)) is = ends_clean at from is.0 is.1
+rest_clean (One (Tell from to)) is = ends_clean from to is.0 is.1
+rest_clean (Posts by pick) is = clean_append (replica_text by) (pick_text pick) (replica_clean by is.0) (pick_clean pick is.1)
+rest_clean PostsAll is = word_clean (codes "*") refl
+rest_clean (Plants by envelope) is =
+    field_clean 32 (replica_text by) (envelope_text envelope) (lit< tt) (replica_clean by is.0) (envelope_clean envelope is.1)
+rest_clean (Takes at) is = actor_clean at is
+rest_clean TakesAll is = word_clean (codes "*") refl
+rest_clean (Asks by pick) is = clean_append (client_text by) (pick_text pick) (client_clean by is.0) (pick_clean pick is.1)
+rest_clean (Hears from) is = client_clean from is
+rest_clean (Replies to) is = client_clean to is
 
-    -- where it is read as one with which the events are too many
-    pub too_many : (line : PlayLine) → Reads IsPlayLine line_text bytes (Some line) → (length (all_events shape (line ∷ lines)) ≤ 1000000 → ⊥)
-        → HasNoNext shape lines rest
-    too_many line reads cannot other later next e =
-        cannot (subst (λ (l : PlayLine). length (all_events shape (l ∷ lines)) ≤ 1000000)
-        (sym (only_read IsPlayLine line_text bytes line reads other next.is_line (first_is other later next e))) next.follows)
+after_word : (word : List ℕ) (line : PlayLine) → IsClean word → IsPlayLine line → IsClean (word ++ 32 ∷ line_rest line)
+after_word word line clean is = field_clean 32 word (line_rest line) (lit< tt) clean (rest_clean line is)
 
--- ---- the first of several lines
-
--- the first of these lines, and those after it
-record Oldest (more : List PlayLine) : Type 0 where
-  pub first : PlayLine
-  pub later : List PlayLine
-  pub same : more ≡ later ++ first ∷ []
-  pub text : lines_text more ≡ line_text first ++ 10 ∷ lines_text later
-
-oldest : (more : List PlayLine) → (more ≡ []) ⊎ Oldest more
-oldest [] = inl refl
-oldest (line ∷ earlier) = inr (elim (oldest earlier) [
-  | inl none ↦ record {
-    first = line;
-    later = [];
-    same = ap (λ xs. line ∷ xs) none;
-    text = ap (λ xs. lines_text xs ++ (line_text line ++ 10 ∷ [])) none;
-  }
-  | inr o ↦ record {
-    first = o.first;
-    later = line ∷ o.later;
-    same = ap (λ xs. line ∷ xs) o.same;
-    text =
-        ap (λ xs. xs ++ (line_text line ++ 10 ∷ [])) o.text
-        ∙ append_assoc (line_text o.first) (10 ∷ lines_text o.later) (line_text line ++ 10 ∷ []);
-  }
-])
-
-earlier_lines : (shape : Shape) (later lines : List PlayLine) → AreLines shape (later ++ lines) → AreLines shape lines
-earlier_lines shape [] lines each = each
-earlier_lines shape (line ∷ later) lines each = earlier_lines shape later lines each.1
-
--- all lines of a text are these and more, which the rest spells
-pub record HasMore (lines : List PlayLine) (rest : List ℕ) (all : List PlayLine) : Type 0 where
-  pub more : List PlayLine
-  pub same : all ≡ more ++ lines
-  pub spelled : rest ≡ lines_text more
-
--- where there is a rest, the first of those more lines can be the next one
-record HasNext (shape : Shape) (lines : List PlayLine) (rest : List ℕ) (all : List PlayLine) : Type 0 where
-  pub first : PlayLine
-  pub later : List PlayLine
-  pub next : IsNext shape lines first
-  pub same : all ≡ later ++ first ∷ lines
-  pub spelled : rest ≡ line_text first ++ 10 ∷ lines_text later
-
-has_next : (shape : Shape) (lines : List PlayLine) (rest : List ℕ) (all : List PlayLine) → AreLines shape all → rest ≢ [] → HasMore lines rest all
-    → HasNext shape lines rest all
-has_next shape lines rest all each some m = elim (oldest m.more) [
-  | inl none ↦ absurd (some (m.spelled ∙ ap lines_text none))
-  | inr o ↦
-      let same : all ≡ o.later ++ o.first ∷ lines =
-      m.same ∙ (ap (λ xs. xs ++ lines) o.same ∙ append_assoc o.later (o.first ∷ []) lines) in
-      record {
-        first = o.first;
-        later = o.later;
-        next = (earlier_lines shape o.later (o.first ∷ lines) (subst (AreLines shape) same each)).0;
-        same = same;
-        spelled = m.spelled ∙ o.text;
-      }
-]
+pub line_clean : (line : PlayLine) → IsPlayLine line → IsClean (line_text line)
+line_clean (One (Post from to pick)) is = after_word (codes "post") (One (Post from to pick)) (word_clean (codes "post") refl) is
+line_clean (One (Plant from to envelope)) is = after_word (codes "plant") (One (Plant from to envelope)) (word_clean (codes "plant") refl) is
+line_clean (One (Take at from)) is = after_word (codes "take") (One (Take at from)) (word_clean (codes "take") refl) is
+line_clean (One (Tell from to)) is = after_word (codes "tell") (One (Tell from to)) (word_clean (codes "tell") refl) is
+line_clean (Posts by pick) is = after_word (codes "posts") (Posts by pick) (word_clean (codes "posts") refl) is
+line_clean PostsAll is = after_word (codes "posts") PostsAll (word_clean (codes "posts") refl) is
+line_clean (Plants by envelope) is = after_word (codes "plants") (Plants by envelope) (word_clean (codes "plants") refl) is
+line_clean (Takes at) is = after_word (codes "takes") (Takes at) (word_clean (codes "takes") refl) is
+line_clean TakesAll is = after_word (codes "takes") TakesAll (word_clean (codes "takes") refl) is
+line_clean (Asks by pick) is = after_word (codes "asks") (Asks by pick) (word_clean (codes "asks") refl) is
+line_clean (Hears from) is = after_word (codes "hears") (Hears from) (word_clean (codes "hears") refl) is
+line_clean (Replies to) is = after_word (codes "replies") (Replies to) (word_clean (codes "replies") refl) is
 
 -- ---- lines taken in
 
--- the lines before the rest were taken in, and the header is counted with them
-pub record TakenSoFar (text rest : List ℕ) (number : ℕ) (play : Play) : Type 0 where
-  pub lines : List PlayLine
-  pub begins : BeginsWithLines text play.shape lines rest
-  pub events : play.events ≡ all_events play.shape lines
-  pub counted : number ≡ length lines + 1
-  pub only : (all : List PlayLine) → AreLines play.shape all → text ≡ lines_text all → HasMore lines rest all
+-- the events that these lines stand for, in a text of this shape
+abbrev pub Gives : Shape → Play → List PlayLine → Type 0
+Gives shape play lines = play.events ≡ all_events shape lines
 
-pub none_yet : (text : List ℕ) (play : Play) → play.events ≡ [] → TakenSoFar text text 1 play
-none_yet text play none =
-    record {
-      lines = [];
-      begins = record { each = tt; cut = refl };
-      events = none;
-      counted = refl;
-      only = λ all each e. record { more = all; same = sym (append-nil all); spelled = e };
-    }
-
-pub all_taken : (text rest : List ℕ) (number : ℕ) (play : Play) → TakenSoFar text rest number play → rest ≡ [] → HasTaken text play
-all_taken text rest number play s e =
-    record { lines = s.lines; begins = subst (BeginsWithLines text play.shape s.lines) e s.begins; events = s.events }
-
-pub bad_after : (text rest : List ℕ) (number : ℕ) (play : Play) (shape : Shape) → TakenSoFar text rest number play → play.shape ≡ shape → rest ≢ []
-    → ((lines : List PlayLine) → play.events ≡ all_events play.shape lines → HasNoNext play.shape lines rest) → IsBadAfter shape text (number + 1)
-bad_after text rest number play shape s same some none =
-    subst (λ x. IsBadAfter x text (number + 1)) same
-    (record { lines = s.lines; rest = rest; begins = s.begins; some = some; none = none s.lines s.events; counted = omega (arith, s.counted) })
-
-no_bytes : (bytes after : List ℕ) → bytes ++ 10 ∷ after ≡ [] → ⊥
-no_bytes [] after e = cc
-no_bytes (b ∷ bytes) after e = cc
+-- the lines before the rest were taken in
+abbrev pub TakenIn : Shape → List ℕ → List ℕ → ℕ → Play → Type 0
+TakenIn shape text rest number play = TakenSoFar plays shape (Gives shape play) text rest number
 
 -- what `take` says of a line
-pub record Takes (line : PlayLine) (play later : Play) (can : Bool) : Type 0 where
-  pub taken : later.events ≡ play.events ++ events_of play.shape line
-  pub when : IsTrue can ↔ length (play.events ++ events_of play.shape line) ≤ 1000000
-  pub shape : later.shape ≡ play.shape
+module _ (line : PlayLine) (play later : Play) (shape : Shape) (same : play.shape ≡ shape) (lines : List PlayLine) (gives : Gives shape play lines) where
+  all_same : play.events ++ events_of play.shape line ≡ all_events shape (line ∷ lines)
+  all_same = ap₂ (λ events x. events ++ events_of x line) gives same
 
-pub cannot_follow : (line : PlayLine) (play later : Play) (can : Bool) → Takes line play later can → can ≡ false
-    → (lines : List PlayLine) → play.events ≡ all_events play.shape lines → length (all_events play.shape (line ∷ lines)) ≤ 1000000 → ⊥
-cannot_follow line play later can takes is lines events few =
-    false≢true (sym is ∙ takes.when.1 (subst (λ xs. length (xs ++ events_of play.shape line) ≤ 1000000) (sym events) few))
+  pub gives_more : later.events ≡ play.events ++ events_of play.shape line → Gives shape later (line ∷ lines)
+  gives_more taken = taken ∙ all_same
 
-pub one_more : (text rest bytes after : List ℕ) (number : ℕ) (line : PlayLine) (play later : Play) (can : Bool)
-    → TakenSoFar text rest number play → rest ≡ bytes ++ 10 ∷ after → IsAbsent 10 bytes → Reads IsPlayLine line_text bytes (Some line)
-    → Takes line play later can → can ≡ true → TakenSoFar text after (number + 1) later
-one_more text rest bytes after number line play later can s cut whole reads takes is =
-    let read = was_read IsPlayLine line_text bytes line reads in
-    let follows : length (all_events play.shape (line ∷ s.lines)) ≤ 1000000 =
-    subst (λ xs. length (xs ++ events_of play.shape line) ≤ 1000000) s.events (takes.when.0 is) in
-    let next : IsNext play.shape s.lines line = record { is_line = read.0; whole = subst (IsAbsent 10) read.1 whole; follows = follows } in
-    let spelled : rest ≡ (line_text line ++ 10 ∷ []) ++ after = cut ∙ (ap (λ xs. xs ++ 10 ∷ after) read.1 ∙ sym (ended line after)) in
-    let text_is : text ≡ (lines_text s.lines ++ (line_text line ++ 10 ∷ [])) ++ after =
-    s.begins.cut ∙ (ap (λ xs. lines_text s.lines ++ xs) spelled ∙ sym (append_assoc (lines_text s.lines) (line_text line ++ 10 ∷ []) after)) in
-    let given : later.events ≡ all_events play.shape (line ∷ s.lines) = takes.taken ∙ ap (λ xs. xs ++ events_of play.shape line) s.events in
-    record {
-      lines = line ∷ s.lines;
-      begins =
-          record {
-            each = subst (λ x. AreLines x (line ∷ s.lines)) (sym takes.shape) (next, s.begins.each);
-            cut = text_is;
-          };
-      events = given ∙ ap (λ x. all_events x (line ∷ s.lines)) (sym takes.shape);
-      counted = omega (arith, s.counted);
-      only = λ all each e.
-          let each_before : AreLines play.shape all = subst (λ x. AreLines x all) takes.shape each in
-          let n = has_next play.shape s.lines rest all each_before (λ none. no_bytes bytes after (sym cut ∙ none)) (s.only all each_before e) in
-          let both = one_cut 10 bytes after (line_text n.first) (lines_text n.later) whole n.next.whole (sym cut ∙ n.spelled) in
-          let first_is : line ≡ n.first = only_read IsPlayLine line_text bytes line reads n.first n.next.is_line both.0 in
-          record {
-            more = n.later;
-            same = n.same ∙ ap (λ x. n.later ++ x ∷ s.lines) (sym first_is);
-            spelled = both.1;
-          };
-    }
+  module _ (can : Bool) (when : IsTrue can ↔ length (play.events ++ events_of play.shape line) ≤ 1000000) where
+    pub follows : can ≡ true → CanFollow shape lines line
+    follows is = subst (λ events. length events ≤ 1000000) all_same (when.0 is)
 
--- where some line is bad, no lines are the text
-pub no_lines : (text rest : List ℕ) (number : ℕ) (play : Play) → TakenSoFar text rest number play → rest ≢ []
-    → ((lines : List PlayLine) → play.events ≡ all_events play.shape lines → HasNoNext play.shape lines rest)
-    → (all : List PlayLine) → AreLines play.shape all → text ≡ lines_text all → ⊥
-no_lines text rest number play s some none all each e =
-    let n = has_next play.shape s.lines rest all each some (s.only all each e) in
-    none s.lines s.events n.first (lines_text n.later) n.next (n.spelled ∙ sym (ended n.first (lines_text n.later)))
+    pub cannot_follow : can ≡ false → CanFollow shape lines line → ⊥
+    cannot_follow is few = false≢true (sym is ∙ when.1 (subst (λ events. length events ≤ 1000000) (sym all_same) few))
 
--- a test for no rest
-pub no_rest : (rest : List ℕ) (r : Bool) → r ≡ (length rest == 0) → r ≡ true → rest ≡ []
-no_rest [] r is holds = refl
-no_rest (b ∷ rest) r is holds = let none : ⊥ = omega (arith, eqb-true (length (b ∷ rest)) 0 (sym is ∙ holds)) in absurd none
-
--- where no rest is left, no other lines are the text
-pub only_lines : (text rest : List ℕ) (number : ℕ) (play : Play) → TakenSoFar text rest number play → rest ≡ []
-    → (all : List PlayLine) → AreLines play.shape all → text ≡ lines_text all → play.events ≡ all_events play.shape all
-only_lines text rest number play s none all each e =
-    let m = s.only all each e in
-    elim (oldest m.more) [
-      | inl no_more ↦ s.events ∙ ap (all_events play.shape) (sym (m.same ∙ ap (λ xs. xs ++ s.lines) no_more))
-      | inr o ↦ absurd (no_bytes (line_text o.first) (lines_text o.later) (sym o.text ∙ (sym m.spelled ∙ none)))
-    ]
-
--- a line has at least one byte
-pub shorter : (rest bytes after : List ℕ) → rest ≡ bytes ++ 10 ∷ after → length after < length rest
-shorter rest bytes after cut = subst (λ r. length after < length r) (sym cut) (omega (arith, length-append bytes (10 ∷ after)))
-
--- ---- the header
-
--- a refusal of the header is one of the play
-pub header_refused : (title text : List ℕ) (e : Refusal) → title ≡ play_title → IsHeaderRefusal title text e → IsPlayRefusal text e
-header_refused title text e same (inl h) = subst (IsPlayRefusal text) (sym h.0) (subst (λ t. HasBadShape t text) same h.1)
-header_refused title text e same (inr h) = subst (IsPlayRefusal text) (sym h.0) (inl (refl, subst (λ t. HasNoHeader t text) same h.1))
-
--- ---- a whole text
+-- ---- whole plays
 
 abbrev pub make_play : Shape → List Event → Play
 make_play shape events = record { shape = shape; events = events }
 
-module _ (title text after : List ℕ) (shape : Shape) (titled : title ≡ play_title)
-    (only : (shape' : Shape) (rest : List ℕ) → BeginsWithHeader title text shape' rest → (shape ≡ shape') × (after ≡ rest)) (play : Play)
-    (s : Spells text play) where
-  -- the header that a play is spelled by is the one that was read
-  pub its_header : (shape ≡ play.shape) × (after ≡ s.after)
-  its_header = only play.shape s.after (subst (λ t. BeginsWithHeader t text play.shape s.after) (sym titled) s.header)
-
-  -- and its lines are those after that header
-  pub its_lines : AreLines shape s.lines × (after ≡ lines_text s.lines)
-  its_lines = (
-    subst (λ x. AreLines x s.lines) (sym its_header.0) s.begins.each,
-    its_header.1 ∙ (s.begins.cut ∙ append-nil (lines_text s.lines)),
-  )
-
-  -- so the play that has the events which they stand for is that play
-  pub same_play : (events : List Event) → events ≡ all_events shape s.lines → make_play shape events ≡ play
-  same_play events given =
-      ap₂ make_play its_header.0 (given ∙ (ap (λ x. all_events x s.lines) its_header.0 ∙ sym s.events))
+-- the play that has the events which a text's lines stand for is the play that the text spells
+pub same_play : (text : List ℕ) (play : Play) (s : Spells text play) (shape : Shape) → shape ≡ play.shape → (events : List Event)
+    → events ≡ all_events shape s.lines → make_play shape events ≡ play
+same_play text play s shape same events given = ap₂ make_play same (given ∙ (ap (λ x. all_events x s.lines) same ∙ sym s.events))

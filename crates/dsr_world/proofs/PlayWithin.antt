@@ -10,9 +10,10 @@ use Rattle.dsr_world.specs.declared.event.Event.{Event}
 use Rattle.dsr_world.specs.declared.event.Event.TheVariants.{Post, Plant, Take, Tell}
 use Rattle.dsr_world.specs.declared.play_line.PlayLine.{PlayLine}
 use Rattle.dsr_world.specs.declared.play_line.PlayLine.TheVariants.{One, Posts, PostsAll, Plants, Takes, TakesAll, Asks, Hears, Replies}
+use Rattle.dsr_script.specs.Lines.{AreLines}
 use Rattle.dsr_world.specs.Event.{IsWithin}
 use Rattle.dsr_world.specs.Outcome.{AreWithin}
-use Rattle.dsr_world.specs.PlayText.{IsPlayLine, with_each, pick_for, posts_by, takes_at, events_of, AreLines, all_events}
+use Rattle.dsr_world.specs.PlayText.{IsPlayLine, with_each, pick_for, posts_by, takes_at, events_of, all_events, plays}
 use Rattle.dsr_world.proofs.Spelled.{spelled_within}
 
 one_within : (event : Event) → IsWithin event → AreWithin (event ∷ [])
@@ -54,7 +55,7 @@ line_within shape (Replies to) is =
     (λ p. unless (is_traitor shape p) (Post (Replica p) (Client to) Plain ∷ []) (one_within (Post (Replica p) (Client to) Plain) tt))
 
 -- the events of lines, one after another
-pub lines_within : (shape : Shape) (lines : List PlayLine) → AreLines shape lines → AreWithin (all_events shape lines)
+pub lines_within : (shape : Shape) (lines : List PlayLine) → AreLines plays shape lines → AreWithin (all_events shape lines)
 lines_within shape [] are = All-nil IsWithin
 lines_within shape (line ∷ earlier) are =
     All-append IsWithin (all_events shape earlier) (events_of shape line) (lines_within shape earlier are.1) (line_within shape line are.0.is_line)

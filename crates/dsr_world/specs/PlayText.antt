@@ -2,7 +2,6 @@
 -- several. Lines stand newest first: the last line is the first of the list.
 use Rattle.std.specs.Prelude.{ℕ, zero, suc, ◌<◌, ◌≤◌, ◌==◌, if◌then◌else◌, All, List, [], ◌∷◌, ◌++◌, length, codes}
 use Rattle.dsr_base.specs.Joined.{joined}
-use Rattle.dsr_base.specs.Split.{IsAbsent}
 use Rattle.dsr_names.specs.Actor.{IsNumbered, actor_text, client_text, replica_text}
 use Rattle.dsr_names.specs.declared.actor.Actor.{Actor}
 use Rattle.dsr_names.specs.declared.actor.Actor.TheVariants.{Replica, Client}
@@ -12,6 +11,7 @@ use Rattle.dsr_replica.specs.Pick.{IsClients}
 use Rattle.dsr_replica.specs.declared.step.Pick.{Pick}
 use Rattle.dsr_replica.specs.declared.step.Pick.TheVariants.{Plain, From, Begin}
 use Rattle.dsr_script.specs.EnvelopeText.{envelope_text, IsSpelledEnvelope}
+use Rattle.dsr_script.specs.Lines.{TextKind}
 use Rattle.dsr_world.specs.declared.event.Event.{Event}
 use Rattle.dsr_world.specs.declared.event.Event.TheVariants.{Post, Plant, Take, Tell}
 use Rattle.dsr_world.specs.declared.play_line.PlayLine.{PlayLine}
@@ -138,18 +138,10 @@ abbrev pub all_events : Shape → List PlayLine → List Event
 all_events shape [] = []
 all_events shape (line ∷ earlier) = all_events shape earlier ++ events_of shape line
 
--- a line that can be the next one: a text can spell it, without a line feed, and with it the events are at most 1,000,000
-pub record IsNext (shape : Shape) (earlier : List PlayLine) (line : PlayLine) : Type 0 where
-  pub is_line : IsPlayLine line
-  pub whole : IsAbsent 10 (line_text line)
-  pub follows : length (all_events shape (line ∷ earlier)) ≤ 1000000
+-- a line that can follow these: with its events, the events are at most 1,000,000
+abbrev pub CanFollow : Shape → List PlayLine → PlayLine → Type 0
+CanFollow shape earlier line = length (all_events shape (line ∷ earlier)) ≤ 1000000
 
--- each line can be the next one after those before it
-abbrev pub AreLines : Shape → List PlayLine → Type 0
-AreLines shape [] = Unit {0}
-AreLines shape (line ∷ earlier) = IsNext shape earlier line × AreLines shape earlier
-
--- the text of lines, each with its line feed
-abbrev pub lines_text : List PlayLine → List ℕ
-lines_text [] = []
-lines_text (line ∷ earlier) = lines_text earlier ++ (line_text line ++ 10 ∷ [])
+-- plays, as texts of a header and lines
+abbrev pub plays : TextKind PlayLine
+plays = record { title = codes "dsr-play 1"; line_text = line_text; IsLine = IsPlayLine; CanFollow = CanFollow }

@@ -4,5 +4,4 @@ pub mod Boxes
 pub mod Customer
 pub mod Party
 pub mod PlayParts
-pub mod PlayedLines
 pub mod WorldFields

@@ -1,9 +1,10 @@
 ghost use Rattle.std.specs.Prelude.{◌≡◌, ◌↔◌, ◌≤◌, ◌∷◌, ◌++◌, [], List, length, IfOk, IfErr, OnOk, IsTrue, IsOkUnless};
+ghost use Rattle.dsr_script.specs.Lines.{AreLines, lines_text};
+ghost use Rattle.dsr_script.specs.Support.TakenLines.{HasTaken, IsLinesRefusal};
 ghost use Rattle.dsr_world.specs.declared.play_line.PlayLine.{PlayLine};
 ghost use Rattle.dsr_world.specs.Outcome.{AreWithin};
-ghost use Rattle.dsr_world.specs.PlayText.{all_events, events_of, lines_text, AreLines};
+ghost use Rattle.dsr_world.specs.PlayText.{all_events, events_of, plays};
 ghost use Rattle.dsr_world.specs.Play.{Play as APlay, Spells, IsPlayRefusal};
-ghost use Rattle.dsr_world.specs.Support.PlayedLines.{HasTaken, IsLinesRefusal};
 
 use crate::event::Event;
 use crate::play_events::add_events;
@@ -100,10 +101,11 @@ impl Reading {
     /// Takes in the lines after the header.
     fn take_lines(&mut self, alloc: Global, text: &[u8]) -> Result<(), Refusal>
         requires { self.old.events ≡ [] }
-        ensures taken { OnOk result (HasTaken text.now self.new) }
-        ensures refused { IfErr result (IsLinesRefusal self.old.shape text.now) }
-        ensures when { (all : List PlayLine) → AreLines self.old.shape all → text.now ≡ lines_text all → IsOkUnless result Refusal.NoMemory }
-        ensures only { (all : List PlayLine) → AreLines self.old.shape all → text.now ≡ lines_text all
+        ensures taken { OnOk result (HasTaken plays self.old.shape (λ lines. self.new.events ≡ all_events self.old.shape lines) text.now) }
+        ensures refused { IfErr result (IsLinesRefusal plays self.old.shape text.now) }
+        ensures when { (all : List PlayLine) → AreLines plays self.old.shape all → text.now ≡ lines_text plays all
+            → IsOkUnless result Refusal.NoMemory }
+        ensures only { (all : List PlayLine) → AreLines plays self.old.shape all → text.now ≡ lines_text plays all
             → OnOk result (self.new.events ≡ all_events self.old.shape all) }
         ensures shape { self.new.shape ≡ self.old.shape }
     {

@@ -1,11 +1,13 @@
-use Rattle.std.proofs.Common.{sym, subst}
+use Rattle.std.proofs.Common.{sym, subst, ◌∙◌}
 use Rattle.dsr_script.specs.Header.{BeginsWithHeader}
-use Rattle.dsr_script.proofs.ScriptLemmas.{header_refused, its_lines, says_the_same}
+use Rattle.dsr_script.specs.ServeText.{serve_scripts}
+use Rattle.dsr_script.proofs.LinesLemmas.{header_refused, its_header, its_lines}
+use Rattle.dsr_script.proofs.ScriptLemmas.{says_the_same}
 use Rattle.dsr_script.proofs.script.Script.read.Goals as goal
 
 pub returns-in-Err-clause-refused : goal.returns-in-Err-clause-refused
 returns-in-Err-clause-refused c =
-    header_refused c.as_slice.result.now c.args.text.now c.in-Err.refusal c.as_slice.ensures c.in-Err.ensures.refused
+    header_refused serve_scripts c.as_slice.result.now c.args.text.now c.in-Err.refusal c.as_slice.ensures c.in-Err.ensures.refused
 
 -- a header that is refused begins no script
 pub returns-in-Err-clause-when : goal.returns-in-Err-clause-when
@@ -17,11 +19,19 @@ returns-in-Err-clause-when c other s =
 -- nor do lines follow it that are refused
 pub returns-in-Err-take_lines-clause-when : goal.returns-in-Err-take_lines-clause-when
 returns-in-Err-take_lines-clause-when c other s =
-    let lines = its_lines c.as_slice.result.now c.args.text.now c.in-Ok.header.rest.now c.in-Ok.header.shape c.as_slice.ensures c.in-Ok.ensures.only other s c.in_ok-script.script.shape c.in_ok-script.ensures.shape in
+    let lines =
+    its_lines serve_scripts c.as_slice.result.now c.args.text.now c.in-Ok.header.rest.now c.in-Ok.header.shape c.as_slice.ensures c.in-Ok.ensures.only
+    other.shape s.after s.header s.lines s.begins c.in_ok-script.script.shape c.in_ok-script.ensures.shape in
     c.in-Err-take_lines.ensures.when s.lines lines.0 lines.1
 
+-- and what lines give that are taken in is that script
 pub returns-in-Ok-take_lines-clause-only : goal.returns-in-Ok-take_lines-clause-only
 returns-in-Ok-take_lines-clause-only c other s =
-    let lines = its_lines c.as_slice.result.now c.args.text.now c.in-Ok.header.rest.now c.in-Ok.header.shape c.as_slice.ensures c.in-Ok.ensures.only other s c.in_ok-script.script.shape c.in_ok-script.ensures.shape in
-    says_the_same c.as_slice.result.now c.args.text.now c.in-Ok.header.rest.now c.in-Ok.header.shape c.as_slice.ensures c.in-Ok.ensures.only other s c.in_ok-script.script.shape c.take_lines.new.self
-    c.in_ok-script.ensures.shape c.in-Ok-take_lines.ensures.shape (c.in-Ok-take_lines.ensures.only s.lines lines.0 lines.1)
+    let lines =
+    its_lines serve_scripts c.as_slice.result.now c.args.text.now c.in-Ok.header.rest.now c.in-Ok.header.shape c.as_slice.ensures c.in-Ok.ensures.only
+    other.shape s.after s.header s.lines s.begins c.in_ok-script.script.shape c.in_ok-script.ensures.shape in
+    let header =
+    its_header serve_scripts c.as_slice.result.now c.args.text.now c.in-Ok.header.rest.now c.in-Ok.header.shape c.as_slice.ensures c.in-Ok.ensures.only
+    other.shape s.after s.header in
+    says_the_same c.args.text.now other c.take_lines.new.self s (c.in-Ok-take_lines.ensures.shape ∙ (c.in_ok-script.ensures.shape ∙ header.0))
+    (c.in-Ok-take_lines.ensures.only s.lines lines.0 lines.1)
