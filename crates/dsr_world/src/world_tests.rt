@@ -167,18 +167,30 @@ fn a_link_that_nobody_posted_is_forged(rt: HostRuntime) -> Result<(), Fail> {
     Ok(())
 }
 
+/// Traitor r1's slot carries the request that acted in the slot before.
+const REPLAYED: &str = "dsr-play 1 3 1 1 r1\nasks c0 begin write a 5\nhears c0\nposts r0 from c0\n\
+    plants r1 empty\nposts r2\ntakes *\nposts *\nplants r1 round 1 1/c0#1:write:a:5~c0/r1\n\
+    takes *\nreplies c0\ntake c0 r0\ntake c0 r2\nposts *\nplants r1 empty\ntakes *\n\
+    replies c0\ntake c0 r0\ntake c0 r2\n";
+
 #[test]
 fn a_replayed_request_acts_once(rt: HostRuntime) -> Result<(), Fail> {
-    let text = b"dsr-play 1 3 1 1 r1\nasks c0 begin write a 5\nhears c0\nposts r0 from c0\n\
-            plants r1 empty\nposts r2\ntakes *\nposts *\nplants r1 round 1 1/c0#1:write:a:5~c0/r1\n\
-            takes *\nreplies c0\ntake c0 r0\ntake c0 r2\nposts *\nplants r1 empty\ntakes *\n\
-            replies c0\ntake c0 r0\ntake c0 r2\n";
-    let words = told(rt.alloc(), text.as_slice())?;
+    let words = told(rt.alloc(), REPLAYED.as_bytes())?;
     assert_eq!(rt;
         words.as_str(),
         "done 68 refused 0; c0 1 0 written; c0 saw 1; r0 c0#1:write:a:5 c0#1:write:a:5; \
             r1 traitor; r2 c0#1:write:a:5 c0#1:write:a:5; history c0#1:write:a:5"
     );
+    Ok(())
+}
+
+#[test]
+fn a_replayed_request_is_answered_as_before(rt: HostRuntime) -> Result<(), Fail> {
+    let played = play_out(rt.alloc(), REPLAYED.as_bytes())?;
+    for replica in ["r0", "r2"] {
+        let words = posts(rt.alloc(), &played.world, replica, "c0")?;
+        assert_eq!(rt; words.as_str(), "reply 1 0 written; reply 1 0 written; ");
+    }
     Ok(())
 }
 
