@@ -267,13 +267,7 @@ impl World {
         self.parties[poster].posted(*to, *pick);
         keep_letter(&mut self.letters, poster, again);
         self.boxes.put(poster, taker, letters.sent);
-        self.entries.push_reserved((
-            *from,
-            Entry::Post {
-                to: *to,
-                envelope: letters.kept,
-            },
-        ));
+        log_post(&mut self.entries, from, to, letters.kept);
         Ok(None)
     }
 
@@ -389,13 +383,7 @@ impl World {
             letters.kept.envelope(),
         )?;
         self.boxes.put(poster, taker, letters.sent);
-        self.entries.push_reserved((
-            *from,
-            Entry::Post {
-                to: *to,
-                envelope: letters.kept,
-            },
-        ));
+        log_post(&mut self.entries, from, to, letters.kept);
         Ok(None)
     }
 
@@ -427,13 +415,7 @@ impl World {
         let letters = Letters::of(alloc, envelope)?;
         make_room(&mut self.entries)?;
         self.boxes.put(poster, taker, letters.sent);
-        self.entries.push_reserved((
-            *from,
-            Entry::Post {
-                to: *to,
-                envelope: letters.kept,
-            },
-        ));
+        log_post(&mut self.entries, from, to, letters.kept);
         Ok(None)
     }
 
@@ -629,6 +611,14 @@ fn make_room(entries: &mut Vec<(Actor, Entry)>) -> Result<(), Refusal>
         Ok(()) => Ok(()),
         Err(_) => Err(Refusal::NoMemory),
     }
+}
+
+/// Adds a post to the entries, which have room for it.
+fn log_post(entries: &mut Vec<(Actor, Entry)>, from: &Actor, to: &Actor, envelope: Letter)
+    requires { vec_len entries.old < vec_capacity entries.old }
+    ensures { reverse entries.new.items ≡ (from.now, PostEntry to.now envelope) ∷ reverse entries.old.items }
+{
+    entries.push_reserved((*from, Entry::Post { to: *to, envelope }));
 }
 
 /// Has the signatures of a loyal actor's post be known, where there are traitors who could send them on. `NoMemory` where memory

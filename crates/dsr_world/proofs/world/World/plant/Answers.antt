@@ -1,4 +1,4 @@
-use Rattle.std.proofs.Common.{◌≡◌, ◌∷◌, ◌++◌, [], None, reverse, ap, ap₂, sym, ◌∙◌, subst}
+use Rattle.std.proofs.Common.{◌≡◌, ◌∷◌, None, reverse, ap, ap₂, sym, ◌∙◌, subst}
 use Rattle.dsr_names.specs.Shape.{IsActor}
 use Rattle.dsr_names.specs.declared.actor.Actor.TheVariants.{Replica}
 use Rattle.dsr_replica.specs.declared.entry.Entry.TheVariants.{Post as PostEntry}
@@ -9,7 +9,6 @@ use Rattle.dsr_world.specs.Step.{log_of}
 use Rattle.dsr_world.specs.Support.Boxes.{box_at, with_box, with_post}
 use Rattle.dsr_world.specs.Support.WorldFields.{place_of, AreParts, AreLetters}
 use Rattle.dsr_world.specs.World.{World}
-use Rattle.dsr_world.proofs.Worlds.{pushed}
 use Rattle.dsr_world.proofs.WorldPosts.{cleared_plant, parts_after_plant}
 use Rattle.dsr_world.proofs.Repeating.{letters_of_traitor}
 use Rattle.dsr_world.proofs.world.World.plant.Goals as goal
@@ -30,11 +29,9 @@ invariant_of-self-2 c =
     let parts = parts_after_plant a.shape run a.parties.items a.boxes a.keys.items a.known.signatures c.self.invariant.0 is.p to x c.n-n.ensures.allowed
     (subst (IsActor a.shape) is.from_is is.actor) is.other is.traitor c.requires
     (ap (λ b. is_used_up (log_of run) b to) (sym is.from_is) ∙ is.used) (ap (λ b. is_full (log_of run) b to) (sym is.from_is) ∙ is.room) made in
-    let entry : c.push_reserved.new.self.items ≡ a.entries.items ++ (Replica is.p, PostEntry to x) ∷ [] =
-    c.push_reserved.ensures.items
-    ∙ (ap₂ (λ es y. es ++ (from, PostEntry to y) ∷ []) c.make_room.ensures.same kept ∙ ap (λ b. a.entries.items ++ (b, PostEntry to x) ∷ []) is.from_is) in
-    let went : reverse c.push_reserved.new.self.items ≡ (Replica is.p, PostEntry to x) ∷ run =
-    pushed a.entries.items c.push_reserved.new.self.items (Replica is.p, PostEntry to x) entry in
+    let went : reverse c.log_post.new.entries.items ≡ (Replica is.p, PostEntry to x) ∷ run =
+    c.log_post.ensures
+    ∙ (ap₂ (λ es y. (from, PostEntry to y) ∷ reverse es) c.make_room.ensures.same kept ∙ ap (λ b. (b, PostEntry to x) ∷ run) is.from_is) in
     let box : c.put.new.self ≡ with_box a.boxes (place_of a.shape (Replica is.p)) (place_of a.shape to)
     (with_post (box_at a.boxes (place_of a.shape (Replica is.p)) (place_of a.shape to)) x) =
     c.put.ensures

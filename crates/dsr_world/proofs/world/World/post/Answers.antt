@@ -1,4 +1,4 @@
-use Rattle.std.proofs.Common.{◌≡◌, ◌↔◌, ◌⊎◌, ◌∷◌, ◌++◌, [], ◌<◌, ◌^◌, None, Some, length, reverse, ap, ap₂, sym, ◌∙◌, subst}
+use Rattle.std.proofs.Common.{◌≡◌, ◌↔◌, ◌⊎◌, ◌∷◌, ◌<◌, ◌^◌, None, Some, length, reverse, ap, ap₂, sym, ◌∙◌, subst}
 use Rattle.std.specs.Prelude.{Any, slice_set, slice_index_or}
 use Rattle.dsr_base.specs.Member.{In}
 use Rattle.dsr_names.specs.declared.actor.Actor.{Actor}
@@ -12,7 +12,7 @@ use Rattle.dsr_world.specs.Support.Boxes.{row_of, box_at, with_box, with_post}
 use Rattle.dsr_world.specs.Support.Party.{Plays}
 use Rattle.dsr_world.specs.Support.WorldFields.{place_of, with_letter, AreParts, AreLetters}
 use Rattle.dsr_world.specs.World.{World}
-use Rattle.dsr_world.proofs.Worlds.{cleared, conduct_cleared, row_long, posts_few, pushed, parts_after_post, done_post}
+use Rattle.dsr_world.proofs.Worlds.{cleared, conduct_cleared, row_long, posts_few, parts_after_post, done_post}
 use Rattle.dsr_world.proofs.Repeating.{letters_posted}
 use Rattle.dsr_world.proofs.world.World.post.Goals as goal
 
@@ -61,10 +61,8 @@ invariant_of-self-2 c =
     (c.in_ok-learn.ensures.learned holder (subst (Any (λ h. h ≡ holder)) (sym c.as_slice.ensures.value) h) s) in
     let parts = parts_after_post a.shape run a.parties.items a.boxes a.keys.items a.known.signatures c.self.invariant.0 from to pick c.in-Ok.letters.kept c.posted.new.self
     c.learn.new.known.signatures c.n-n.ensures.allowed c.look_at.ensures.pick c.look_at.ensures.spelled is given plays learned in
-    let entry : c.push_reserved.new.self.items ≡ a.entries.items ++ (from, PostEntry to c.in-Ok.letters.kept) ∷ [] =
-    c.push_reserved.ensures.items ∙ ap (λ es. es ++ (from, PostEntry to c.in-Ok.letters.kept) ∷ []) c.make_room.ensures.same in
-    let went : reverse c.push_reserved.new.self.items ≡ (from, PostEntry to c.in-Ok.letters.kept) ∷ run =
-    pushed a.entries.items c.push_reserved.new.self.items (from, PostEntry to c.in-Ok.letters.kept) entry in
+    let went : reverse c.log_post.new.entries.items ≡ (from, PostEntry to c.in-Ok.letters.kept) ∷ run =
+    c.log_post.ensures ∙ ap (λ es. (from, PostEntry to c.in-Ok.letters.kept) ∷ reverse es) c.make_room.ensures.same in
     let box : c.put.new.self ≡ with_box a.boxes (place_of a.shape from) (place_of a.shape to)
     (with_post (box_at a.boxes (place_of a.shape from) (place_of a.shape to)) c.in-Ok.letters.kept) =
     c.put.ensures
@@ -94,9 +92,7 @@ returns-clause-done c =
     let conduct = conduct_cleared a.shape (log_of run) from to pick is in
     let given : post_of a.shape (log_of run from) from to pick ≡ Some c.in-Ok.letters.kept =
     subst (λ (w : World). post_of w.shape (log_of w.run from) from to pick ≡ Some c.in-Ok.letters.kept) (sym c.self.view_is) c.in-Ok.ensures.given in
-    let entry : c.push_reserved.new.self.items ≡ a.entries.items ++ (from, PostEntry to c.in-Ok.letters.kept) ∷ [] =
-    c.push_reserved.ensures.items ∙ ap (λ es. es ++ (from, PostEntry to c.in-Ok.letters.kept) ∷ []) c.make_room.ensures.same in
-    let went : reverse c.push_reserved.new.self.items ≡ (from, PostEntry to c.in-Ok.letters.kept) ∷ run =
-    pushed a.entries.items c.push_reserved.new.self.items (from, PostEntry to c.in-Ok.letters.kept) entry in
-    subst (λ (w : World). HasDone w.shape (reverse c.push_reserved.new.self.items) w.run (Post from to pick) None) c.self.view_is
+    let went : reverse c.log_post.new.entries.items ≡ (from, PostEntry to c.in-Ok.letters.kept) ∷ run =
+    c.log_post.ensures ∙ ap (λ es. (from, PostEntry to c.in-Ok.letters.kept) ∷ reverse es) c.make_room.ensures.same in
+    subst (λ (w : World). HasDone w.shape (reverse c.log_post.new.entries.items) w.run (Post from to pick) None) c.self.view_is
     (subst (λ r. HasDone a.shape r run (Post from to pick) None) (sym went) (done_post a.shape run from to pick c.in-Ok.letters.kept given))

@@ -1,4 +1,4 @@
-use Rattle.std.proofs.Common.{◌≡◌, ◌↔◌, ◌⊎◌, ◌∷◌, ◌++◌, [], None, reverse, ap, ap₂, sym, ◌∙◌, subst}
+use Rattle.std.proofs.Common.{◌≡◌, ◌↔◌, ◌⊎◌, ◌∷◌, None, reverse, ap, ap₂, sym, ◌∙◌, subst}
 use Rattle.std.specs.Prelude.{Any, slice_index_or}
 use Rattle.dsr_base.specs.Member.{In}
 use Rattle.dsr_names.specs.Shape.{IsActor}
@@ -16,7 +16,6 @@ use Rattle.dsr_world.specs.Support.Boxes.{box_at, with_box, with_post}
 use Rattle.dsr_world.specs.Support.Party.{Plays}
 use Rattle.dsr_world.specs.Support.WorldFields.{place_of, AreParts, AreLetters}
 use Rattle.dsr_world.specs.World.{World}
-use Rattle.dsr_world.proofs.Worlds.{pushed}
 use Rattle.dsr_world.proofs.WorldPosts.{cleared_tell, parts_after_tell, done_tell}
 use Rattle.dsr_world.proofs.Repeating.{letters_told}
 use Rattle.dsr_world.proofs.world.World.tell.Goals as goal
@@ -46,12 +45,9 @@ invariant_of-self-2 c =
     let parts = parts_after_tell a.shape run a.parties.items a.boxes a.keys.items a.known.signatures c.self.invariant.0 is.c is.d
     c.learn.new.known.signatures c.n-n.ensures.allowed (subst (IsActor a.shape) is.from_is is.actor) (subst (IsActor a.shape) is.to_is is.other) is.apart
     (ap₂ (is_used_up (log_of run)) (sym is.from_is) (sym is.to_is) ∙ is.used) (ap₂ (is_full (log_of run)) (sym is.from_is) (sym is.to_is) ∙ is.room) learned in
-    let entry : c.push_reserved.new.self.items ≡ a.entries.items ++ (Client is.c, PostEntry (Client is.d) x) ∷ [] =
-    c.push_reserved.ensures.items
-    ∙ (ap₂ (λ es y. es ++ (from, PostEntry to y) ∷ []) c.make_room.ensures.same kept
-    ∙ ap₂ (λ b d. a.entries.items ++ (b, PostEntry d x) ∷ []) is.from_is is.to_is) in
-    let went : reverse c.push_reserved.new.self.items ≡ (Client is.c, PostEntry (Client is.d) x) ∷ run =
-    pushed a.entries.items c.push_reserved.new.self.items (Client is.c, PostEntry (Client is.d) x) entry in
+    let went : reverse c.log_post.new.entries.items ≡ (Client is.c, PostEntry (Client is.d) x) ∷ run =
+    c.log_post.ensures
+    ∙ (ap₂ (λ es y. (from, PostEntry to y) ∷ reverse es) c.make_room.ensures.same kept ∙ ap₂ (λ b d. (b, PostEntry d x) ∷ run) is.from_is is.to_is) in
     let box : c.put.new.self ≡ with_box a.boxes (place_of a.shape (Client is.c)) (place_of a.shape (Client is.d))
     (with_post (box_at a.boxes (place_of a.shape (Client is.c)) (place_of a.shape (Client is.d))) x) =
     c.put.ensures
@@ -79,12 +75,9 @@ returns-clause-done c =
     let front : c.seen.result ≡ seen a.shape (log_of run (Client is.c)) = c.seen.ensures a.shape is.c (log_of run (Client is.c)) at in
     let x = Seen (seen a.shape (log_of run (Client is.c))) in
     let kept : c.in_ok-letters.letters.kept ≡ x = c.in_ok-letters.ensures.kept ∙ ap Seen front in
-    let entry : c.push_reserved.new.self.items ≡ a.entries.items ++ (Client is.c, PostEntry to x) ∷ [] =
-    c.push_reserved.ensures.items
-    ∙ (ap₂ (λ es y. es ++ (from, PostEntry to y) ∷ []) c.make_room.ensures.same kept
-    ∙ ap (λ b. a.entries.items ++ (b, PostEntry to x) ∷ []) is.from_is) in
-    let went : reverse c.push_reserved.new.self.items ≡ (Client is.c, PostEntry to x) ∷ run =
-    pushed a.entries.items c.push_reserved.new.self.items (Client is.c, PostEntry to x) entry in
-    subst (λ (w : World). HasDone w.shape (reverse c.push_reserved.new.self.items) w.run (Tell from to) None) c.self.view_is
+    let went : reverse c.log_post.new.entries.items ≡ (Client is.c, PostEntry to x) ∷ run =
+    c.log_post.ensures
+    ∙ (ap₂ (λ es y. (from, PostEntry to y) ∷ reverse es) c.make_room.ensures.same kept ∙ ap (λ b. (b, PostEntry to x) ∷ run) is.from_is) in
+    subst (λ (w : World). HasDone w.shape (reverse c.log_post.new.entries.items) w.run (Tell from to) None) c.self.view_is
     (subst (λ r. HasDone a.shape r run (Tell from to) None) (sym went)
     (subst (λ b. HasDone a.shape ((Client is.c, PostEntry to x) ∷ run) run (Tell b to) None) (sym is.from_is) (done_tell a.shape run is.c to)))
