@@ -7,10 +7,10 @@ use Rattle.dsr_names.specs.declared.refusal.Refusal.{Refusal}
 use Rattle.dsr_names.specs.declared.refusal.Refusal.TheVariants.{BadShape, BadText, NoMemory, ReadFailed, WriteFailed}
 use Rattle.dsr_history.specs.Applied.{IsTextOf}
 use Rattle.dsr_world.specs.Outcome.{HasEnded}
-use Rattle.dsr_world.specs.Play.{Play, Spells, IsPlayRefusal}
-use Rattle.dsr_world.specs.Right.{IsRight}
-use Rattle.dsr_world.specs.Run.{IsRun}
-use Rattle.dsr_world.specs.Step.{Step, log_of}
+use Rattle.dsr_play.specs.Play.{Play, Spells, IsPlayRefusal}
+use Rattle.dsr_run.specs.Right.{IsRight}
+use Rattle.dsr_run.specs.Run.{IsRun}
+use Rattle.dsr_run.specs.Step.{Step, log_of}
 use Rattle.dsr_world.specs.declared.run_end.RunEnd.{RunEnd}
 use Rattle.dsr_cli.specs.Report.{report_text}
 

@@ -13,8 +13,8 @@ use Rattle.dsr_ledger.specs.declared.reply.Reply.{Reply}
 use Rattle.dsr_desk.specs.ContentText.{content_text}
 use Rattle.dsr_chain.specs.Content.{content}
 use Rattle.dsr_chain.specs.declared.slot_value.SlotValue.{SlotValue}
-use Rattle.dsr_world.specs.History.{accepted_by, seen_by, decided_at, history}
-use Rattle.dsr_world.specs.Step.{Logs}
+use Rattle.dsr_run.specs.History.{accepted_by, seen_by, decided_at, history}
+use Rattle.dsr_run.specs.Step.{Logs}
 use Rattle.dsr_world.specs.declared.run_end.RunEnd.{RunEnd}
 
 -- ---- lists of texts

@@ -3,7 +3,7 @@
 ghost use Rattle.std.specs.Prelude.{◌≡◌, ◌⊎◌, ◌+◌, ◌<◌, ◌≤◌, Err, IfOk, IfErr, OnOk, OnErr, length, string_bytes};
 ghost use Rattle.dsr_names.specs.Limits.{most_calls};
 ghost use Rattle.dsr_names.specs.Streams.{CanFailToTake, SentAll, SentPrefix, streams};
-ghost use Rattle.dsr_world.specs.Play.{IsPlayRefusal};
+ghost use Rattle.dsr_play.specs.Play.{IsPlayRefusal};
 ghost use Rattle.dsr_cli.specs.Played.{HasPlayed, LeftAfterPlay, PlayedAll};
 
 use crate::report::report_of;

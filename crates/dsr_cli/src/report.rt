@@ -1,7 +1,7 @@
 //! What came of a play, as lines of text.
 
 ghost use Rattle.std.specs.Prelude.{◌≡◌, ◌<◌, ◌++◌, IfOk, OnOk, IsOkUnless, reverse, string_bytes};
-ghost use Rattle.dsr_world.specs.Step.{log_of};
+ghost use Rattle.dsr_run.specs.Step.{log_of};
 ghost use Rattle.dsr_cli.specs.Report.{report_text, end_text, replies_text, accepted_text, seen_text, decided_line, decided_text, history_text};
 
 use dsr_desk::Content;

@@ -12,10 +12,10 @@ use Rattle.dsr_ledger.specs.declared.reply.Reply.{Reply as AReply}
 use Rattle.dsr_chain.specs.declared.signed_request.SignedRequest.{SignedRequest}
 use Rattle.dsr_quorum.specs.Votes.{Note, first_of, winner}
 use Rattle.dsr_quorum.proofs.Lemmas.{winner_votes, loyal_voter, loyal_win}
-use Rattle.dsr_replica.specs.declared.envelope.Envelope.{Envelope}
-use Rattle.dsr_replica.specs.declared.envelope.Envelope.TheVariants.{Empty, Round, Ask, Reply, Seen}
-use Rattle.dsr_replica.specs.declared.entry.Entry.{Entry}
-use Rattle.dsr_replica.specs.declared.entry.Entry.TheVariants.{Post, Take}
+use Rattle.dsr_envelope.specs.declared.envelope.Envelope.{Envelope}
+use Rattle.dsr_envelope.specs.declared.envelope.Envelope.TheVariants.{Empty, Round, Ask, Reply, Seen}
+use Rattle.dsr_envelope.specs.declared.entry.Entry.{Entry}
+use Rattle.dsr_envelope.specs.declared.entry.Entry.TheVariants.{Post, Take}
 use Rattle.dsr_base.proofs.MemberLemmas.{In-append_right}
 use Rattle.dsr_client.proofs.States.{IsQuiet, IsOpen, state_is, first_noted}
 use Rattle.dsr_client.specs.State.{State, asked_beside, settled, with_note, replied_beside, with_post, with_take, state_after, outstanding, accepted}

@@ -9,11 +9,11 @@ use Rattle.dsr_names.specs.declared.actor.Actor.TheVariants.{Replica, Client}
 use Rattle.dsr_desk.specs.Signature.{Signature, signed}
 use Rattle.dsr_desk.specs.declared.statement.Statement.TheVariants.{Ask as OnAsk}
 use Rattle.dsr_chain.specs.declared.signed_request.SignedRequest.{SignedRequest}
-use Rattle.dsr_replica.specs.declared.envelope.Envelope.{Envelope}
-use Rattle.dsr_replica.specs.declared.envelope.Envelope.TheVariants.{Ask}
-use Rattle.dsr_replica.specs.declared.entry.Entry.{Entry}
-use Rattle.dsr_replica.specs.declared.entry.Entry.TheVariants.{Post}
-use Rattle.dsr_replica.specs.Envelope.{Carries}
+use Rattle.dsr_envelope.specs.declared.envelope.Envelope.{Envelope}
+use Rattle.dsr_envelope.specs.declared.envelope.Envelope.TheVariants.{Ask}
+use Rattle.dsr_envelope.specs.declared.entry.Entry.{Entry}
+use Rattle.dsr_envelope.specs.declared.entry.Entry.TheVariants.{Post}
+use Rattle.dsr_envelope.specs.Envelope.{Carries}
 use Rattle.dsr_client.specs.Conduct.{IsNext, IsClientLog, chosen_beside, next_number}
 use Rattle.dsr_client.specs.State.{outstanding}
 use Rattle.dsr_client.proofs.Numbers.{IsOwn, numbered}

@@ -5,7 +5,7 @@ use Rattle.dsr_names.specs.declared.actor.Actor.{Actor}
 use Rattle.dsr_names.specs.declared.actor.Actor.TheVariants.{Replica, Client as AClient}
 use Rattle.dsr_chain.specs.declared.signed_request.SignedRequest.{SignedRequest}
 use Rattle.dsr_quorum.specs.Tally.{Tally, StandsFor as Counts}
-use Rattle.dsr_replica.specs.declared.entry.Entry.{Entry}
+use Rattle.dsr_envelope.specs.declared.entry.Entry.{Entry}
 use Rattle.dsr_client.specs.State.{state_after, outstanding, accepted, seen}
 
 -- who it is, the shape, what is outstanding, how many replies were accepted, the votes for replies to what is outstanding, and

@@ -6,12 +6,12 @@ use Rattle.dsr_names.specs.declared.actor.Actor.TheVariants.{Replica, Client}
 use Rattle.dsr_request.specs.declared.op.Op.{Op}
 use Rattle.dsr_chain.specs.Content.{signed_by}
 use Rattle.dsr_chain.specs.declared.signed_request.SignedRequest.{SignedRequest}
-use Rattle.dsr_replica.specs.declared.envelope.Envelope.{Envelope}
-use Rattle.dsr_replica.specs.declared.envelope.Envelope.TheVariants.{Ask, Seen}
-use Rattle.dsr_replica.specs.declared.entry.Entry.{Entry}
-use Rattle.dsr_replica.specs.declared.entry.Entry.TheVariants.{Post, Take}
-use Rattle.dsr_replica.specs.declared.step.Pick.{Pick}
-use Rattle.dsr_replica.specs.declared.step.Pick.TheVariants.{Plain, From, Begin}
+use Rattle.dsr_envelope.specs.declared.envelope.Envelope.{Envelope}
+use Rattle.dsr_envelope.specs.declared.envelope.Envelope.TheVariants.{Ask, Seen}
+use Rattle.dsr_envelope.specs.declared.entry.Entry.{Entry}
+use Rattle.dsr_envelope.specs.declared.entry.Entry.TheVariants.{Post, Take}
+use Rattle.dsr_envelope.specs.declared.step.Pick.{Pick}
+use Rattle.dsr_envelope.specs.declared.step.Pick.TheVariants.{Plain, From, Begin}
 use Rattle.dsr_client.specs.State.{outstanding, accepted, seen}
 
 -- the client's request of this number and operation, with its signature

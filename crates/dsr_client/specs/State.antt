@@ -7,10 +7,10 @@ use Rattle.dsr_names.specs.declared.actor.Actor.TheVariants.{Replica, Client}
 use Rattle.dsr_ledger.specs.declared.reply.Reply.{Reply as AReply}
 use Rattle.dsr_chain.specs.declared.signed_request.SignedRequest.{SignedRequest}
 use Rattle.dsr_quorum.specs.Votes.{Note, winner}
-use Rattle.dsr_replica.specs.declared.envelope.Envelope.{Envelope}
-use Rattle.dsr_replica.specs.declared.envelope.Envelope.TheVariants.{Empty, Round, Ask, Reply, Seen}
-use Rattle.dsr_replica.specs.declared.entry.Entry.{Entry}
-use Rattle.dsr_replica.specs.declared.entry.Entry.TheVariants.{Post, Take}
+use Rattle.dsr_envelope.specs.declared.envelope.Envelope.{Envelope}
+use Rattle.dsr_envelope.specs.declared.envelope.Envelope.TheVariants.{Empty, Round, Ask, Reply, Seen}
+use Rattle.dsr_envelope.specs.declared.entry.Entry.{Entry}
+use Rattle.dsr_envelope.specs.declared.entry.Entry.TheVariants.{Post, Take}
 
 -- the signed request that is outstanding, the replies of its number that replicas gave since it is, and the accepted replies
 pub record State : Type 0 where

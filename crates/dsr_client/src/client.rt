@@ -3,20 +3,20 @@ ghost use Rattle.std.specs.Option.{option_map};
 ghost use Rattle.dsr_names.specs.Shape.{IsActor};
 ghost use Rattle.dsr_names.specs.declared.actor.Actor.{Actor};
 ghost use Rattle.dsr_names.specs.declared.actor.Actor.TheVariants.{Replica, Client as AClient};
-ghost use Rattle.dsr_replica.specs.Limits.{IsEnvelope};
-ghost use Rattle.dsr_replica.specs.declared.envelope.Envelope.TheVariants.{Ask, Reply as AReply, Seen};
-ghost use Rattle.dsr_replica.specs.declared.entry.Entry.{Entry};
-ghost use Rattle.dsr_replica.specs.declared.entry.Entry.TheVariants.{Post, Take};
+ghost use Rattle.dsr_envelope.specs.Limits.{IsEnvelope};
+ghost use Rattle.dsr_envelope.specs.declared.envelope.Envelope.TheVariants.{Ask, Reply as AReply, Seen};
+ghost use Rattle.dsr_envelope.specs.declared.entry.Entry.{Entry};
+ghost use Rattle.dsr_envelope.specs.declared.entry.Entry.TheVariants.{Post, Take};
 ghost use Rattle.dsr_client.specs.Client.{StandsFor, MayBegin, IsClientOf};
 ghost use Rattle.dsr_client.specs.Conduct.{ask_of};
 ghost use Rattle.dsr_client.specs.State.{outstanding, accepted, seen};
 
 use dsr_chain::SignedRequest;
 use dsr_desk::Key;
+use dsr_envelope::Envelope;
 use dsr_ledger::Reply;
 use dsr_names::{Actor, ClientId, NUMBER_END, Refusal, ReplicaId, Shape};
 use dsr_quorum::Tally;
-use dsr_replica::Envelope;
 use dsr_request::{Op, Request};
 use std::marker::Model;
 

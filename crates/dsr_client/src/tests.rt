@@ -2,9 +2,9 @@ ghost use Rattle.std.specs.Prelude.{◌≡◌, IfOk};
 
 use crate::Client;
 use dsr_desk::Keys;
+use dsr_envelope::Envelope;
 use dsr_ledger::Reply;
 use dsr_names::{Actor, ClientId, Refusal, ReplicaId, Shape};
-use dsr_replica::Envelope;
 use dsr_request::{Answer, Name, Op, Request};
 use std::alloc::Global;
 use std::process::Abort;

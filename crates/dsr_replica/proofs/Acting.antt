@@ -14,9 +14,9 @@ use Rattle.dsr_chain.specs.declared.slot_value.SlotValue.{SlotValue}
 use Rattle.dsr_slot.specs.Keeping.{kept_after}
 use Rattle.dsr_slot.specs.declared.kept.Kept.{Kept}
 use Rattle.dsr_slot.proofs.Lemmas.{in_map, from_map, after_came, decision_from}
-use Rattle.dsr_replica.specs.declared.entry.Entry.{Entry}
+use Rattle.dsr_envelope.specs.declared.entry.Entry.{Entry}
 use Rattle.dsr_replica.specs.Decided.{slot_read, slot_decided, values, decided_values, decided_requests}
-use Rattle.dsr_replica.specs.Log.{rounds}
+use Rattle.dsr_envelope.specs.Log.{rounds}
 use Rattle.dsr_replica.specs.Posts.{WasTaken}
 use Rattle.dsr_replica.proofs.Sources.{slot_taken}
 

@@ -22,18 +22,18 @@ use Rattle.dsr_slot.specs.Broadcast.{from_each}
 use Rattle.dsr_slot.specs.Conduct.{posted}
 use Rattle.dsr_slot.specs.Decision.{decision}
 use Rattle.dsr_slot.proofs.Lemmas.{after_same, kept_blind, posted_blind, decided_blind}
-use Rattle.dsr_replica.specs.declared.envelope.Envelope.{Envelope}
-use Rattle.dsr_replica.specs.declared.envelope.Envelope.TheVariants.{Empty, Round, Ask, Reply, Seen}
-use Rattle.dsr_replica.specs.declared.entry.Entry.{Entry}
-use Rattle.dsr_replica.specs.declared.entry.Entry.TheVariants.{Post, Take}
-use Rattle.dsr_replica.specs.declared.step.Due.TheVariants.{Post as PostTo, Take as TakeFrom}
-use Rattle.dsr_replica.specs.declared.step.Pick.{Pick}
-use Rattle.dsr_replica.specs.declared.step.Pick.TheVariants.{Plain, From, Begin}
+use Rattle.dsr_envelope.specs.declared.envelope.Envelope.{Envelope}
+use Rattle.dsr_envelope.specs.declared.envelope.Envelope.TheVariants.{Empty, Round, Ask, Reply, Seen}
+use Rattle.dsr_envelope.specs.declared.entry.Entry.{Entry}
+use Rattle.dsr_envelope.specs.declared.entry.Entry.TheVariants.{Post, Take}
+use Rattle.dsr_envelope.specs.declared.step.Due.TheVariants.{Post as PostTo, Take as TakeFrom}
+use Rattle.dsr_envelope.specs.declared.step.Pick.{Pick}
+use Rattle.dsr_envelope.specs.declared.step.Pick.TheVariants.{Plain, From, Begin}
 use Rattle.dsr_replica.specs.Conduct.{slot_part, chains_posted, proposed, envelope_with, chosen, is_due, envelope_to, reply_to, IsNext, IsLoyalLog}
 use Rattle.dsr_replica.specs.Decided.{sent, slot_read, slot_kept, slot_decided, values, decided_values}
-use Rattle.dsr_replica.specs.Envelope.{round_envelope}
+use Rattle.dsr_envelope.specs.Envelope.{round_envelope}
 use Rattle.dsr_replica.specs.Held.{is_own_ask, gives_way, held_with, held, put_before, all_held}
-use Rattle.dsr_replica.specs.Log.{posted_to, taken_from, due, rounds}
+use Rattle.dsr_envelope.specs.Log.{posted_to, taken_from, due, rounds}
 
 module _ (shape other : Shape) (agree : AgreeButForTraitors shape other) where
   -- ---- what is due

@@ -12,17 +12,17 @@ use Rattle.dsr_chain.specs.Proper.{sender_of}
 use Rattle.dsr_chain.specs.declared.signed_request.SignedRequest.{SignedRequest}
 use Rattle.dsr_chain.specs.declared.slot_value.SlotValue.{SlotValue}
 use Rattle.dsr_chain.specs.declared.slot_value.SlotValue.TheVariants.{Act}
-use Rattle.dsr_replica.specs.declared.envelope.Envelope.{Envelope}
-use Rattle.dsr_replica.specs.declared.entry.Entry.{Entry}
-use Rattle.dsr_replica.specs.declared.entry.Entry.TheVariants.{Post}
-use Rattle.dsr_replica.specs.declared.step.Pick.{Pick}
-use Rattle.dsr_replica.specs.declared.step.Pick.TheVariants.{Plain, From, Begin}
-use Rattle.dsr_replica.specs.declared.step.Due.{Due}
-use Rattle.dsr_replica.specs.declared.step.Due.TheVariants.{Post as PostTo, Take as TakeFrom}
+use Rattle.dsr_envelope.specs.declared.envelope.Envelope.{Envelope}
+use Rattle.dsr_envelope.specs.declared.entry.Entry.{Entry}
+use Rattle.dsr_envelope.specs.declared.entry.Entry.TheVariants.{Post}
+use Rattle.dsr_envelope.specs.declared.step.Pick.{Pick}
+use Rattle.dsr_envelope.specs.declared.step.Pick.TheVariants.{Plain, From, Begin}
+use Rattle.dsr_envelope.specs.declared.step.Due.{Due}
+use Rattle.dsr_envelope.specs.declared.step.Due.TheVariants.{Post as PostTo, Take as TakeFrom}
 use Rattle.dsr_replica.specs.Conduct.{envelope_with, chosen, is_due, envelope_to}
 use Rattle.dsr_replica.specs.Counts.{posts_at}
 use Rattle.dsr_replica.specs.Held.{put_before, all_held}
-use Rattle.dsr_replica.specs.Log.{posted_to, taken_from, due, rounds}
+use Rattle.dsr_envelope.specs.Log.{posted_to, taken_from, due, rounds}
 use Rattle.dsr_replica.specs.Replica.{Replica, IsLaterPost, StandsFor, ask_of, asks_of, value_at, value_for, Allows}
 use Rattle.dsr_replica.specs.Support.ReplicaFields.{IsWithin, after_post_to}
 use Rattle.dsr_replica.proofs.Counting.{after_post}

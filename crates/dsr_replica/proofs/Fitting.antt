@@ -29,15 +29,15 @@ use Rattle.dsr_chain.proofs.Lemmas.{first_link}
 use Rattle.dsr_slot.specs.Broadcast.{from_each}
 use Rattle.dsr_slot.specs.Conduct.{is_relayed, relayed, begun, posted}
 use Rattle.dsr_slot.proofs.Lemmas.{after_few, from_one, post_cases}
-use Rattle.dsr_replica.specs.declared.envelope.Envelope.{Envelope}
-use Rattle.dsr_replica.specs.declared.envelope.Envelope.TheVariants.{Empty, Round, Ask, Reply, Seen}
-use Rattle.dsr_replica.specs.declared.entry.Entry.{Entry}
-use Rattle.dsr_replica.specs.declared.entry.Entry.TheVariants.{Take}
+use Rattle.dsr_envelope.specs.declared.envelope.Envelope.{Envelope}
+use Rattle.dsr_envelope.specs.declared.envelope.Envelope.TheVariants.{Empty, Round, Ask, Reply, Seen}
+use Rattle.dsr_envelope.specs.declared.entry.Entry.{Entry}
+use Rattle.dsr_envelope.specs.declared.entry.Entry.TheVariants.{Take}
 use Rattle.dsr_replica.specs.Conduct.{slot_part, chains_posted}
 use Rattle.dsr_replica.specs.Decided.{sent, slot_read, slot_kept}
-use Rattle.dsr_replica.specs.Envelope.{chains_for, round_envelope}
-use Rattle.dsr_replica.specs.Limits.{IsCount, IsSignature, IsSigned, IsChain, IsEnvelope}
-use Rattle.dsr_replica.specs.Log.{taken_from}
+use Rattle.dsr_envelope.specs.Envelope.{chains_for, round_envelope}
+use Rattle.dsr_envelope.specs.Limits.{IsCount, IsSignature, IsSigned, IsChain, IsEnvelope}
+use Rattle.dsr_envelope.specs.Log.{taken_from}
 use Rattle.dsr_replica.specs.Posts.{MayPropose, IsOfRound}
 use Rattle.dsr_replica.proofs.Posts.{none_part}
 use Rattle.dsr_replica.proofs.Sources.{taken_entry, in_some, in_part}

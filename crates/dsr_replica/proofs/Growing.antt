@@ -16,12 +16,12 @@ use Rattle.dsr_chain.specs.Chain.{Chain}
 use Rattle.dsr_slot.specs.Conduct.{posted}
 use Rattle.dsr_slot.specs.Decision.{decision}
 use Rattle.dsr_slot.proofs.Lemmas.{after_same}
-use Rattle.dsr_replica.specs.declared.envelope.Envelope.{Envelope}
-use Rattle.dsr_replica.specs.declared.entry.Entry.{Entry}
-use Rattle.dsr_replica.specs.declared.entry.Entry.TheVariants.{Post, Take}
+use Rattle.dsr_envelope.specs.declared.envelope.Envelope.{Envelope}
+use Rattle.dsr_envelope.specs.declared.entry.Entry.{Entry}
+use Rattle.dsr_envelope.specs.declared.entry.Entry.TheVariants.{Post, Take}
 use Rattle.dsr_replica.specs.Conduct.{slot_part, chains_posted}
 use Rattle.dsr_replica.specs.Decided.{chains_of, sent, read_in, slot_read, slot_kept, slot_decided, values, decided_values}
-use Rattle.dsr_replica.specs.Log.{taken_from, rounds}
+use Rattle.dsr_envelope.specs.Log.{taken_from, rounds}
 use Rattle.dsr_replica.proofs.Joining.{each_same, get_before_if}
 
 -- all envelopes of the first rounds are taken

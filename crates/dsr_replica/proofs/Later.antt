@@ -17,15 +17,15 @@ use Rattle.dsr_desk.specs.Signature.{Signature}
 use Rattle.dsr_chain.specs.Chain.{Chain}
 use Rattle.dsr_chain.specs.Content.{requests_in}
 use Rattle.dsr_chain.specs.Proper.{IsReplica}
-use Rattle.dsr_replica.specs.declared.envelope.Envelope.{Envelope}
-use Rattle.dsr_replica.specs.declared.envelope.Envelope.TheVariants.{Reply}
-use Rattle.dsr_replica.specs.declared.entry.Entry.{Entry}
-use Rattle.dsr_replica.specs.declared.entry.Entry.TheVariants.{Post, Take}
+use Rattle.dsr_envelope.specs.declared.envelope.Envelope.{Envelope}
+use Rattle.dsr_envelope.specs.declared.envelope.Envelope.TheVariants.{Reply}
+use Rattle.dsr_envelope.specs.declared.entry.Entry.{Entry}
+use Rattle.dsr_envelope.specs.declared.entry.Entry.TheVariants.{Post, Take}
 use Rattle.dsr_replica.specs.Conduct.{reply_to, chains_posted, IsNext, IsLoyalLog}
 use Rattle.dsr_replica.specs.Counts.{IsInside}
 use Rattle.dsr_replica.specs.Decided.{read_in, slot_kept, decided_values, decided_requests}
-use Rattle.dsr_replica.specs.Envelope.{chains_for, round_envelope, Carries}
-use Rattle.dsr_replica.specs.Log.{posted_to, rounds}
+use Rattle.dsr_envelope.specs.Envelope.{chains_for, round_envelope, Carries}
+use Rattle.dsr_envelope.specs.Log.{posted_to, rounds}
 use Rattle.dsr_replica.specs.Posts.{IsOfRound, WasTaken, IsPosted}
 use Rattle.dsr_replica.proofs.Counting.{post_due, counts, all_taken}
 use Rattle.dsr_replica.proofs.Growing.{read_same, kept_same, decided_grow, rounds_grow}

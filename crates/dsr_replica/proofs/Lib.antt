@@ -3,7 +3,6 @@ mod Asks
 mod Blindness
 mod Choosing
 mod Counting
-mod Distinct
 mod Fitting
 mod Growing
 mod InFlight

@@ -1,12 +1,12 @@
 -- A loyal log gets one entry more.
 use Rattle.std.proofs.Common.{◌≡◌, ℕ, suc, ◌<◌, List, ◌∷◌, Some, refl, ap, sym, subst}
 use Rattle.dsr_names.specs.declared.actor.Actor.TheVariants.{Replica as ReplicaNumber, Client as ClientNumber}
-use Rattle.dsr_replica.specs.declared.envelope.Envelope.{Envelope}
-use Rattle.dsr_replica.specs.declared.entry.Entry.{Entry}
-use Rattle.dsr_replica.specs.declared.entry.Entry.TheVariants.{Post}
-use Rattle.dsr_replica.specs.declared.step.Pick.{Pick}
+use Rattle.dsr_envelope.specs.declared.envelope.Envelope.{Envelope}
+use Rattle.dsr_envelope.specs.declared.entry.Entry.{Entry}
+use Rattle.dsr_envelope.specs.declared.entry.Entry.TheVariants.{Post}
+use Rattle.dsr_envelope.specs.declared.step.Pick.{Pick}
 use Rattle.dsr_replica.specs.Conduct.{IsLoyalLog, IsNext, envelope_to, reply_to}
-use Rattle.dsr_replica.specs.Pick.{IsPick}
+use Rattle.dsr_envelope.specs.Pick.{IsPick}
 use Rattle.dsr_replica.specs.Replica.{Replica, StandsFor}
 use Rattle.dsr_replica.specs.Support.LoyalLogs.{HasLog}
 

@@ -7,18 +7,18 @@ use Rattle.std.proofs.lemmas.Option.{none-some, same_Some, slice_get_within}
 use Rattle.dsr_names.specs.Shape.{Shape}
 use Rattle.dsr_names.specs.declared.actor.Actor.{Actor}
 use Rattle.dsr_names.specs.declared.actor.Actor.TheVariants.{Replica, Client}
-use Rattle.dsr_replica.specs.declared.envelope.Envelope.{Envelope}
-use Rattle.dsr_replica.specs.declared.entry.Entry.{Entry}
-use Rattle.dsr_replica.specs.declared.entry.Entry.TheVariants.{Post, Take}
-use Rattle.dsr_replica.specs.declared.step.Due.{Due}
-use Rattle.dsr_replica.specs.declared.step.Due.TheVariants.{Post as PostTo, Take as TakeFrom}
-use Rattle.dsr_replica.specs.declared.step.Pick.{Pick}
-use Rattle.dsr_replica.specs.declared.step.Pick.TheVariants.{Plain, From, Begin}
+use Rattle.dsr_envelope.specs.declared.envelope.Envelope.{Envelope}
+use Rattle.dsr_envelope.specs.declared.entry.Entry.{Entry}
+use Rattle.dsr_envelope.specs.declared.entry.Entry.TheVariants.{Post, Take}
+use Rattle.dsr_envelope.specs.declared.step.Due.{Due}
+use Rattle.dsr_envelope.specs.declared.step.Due.TheVariants.{Post as PostTo, Take as TakeFrom}
+use Rattle.dsr_envelope.specs.declared.step.Pick.{Pick}
+use Rattle.dsr_envelope.specs.declared.step.Pick.TheVariants.{Plain, From, Begin}
 use Rattle.dsr_replica.specs.Conduct.{proposed, envelope_with, chosen, is_due, envelope_to, IsLoyalLog}
 use Rattle.dsr_replica.specs.Counts.{posts_at}
-use Rattle.dsr_replica.specs.Envelope.{round_envelope}
-use Rattle.dsr_replica.specs.Log.{posted_to, due, rounds}
-use Rattle.dsr_replica.specs.Pick.{IsPick}
+use Rattle.dsr_envelope.specs.Envelope.{round_envelope}
+use Rattle.dsr_envelope.specs.Log.{posted_to, due, rounds}
+use Rattle.dsr_envelope.specs.Pick.{IsPick}
 use Rattle.dsr_replica.specs.Posts.{IsOfRound}
 use Rattle.dsr_replica.proofs.Asks.{proposed_may, may_later}
 use Rattle.dsr_replica.proofs.Counting.{post_due, counts, all_taken}

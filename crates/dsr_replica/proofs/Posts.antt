@@ -15,13 +15,13 @@ use Rattle.dsr_slot.specs.Broadcast.{from_each}
 use Rattle.dsr_slot.specs.Conduct.{posted}
 use Rattle.dsr_slot.specs.Keeping.{keep}
 use Rattle.dsr_slot.specs.SlotState.{SlotState, HasRead}
-use Rattle.dsr_replica.specs.declared.entry.Entry.{Entry}
-use Rattle.dsr_replica.specs.declared.step.Due.TheVariants.{Post as PostTo}
+use Rattle.dsr_envelope.specs.declared.entry.Entry.{Entry}
+use Rattle.dsr_envelope.specs.declared.step.Due.TheVariants.{Post as PostTo}
 use Rattle.dsr_replica.specs.Conduct.{slot_part, chains_posted, envelope_with}
 use Rattle.dsr_replica.specs.Counts.{takes_at}
 use Rattle.dsr_replica.specs.Decided.{read_in, slot_read, slot_kept}
-use Rattle.dsr_replica.specs.Envelope.{round_envelope}
-use Rattle.dsr_replica.specs.Log.{taken_from, due}
+use Rattle.dsr_envelope.specs.Envelope.{round_envelope}
+use Rattle.dsr_envelope.specs.Log.{taken_from, due}
 use Rattle.dsr_replica.specs.Replica.{Replica, StandsFor}
 use Rattle.dsr_replica.specs.Support.Flights.{AreInFlight, HasOpenRound, slot_post, posts_of}
 use Rattle.dsr_replica.proofs.InFlight.{open_from}

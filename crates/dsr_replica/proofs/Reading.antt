@@ -14,15 +14,15 @@ use Rattle.dsr_chain.specs.Chain.{Chain}
 use Rattle.dsr_slot.specs.Broadcast.{from_each}
 use Rattle.dsr_slot.specs.Keeping.{keep_one, keep}
 use Rattle.dsr_slot.specs.SlotState.{SlotState, HasRead, opened, with_closed}
-use Rattle.dsr_replica.specs.declared.envelope.Envelope.{Envelope}
-use Rattle.dsr_replica.specs.declared.entry.Entry.{Entry}
-use Rattle.dsr_replica.specs.declared.entry.Entry.TheVariants.{Take}
-use Rattle.dsr_replica.specs.declared.step.Due.{Due}
-use Rattle.dsr_replica.specs.declared.step.Due.TheVariants.{Post as PostTo, Take as TakeFrom}
+use Rattle.dsr_envelope.specs.declared.envelope.Envelope.{Envelope}
+use Rattle.dsr_envelope.specs.declared.entry.Entry.{Entry}
+use Rattle.dsr_envelope.specs.declared.entry.Entry.TheVariants.{Take}
+use Rattle.dsr_envelope.specs.declared.step.Due.{Due}
+use Rattle.dsr_envelope.specs.declared.step.Due.TheVariants.{Post as PostTo, Take as TakeFrom}
 use Rattle.dsr_replica.specs.Counts.{takes_at, HasCounts}
 use Rattle.dsr_replica.specs.Decided.{chains_of, sent, read_in, slot_read, slot_kept}
-use Rattle.dsr_replica.specs.Envelope.{chains_for}
-use Rattle.dsr_replica.specs.Log.{taken_from, due}
+use Rattle.dsr_envelope.specs.Envelope.{chains_for}
+use Rattle.dsr_envelope.specs.Log.{taken_from, due}
 use Rattle.dsr_replica.specs.Support.Flights.{with_chains}
 use Rattle.dsr_replica.proofs.Growing.{HasTaken, kept_same}
 use Rattle.dsr_replica.proofs.Joining.{each_same, get_last}

@@ -11,9 +11,9 @@ use Rattle.dsr_request.specs.Request.{Request}
 use Rattle.dsr_ledger.specs.declared.reply.Reply.{Reply as AReply}
 use Rattle.dsr_history.specs.History.{acted, reply, IsReplyTo}
 use Rattle.dsr_history.proofs.Lemmas.{reply_stands, stands_later}
-use Rattle.dsr_replica.specs.declared.envelope.Envelope.TheVariants.{Reply}
-use Rattle.dsr_replica.specs.declared.entry.Entry.{Entry}
-use Rattle.dsr_replica.specs.declared.entry.Entry.TheVariants.{Post}
+use Rattle.dsr_envelope.specs.declared.envelope.Envelope.TheVariants.{Reply}
+use Rattle.dsr_envelope.specs.declared.entry.Entry.{Entry}
+use Rattle.dsr_envelope.specs.declared.entry.Entry.TheVariants.{Post}
 use Rattle.dsr_replica.specs.Conduct.{IsNext, IsLoyalLog}
 use Rattle.dsr_replica.specs.Decided.{decided_requests}
 use Rattle.dsr_replica.proofs.Later.{history_later}

@@ -22,14 +22,14 @@ use Rattle.dsr_chain.specs.Content.{signed_in, requests_in}
 use Rattle.dsr_chain.specs.declared.signed_request.SignedRequest.{SignedRequest}
 use Rattle.dsr_chain.specs.declared.slot_value.SlotValue.{SlotValue}
 use Rattle.dsr_slot.proofs.Lemmas.{decision_from, after_came, from_map}
-use Rattle.dsr_replica.specs.declared.envelope.Envelope.{Envelope}
-use Rattle.dsr_replica.specs.declared.envelope.Envelope.TheVariants.{Reply}
-use Rattle.dsr_replica.specs.declared.entry.Entry.{Entry}
-use Rattle.dsr_replica.specs.declared.entry.Entry.TheVariants.{Post, Take}
+use Rattle.dsr_envelope.specs.declared.envelope.Envelope.{Envelope}
+use Rattle.dsr_envelope.specs.declared.envelope.Envelope.TheVariants.{Reply}
+use Rattle.dsr_envelope.specs.declared.entry.Entry.{Entry}
+use Rattle.dsr_envelope.specs.declared.entry.Entry.TheVariants.{Post, Take}
 use Rattle.dsr_replica.specs.Conduct.{reply_to, IsNext, IsLoyalLog}
 use Rattle.dsr_replica.specs.Decided.{slot_read, slot_kept, slot_decided, values, decided_values, decided_requests}
-use Rattle.dsr_replica.specs.Limits.{IsSigned, IsEnvelope, IsReply}
-use Rattle.dsr_replica.specs.Log.{rounds}
+use Rattle.dsr_envelope.specs.Limits.{IsSigned, IsEnvelope, IsReply}
+use Rattle.dsr_envelope.specs.Log.{rounds}
 use Rattle.dsr_replica.proofs.Fitting.{read_fits, of_round_fits}
 use Rattle.dsr_replica.proofs.Posting.{next_of_round}
 

@@ -19,14 +19,14 @@ use Rattle.dsr_chain.specs.declared.signed_request.SignedRequest.{SignedRequest}
 use Rattle.dsr_chain.specs.declared.slot_value.SlotValue.{SlotValue}
 use Rattle.dsr_slot.specs.Conduct.{posted}
 use Rattle.dsr_slot.proofs.Lemmas.{by_test, from_one, from_map, post_proper, post_cases, WasRelayed, IsStart}
-use Rattle.dsr_replica.specs.declared.envelope.Envelope.{Envelope}
-use Rattle.dsr_replica.specs.declared.envelope.Envelope.TheVariants.{Empty, Round, Ask, Reply, Seen}
-use Rattle.dsr_replica.specs.declared.entry.Entry.{Entry}
-use Rattle.dsr_replica.specs.declared.entry.Entry.TheVariants.{Post, Take}
+use Rattle.dsr_envelope.specs.declared.envelope.Envelope.{Envelope}
+use Rattle.dsr_envelope.specs.declared.envelope.Envelope.TheVariants.{Empty, Round, Ask, Reply, Seen}
+use Rattle.dsr_envelope.specs.declared.entry.Entry.{Entry}
+use Rattle.dsr_envelope.specs.declared.entry.Entry.TheVariants.{Post, Take}
 use Rattle.dsr_replica.specs.Conduct.{slot_part, chains_posted}
 use Rattle.dsr_replica.specs.Decided.{chains_of, sent, read_in, slot_read, slot_kept}
-use Rattle.dsr_replica.specs.Envelope.{chains_for, round_envelope, IsOn, Carries}
-use Rattle.dsr_replica.specs.Log.{taken_from}
+use Rattle.dsr_envelope.specs.Envelope.{chains_for, round_envelope, IsOn, Carries}
+use Rattle.dsr_envelope.specs.Log.{taken_from}
 use Rattle.dsr_replica.specs.Posts.{MayPropose, IsOfRound, WasTaken, IsPosted}
 
 -- ---- what was taken

@@ -25,16 +25,16 @@ use Rattle.dsr_chain.specs.declared.slot_value.SlotValue.{SlotValue}
 use Rattle.dsr_slot.specs.Decision.{decision}
 use Rattle.dsr_slot.specs.SlotState.{SlotState, HasRead, opened, with_closed}
 use Rattle.dsr_slot.proofs.Lemmas.{from_map, after_same}
-use Rattle.dsr_replica.specs.declared.envelope.Envelope.{Envelope}
-use Rattle.dsr_replica.specs.declared.envelope.Envelope.TheVariants.{Empty, Round, Ask, Reply, Seen}
-use Rattle.dsr_replica.specs.declared.entry.Entry.{Entry}
-use Rattle.dsr_replica.specs.declared.entry.Entry.TheVariants.{Post, Take}
-use Rattle.dsr_replica.specs.declared.step.Due.{Due}
-use Rattle.dsr_replica.specs.declared.step.Due.TheVariants.{Post as PostTo, Take as TakeFrom}
+use Rattle.dsr_envelope.specs.declared.envelope.Envelope.{Envelope}
+use Rattle.dsr_envelope.specs.declared.envelope.Envelope.TheVariants.{Empty, Round, Ask, Reply, Seen}
+use Rattle.dsr_envelope.specs.declared.entry.Entry.{Entry}
+use Rattle.dsr_envelope.specs.declared.entry.Entry.TheVariants.{Post, Take}
+use Rattle.dsr_envelope.specs.declared.step.Due.{Due}
+use Rattle.dsr_envelope.specs.declared.step.Due.TheVariants.{Post as PostTo, Take as TakeFrom}
 use Rattle.dsr_replica.specs.Counts.{IsInside, takes_at, HasCounts}
 use Rattle.dsr_replica.specs.Decided.{slot_read, slot_kept, slot_decided, values, chains_of, sent, decided_values}
-use Rattle.dsr_replica.specs.Envelope.{chains_for, round_envelope}
-use Rattle.dsr_replica.specs.Log.{taken_from, due, rounds}
+use Rattle.dsr_envelope.specs.Envelope.{chains_for, round_envelope}
+use Rattle.dsr_envelope.specs.Log.{taken_from, due, rounds}
 use Rattle.dsr_replica.specs.Replica.{Replica, IsLaterPost, ask_of, StandsFor}
 use Rattle.dsr_replica.specs.Support.Flights.{Flights, AreInFlight, with_chains, going_on, rest_of, first_decided, decided_with}
 use Rattle.dsr_replica.specs.Support.ReplicaFields.{with_envelope, with_decided, next_round}

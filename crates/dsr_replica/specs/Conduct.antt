@@ -14,19 +14,19 @@ use Rattle.dsr_chain.specs.declared.slot_value.SlotValue.{SlotValue}
 use Rattle.dsr_chain.specs.declared.slot_value.SlotValue.TheVariants.{Idle, Act}
 use Rattle.dsr_slot.specs.Broadcast.{from_each}
 use Rattle.dsr_slot.specs.Conduct.{posted}
-use Rattle.dsr_replica.specs.declared.envelope.Envelope.{Envelope}
-use Rattle.dsr_replica.specs.declared.envelope.Envelope.TheVariants.{Reply}
-use Rattle.dsr_replica.specs.declared.entry.Entry.{Entry}
-use Rattle.dsr_replica.specs.declared.entry.Entry.TheVariants.{Post, Take}
-use Rattle.dsr_replica.specs.declared.step.Pick.{Pick}
-use Rattle.dsr_replica.specs.declared.step.Pick.TheVariants.{Plain, From, Begin}
-use Rattle.dsr_replica.specs.declared.step.Due.{Due}
-use Rattle.dsr_replica.specs.declared.step.Due.TheVariants.{Post as PostTo, Take as TakeFrom}
+use Rattle.dsr_envelope.specs.declared.envelope.Envelope.{Envelope}
+use Rattle.dsr_envelope.specs.declared.envelope.Envelope.TheVariants.{Reply}
+use Rattle.dsr_envelope.specs.declared.entry.Entry.{Entry}
+use Rattle.dsr_envelope.specs.declared.entry.Entry.TheVariants.{Post, Take}
+use Rattle.dsr_envelope.specs.declared.step.Pick.{Pick}
+use Rattle.dsr_envelope.specs.declared.step.Pick.TheVariants.{Plain, From, Begin}
+use Rattle.dsr_envelope.specs.declared.step.Due.{Due}
+use Rattle.dsr_envelope.specs.declared.step.Due.TheVariants.{Post as PostTo, Take as TakeFrom}
 use Rattle.dsr_replica.specs.Decided.{slot_kept, decided_requests}
-use Rattle.dsr_replica.specs.Envelope.{round_envelope}
+use Rattle.dsr_envelope.specs.Envelope.{round_envelope}
 use Rattle.dsr_replica.specs.Held.{all_held}
-use Rattle.dsr_replica.specs.Log.{posted_to, due, rounds}
-use Rattle.dsr_replica.specs.Pick.{IsPick}
+use Rattle.dsr_envelope.specs.Log.{posted_to, due, rounds}
+use Rattle.dsr_envelope.specs.Pick.{IsPick}
 
 -- what a replica posts of one slot in global round t: nothing where the slot is not in flight. The value is the one that it
 -- proposes where it starts a chain

@@ -12,10 +12,10 @@ use Rattle.dsr_slot.specs.Broadcast.{from_each}
 use Rattle.dsr_slot.specs.Decision.{decided}
 use Rattle.dsr_slot.specs.Keeping.{kept_after}
 use Rattle.dsr_slot.specs.declared.kept.Kept.{Kept}
-use Rattle.dsr_replica.specs.declared.envelope.Envelope.{Envelope}
-use Rattle.dsr_replica.specs.declared.entry.Entry.{Entry}
-use Rattle.dsr_replica.specs.Envelope.{chains_for}
-use Rattle.dsr_replica.specs.Log.{taken_from, rounds}
+use Rattle.dsr_envelope.specs.declared.envelope.Envelope.{Envelope}
+use Rattle.dsr_envelope.specs.declared.entry.Entry.{Entry}
+use Rattle.dsr_envelope.specs.Envelope.{chains_for}
+use Rattle.dsr_envelope.specs.Log.{taken_from, rounds}
 
 -- the chains for this round in the envelope that was taken, if one was
 abbrev pub chains_of : ℕ → Option Envelope → List Chain

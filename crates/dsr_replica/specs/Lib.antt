@@ -1,11 +1,7 @@
 pub mod Conduct
 pub mod Counts
 pub mod Decided
-pub mod Envelope
 pub mod Held
-pub mod Limits
-pub mod Log
-pub mod Pick
 pub mod Posts
 pub mod Replica
 pub mod Support

@@ -13,13 +13,13 @@ use Rattle.dsr_chain.specs.Proper.{IsAsked, IsProper}
 use Rattle.dsr_chain.specs.declared.signed_request.SignedRequest.{SignedRequest}
 use Rattle.dsr_chain.specs.declared.slot_value.SlotValue.{SlotValue}
 use Rattle.dsr_slot.specs.Conduct.{posted}
-use Rattle.dsr_replica.specs.declared.envelope.Envelope.{Envelope}
-use Rattle.dsr_replica.specs.declared.envelope.Envelope.TheVariants.{Ask}
-use Rattle.dsr_replica.specs.declared.entry.Entry.{Entry}
-use Rattle.dsr_replica.specs.declared.entry.Entry.TheVariants.{Take}
+use Rattle.dsr_envelope.specs.declared.envelope.Envelope.{Envelope}
+use Rattle.dsr_envelope.specs.declared.envelope.Envelope.TheVariants.{Ask}
+use Rattle.dsr_envelope.specs.declared.entry.Entry.{Entry}
+use Rattle.dsr_envelope.specs.declared.entry.Entry.TheVariants.{Take}
 use Rattle.dsr_replica.specs.Conduct.{chains_posted}
 use Rattle.dsr_replica.specs.Decided.{slot_kept}
-use Rattle.dsr_replica.specs.Envelope.{Carries, round_envelope}
+use Rattle.dsr_envelope.specs.Envelope.{Carries, round_envelope}
 
 -- a value that a loyal replica may propose: idle, or 1 to 8 requests of different clients of the shape, each with the signature
 -- that stood beside it in an ask which the replica took from its client

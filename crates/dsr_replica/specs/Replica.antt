@@ -13,16 +13,16 @@ use Rattle.dsr_chain.specs.declared.signed_request.SignedRequest.{SignedRequest}
 use Rattle.dsr_chain.specs.declared.slot_value.SlotValue.{SlotValue}
 use Rattle.dsr_chain.specs.declared.slot_value.SlotValue.TheVariants.{Idle, Act}
 use Rattle.dsr_slot.specs.SlotState.{SlotState, HasRead}
-use Rattle.dsr_replica.specs.declared.entry.Entry.{Entry}
-use Rattle.dsr_replica.specs.declared.step.Pick.{Pick}
-use Rattle.dsr_replica.specs.declared.step.Pick.TheVariants.{Plain, From, Begin}
-use Rattle.dsr_replica.specs.declared.step.Due.{Due}
-use Rattle.dsr_replica.specs.declared.step.Due.TheVariants.{Post as PostTo, Take as TakeFrom}
+use Rattle.dsr_envelope.specs.declared.entry.Entry.{Entry}
+use Rattle.dsr_envelope.specs.declared.step.Pick.{Pick}
+use Rattle.dsr_envelope.specs.declared.step.Pick.TheVariants.{Plain, From, Begin}
+use Rattle.dsr_envelope.specs.declared.step.Due.{Due}
+use Rattle.dsr_envelope.specs.declared.step.Due.TheVariants.{Post as PostTo, Take as TakeFrom}
 use Rattle.dsr_replica.specs.Conduct.{envelope_with, is_due}
 use Rattle.dsr_replica.specs.Counts.{HasCounts}
 use Rattle.dsr_replica.specs.Decided.{slot_read, decided_values}
 use Rattle.dsr_replica.specs.Held.{held, put_before}
-use Rattle.dsr_replica.specs.Log.{posted_to, due}
+use Rattle.dsr_envelope.specs.Log.{posted_to, due}
 
 -- who it is, of which shape; what is due; the round in progress and the slots in flight in it; what was decided of the closed
 -- slots, the latest first; what it proposes in the round; the asks that it holds, by client; and for how many more requests

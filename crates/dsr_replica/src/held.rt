@@ -1,13 +1,13 @@
 ghost use Rattle.std.specs.Prelude.{◌≡◌, ℕ, ◌<◌, ◌≤◌, ◌&&◌, ◌↔◌, None, IfOk, IsOkUnless, IsSome, IsTrue, length, slice_index_or, slice_set};
 ghost use Rattle.dsr_chain.specs.declared.signed_request.SignedRequest.{SignedRequest};
-ghost use Rattle.dsr_replica.specs.declared.envelope.Envelope.TheVariants.{Ask};
+ghost use Rattle.dsr_envelope.specs.declared.envelope.Envelope.TheVariants.{Ask};
 ghost use Rattle.dsr_replica.specs.Held.{is_own_ask, gives_way, held_with};
 ghost use Rattle.dsr_replica.specs.Replica.{ask_of, asks_of};
 ghost use Rattle.dsr_replica.specs.Support.Asks.{asks_with};
 
-use crate::envelope::Envelope;
 use dsr_base::Few;
 use dsr_chain::{Batch, SignedRequest};
+use dsr_envelope::Envelope;
 use dsr_names::{ClientId, Refusal, Shape};
 use std::alloc::Global;
 use std::marker::Model;

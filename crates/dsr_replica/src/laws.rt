@@ -13,19 +13,19 @@ ghost use Rattle.dsr_rotation.specs.Calendar.{first_round};
 ghost use Rattle.dsr_desk.specs.Signature.{Signature};
 ghost use Rattle.dsr_chain.specs.Chain.{Chain};
 ghost use Rattle.dsr_chain.specs.Proper.{IsReplica};
-ghost use Rattle.dsr_replica.specs.declared.envelope.Envelope.{Envelope};
-ghost use Rattle.dsr_replica.specs.declared.entry.Entry.{Entry};
-ghost use Rattle.dsr_replica.specs.declared.entry.Entry.TheVariants.{Post, Take};
-ghost use Rattle.dsr_replica.specs.declared.step.Due.TheVariants.{Take as TakeFrom};
-ghost use Rattle.dsr_replica.specs.declared.step.Pick.{Pick};
+ghost use Rattle.dsr_envelope.specs.declared.envelope.Envelope.{Envelope};
+ghost use Rattle.dsr_envelope.specs.declared.entry.Entry.{Entry};
+ghost use Rattle.dsr_envelope.specs.declared.entry.Entry.TheVariants.{Post, Take};
+ghost use Rattle.dsr_envelope.specs.declared.step.Due.TheVariants.{Take as TakeFrom};
+ghost use Rattle.dsr_envelope.specs.declared.step.Pick.{Pick};
 ghost use Rattle.dsr_replica.specs.Conduct.{envelope_to, reply_to, IsNext, IsLoyalLog};
 ghost use Rattle.dsr_replica.specs.Counts.{HasCounts};
 ghost use Rattle.dsr_replica.specs.Decided.{read_in, slot_kept, decided_values, decided_requests};
-ghost use Rattle.dsr_replica.specs.Envelope.{chains_for, Carries};
+ghost use Rattle.dsr_envelope.specs.Envelope.{chains_for, Carries};
 ghost use Rattle.dsr_replica.specs.Held.{held};
-ghost use Rattle.dsr_replica.specs.Limits.{IsEnvelope};
-ghost use Rattle.dsr_replica.specs.Log.{posted_to, due, rounds};
-ghost use Rattle.dsr_replica.specs.Pick.{IsPick};
+ghost use Rattle.dsr_envelope.specs.Limits.{IsEnvelope};
+ghost use Rattle.dsr_envelope.specs.Log.{posted_to, due, rounds};
+ghost use Rattle.dsr_envelope.specs.Pick.{IsPick};
 ghost use Rattle.dsr_replica.specs.Posts.{IsOfRound, IsPosted, WasTaken};
 
 /// The log of a `Replica` is a loyal one: the empty log is, and so is a loyal log with the entry that a call adds. That is a post to

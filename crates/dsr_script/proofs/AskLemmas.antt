@@ -9,7 +9,7 @@ use Rattle.dsr_request.specs.RequestText.{request_token, IsRequest}
 use Rattle.dsr_request.specs.Support.RequestToken.{token_without}
 use Rattle.dsr_desk.specs.declared.statement.Statement.TheVariants.{Ask}
 use Rattle.dsr_chain.specs.declared.signed_request.SignedRequest.{SignedRequest}
-use Rattle.dsr_replica.specs.Limits.{IsSigned}
+use Rattle.dsr_envelope.specs.Limits.{IsSigned}
 use Rattle.dsr_script.specs.SignatureText.{Spelled, spelled_text}
 use Rattle.dsr_script.specs.ChainText.{signed_text}
 use Rattle.dsr_script.specs.Support.SpelledText.{IsSpelled, pair_of}

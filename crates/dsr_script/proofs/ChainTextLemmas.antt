@@ -21,7 +21,7 @@ use Rattle.dsr_chain.specs.Content.{content}
 use Rattle.dsr_chain.specs.declared.signed_request.SignedRequest.{SignedRequest}
 use Rattle.dsr_chain.specs.declared.slot_value.SlotValue.{SlotValue}
 use Rattle.dsr_chain.specs.declared.slot_value.SlotValue.TheVariants.{Idle, Act}
-use Rattle.dsr_replica.specs.Limits.{IsCount, IsSignature, IsSigned}
+use Rattle.dsr_envelope.specs.Limits.{IsCount, IsSignature, IsSigned}
 use Rattle.dsr_script.specs.SignatureText.{Spelled, spelled_at, spelled_text}
 use Rattle.dsr_script.specs.ChainText.{value_text, chain_text, spelled_links, IsValue, IsSpelledChain}
 use Rattle.dsr_script.specs.Support.SpelledText.{IsSpelled, pair_of}

@@ -16,9 +16,9 @@ use Rattle.dsr_request.specs.AnswerText.{answer_text, IsAnswer}
 use Rattle.dsr_request.specs.declared.answer.Answer.{Answer}
 use Rattle.dsr_ledger.specs.declared.reply.Reply.{Reply as AReply}
 use Rattle.dsr_chain.specs.Chain.{Chain}
-use Rattle.dsr_replica.specs.Limits.{IsCount}
-use Rattle.dsr_replica.specs.declared.envelope.Envelope.{Envelope}
-use Rattle.dsr_replica.specs.declared.envelope.Envelope.TheVariants.{Empty, Round, Ask, Reply, Seen}
+use Rattle.dsr_envelope.specs.Limits.{IsCount}
+use Rattle.dsr_envelope.specs.declared.envelope.Envelope.{Envelope}
+use Rattle.dsr_envelope.specs.declared.envelope.Envelope.TheVariants.{Empty, Round, Ask, Reply, Seen}
 use Rattle.dsr_script.specs.ChainText.{chain_text, IsSpelledChain}
 use Rattle.dsr_script.specs.EnvelopeText.{envelope_text, reply_text, IsSpelledEnvelope}
 use Rattle.dsr_script.specs.Support.EnvelopeParts.{IsSpelledReply, IsNumber, IsRound, round_text, reply_parts, round_of}

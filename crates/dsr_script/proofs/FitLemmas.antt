@@ -3,7 +3,7 @@ use Rattle.std.proofs.Common.{All, ◌≡◌, ◌≤◌, ◌↔◌, Bool, List, 
 use Rattle.std.proofs.lemmas.List.Elements.{All-nil}
 use Rattle.dsr_chain.specs.Support.SignedLists.{value_of}
 use Rattle.dsr_chain.specs.declared.signed_request.SignedRequest.{SignedRequest}
-use Rattle.dsr_replica.specs.Limits.{IsCount, IsSigned}
+use Rattle.dsr_envelope.specs.Limits.{IsCount, IsSigned}
 use Rattle.dsr_base.specs.Joined.{AreUpTo}
 use Rattle.dsr_chain.specs.Chain.{Chain}
 use Rattle.dsr_chain.specs.Content.{content}

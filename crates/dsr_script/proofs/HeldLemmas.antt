@@ -10,9 +10,9 @@ use Rattle.dsr_desk.specs.Signature.{Signature}
 use Rattle.dsr_chain.specs.Chain.{Chain}
 use Rattle.dsr_chain.specs.Content.{signed_in}
 use Rattle.dsr_chain.specs.declared.signed_request.SignedRequest.{SignedRequest}
-use Rattle.dsr_replica.specs.Envelope.{IsOn}
-use Rattle.dsr_replica.specs.declared.envelope.Envelope.{Envelope}
-use Rattle.dsr_replica.specs.declared.envelope.Envelope.TheVariants.{Empty, Round, Ask, Reply, Seen}
+use Rattle.dsr_envelope.specs.Envelope.{IsOn}
+use Rattle.dsr_envelope.specs.declared.envelope.Envelope.{Envelope}
+use Rattle.dsr_envelope.specs.declared.envelope.Envelope.TheVariants.{Empty, Round, Ask, Reply, Seen}
 use Rattle.dsr_script.specs.Held.{IsHeldOrKnown, IsUnforged}
 use Rattle.dsr_script.specs.Support.Carried.{IsHeldRequest, IsHeldChain, IsHeldEnvelope}
 use Rattle.dsr_script.specs.Support.Noted.{beside}

@@ -8,9 +8,9 @@ use Rattle.indexmap.specs.IndexMap.{insert_entry}
 use Rattle.dsr_desk.specs.Signature.{Signature}
 use Rattle.dsr_chain.specs.Chain.{Chain}
 use Rattle.dsr_chain.specs.Content.{signed_in}
-use Rattle.dsr_replica.specs.Envelope.{Carries, IsOn}
-use Rattle.dsr_replica.specs.declared.envelope.Envelope.{Envelope}
-use Rattle.dsr_replica.specs.declared.envelope.Envelope.TheVariants.{Empty, Round, Ask, Reply, Seen}
+use Rattle.dsr_envelope.specs.Envelope.{Carries, IsOn}
+use Rattle.dsr_envelope.specs.declared.envelope.Envelope.{Envelope}
+use Rattle.dsr_envelope.specs.declared.envelope.Envelope.TheVariants.{Empty, Round, Ask, Reply, Seen}
 use Rattle.dsr_script.specs.Known.{StandFor}
 use Rattle.dsr_script.specs.Support.Carried.{carried, on_chain}
 use Rattle.dsr_script.specs.Support.Noted.{noted, noted_all, beside, AreOwn}

@@ -5,7 +5,7 @@ use Rattle.dsr_names.specs.Shape.{Shape}
 use Rattle.dsr_script.specs.declared.serve_line.ServeLine.{ServeLine}
 use Rattle.dsr_script.specs.ServeText.{CanFollow, serve_scripts}
 use Rattle.dsr_script.specs.Script.{Script, Spells, SaysTheSame, Gives}
-use Rattle.dsr_script.proofs.LinesLemmas.{TakenSoFar}
+use Rattle.dsr_text.proofs.LinesLemmas.{TakenSoFar}
 
 -- the lines before the rest were taken in, in a text of this shape
 abbrev pub TakenIn : Shape → List ℕ → List ℕ → ℕ → Script → Type 0

@@ -14,7 +14,7 @@ use Rattle.dsr_names.specs.declared.actor.Actor.{Actor}
 use Rattle.dsr_names.specs.declared.actor.Actor.TheVariants.{Replica, Client}
 use Rattle.dsr_request.specs.declared.op.Op.{Op}
 use Rattle.dsr_request.specs.OpText.{op_text, IsOp}
-use Rattle.dsr_replica.specs.declared.envelope.Envelope.{Envelope}
+use Rattle.dsr_envelope.specs.declared.envelope.Envelope.{Envelope}
 use Rattle.dsr_script.specs.EnvelopeText.{envelope_text, IsSpelledEnvelope}
 use Rattle.dsr_script.specs.declared.place.Place.{Place}
 use Rattle.dsr_script.specs.declared.serve_line.ServeLine.{ServeLine}
@@ -22,7 +22,8 @@ use Rattle.dsr_script.specs.declared.serve_line.ServeLine.TheVariants.{Ask, Post
 use Rattle.dsr_script.specs.ServeText.{line_word, line_rest, line_text, IsLine}
 use Rattle.dsr_script.specs.Script.{place_of}
 use Rattle.dsr_request.specs.Support.Texts.{op_without}
-use Rattle.dsr_script.proofs.FeedLemmas.{IsClean, field_clean, word_clean, number_clean, replica_clean, actor_clean, envelope_clean}
+use Rattle.dsr_text.proofs.Clean.{IsClean, field_clean, word_clean, number_clean, replica_clean, actor_clean}
+use Rattle.dsr_script.proofs.FeedLemmas.{envelope_clean}
 
 -- ---- a client
 

@@ -19,7 +19,7 @@ use Rattle.dsr_desk.specs.StatementText.{IsStatement}
 use Rattle.dsr_desk.specs.Support.StatementEquality.{statement_eq, statement_eq-Decides}
 use Rattle.dsr_desk.specs.declared.statement.Statement.{Statement}
 use Rattle.dsr_script.proofs.PairLemmas.{reads_pair}
-use Rattle.dsr_replica.specs.Limits.{IsSignature}
+use Rattle.dsr_envelope.specs.Limits.{IsSignature}
 use Rattle.dsr_script.specs.SignatureText.{Spelled, spelled_at, spelled_text, other_text}
 use Rattle.dsr_script.specs.Support.SpelledText.{IsSpelled, IsOther, closed_text, long_form, pair_of}
 

@@ -5,9 +5,9 @@ use Rattle.std.specs.Fmt.{decimal}
 use Rattle.dsr_base.specs.Joined.{more_joined, AreUpTo}
 use Rattle.dsr_request.specs.AnswerText.{answer_text, IsAnswer}
 use Rattle.dsr_ledger.specs.declared.reply.Reply.{Reply as AReply}
-use Rattle.dsr_replica.specs.Limits.{IsCount, IsSigned, IsReply}
-use Rattle.dsr_replica.specs.declared.envelope.Envelope.{Envelope}
-use Rattle.dsr_replica.specs.declared.envelope.Envelope.TheVariants.{Empty, Round, Ask, Reply, Seen}
+use Rattle.dsr_envelope.specs.Limits.{IsCount, IsSigned, IsReply}
+use Rattle.dsr_envelope.specs.declared.envelope.Envelope.{Envelope}
+use Rattle.dsr_envelope.specs.declared.envelope.Envelope.TheVariants.{Empty, Round, Ask, Reply, Seen}
 use Rattle.dsr_script.specs.ChainText.{signed_text, chain_text, IsSpelledChain}
 
 -- the text of a reply: number, place and answer

@@ -3,8 +3,8 @@ use Rattle.std.specs.Prelude.{◌≡◌, ◌⊎◌, List, Any}
 use Rattle.dsr_base.specs.Member.{In}
 use Rattle.dsr_names.specs.declared.actor.Actor.{Actor}
 use Rattle.dsr_desk.specs.Signature.{Signature}
-use Rattle.dsr_replica.specs.Envelope.{Carries}
-use Rattle.dsr_replica.specs.declared.envelope.Envelope.{Envelope}
+use Rattle.dsr_envelope.specs.Envelope.{Carries}
+use Rattle.dsr_envelope.specs.declared.envelope.Envelope.{Envelope}
 
 -- one of these holders of keys is the signer
 abbrev pub IsHeld : List Actor → Signature → Type 0

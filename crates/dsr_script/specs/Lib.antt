@@ -1,9 +1,7 @@
 pub mod ChainText
 pub mod EnvelopeText
-pub mod Header
 pub mod Held
 pub mod Known
-pub mod Lines
 pub mod Script
 pub mod ServeText
 pub mod SignatureText

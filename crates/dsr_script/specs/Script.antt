@@ -5,9 +5,9 @@ use Rattle.dsr_names.specs.Shape.{Shape, IsAllowed}
 use Rattle.dsr_names.specs.declared.actor.Actor.{Actor}
 use Rattle.dsr_names.specs.declared.refusal.Refusal.{Refusal}
 use Rattle.dsr_request.specs.declared.op.Op.{Op}
-use Rattle.dsr_replica.specs.declared.envelope.Envelope.{Envelope}
-use Rattle.dsr_script.specs.Header.{BeginsWithHeader}
-use Rattle.dsr_script.specs.Lines.{BeginsWithLines, IsTextRefusal}
+use Rattle.dsr_envelope.specs.declared.envelope.Envelope.{Envelope}
+use Rattle.dsr_text.specs.Header.{BeginsWithHeader}
+use Rattle.dsr_text.specs.Lines.{BeginsWithLines, IsTextRefusal}
 use Rattle.dsr_script.specs.declared.place.Place.{Place}
 use Rattle.dsr_script.specs.declared.serve_line.ServeLine.{ServeLine}
 use Rattle.dsr_script.specs.ServeText.{asked_by, drafted_at, serve_scripts}

@@ -7,12 +7,12 @@ use Rattle.dsr_names.specs.declared.actor.Actor.TheVariants.{Client}
 use Rattle.dsr_names.specs.Shape.{Shape, IsActor, is_traitor}
 use Rattle.dsr_request.specs.declared.op.Op.{Op}
 use Rattle.dsr_request.specs.OpText.{op_text, IsOp}
-use Rattle.dsr_replica.specs.declared.envelope.Envelope.{Envelope}
+use Rattle.dsr_envelope.specs.declared.envelope.Envelope.{Envelope}
 use Rattle.dsr_script.specs.declared.place.Place.{Place}
 use Rattle.dsr_script.specs.declared.serve_line.ServeLine.{ServeLine}
 use Rattle.dsr_script.specs.declared.serve_line.ServeLine.TheVariants.{Ask, Post}
 use Rattle.dsr_script.specs.EnvelopeText.{envelope_text, IsSpelledEnvelope}
-use Rattle.dsr_script.specs.Lines.{TextKind}
+use Rattle.dsr_text.specs.Lines.{TextKind}
 use Rattle.dsr_script.specs.Support.PlaceEquality.{place_eq}
 
 -- ---- one line

@@ -12,4 +12,3 @@ pub mod PlaceHash
 pub mod SaidEquality
 pub mod SaidHash
 pub mod SpelledText
-pub mod TakenLines

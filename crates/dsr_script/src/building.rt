@@ -14,8 +14,8 @@ use crate::said_chain::{SaidChain, link_at};
 use crate::said_text::content_of;
 use dsr_chain::{Batch, Chain, SignedRequest, SlotValue};
 use dsr_desk::{Key, Signature, Signers};
+use dsr_envelope::{Chains, Envelope};
 use dsr_names::{Actor, Refusal};
-use dsr_replica::{Chains, Envelope};
 use dsr_request::Requests;
 use std::alloc::Global;
 

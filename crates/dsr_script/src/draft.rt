@@ -4,8 +4,8 @@ ghost use Rattle.dsr_script.specs.Support.Described.{described};
 use crate::plan::Plan;
 use crate::said::SaidRequest;
 use crate::said_chain::SaidChains;
+use dsr_envelope::Envelope;
 use dsr_names::Refusal;
-use dsr_replica::Envelope;
 use std::alloc::Global;
 use std::marker::Model;
 
@@ -17,7 +17,7 @@ pub struct Draft {
 }
 
 impl Model for Draft {
-    ghost use Rattle.dsr_replica.specs.declared.envelope.Envelope.{Envelope};
+    ghost use Rattle.dsr_envelope.specs.declared.envelope.Envelope.{Envelope};
 
     ghost Value = { Envelope };
 

@@ -5,7 +5,7 @@ ghost use Rattle.dsr_base.specs.Joined.{AreUpTo};
 ghost use Rattle.dsr_names.specs.Token.{IsOld};
 ghost use Rattle.dsr_request.specs.AnswerText.{IsAnswer};
 ghost use Rattle.dsr_chain.specs.Support.SignedLists.{value_of};
-ghost use Rattle.dsr_replica.specs.Limits.{IsCount, IsSignature, IsSigned};
+ghost use Rattle.dsr_envelope.specs.Limits.{IsCount, IsSignature, IsSigned};
 ghost use Rattle.dsr_script.specs.ChainText.{IsValue, IsSpelledChain};
 ghost use Rattle.dsr_script.specs.EnvelopeText.{IsSpelledEnvelope};
 ghost use Rattle.dsr_script.specs.Support.EnvelopeParts.{IsSpelledReply};

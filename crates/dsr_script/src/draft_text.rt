@@ -10,7 +10,6 @@ ghost use Rattle.dsr_ledger.specs.declared.reply.Reply.{Reply as AReply};
 
 use crate::draft::Draft;
 use crate::draft_fits::MOST_CHAINS;
-use crate::items::{read_items, write_more};
 use crate::plan::Plan;
 use crate::said::SaidRequest;
 use crate::said_chain::{SaidChain, SaidChains};
@@ -18,6 +17,7 @@ use dsr_base::split_once;
 use dsr_ledger::Reply;
 use dsr_names::{Refusal, read_num};
 use dsr_request::Answer;
+use dsr_text::{read_items, write_more};
 use std::alloc::Global;
 use std::fmt;
 

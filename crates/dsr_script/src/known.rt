@@ -1,7 +1,7 @@
 ghost use Rattle.std.specs.Prelude.{◌≡◌, ℕ, ◌≤◌, ◌<◌, ◌+◌, ◌*◌, ◌↔◌, ◌⊎◌, [], ◌∷◌, List, length, flat_map, IsOk, IfOk, OnOk, OnErr, IfSome, IsSome, IsTrue, IsOkUnless};
 ghost use Rattle.dsr_base.specs.Member.{In};
 ghost use Rattle.dsr_desk.specs.Signature.{Signature};
-ghost use Rattle.dsr_replica.specs.declared.envelope.Envelope.{Envelope};
+ghost use Rattle.dsr_envelope.specs.declared.envelope.Envelope.{Envelope};
 ghost use Rattle.dsr_chain.specs.Content.{signed_in};
 ghost use Rattle.dsr_script.specs.Support.Carried.{carried, on_chain};
 ghost use Rattle.dsr_script.specs.Support.Noted.{noted, noted_all, beside};
@@ -9,8 +9,8 @@ ghost use Rattle.dsr_script.specs.Support.Noted.{noted, noted_all, beside};
 use crate::said::Said;
 use dsr_chain::{Chain, SignedRequest, SlotValue};
 use dsr_desk::Signature;
+use dsr_envelope::Envelope;
 use dsr_names::Refusal;
-use dsr_replica::Envelope;
 use indexmap::IndexMap;
 use std::alloc::Global;
 use std::marker::Model;
@@ -41,7 +41,7 @@ impl Model for Known {
 }
 
 impl Known {
-    ghost use Rattle.dsr_replica.specs.Envelope.{Carries};
+    ghost use Rattle.dsr_envelope.specs.Envelope.{Carries};
     ghost use Rattle.dsr_script.specs.Known.{StandFor, most_carried};
 
     /// No signature. It takes no memory.

@@ -4,8 +4,8 @@ ghost use Rattle.std.specs.Prelude.{◌≡◌, ◌⊎◌, ℕ, List, Option, Som
 ghost use Rattle.dsr_base.specs.Reads.{Reads};
 ghost use Rattle.dsr_names.specs.declared.actor.Actor.{Actor};
 ghost use Rattle.dsr_desk.specs.Signature.{Signature};
-ghost use Rattle.dsr_replica.specs.Envelope.{Carries};
-ghost use Rattle.dsr_replica.specs.declared.envelope.Envelope.{Envelope};
+ghost use Rattle.dsr_envelope.specs.Envelope.{Carries};
+ghost use Rattle.dsr_envelope.specs.declared.envelope.Envelope.{Envelope};
 ghost use Rattle.dsr_script.specs.EnvelopeText.{envelope_text, IsSpelledEnvelope};
 ghost use Rattle.dsr_script.specs.Known.{StandFor, WasCarried};
 ghost use Rattle.dsr_script.specs.Held.{IsHeld, IsUnforged};

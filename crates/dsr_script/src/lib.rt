@@ -7,8 +7,6 @@ mod building;
 mod draft;
 mod draft_fits;
 mod draft_text;
-mod header;
-mod items;
 mod known;
 mod laws;
 mod ops;
@@ -24,7 +22,7 @@ mod spelled;
 
 pub use building::build;
 pub use draft::Draft;
-pub use header::{Header, read_header};
+pub use dsr_text::{Header, read_header};
 pub use known::Known;
 pub use laws::{nobody_forges, texts_tell_drafts};
 pub use script::Script;

@@ -2,7 +2,7 @@ ghost use Rattle.std.specs.Prelude.{◌≡◌, ◌↔◌, Some, IfOk, IsOkUnless
 ghost use Rattle.dsr_base.specs.Reads.{Reads};
 ghost use Rattle.dsr_desk.specs.Signature.{signed};
 ghost use Rattle.dsr_chain.specs.declared.signed_request.SignedRequest.{SignedRequest};
-ghost use Rattle.dsr_replica.specs.Limits.{IsSigned};
+ghost use Rattle.dsr_envelope.specs.Limits.{IsSigned};
 ghost use Rattle.dsr_script.specs.ChainText.{signed_text};
 ghost use Rattle.dsr_script.specs.Support.AskText.{ask_parts};
 ghost use Rattle.dsr_desk.specs.declared.statement.Statement.TheVariants.{Ask};

@@ -8,10 +8,10 @@ ghost use Rattle.dsr_script.specs.ChainText.{signed_text, value_text, chain_text
 ghost use Rattle.dsr_script.specs.SignatureText.{spelled_text};
 
 use crate::brief::Brief;
-use crate::items::write_more;
 use crate::said::SaidRequest;
 use crate::said_chain::SaidChain;
 use crate::spelled::Spelled;
+use dsr_text::write_more;
 use std::fmt;
 
 impl fmt::Display for Spelled {

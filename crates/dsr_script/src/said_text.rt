@@ -7,7 +7,7 @@ ghost use Rattle.dsr_base.specs.Joined.{joined_or_dash, AreUpTo};
 ghost use Rattle.dsr_base.specs.Reads.{Reads};
 ghost use Rattle.dsr_chain.specs.Chain.{Chain};
 ghost use Rattle.dsr_chain.specs.Support.SignedLists.{value_of, content_of as content_in};
-ghost use Rattle.dsr_replica.specs.Limits.{IsSigned};
+ghost use Rattle.dsr_envelope.specs.Limits.{IsSigned};
 ghost use Rattle.dsr_script.specs.ChainText.{signed_text, value_text, chain_text, spelled_links, IsValue, IsSpelledChain};
 ghost use Rattle.dsr_script.specs.SignatureText.{spelled_text};
 ghost use Rattle.dsr_script.specs.Support.AskText.{ask_apart};
@@ -16,7 +16,6 @@ ghost use Rattle.dsr_script.specs.Support.Links.{said_by};
 ghost use Rattle.dsr_script.specs.Support.SpelledText.{IsSpelled, spelled_apart, pair_of};
 
 use crate::brief::Brief;
-use crate::items::{Item, read_items};
 use crate::said::SaidRequest;
 use crate::said_chain::{SaidChain, link_at};
 use crate::spelled::Spelled;
@@ -24,6 +23,7 @@ use dsr_base::{split_once, split_outside};
 use dsr_desk::{MOST_SIGNERS, Signers};
 use dsr_names::{Refusal, read_num};
 use dsr_request::{MOST_REQUESTS, Request, Requests};
+use dsr_text::{Item, read_items};
 use std::alloc::Global;
 
 /// What is said of signatures is joined by plus signs.

@@ -1,22 +1,22 @@
 ghost use Rattle.std.specs.Prelude.{◌≡◌, ◌↔◌, ℕ, ◌<◌, ◌∷◌, ◌++◌, [], List, None, Some, if◌then◌else◌, nat_eq, IfOk, IfErr, OnOk, IsTrue, IsOkUnless};
 ghost use Rattle.std.specs.Option.{option_map};
 ghost use Rattle.dsr_names.specs.Shape.{IsActor};
-ghost use Rattle.dsr_script.specs.Lines.{AreLines, lines_text};
+ghost use Rattle.dsr_text.specs.Lines.{AreLines, lines_text};
 ghost use Rattle.dsr_script.specs.declared.place.Place.{Place};
 ghost use Rattle.dsr_script.specs.declared.serve_line.ServeLine.{ServeLine};
 ghost use Rattle.dsr_script.specs.ServeText.{CanFollow, IsTraitor, serve_scripts};
 ghost use Rattle.dsr_script.specs.Script.{Script, ops_of, draft_at, place_of, Gives, Spells, SaysTheSame, IsScriptRefusal};
 ghost use Rattle.dsr_script.specs.Support.PlaceEquality.{place_eq};
-ghost use Rattle.dsr_script.specs.Support.TakenLines.{HasTaken, IsLinesRefusal};
+ghost use Rattle.dsr_text.specs.Support.TakenLines.{HasTaken, IsLinesRefusal};
 
 use crate::draft::Draft;
-use crate::header::read_header;
 use crate::ops::Ops;
 use crate::place::Place;
 use crate::serve_line::ServeLine;
 use dsr_base::split_once;
 use dsr_names::{Actor, ClientId, Refusal, ReplicaId, Shape};
 use dsr_request::Op;
+use dsr_text::read_header;
 use indexmap::IndexMap;
 use std::alloc::Global;
 use std::marker::Model;

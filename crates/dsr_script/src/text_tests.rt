@@ -1,7 +1,7 @@
 use crate::Draft;
+use dsr_envelope::{Chains, Envelope};
 use dsr_ledger::Reply;
 use dsr_names::NUMBER_END;
-use dsr_replica::{Chains, Envelope};
 use dsr_request::Answer;
 use std::alloc::Global;
 use std::fmt::Write;

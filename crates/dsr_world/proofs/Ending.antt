@@ -10,13 +10,13 @@ use Rattle.dsr_base.specs.Growth.{Extends}
 use Rattle.dsr_names.specs.Shape.{Shape}
 use Rattle.dsr_names.specs.declared.refusal.Refusal.{Refusal}
 use Rattle.dsr_ledger.specs.declared.reply.Reply.{Reply as AReply}
-use Rattle.dsr_world.specs.declared.event.Event.{Event}
+use Rattle.dsr_play.specs.declared.event.Event.{Event}
 use Rattle.dsr_world.specs.declared.run_end.RunEnd.{RunEnd}
 use Rattle.dsr_names.specs.declared.refusal.Refusal.TheVariants.{Forged}
 use Rattle.dsr_world.specs.Event.{HasDone, IsRefusedBy, IsForged, IsForgedAtLast, refusal_of}
 use Rattle.dsr_world.specs.Outcome.{IsOutcome, AreOutcomes, done_in, refused_in, starved_by, starved_in, first_from, Counts, HasEnded}
-use Rattle.dsr_world.specs.Step.{Step, log_of}
-use Rattle.dsr_world.proofs.Histories.{extends_on}
+use Rattle.dsr_run.specs.Step.{Step, log_of}
+use Rattle.dsr_run.proofs.Lemmas.{extends_on}
 
 -- ---- numbers
 

@@ -10,12 +10,12 @@ use Rattle.dsr_names.specs.Shape.{Shape, is_traitor, IsActor}
 use Rattle.dsr_names.specs.declared.actor.Actor.{Actor}
 use Rattle.dsr_names.specs.declared.actor.Actor.TheVariants.{Replica, Client}
 use Rattle.dsr_desk.specs.Signature.{Signature}
-use Rattle.dsr_world.specs.Run.{IsTraitor}
+use Rattle.dsr_run.specs.Run.{IsTraitor}
 use Rattle.dsr_world.specs.Support.Boxes.{AreSquare, empty_box, box_at, held_in}
-use Rattle.dsr_world.specs.Support.Party.{Plays}
+use Rattle.dsr_node.specs.Support.Party.{Plays}
 use Rattle.dsr_world.specs.Support.WorldFields.{place_of, AreParts, AreOpened, IsTraitorBelow, AreKeysBelow}
 use Rattle.dsr_world.specs.declared.mail_boxes.MailBox.{MailBox}
-use Rattle.dsr_world.specs.declared.party.Party.{Party}
+use Rattle.dsr_node.specs.declared.party.Party.{Party}
 use Rattle.dsr_world.proofs.Stepping.{same_place, place_below}
 
 -- ---- parties

@@ -11,29 +11,29 @@ use Rattle.dsr_names.specs.Shape.{Shape, is_traitor, IsActor, IsLoyal}
 use Rattle.dsr_names.specs.declared.actor.Actor.{Actor}
 use Rattle.dsr_names.specs.declared.actor.Actor.TheVariants.{Replica, Client}
 use Rattle.dsr_chain.specs.declared.signed_request.SignedRequest.{SignedRequest}
-use Rattle.dsr_replica.specs.declared.envelope.Envelope.{Envelope}
-use Rattle.dsr_replica.specs.declared.envelope.Envelope.TheVariants.{Ask}
-use Rattle.dsr_replica.specs.declared.entry.Entry.{Entry}
-use Rattle.dsr_replica.specs.declared.entry.Entry.TheVariants.{Post, Take}
-use Rattle.dsr_replica.specs.declared.step.Due.{Due}
-use Rattle.dsr_replica.specs.declared.step.Due.TheVariants.{Post as PostTo, Take as TakeFrom}
-use Rattle.dsr_replica.specs.declared.step.Pick.TheVariants.{Plain}
+use Rattle.dsr_envelope.specs.declared.envelope.Envelope.{Envelope}
+use Rattle.dsr_envelope.specs.declared.envelope.Envelope.TheVariants.{Ask}
+use Rattle.dsr_envelope.specs.declared.entry.Entry.{Entry}
+use Rattle.dsr_envelope.specs.declared.entry.Entry.TheVariants.{Post, Take}
+use Rattle.dsr_envelope.specs.declared.step.Due.{Due}
+use Rattle.dsr_envelope.specs.declared.step.Due.TheVariants.{Post as PostTo, Take as TakeFrom}
+use Rattle.dsr_envelope.specs.declared.step.Pick.TheVariants.{Plain}
 use Rattle.dsr_replica.specs.Conduct.{is_due}
 use Rattle.dsr_replica.specs.Counts.{posts_at}
-use Rattle.dsr_replica.specs.Log.{posted_to, due, rounds}
+use Rattle.dsr_envelope.specs.Log.{posted_to, due, rounds}
 use Rattle.dsr_replica.proofs.Lemmas.{counts}
 use Rattle.dsr_client.specs.Conduct.{next_number, chosen_beside, ask_to}
 use Rattle.dsr_client.specs.State.{outstanding}
 use Rattle.dsr_client.proofs.Lemmas.{numbered}
-use Rattle.dsr_world.specs.Event.{post_of}
-use Rattle.dsr_world.specs.Run.{IsRun}
-use Rattle.dsr_world.specs.Step.{Step, log_of}
-use Rattle.dsr_world.specs.Support.Party.{IsOutstandingAsk}
+use Rattle.dsr_node.specs.Conduct.{post_of}
+use Rattle.dsr_run.specs.Run.{IsRun}
+use Rattle.dsr_run.specs.Step.{Step, log_of}
+use Rattle.dsr_node.specs.Support.Party.{IsOutstandingAsk}
 use Rattle.dsr_world.specs.Support.WorldFields.{AreLetters, place_of, kept_of, with_letter}
-use Rattle.dsr_world.proofs.Asking.{was_asked}
-use Rattle.dsr_world.proofs.Boxes.{posted_entry}
+use Rattle.dsr_run.proofs.Lemmas.{was_asked}
+use Rattle.dsr_run.proofs.Lemmas.{posted_entry}
 use Rattle.dsr_world.proofs.Stepping.{place_below, same_place}
-use Rattle.dsr_world.proofs.Logs.{log_cases, log_loyal, log_client}
+use Rattle.dsr_run.proofs.Lemmas.{log_cases, log_loyal, log_client}
 use Rattle.dsr_world.proofs.Worlds.{IsCleared}
 use Rattle.std.proofs.lemmas.List.{get_or-set_same, get_or-set_other, length-set, length_push}
 use Rattle.std.proofs.lemmas.Bool.{true≢false, cond-true, cond-false, cases_Bool, false_from_ne_true}

@@ -10,20 +10,20 @@ use Rattle.dsr_names.specs.declared.actor.Actor.TheVariants.{Replica, Client}
 use Rattle.dsr_desk.specs.Signature.{Signature}
 use Rattle.dsr_names.specs.Support.ActorEquality.{actor_eq, actor_eq-Decides}
 use Rattle.dsr_slot.proofs.Lemmas.{holds_or_not, by_test}
-use Rattle.dsr_replica.specs.declared.envelope.Envelope.{Envelope}
-use Rattle.dsr_replica.specs.declared.entry.Entry.TheVariants.{Post, Take}
-use Rattle.dsr_replica.specs.Envelope.{Carries}
-use Rattle.dsr_replica.specs.Log.{posted_to, taken_from}
-use Rattle.dsr_world.specs.Run.{HasPosted}
-use Rattle.dsr_world.specs.Step.{Step, Logs, log_of}
+use Rattle.dsr_envelope.specs.declared.envelope.Envelope.{Envelope}
+use Rattle.dsr_envelope.specs.declared.entry.Entry.TheVariants.{Post, Take}
+use Rattle.dsr_envelope.specs.Envelope.{Carries}
+use Rattle.dsr_envelope.specs.Log.{posted_to, taken_from}
+use Rattle.dsr_run.specs.Run.{HasPosted}
+use Rattle.dsr_run.specs.Step.{Step, Logs, log_of}
 use Rattle.dsr_world.specs.Support.Boxes.{empty_box, box_in, row_of, box_at, with_box, with_post, without_letter, held_in, AreSquare, IsBoxOf}
-use Rattle.dsr_world.specs.Support.Party.{Plays}
+use Rattle.dsr_node.specs.Support.Party.{Plays}
 use Rattle.dsr_world.specs.Support.WorldFields.{place_of, ArePlayed, AreBoxes, KnowsPosts}
 use Rattle.dsr_world.specs.declared.mail_boxes.MailBox.{MailBox}
-use Rattle.dsr_world.specs.declared.party.Party.{Party}
-use Rattle.dsr_world.proofs.Boxes.{from_log, posted_cases, posted_still, taken_cases, taken_still}
-use Rattle.dsr_world.proofs.Forging.{has_posted_later}
-use Rattle.dsr_world.proofs.Logs.{log_cases}
+use Rattle.dsr_node.specs.declared.party.Party.{Party}
+use Rattle.dsr_run.proofs.Lemmas.{from_log, posted_cases, posted_still, taken_cases, taken_still}
+use Rattle.dsr_run.proofs.Lemmas.{has_posted_later}
+use Rattle.dsr_run.proofs.Lemmas.{log_cases}
 
 -- ---- places
 

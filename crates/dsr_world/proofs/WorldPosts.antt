@@ -10,32 +10,34 @@ use Rattle.dsr_names.specs.declared.actor.Actor.TheVariants.{Replica, Client}
 use Rattle.dsr_names.specs.declared.refusal.Refusal.{Refusal}
 use Rattle.dsr_names.specs.declared.refusal.Refusal.TheVariants.{NoActor, WrongRole, Exhausted, BoxFull, Forged, NoMemory}
 use Rattle.dsr_desk.specs.Signature.{Signature}
-use Rattle.dsr_replica.specs.declared.envelope.Envelope.{Envelope}
-use Rattle.dsr_replica.specs.declared.entry.Entry.{Entry}
-use Rattle.dsr_replica.specs.declared.entry.Entry.TheVariants.{Post as PostEntry}
-use Rattle.dsr_replica.specs.Envelope.{Carries}
-use Rattle.dsr_replica.specs.Log.{posted_to, taken_from}
-use Rattle.dsr_replica.specs.declared.envelope.Envelope.TheVariants.{Seen}
-use Rattle.dsr_world.specs.declared.event.Event.TheVariants.{Plant, Tell}
-use Rattle.dsr_world.specs.Event.{is_actor, is_traitor_of, is_full, is_used_up, refusal_of, first_of, HasDone}
-use Rattle.dsr_world.specs.Run.{IsNextStep, IsTraitor}
-use Rattle.dsr_world.specs.Step.{Step, Logs, log_of}
+use Rattle.dsr_envelope.specs.declared.envelope.Envelope.{Envelope}
+use Rattle.dsr_envelope.specs.declared.entry.Entry.{Entry}
+use Rattle.dsr_envelope.specs.declared.entry.Entry.TheVariants.{Post as PostEntry}
+use Rattle.dsr_envelope.specs.Envelope.{Carries}
+use Rattle.dsr_envelope.specs.Log.{posted_to, taken_from}
+use Rattle.dsr_envelope.specs.declared.envelope.Envelope.TheVariants.{Seen}
+use Rattle.dsr_play.specs.declared.event.Event.TheVariants.{Plant, Tell}
+use Rattle.dsr_node.specs.Conduct.{is_actor, is_traitor_of}
+use Rattle.dsr_world.specs.Event.{is_full, is_used_up, refusal_of, first_of, HasDone}
+use Rattle.dsr_run.specs.Run.{IsNextStep, IsTraitor}
+use Rattle.dsr_run.specs.Step.{Step, Logs, log_of}
 use Rattle.dsr_world.specs.Support.Boxes.{box_at, with_box, with_post}
-use Rattle.dsr_world.specs.Support.Party.{Plays}
+use Rattle.dsr_node.specs.Support.Party.{Plays}
 use Rattle.dsr_world.specs.Support.WorldFields.{place_of, AreParts, KnowsAll}
 use Rattle.dsr_world.specs.declared.mail_boxes.MailBox.{MailBox}
-use Rattle.dsr_world.specs.declared.party.Party.{Party}
+use Rattle.dsr_node.specs.declared.party.Party.{Party}
 use Rattle.dsr_world.proofs.Stepping.{boxes_posted, known_posted, known_still}
 use Rattle.std.proofs.lemmas.Bool.Decides.{Decides-eqb}
-use Rattle.dsr_replica.specs.Limits.{IsEnvelope}
+use Rattle.dsr_envelope.specs.Limits.{IsEnvelope}
 use Rattle.dsr_client.specs.State.{seen}
 use Rattle.dsr_script.specs.Held.{IsUnforged}
-use Rattle.dsr_world.specs.Event.{refusals, IsRefusedBy, are_two_clients, IsForgedAtLast}
-use Rattle.dsr_world.specs.Run.{IsMadeOrPosted, HasPosted, ForgesNothing}
-use Rattle.dsr_world.specs.declared.party.Party.TheVariants.{Loyal, Traitor, Client as ClientParty}
-use Rattle.dsr_world.proofs.Boxes.{actors_within}
-use Rattle.dsr_world.proofs.Forging.{all_made}
-use Rattle.dsr_world.proofs.NextSteps.{plants_next, tells_next}
+use Rattle.dsr_world.specs.Event.{refusals, IsRefusedBy, IsForgedAtLast}
+use Rattle.dsr_node.specs.Conduct.{are_two_clients}
+use Rattle.dsr_run.specs.Run.{IsMadeOrPosted, HasPosted, ForgesNothing}
+use Rattle.dsr_node.specs.declared.party.Party.TheVariants.{Loyal, Traitor, Client as ClientParty}
+use Rattle.dsr_run.proofs.Lemmas.{actors_within}
+use Rattle.dsr_run.proofs.Lemmas.{all_made}
+use Rattle.dsr_run.proofs.Lemmas.{plants_next, tells_next}
 use Rattle.dsr_world.proofs.Stepping.{played_on}
 use Rattle.dsr_world.proofs.Worlds.{none_holds, both_hold, actor_is, box_is_empty, empty_same, post_answers}
 

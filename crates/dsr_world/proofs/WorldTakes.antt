@@ -9,33 +9,34 @@ use Rattle.dsr_names.specs.declared.actor.Actor.{Actor}
 use Rattle.dsr_names.specs.declared.actor.Actor.TheVariants.{Replica, Client}
 use Rattle.dsr_names.specs.declared.refusal.Refusal.TheVariants.{NoActor, WrongRole, NotDue, BoxEmpty}
 use Rattle.dsr_desk.specs.Signature.{Signature}
-use Rattle.dsr_replica.specs.declared.envelope.Envelope.{Envelope}
-use Rattle.dsr_replica.specs.declared.entry.Entry.TheVariants.{Post as PostEntry, Take as TakeEntry}
-use Rattle.dsr_replica.specs.Log.{posted_to, taken_from}
+use Rattle.dsr_envelope.specs.declared.envelope.Envelope.{Envelope}
+use Rattle.dsr_envelope.specs.declared.entry.Entry.TheVariants.{Post as PostEntry, Take as TakeEntry}
+use Rattle.dsr_envelope.specs.Log.{posted_to, taken_from}
 use Rattle.dsr_client.specs.State.{accepted}
-use Rattle.dsr_world.proofs.Logs.{log_cases}
-use Rattle.dsr_world.specs.declared.event.Event.TheVariants.{Take}
-use Rattle.dsr_world.specs.Event.{is_actor, is_full, refusal_of, Answers, HasDone}
-use Rattle.dsr_world.specs.Step.{Step, Logs, log_of}
+use Rattle.dsr_run.proofs.Lemmas.{log_cases}
+use Rattle.dsr_play.specs.declared.event.Event.TheVariants.{Take}
+use Rattle.dsr_node.specs.Conduct.{is_actor}
+use Rattle.dsr_world.specs.Event.{is_full, refusal_of, Answers, HasDone}
+use Rattle.dsr_run.specs.Step.{Step, Logs, log_of}
 use Rattle.dsr_world.specs.Support.Boxes.{box_at, with_box, held_in}
-use Rattle.dsr_world.specs.Support.Party.{Plays}
+use Rattle.dsr_node.specs.Support.Party.{Plays}
 use Rattle.dsr_world.specs.Support.WorldFields.{place_of, AreParts}
 use Rattle.dsr_world.specs.declared.mail_boxes.MailBox.{MailBox}
-use Rattle.dsr_world.specs.declared.party.Party.{Party}
+use Rattle.dsr_node.specs.declared.party.Party.{Party}
 use Rattle.dsr_world.proofs.Stepping.{played_step, known_still}
 use Rattle.std.specs.Prelude.{slice_get}
 use Rattle.std.proofs.lemmas.Bool.Decides.{Decides-eqb}
-use Rattle.dsr_replica.specs.Limits.{IsEnvelope}
-use Rattle.dsr_replica.specs.Log.{due}
-use Rattle.dsr_world.specs.Event.{is_own_client, is_undue, AcceptsBy}
+use Rattle.dsr_envelope.specs.Limits.{IsEnvelope}
+use Rattle.dsr_envelope.specs.Log.{due}
+use Rattle.dsr_node.specs.Conduct.{is_own_client, is_undue, AcceptsBy}
 use Rattle.dsr_world.specs.Support.Boxes.{without_letter}
-use Rattle.dsr_world.specs.Support.Party.{CanTake, HasRoomToTake, TakesReply}
-use Rattle.dsr_world.specs.declared.party.Party.TheVariants.{Loyal, Traitor, Client as ClientParty}
+use Rattle.dsr_node.specs.Support.Party.{CanTake, HasRoomToTake, TakesReply}
+use Rattle.dsr_node.specs.declared.party.Party.TheVariants.{Loyal, Traitor, Client as ClientParty}
 use Rattle.dsr_ledger.specs.declared.reply.Reply.{Reply as AReply}
-use Rattle.dsr_world.proofs.Boxes.{posted_entry}
-use Rattle.dsr_world.proofs.NextSteps.{takes_next, take_due}
+use Rattle.dsr_run.proofs.Lemmas.{posted_entry}
+use Rattle.dsr_run.proofs.Lemmas.{takes_next, take_due}
 use Rattle.dsr_world.proofs.Stepping.{played_same, boxes_taken}
-use Rattle.dsr_world.proofs.Within.{posted_within}
+use Rattle.dsr_run.proofs.Lemmas.{posted_within}
 use Rattle.dsr_world.proofs.Worlds.{none_holds, both_hold, actor_is}
 use Rattle.dsr_base.proofs.MemberLemmas.{In-append_right}
 

@@ -13,26 +13,28 @@ use Rattle.dsr_names.specs.declared.actor.Actor.TheVariants.{Replica, Client}
 use Rattle.dsr_names.specs.declared.refusal.Refusal.{Refusal}
 use Rattle.dsr_names.specs.declared.refusal.Refusal.TheVariants.{NoActor, WrongRole, NotDue, Exhausted, BoxFull}
 use Rattle.dsr_desk.specs.Signature.{Signature}
-use Rattle.dsr_replica.specs.declared.envelope.Envelope.{Envelope}
-use Rattle.dsr_replica.specs.declared.entry.Entry.TheVariants.{Post as PostEntry}
-use Rattle.dsr_replica.specs.declared.step.Pick.{Pick}
-use Rattle.dsr_replica.specs.Envelope.{Carries}
-use Rattle.dsr_replica.specs.Log.{posted_to, taken_from}
-use Rattle.dsr_replica.specs.Pick.{IsPick}
+use Rattle.dsr_envelope.specs.declared.envelope.Envelope.{Envelope}
+use Rattle.dsr_envelope.specs.declared.entry.Entry.TheVariants.{Post as PostEntry}
+use Rattle.dsr_envelope.specs.declared.step.Pick.{Pick}
+use Rattle.dsr_envelope.specs.Envelope.{Carries}
+use Rattle.dsr_envelope.specs.Log.{posted_to, taken_from}
+use Rattle.dsr_envelope.specs.Pick.{IsPick}
 use Rattle.dsr_chain.specs.declared.signed_request.SignedRequest.{SignedRequest}
-use Rattle.dsr_replica.specs.declared.envelope.Envelope.TheVariants.{Empty, Round, Ask, Reply, Seen}
+use Rattle.dsr_envelope.specs.declared.envelope.Envelope.TheVariants.{Empty, Round, Ask, Reply, Seen}
 use Rattle.dsr_client.specs.State.{State, asked_beside, state_after, outstanding, accepted}
-use Rattle.dsr_world.proofs.Logs.{log_cases}
-use Rattle.dsr_world.specs.declared.event.Event.TheVariants.{Post}
-use Rattle.dsr_world.specs.Event.{is_actor, is_traitor_of, are_clients, is_full, is_used_up, is_exhausted, post_of, refusal_of, first_of, Answers, HasDone}
-use Rattle.dsr_world.specs.Run.{IsNextStep}
-use Rattle.dsr_world.specs.Step.{Step, Logs, log_of}
+use Rattle.dsr_run.proofs.Lemmas.{log_cases}
+use Rattle.dsr_play.specs.declared.event.Event.TheVariants.{Post}
+use Rattle.dsr_node.specs.Conduct.{is_actor, is_traitor_of, are_clients, is_exhausted, post_of}
+use Rattle.dsr_world.specs.Event.{is_full, is_used_up, refusal_of, first_of, Answers, HasDone}
+use Rattle.dsr_run.specs.Run.{IsNextStep}
+use Rattle.dsr_run.specs.Step.{Step, Logs, log_of}
 use Rattle.dsr_world.specs.Support.Boxes.{box_at, row_of, with_box, with_post, held_in, IsBoxOf}
-use Rattle.dsr_world.specs.Support.Party.{Plays, post_refusal}
-use Rattle.dsr_world.specs.Support.WorldFields.{place_of, HasSpelledOp, AreParts, KnowsAll}
+use Rattle.dsr_node.specs.Support.Party.{Plays, post_refusal}
+use Rattle.dsr_world.specs.Support.WorldFields.{place_of, AreParts, KnowsAll}
+use Rattle.dsr_node.specs.Conduct.{HasSpelledOp}
 use Rattle.dsr_world.specs.declared.mail_boxes.MailBox.{MailBox}
-use Rattle.dsr_world.specs.declared.party.Party.{Party}
-use Rattle.dsr_world.proofs.NextSteps.{posts_next}
+use Rattle.dsr_node.specs.declared.party.Party.{Party}
+use Rattle.dsr_run.proofs.Lemmas.{posts_next}
 use Rattle.dsr_world.proofs.Stepping.{place_below, played_step, boxes_posted, known_posted}
 
 -- ---- what was not refused

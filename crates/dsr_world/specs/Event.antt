@@ -1,89 +1,23 @@
 -- What an event is refused with, and the step that it is where nothing refuses it (this project).
-use Rattle.std.specs.Prelude.{◌≡◌, ◌⊎◌, ℕ, suc, ◌^◌, ◌==◌, ◌&&◌, ◌||◌, not, nat_lt, Bool, true, false, List, [], ◌∷◌, Option, None, Some, length, slice_get, if◌then◌else◌}
+use Rattle.std.specs.Prelude.{◌≡◌, ◌⊎◌, ℕ, suc, ◌^◌, ◌&&◌, ◌||◌, not, nat_lt, Bool, List, [], ◌∷◌, Option, None, Some, length, slice_get, if◌then◌else◌}
 use Rattle.std.specs.Option.{option_map, is_none}
-use Rattle.dsr_names.specs.Shape.{Shape, is_traitor}
+use Rattle.dsr_names.specs.Shape.{Shape}
 use Rattle.dsr_names.specs.declared.actor.Actor.{Actor}
 use Rattle.dsr_names.specs.declared.actor.Actor.TheVariants.{Replica, Client}
 use Rattle.dsr_names.specs.declared.refusal.Refusal.{Refusal}
 use Rattle.dsr_names.specs.declared.refusal.Refusal.TheVariants.{NoActor, WrongRole, NotDue, Exhausted, BoxFull, BoxEmpty, Forged, NoMemory}
 use Rattle.dsr_ledger.specs.declared.reply.Reply.{Reply as AReply}
-use Rattle.dsr_replica.specs.declared.envelope.Envelope.{Envelope}
-use Rattle.dsr_replica.specs.declared.envelope.Envelope.TheVariants.{Seen}
-use Rattle.dsr_replica.specs.declared.entry.Entry.{Entry}
-use Rattle.dsr_replica.specs.declared.entry.Entry.TheVariants.{Post as PostEntry, Take as TakeEntry}
-use Rattle.dsr_replica.specs.declared.step.Due.{Due}
-use Rattle.dsr_replica.specs.declared.step.Due.TheVariants.{Post as PostTo, Take as TakeFrom}
-use Rattle.dsr_replica.specs.declared.step.Pick.{Pick}
-use Rattle.dsr_replica.specs.declared.step.Pick.TheVariants.{Plain, From, Begin}
-use Rattle.dsr_replica.specs.Conduct.{envelope_to, reply_to}
-use Rattle.dsr_replica.specs.Limits.{IsEnvelope}
-use Rattle.dsr_replica.specs.Log.{posted_to, taken_from, due, rounds}
-use Rattle.dsr_client.specs.Conduct.{next_number, ask_to}
-use Rattle.dsr_world.specs.declared.event.Event.{Event}
-use Rattle.dsr_world.specs.declared.event.Event.TheVariants.{Post, Plant, Take, Tell}
-use Rattle.dsr_world.specs.declared.play_line.PlayLine.TheVariants.{One}
-use Rattle.dsr_world.specs.History.{accepted_by, seen_by}
-use Rattle.dsr_world.specs.PlayText.{IsPlayLine}
-use Rattle.dsr_world.specs.Run.{ForgesNothing}
-use Rattle.dsr_world.specs.Step.{Step, Logs, log_of}
-
--- ---- conduct
-
--- the envelope of a loyal actor's post to another, by its log and its choice; none where it posts none
-abbrev pub post_of : Shape → List Entry → Actor → Actor → Pick → Option Envelope
-post_of shape log (Replica p) (Replica q) pick = envelope_to shape (Replica p) log q pick
-post_of shape log (Replica p) (Client c) Plain = reply_to shape log c
-post_of shape log (Replica p) (Client c) (From clients) = None
-post_of shape log (Replica p) (Client c) (Begin op) = None
-post_of shape log (Client c) (Replica q) pick = ask_to shape c log pick
-post_of shape log (Client c) (Client d) pick = None
-
--- whether a counter of the actor would pass its limit by the post: a replica's round, or the number of a client's new request
-abbrev pub is_exhausted : Shape → List Entry → Actor → Actor → Pick → Bool
-is_exhausted shape log (Replica p) (Replica q) pick = not (nat_lt (rounds shape log) (2 ^ 36))
-is_exhausted shape log (Replica p) (Client c) pick = false
-is_exhausted shape log (Client c) to Plain = false
-is_exhausted shape log (Client c) to (From clients) = false
-is_exhausted shape log (Client c) to (Begin op) = not (nat_lt (next_number shape log) (2 ^ 40))
-
--- whether the take from this replica is due
-abbrev pub takes_from : Due → ℕ → Bool
-takes_from (PostTo q) p = false
-takes_from (TakeFrom q) p = q == p
-
--- whether a loyal replica's take from a replica is not due; every other take is
-abbrev pub is_undue : Shape → List Entry → Actor → Actor → Bool
-is_undue shape log (Replica p) (Replica q) = if is_traitor shape p then false else not (takes_from (due shape log) q)
-is_undue shape log (Replica p) (Client c) = false
-is_undue shape log (Client c) from = false
-
--- ---- roles
-
--- whether it is an actor of the shape
-abbrev pub is_actor : Shape → Actor → Bool
-is_actor shape (Replica p) = nat_lt p shape.n
-is_actor shape (Client c) = nat_lt c shape.m
-
--- whether it is a traitor
-abbrev pub is_traitor_of : Shape → Actor → Bool
-is_traitor_of shape (Replica p) = is_traitor shape p
-is_traitor_of shape (Client c) = false
-
--- whether both are clients
-abbrev pub are_clients : Actor → Actor → Bool
-are_clients (Replica p) to = false
-are_clients (Client c) (Replica q) = false
-are_clients (Client c) (Client d) = true
-
--- whether both are one client
-abbrev pub is_own_client : Actor → Actor → Bool
-is_own_client (Replica p) to = false
-is_own_client (Client c) (Replica q) = false
-is_own_client (Client c) (Client d) = c == d
-
--- whether they are two clients
-abbrev pub are_two_clients : Actor → Actor → Bool
-are_two_clients a b = are_clients a b && not (is_own_client a b)
+use Rattle.dsr_envelope.specs.declared.envelope.Envelope.{Envelope}
+use Rattle.dsr_envelope.specs.declared.envelope.Envelope.TheVariants.{Seen}
+use Rattle.dsr_envelope.specs.declared.entry.Entry.{Entry}
+use Rattle.dsr_envelope.specs.declared.entry.Entry.TheVariants.{Post as PostEntry, Take as TakeEntry}
+use Rattle.dsr_envelope.specs.Log.{posted_to, taken_from}
+use Rattle.dsr_node.specs.Conduct.{post_of, is_exhausted, is_undue, is_actor, is_traitor_of, are_clients, is_own_client, are_two_clients, AcceptsBy}
+use Rattle.dsr_play.specs.declared.event.Event.{Event}
+use Rattle.dsr_play.specs.declared.event.Event.TheVariants.{Post, Plant, Take, Tell}
+use Rattle.dsr_run.specs.History.{accepted_by, seen_by}
+use Rattle.dsr_run.specs.Run.{ForgesNothing}
+use Rattle.dsr_run.specs.Step.{Step, Logs, log_of}
 
 -- ---- boxes
 
@@ -149,11 +83,6 @@ step_of shape logs (Tell (Replica p) to) = None
 
 -- ---- replies
 
--- what a client accepted later is what it had accepted, with this reply after that where there is one; replies stand newest first
-abbrev pub AcceptsBy : Option AReply → List AReply → List AReply → Type 0
-AcceptsBy None later earlier = later ≡ earlier
-AcceptsBy (Some reply) later earlier = later ≡ reply ∷ earlier
-
 -- the reply that a step has a client accept, if it has: what the client accepted grew by it
 abbrev pub Answers : Shape → Logs → Logs → Step → Option AReply → Type 0
 Answers shape later earlier (Replica p, entry) reply = reply ≡ None
@@ -173,13 +102,6 @@ IsForged shape logs (Plant from to draft) = ¬ ForgesNothing shape logs (PostEnt
 IsForged shape logs (Take at from) = ⊥
 IsForged shape logs (Tell from to) = ⊥
 
--- what a traitor is to post is within the limits of envelopes
-abbrev pub IsWithin : Event → Type 0
-IsWithin (Post from to pick) = Unit {0}
-IsWithin (Plant from to draft) = IsEnvelope draft
-IsWithin (Take at from) = Unit {0}
-IsWithin (Tell from to) = Unit {0}
-
 -- nothing refuses it but a forged signature
 abbrev pub IsForgedAtLast : Shape → Logs → Event → Type 0
 IsForgedAtLast shape logs event = (refusal_of shape logs event ≡ None) × IsForged shape logs event
@@ -194,7 +116,3 @@ IsRefusedBy shape logs event refusal =
     (refusal_of shape logs event ≡ Some refusal)
     ⊎ ((refusal ≡ Forged) × IsForgedAtLast shape logs event)
     ⊎ ((refusal ≡ NoMemory) × MayBeDone shape logs event)
-
--- an event that a text can spell, as a line of a play
-abbrev pub IsSpelledEvent : Event → Type 0
-IsSpelledEvent event = IsPlayLine (One event)

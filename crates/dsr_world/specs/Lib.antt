@@ -1,12 +1,4 @@
-pub mod Agreement
-pub mod Blind
 pub mod Event
-pub mod History
 pub mod Outcome
-pub mod Play
-pub mod PlayText
-pub mod Right
-pub mod Run
-pub mod Step
 pub mod Support
 pub mod World

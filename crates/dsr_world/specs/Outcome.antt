@@ -1,17 +1,13 @@
 -- What becomes of a list of events (this project).
-use Rattle.std.specs.Prelude.{◌≡◌, ℕ, suc, ◌+◌, All, List, [], ◌∷◌, Option, None, Some}
+use Rattle.std.specs.Prelude.{◌≡◌, ℕ, suc, ◌+◌, List, [], ◌∷◌, Option, None, Some}
 use Rattle.dsr_names.specs.Shape.{Shape}
 use Rattle.dsr_names.specs.declared.refusal.Refusal.{Refusal}
 use Rattle.dsr_names.specs.declared.refusal.Refusal.TheVariants.{NoMemory}
 use Rattle.dsr_ledger.specs.declared.reply.Reply.{Reply as AReply}
-use Rattle.dsr_world.specs.declared.event.Event.{Event}
+use Rattle.dsr_play.specs.declared.event.Event.{Event}
 use Rattle.dsr_world.specs.declared.run_end.RunEnd.{RunEnd}
-use Rattle.dsr_world.specs.Event.{HasDone, IsRefusedBy, IsWithin, MayBeDone}
-use Rattle.dsr_world.specs.Step.{Step, log_of}
-
--- what traitors are to post is within the limits of envelopes
-abbrev pub AreWithin : List Event → Type 0
-AreWithin events = All IsWithin events
+use Rattle.dsr_world.specs.Event.{HasDone, IsRefusedBy, MayBeDone}
+use Rattle.dsr_run.specs.Step.{Step, log_of}
 
 -- what became of an event: it was done, or it was refused with this and nothing changed
 abbrev pub IsOutcome : Shape → (later earlier : List Step) → Event → Option Refusal → Type 0

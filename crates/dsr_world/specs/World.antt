@@ -1,7 +1,7 @@
 -- A world as contracts see it (this project).
 use Rattle.std.specs.Prelude.{List}
 use Rattle.dsr_names.specs.Shape.{Shape}
-use Rattle.dsr_world.specs.Step.{Step}
+use Rattle.dsr_run.specs.Step.{Step}
 
 -- its shape, and the run that it has made
 pub record World : Type 0 where

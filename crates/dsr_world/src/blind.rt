@@ -1,63 +1,18 @@
-//! What loyal actors do, decide, accept and see does not depend on who the traitors are. Laws, as the contracts of functions that do
-//! nothing.
+//! What events do does not depend on who else is a traitor. A law, as the contract of a function that does nothing.
 
-ghost use Rattle.std.specs.Prelude.{◌≡◌, ◌↔◌, ℕ, List};
-ghost use Rattle.dsr_base.specs.Growth.{Extends};
-ghost use Rattle.dsr_names.specs.Shape.{Shape, shape_of, AgreeButForTraitors, HasFewTraitors, IsLoyal};
-ghost use Rattle.dsr_names.specs.declared.actor.Actor.{Actor};
-ghost use Rattle.dsr_replica.specs.declared.entry.Entry.{Entry};
-ghost use Rattle.dsr_replica.specs.declared.step.Pick.{Pick};
-ghost use Rattle.dsr_replica.specs.Conduct.{IsNext, IsLoyalLog};
-ghost use Rattle.dsr_replica.specs.Log.{due, rounds};
-ghost use Rattle.dsr_client.specs.Conduct.{IsClientLog, IsNext as IsNextOfClient};
-ghost use Rattle.dsr_client.specs.State.{outstanding};
-ghost use Rattle.dsr_world.specs.Blind.{AddsTraitors, actor_of};
-ghost use Rattle.dsr_world.specs.Event.{post_of, step_of, is_traitor_of, refusal_of};
-ghost use Rattle.dsr_world.specs.History.{decided_at, accepted_by, seen_by, history};
-ghost use Rattle.dsr_world.specs.Run.{IsNextStep, IsRun, AreLogs};
-ghost use Rattle.dsr_world.specs.Step.{Step, Logs, log_of};
-ghost use Rattle.dsr_world.specs.declared.event.Event.{Event};
+ghost use Rattle.std.specs.Prelude.{◌≡◌};
+ghost use Rattle.dsr_names.specs.Shape.{Shape, AgreeButForTraitors};
+ghost use Rattle.dsr_node.specs.Conduct.{is_traitor_of};
+ghost use Rattle.dsr_play.specs.Event.{actor_of};
+ghost use Rattle.dsr_play.specs.declared.event.Event.{Event};
+ghost use Rattle.dsr_run.specs.Step.{Logs};
+ghost use Rattle.dsr_world.specs.Event.{step_of, refusal_of};
 
-/// Loyal actors do not know who the traitors are. Under two shapes that agree in all but that, and whatever the logs: a choice gives the
-/// same envelope, and an event the same step; each entry, and each log, is in the conduct of a loyal replica, or of a client, under both
-/// or under neither; the same is due, decided, outstanding, accepted and seen. And who else is a traitor plays no part: a step of an
-/// actor that is loyal under both may be next under both or under neither; and, forgery aside, an event is refused alike where its actor
-/// is a traitor under both or under neither.
-pub fn loyal_actors_are_blind()
-    ensures posts { (shape other : Shape) → AgreeButForTraitors shape other → (log : List Entry) (from to : Actor) (pick : Pick)
-        → post_of shape log from to pick ≡ post_of other log from to pick }
+/// Under two shapes that agree in all but who the traitors are, and whatever the logs, an event is the same step; and, forgery aside, it
+/// is refused alike where its actor is a traitor under both or under neither.
+pub fn events_are_blind()
     ensures events { (shape other : Shape) → AgreeButForTraitors shape other → (logs : Logs) (event : Event)
         → step_of shape logs event ≡ step_of other logs event }
-    ensures replicas { (shape other : Shape) → AgreeButForTraitors shape other → (me : Actor) (log : List Entry) (entry : Entry)
-        → IsNext shape me log entry ↔ IsNext other me log entry }
-    ensures loyal_logs { (shape other : Shape) → AgreeButForTraitors shape other → (me : Actor) (log : List Entry)
-        → IsLoyalLog shape me log ↔ IsLoyalLog other me log }
-    ensures clients { (shape other : Shape) → AgreeButForTraitors shape other → (c : ℕ) (log : List Entry) (entry : Entry)
-        → IsNextOfClient shape c log entry ↔ IsNextOfClient other c log entry }
-    ensures client_logs { (shape other : Shape) → AgreeButForTraitors shape other → (c : ℕ) (log : List Entry)
-        → IsClientLog shape c log ↔ IsClientLog other c log }
-    ensures due { (shape other : Shape) → AgreeButForTraitors shape other → (log : List Entry) → due shape log ≡ due other log }
-    ensures rounds { (shape other : Shape) → AgreeButForTraitors shape other → (log : List Entry) → rounds shape log ≡ rounds other log }
-    ensures decided { (shape other : Shape) → AgreeButForTraitors shape other → (logs : Logs) (p : ℕ)
-        → decided_at shape logs p ≡ decided_at other logs p }
-    ensures outstanding { (shape other : Shape) → AgreeButForTraitors shape other → (log : List Entry)
-        → outstanding shape log ≡ outstanding other log }
-    ensures accepted { (shape other : Shape) → AgreeButForTraitors shape other → (logs : Logs) (c : ℕ)
-        → accepted_by shape logs c ≡ accepted_by other logs c }
-    ensures seen { (shape other : Shape) → AgreeButForTraitors shape other → (logs : Logs) (c : ℕ) → seen_by shape logs c ≡ seen_by other logs c }
-    ensures steps { (shape other : Shape) → AgreeButForTraitors shape other → (logs : Logs) (step : Step)
-        → IsLoyal shape step.0 → IsLoyal other step.0 → IsNextStep shape logs step ↔ IsNextStep other logs step }
     ensures refusals { (shape other : Shape) → AgreeButForTraitors shape other → (logs : Logs) (event : Event)
         → is_traitor_of shape (actor_of event) ≡ is_traitor_of other (actor_of event) → refusal_of shape logs event ≡ refusal_of other logs event }
-{}
-
-/// A traitor may do all that a loyal replica does: a run of a shape is a run of each shape with more traitors, and its logs are those of
-/// one. So no log shows that a replica is loyal, and a run without traitors is a run whoever they are. With more traitors fewer
-/// replicas make the history, so it is a prefix of what it is with fewer.
-pub fn traitors_may_be_loyal()
-    ensures runs { (shape other : Shape) → AddsTraitors shape other → (run : List Step) → IsRun shape run → IsRun other run }
-    ensures logs { (shape other : Shape) → AddsTraitors shape other → (logs : Logs) → AreLogs shape logs → AreLogs other logs }
-    ensures none { (n f m traitors : ℕ) (run : List Step) → IsRun (shape_of n f m 0) run → IsRun (shape_of n f m traitors) run }
-    ensures history { (shape other : Shape) → AddsTraitors shape other → HasFewTraitors shape → (run : List Step) → IsRun shape run
-        → Extends (history shape (log_of run)) (history other (log_of run)) }
 {}

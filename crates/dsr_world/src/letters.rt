@@ -1,8 +1,8 @@
 ghost use Rattle.std.specs.Prelude.{◌≡◌, ℕ, ◌<◌, None, IfOk, IsOkUnless, length, slice_index_or};
 ghost use Rattle.dsr_world.specs.Support.WorldFields.{kept_of, with_letter};
 
+use dsr_envelope::{Envelope, Letter};
 use dsr_names::{Actor, Refusal};
-use dsr_replica::{Envelope, Letter};
 use std::alloc::Global;
 
 /// Two letters that share one envelope: for the poster's entry, and for the box.

@@ -4,8 +4,8 @@ ghost use Rattle.std.specs.Prelude.{◌≡◌, ℕ, suc, ◌<◌, ◌^◌, None,
 ghost use Rattle.std.specs.Option.{option_map};
 ghost use Rattle.dsr_world.specs.Support.Boxes.{AreSquare, empty_box, box_in, row_of, box_at, with_box, with_post, without_letter};
 
+use dsr_envelope::{Envelope, Letter};
 use dsr_names::Refusal;
-use dsr_replica::{Envelope, Letter};
 use std::alloc::Global;
 use std::marker::Model;
 

@@ -1,9 +1,9 @@
 ghost use Rattle.std.specs.Prelude.{◌≡◌, IfOk, IfSome, IsOk, IsOkUnless};
-ghost use Rattle.dsr_world.specs.Support.Party.{IsReplicaNumber};
+ghost use Rattle.dsr_node.specs.Support.Party.{IsReplicaNumber};
 
 use crate::letters::{Letters, no_letters};
+use dsr_envelope::{Envelope, Letter};
 use dsr_names::{Actor, Refusal};
-use dsr_replica::{Envelope, Letter};
 use std::alloc::Global;
 
 /// The letter that was last made for a post to each client, if one was. All loyal replicas give a client the same reply, so the next one

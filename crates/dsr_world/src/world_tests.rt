@@ -1,9 +1,10 @@
 //! Plays through a world: how many events were done, what clients accepted and saw, what replicas decided, and the history.
 
-use crate::{Event, Play, RunEnd, World};
+use crate::{RunEnd, World};
 use dsr_desk::Content;
+use dsr_envelope::Entry;
 use dsr_names::{Actor, ClientId, Refusal, ReplicaId};
-use dsr_replica::Entry;
+use dsr_play::{Event, Play};
 use dsr_script::Draft;
 use std::alloc::Global;
 use std::fmt::Write;

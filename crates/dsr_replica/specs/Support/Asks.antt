@@ -2,7 +2,7 @@
 use Rattle.std.specs.Prelude.{ℕ, List, Option, slice_set}
 use Rattle.dsr_names.specs.Shape.{Shape}
 use Rattle.dsr_chain.specs.declared.signed_request.SignedRequest.{SignedRequest}
-use Rattle.dsr_replica.specs.declared.envelope.Envelope.{Envelope}
+use Rattle.dsr_envelope.specs.declared.envelope.Envelope.{Envelope}
 use Rattle.dsr_replica.specs.Held.{held_with}
 use Rattle.dsr_replica.specs.Replica.{ask_of}
 

@@ -1,6 +1,6 @@
 -- Loyal logs of a given length: the tests' proof that real replicas have long ones cites this (this project).
 use Rattle.std.specs.Prelude.{◌≡◌, ℕ, List, length}
-use Rattle.dsr_replica.specs.declared.entry.Entry.{Entry}
+use Rattle.dsr_envelope.specs.declared.entry.Entry.{Entry}
 use Rattle.dsr_replica.specs.Conduct.{IsLoyalLog}
 use Rattle.dsr_replica.specs.Replica.{Replica, StandsFor}
 

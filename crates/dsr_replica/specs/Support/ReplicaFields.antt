@@ -3,12 +3,12 @@ use Rattle.std.specs.Prelude.{◌≡◌, ℕ, suc, ◌^◌, ◌<◌, ◌≤◌, 
 use Rattle.dsr_rotation.specs.Calendar.{closed_slots}
 use Rattle.dsr_chain.specs.declared.slot_value.SlotValue.{SlotValue}
 use Rattle.dsr_slot.specs.SlotState.{opened, with_closed}
-use Rattle.dsr_replica.specs.declared.envelope.Envelope.{Envelope}
+use Rattle.dsr_envelope.specs.declared.envelope.Envelope.{Envelope}
 use Rattle.dsr_replica.specs.declared.replica.Replica.TheInside.{Inside}
-use Rattle.dsr_replica.specs.declared.step.Due.{Due}
-use Rattle.dsr_replica.specs.declared.step.Due.TheVariants.{Post as PostTo, Take as TakeFrom}
+use Rattle.dsr_envelope.specs.declared.step.Due.{Due}
+use Rattle.dsr_envelope.specs.declared.step.Due.TheVariants.{Post as PostTo, Take as TakeFrom}
 use Rattle.dsr_replica.specs.Counts.{IsInside}
-use Rattle.dsr_replica.specs.Envelope.{chains_for}
+use Rattle.dsr_envelope.specs.Envelope.{chains_for}
 use Rattle.dsr_replica.specs.Replica.{Replica}
 use Rattle.dsr_replica.specs.Support.Flights.{with_chains, going_on, decided_with}
 

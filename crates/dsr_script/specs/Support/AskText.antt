@@ -12,7 +12,7 @@ use Rattle.dsr_desk.specs.Support.StatementEquality.{statement_eq}
 use Rattle.dsr_desk.specs.declared.statement.Statement.{Statement}
 use Rattle.dsr_desk.specs.declared.statement.Statement.TheVariants.{Ask}
 use Rattle.dsr_chain.specs.declared.signed_request.SignedRequest.{SignedRequest}
-use Rattle.dsr_replica.specs.Limits.{IsSignature, IsSigned}
+use Rattle.dsr_envelope.specs.Limits.{IsSignature, IsSigned}
 use Rattle.dsr_script.specs.SignatureText.{Spelled, spelled_at, spelled_text}
 use Rattle.dsr_script.specs.ChainText.{signed_text}
 use Rattle.dsr_script.specs.Support.SpelledText.{IsSpelled, IsOther, spelled_part}

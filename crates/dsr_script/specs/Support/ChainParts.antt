@@ -16,7 +16,7 @@ use Rattle.dsr_chain.specs.Chain.{Chain}
 use Rattle.dsr_chain.specs.Content.{content}
 use Rattle.dsr_chain.specs.declared.slot_value.SlotValue.{SlotValue}
 use Rattle.dsr_chain.specs.declared.slot_value.SlotValue.TheVariants.{Idle, Act}
-use Rattle.dsr_replica.specs.Limits.{IsSigned, IsSignature}
+use Rattle.dsr_envelope.specs.Limits.{IsSigned, IsSignature}
 use Rattle.dsr_script.specs.SignatureText.{Spelled, spelled_at, spelled_text}
 use Rattle.dsr_script.specs.ChainText.{spelled_links, signed_text, value_text, links_text, chain_text, IsValue, IsSpelledChain}
 use Rattle.dsr_script.specs.Support.AskText.{ask_part, said_kind}

@@ -1,6 +1,6 @@
 -- A draft as the envelope that it describes.
-use Rattle.dsr_replica.specs.declared.envelope.Envelope.{Envelope}
-use Rattle.dsr_replica.specs.declared.envelope.Envelope.TheVariants as envelope
+use Rattle.dsr_envelope.specs.declared.envelope.Envelope.{Envelope}
+use Rattle.dsr_envelope.specs.declared.envelope.Envelope.TheVariants as envelope
 use Rattle.dsr_script.specs.declared.plan.Plan.{Plan}
 use Rattle.dsr_script.specs.declared.plan.Plan.TheVariants.{Empty, Round, Ask, Reply, Seen}
 

@@ -6,9 +6,9 @@ use Rattle.dsr_request.specs.AnswerText.{IsAnswer}
 use Rattle.dsr_request.specs.declared.answer.Answer.{Answer}
 use Rattle.dsr_ledger.specs.declared.reply.Reply.{Reply}
 use Rattle.dsr_chain.specs.Chain.{Chain}
-use Rattle.dsr_replica.specs.Limits.{IsCount, IsReply}
-use Rattle.dsr_replica.specs.declared.envelope.Envelope.{Envelope}
-use Rattle.dsr_replica.specs.declared.envelope.Envelope.TheVariants as envelope
+use Rattle.dsr_envelope.specs.Limits.{IsCount, IsReply}
+use Rattle.dsr_envelope.specs.declared.envelope.Envelope.{Envelope}
+use Rattle.dsr_envelope.specs.declared.envelope.Envelope.TheVariants as envelope
 use Rattle.dsr_script.specs.ChainText.{chain_text, IsSpelledChain}
 
 -- a reply that a text can spell

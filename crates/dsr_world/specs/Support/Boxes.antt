@@ -1,6 +1,6 @@
 -- How the boxes of all actors stand in rows, and what they hold (this project).
 use Rattle.std.specs.Prelude.{◌≡◌, ℕ, suc, List, [], ◌∷◌, ◌++◌, ◌<◌, Option, None, Some, length, slice_index_or, slice_set}
-use Rattle.dsr_replica.specs.declared.envelope.Envelope.{Envelope}
+use Rattle.dsr_envelope.specs.declared.envelope.Envelope.{Envelope}
 use Rattle.dsr_world.specs.declared.mail_boxes.MailBox.{MailBox}
 
 -- a box in which nothing was posted

@@ -8,18 +8,18 @@ use Rattle.dsr_names.specs.declared.refusal.Refusal.{Refusal}
 use Rattle.dsr_names.specs.declared.refusal.Refusal.TheVariants.{Exhausted, BoxFull}
 use Rattle.dsr_request.specs.OpText.{IsOp}
 use Rattle.dsr_desk.specs.Signature.{Signature}
-use Rattle.dsr_replica.specs.declared.step.Pick.{Pick}
-use Rattle.dsr_replica.specs.declared.step.Pick.TheVariants.{Plain, From, Begin}
-use Rattle.dsr_replica.specs.declared.envelope.Envelope.{Envelope}
-use Rattle.dsr_replica.specs.Log.{posted_to, taken_from}
+use Rattle.dsr_envelope.specs.declared.step.Pick.{Pick}
+use Rattle.dsr_envelope.specs.declared.step.Pick.TheVariants.{Plain, From, Begin}
+use Rattle.dsr_envelope.specs.declared.envelope.Envelope.{Envelope}
+use Rattle.dsr_envelope.specs.Log.{posted_to, taken_from}
 use Rattle.dsr_world.specs.Event.{is_full, is_used_up}
-use Rattle.dsr_world.specs.Run.{IsTraitor, HasPosted, IsRun}
-use Rattle.dsr_world.specs.Step.{Step, Logs, log_of}
+use Rattle.dsr_run.specs.Run.{IsTraitor, HasPosted, IsRun}
+use Rattle.dsr_run.specs.Step.{Step, Logs, log_of}
 use Rattle.dsr_world.specs.Support.Boxes.{AreSquare, box_at, IsBoxOf}
-use Rattle.dsr_world.specs.Support.Party.{Plays}
+use Rattle.dsr_node.specs.Support.Party.{Plays}
 use Rattle.dsr_world.specs.World.{World}
 use Rattle.dsr_world.specs.declared.mail_boxes.MailBox.{MailBox}
-use Rattle.dsr_world.specs.declared.party.Party.{Party}
+use Rattle.dsr_node.specs.declared.party.Party.{Party}
 use Rattle.dsr_world.specs.declared.world.World.TheInside.{Inside}
 
 -- the place of an actor: replicas first, then clients
@@ -84,12 +84,6 @@ IsWorldFields a = AreParts a.shape (reverse a.entries.items) a.parties.items a.b
 -- the shape and the run
 abbrev pub world_of : Inside → World
 world_of a = record { shape = a.shape; run = reverse a.entries.items }
-
--- the operation of a choice is one that a text can spell
-abbrev pub HasSpelledOp : Pick → Type 0
-HasSpelledOp Plain = Unit {0}
-HasSpelledOp (From clients) = Unit {0}
-HasSpelledOp (Begin op) = IsOp op
 
 -- what the box from one actor to another refuses a post with
 abbrev pub box_refusal : Logs → Actor → Actor → Option Refusal

@@ -1,6 +1,6 @@
 use Rattle.std.proofs.Common.{◌≡◌, ◌++◌, string_bytes}
-use Rattle.dsr_world.specs.History.{accepted_by}
-use Rattle.dsr_world.specs.Step.{log_of}
+use Rattle.dsr_run.specs.History.{accepted_by}
+use Rattle.dsr_run.specs.Step.{log_of}
 use Rattle.dsr_cli.specs.Report.{replies_text, texts_below}
 use Rattle.dsr_cli.proofs.report.write_accepted.Given as goal
 

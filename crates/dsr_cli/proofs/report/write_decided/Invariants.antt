@@ -1,5 +1,5 @@
 use Rattle.std.proofs.Common.{◌≡◌, ◌++◌, string_bytes}
-use Rattle.dsr_world.specs.Step.{log_of}
+use Rattle.dsr_run.specs.Step.{log_of}
 use Rattle.dsr_cli.specs.Report.{decided_of, texts_below}
 use Rattle.dsr_cli.proofs.report.write_decided.Given as goal
 

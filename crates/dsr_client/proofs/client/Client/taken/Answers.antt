@@ -1,5 +1,5 @@
 use Rattle.std.proofs.Common.{◌∷◌, sym, subst}
-use Rattle.dsr_replica.specs.declared.entry.Entry.TheVariants.{Take}
+use Rattle.dsr_envelope.specs.declared.entry.Entry.TheVariants.{Take}
 use Rattle.dsr_client.specs.Client.{StandsFor}
 use Rattle.dsr_client.proofs.client.Client.taken.Goals as goal
 

@@ -1,6 +1,6 @@
 use Rattle.std.proofs.Common.{◌∷◌, sym, subst}
 use Rattle.dsr_names.specs.declared.actor.Actor.TheVariants.{Client as AClient}
-use Rattle.dsr_replica.specs.declared.entry.Entry.TheVariants.{Take}
+use Rattle.dsr_envelope.specs.declared.entry.Entry.TheVariants.{Take}
 use Rattle.dsr_client.specs.Client.{StandsFor}
 use Rattle.dsr_client.proofs.client.Client.taken_from_client.Goals as goal
 

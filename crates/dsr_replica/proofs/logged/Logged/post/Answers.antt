@@ -1,5 +1,5 @@
 use Rattle.std.proofs.Common.{refl, sym, subst}
-use Rattle.dsr_replica.specs.declared.step.Pick.TheVariants.{Plain}
+use Rattle.dsr_envelope.specs.declared.step.Pick.TheVariants.{Plain}
 use Rattle.dsr_replica.specs.Support.LoyalLogs.{HasLog}
 use Rattle.dsr_replica.proofs.LoyalLogs.{one_post}
 use Rattle.dsr_replica.proofs.logged.Logged.post.Goals as goal

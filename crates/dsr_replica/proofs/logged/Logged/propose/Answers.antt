@@ -1,5 +1,5 @@
 use Rattle.std.proofs.Common.{◌∙◌, sym, subst}
-use Rattle.dsr_replica.specs.Pick.{IsPick}
+use Rattle.dsr_envelope.specs.Pick.{IsPick}
 use Rattle.dsr_replica.specs.Support.LoyalLogs.{HasLog}
 use Rattle.dsr_replica.proofs.LoyalLogs.{one_post}
 use Rattle.dsr_replica.proofs.logged.Logged.propose.Goals as goal

@@ -7,7 +7,7 @@ use Rattle.dsr_names.specs.declared.refusal.Refusal.{Refusal}
 use Rattle.dsr_names.specs.declared.refusal.Refusal.TheVariants.{NotDue, NoMemory}
 use Rattle.dsr_replica.specs.Conduct.{envelope_with, envelope_to}
 use Rattle.dsr_replica.specs.Replica.{Replica, value_for}
-use Rattle.dsr_replica.specs.Envelope.{round_envelope}
+use Rattle.dsr_envelope.specs.Envelope.{round_envelope}
 use Rattle.dsr_replica.specs.Support.Flights.{posts_of}
 use Rattle.dsr_replica.proofs.Choosing.{none_given, some_given, due_of, round_within, is_some, is_none}
 use Rattle.dsr_replica.proofs.Posts.{envelope_made}

@@ -1,6 +1,6 @@
 use Rattle.std.proofs.Common.{◌≡◌, ◌∷◌, Some, sym, subst}
 use Rattle.dsr_names.specs.declared.actor.Actor.TheVariants.{Replica as ReplicaNumber}
-use Rattle.dsr_replica.specs.declared.entry.Entry.TheVariants.{Post}
+use Rattle.dsr_envelope.specs.declared.entry.Entry.TheVariants.{Post}
 use Rattle.dsr_replica.specs.Replica.{StandsFor, value_for}
 use Rattle.dsr_replica.proofs.Choosing.{stands_chosen, is_some}
 use Rattle.dsr_replica.proofs.replica.Replica.posted.Goals as goal

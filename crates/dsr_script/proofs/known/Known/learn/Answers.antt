@@ -1,7 +1,7 @@
 use Rattle.std.proofs.Common.{◌↔◌, ◌⊎◌, ◌∷◌, sym, subst}
 use Rattle.std.proofs.lemmas.Result.{on_ok_weaker}
 use Rattle.dsr_base.specs.Member.{In}
-use Rattle.dsr_replica.specs.Envelope.{Carries}
+use Rattle.dsr_envelope.specs.Envelope.{Carries}
 use Rattle.dsr_script.specs.Known.{StandFor}
 use Rattle.dsr_script.proofs.KnownLemmas.{learned_is, stands_learned}
 use Rattle.dsr_script.proofs.known.Known.learn.Goals as goal

@@ -2,7 +2,7 @@ use Rattle.std.proofs.Common.{◌≡◌, ◌↔◌, Some}
 use Rattle.std.proofs.lemmas.Result.{IfOk-weaker}
 use Rattle.dsr_base.specs.Reads.{Reads}
 use Rattle.dsr_chain.specs.declared.signed_request.SignedRequest.{SignedRequest}
-use Rattle.dsr_replica.specs.Limits.{IsSigned}
+use Rattle.dsr_envelope.specs.Limits.{IsSigned}
 use Rattle.dsr_script.specs.ChainText.{signed_text}
 use Rattle.dsr_script.specs.Support.AskText.{ask_parts}
 use Rattle.dsr_script.specs.Support.SpelledText.{pair_of}

@@ -1,7 +1,7 @@
 use Rattle.std.proofs.Common.{sym, subst, ◌∙◌}
-use Rattle.dsr_script.specs.Header.{BeginsWithHeader}
+use Rattle.dsr_text.specs.Header.{BeginsWithHeader}
 use Rattle.dsr_script.specs.ServeText.{serve_scripts}
-use Rattle.dsr_script.proofs.LinesLemmas.{header_refused, its_header, its_lines}
+use Rattle.dsr_text.proofs.LinesLemmas.{header_refused, its_header, its_lines}
 use Rattle.dsr_script.proofs.ScriptLemmas.{says_the_same}
 use Rattle.dsr_script.proofs.script.Script.read.Goals as goal
 

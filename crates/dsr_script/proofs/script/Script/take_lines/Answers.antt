@@ -1,7 +1,7 @@
 use Rattle.std.proofs.Common.{rules, ◌∙◌, arith}
 use Rattle.dsr_script.specs.Script.{Gives}
 use Rattle.dsr_script.specs.ServeText.{serve_scripts}
-use Rattle.dsr_script.proofs.LinesLemmas.{no_feed, none_read, no_follower, bad_after, one_more, no_lines, only_lines, no_rest, shorter}
+use Rattle.dsr_text.proofs.LinesLemmas.{no_feed, none_read, no_follower, bad_after, one_more, no_lines, only_lines, no_rest, shorter}
 use Rattle.dsr_script.proofs.ScriptLemmas.{follows, cannot_follow}
 use Rattle.dsr_script.proofs.ServeLemmas.{line_clean}
 use Rattle.dsr_script.proofs.script.Script.take_lines.Goals as goal

@@ -2,12 +2,12 @@ use Rattle.std.proofs.Common.{◌≡◌, ◌*◌, ◌<◌, reverse, ap, sym, ◌
 use Rattle.std.specs.Prelude.{slice_index_or}
 use Rattle.dsr_names.specs.Shape.{HasFewTraitors}
 use Rattle.dsr_names.specs.declared.actor.Actor.TheVariants.{Client}
-use Rattle.dsr_world.specs.History.{accepted_by}
-use Rattle.dsr_world.specs.Run.{IsRun}
-use Rattle.dsr_world.specs.Step.{log_of}
-use Rattle.dsr_world.specs.Support.Party.{Plays}
+use Rattle.dsr_run.specs.History.{accepted_by}
+use Rattle.dsr_run.specs.Run.{IsRun}
+use Rattle.dsr_run.specs.Step.{log_of}
+use Rattle.dsr_node.specs.Support.Party.{Plays}
 use Rattle.dsr_world.specs.World.{World}
-use Rattle.dsr_world.proofs.Righting.{lent_right, lent_answered}
+use Rattle.dsr_run.proofs.Lemmas.{lent_right, lent_answered}
 use Rattle.dsr_world.proofs.world.World.accepted.Goals as goal
 
 pub returns-clause-same : goal.returns-clause-same

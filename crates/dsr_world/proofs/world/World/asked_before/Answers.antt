@@ -2,10 +2,10 @@ use Rattle.std.proofs.Common.{◌≡◌, ◌<◌, ◌∙◌, None, Some, length,
 use Rattle.std.specs.Prelude.{slice_index_or}
 use Rattle.std.proofs.lemmas.List.{get_or_default}
 use Rattle.dsr_names.specs.declared.actor.Actor.TheVariants.{Client}
-use Rattle.dsr_replica.specs.declared.step.Pick.TheVariants.{Plain}
+use Rattle.dsr_envelope.specs.declared.step.Pick.TheVariants.{Plain}
 use Rattle.dsr_client.specs.Conduct.{ask_to}
-use Rattle.dsr_world.specs.Step.{log_of}
-use Rattle.dsr_world.specs.Support.Party.{Plays, IsOutstandingAsk}
+use Rattle.dsr_run.specs.Step.{log_of}
+use Rattle.dsr_node.specs.Support.Party.{Plays, IsOutstandingAsk}
 use Rattle.dsr_world.specs.Support.WorldFields.{place_of}
 use Rattle.dsr_world.specs.World.{World}
 use Rattle.dsr_world.proofs.Repeating.{asked_again}

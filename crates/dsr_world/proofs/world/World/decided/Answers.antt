@@ -4,9 +4,9 @@ use Rattle.std.proofs.lemmas.Bool.{true≢false, false≢true}
 use Rattle.dsr_names.specs.Shape.{is_traitor, IsLoyal}
 use Rattle.dsr_names.specs.declared.actor.Actor.TheVariants.{Replica}
 use Rattle.dsr_replica.specs.Decided.{decided_values}
-use Rattle.dsr_world.specs.History.{decided_at}
-use Rattle.dsr_world.specs.Step.{log_of}
-use Rattle.dsr_world.specs.Support.Party.{Plays}
+use Rattle.dsr_run.specs.History.{decided_at}
+use Rattle.dsr_run.specs.Step.{log_of}
+use Rattle.dsr_node.specs.Support.Party.{Plays}
 use Rattle.dsr_world.specs.World.{World}
 use Rattle.dsr_world.proofs.world.World.decided.Goals as goal
 

@@ -3,13 +3,13 @@ use Rattle.dsr_names.specs.Shape.{HasFewTraitors}
 use Rattle.dsr_names.specs.declared.actor.Actor.TheVariants.{Replica}
 use Rattle.dsr_history.specs.History.{acted}
 use Rattle.dsr_replica.specs.Decided.{decided_requests, decided_values}
-use Rattle.dsr_world.specs.Run.{IsRun}
-use Rattle.dsr_world.specs.Step.{log_of}
-use Rattle.dsr_world.specs.Support.Party.{Plays}
+use Rattle.dsr_run.specs.Run.{IsRun}
+use Rattle.dsr_run.specs.Step.{log_of}
+use Rattle.dsr_node.specs.Support.Party.{Plays}
 use Rattle.dsr_world.specs.World.{World}
-use Rattle.dsr_world.proofs.Deciding.{best_past, best_kept, best_more, as_best}
-use Rattle.dsr_world.proofs.Histories.{history_grows, history_legal}
-use Rattle.dsr_world.proofs.Logs.{logs_grew}
+use Rattle.dsr_run.proofs.Lemmas.{best_past, best_kept, best_more, as_best}
+use Rattle.dsr_run.proofs.Lemmas.{history_grows, history_legal}
+use Rattle.dsr_run.proofs.Lemmas.{logs_grew}
 use Rattle.dsr_world.proofs.world.World.history.Goals.{in-Some+then-decided-closed, in-Some+else-decided-closed, in_default}
 use Rattle.dsr_world.proofs.world.World.history.Goals as goal
 

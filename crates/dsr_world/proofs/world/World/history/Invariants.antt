@@ -1,6 +1,6 @@
 use Rattle.std.proofs.Common.{◌≡◌}
-use Rattle.dsr_world.specs.Step.{log_of}
-use Rattle.dsr_world.proofs.Deciding.{IsBest}
+use Rattle.dsr_run.specs.Step.{log_of}
+use Rattle.dsr_run.proofs.Lemmas.{IsBest}
 use Rattle.dsr_world.proofs.world.World.history.Given as goal
 
 -- what the loyal one of the replicas before this one with the most closed slots has

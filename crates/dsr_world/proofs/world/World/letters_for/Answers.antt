@@ -1,10 +1,11 @@
 use Rattle.std.proofs.Common.{◌≡◌, None, Some, reverse, ap, sym, ◌∙◌, subst}
 use Rattle.std.specs.Prelude.{slice_index_or}
 use Rattle.std.proofs.lemmas.Result.{IfOk-weaker}
-use Rattle.dsr_world.specs.declared.event.Event.TheVariants.{Post}
-use Rattle.dsr_world.specs.Event.{refusal_of, post_of}
-use Rattle.dsr_world.specs.Step.{log_of}
-use Rattle.dsr_world.specs.Support.Party.{Plays}
+use Rattle.dsr_play.specs.declared.event.Event.TheVariants.{Post}
+use Rattle.dsr_world.specs.Event.{refusal_of}
+use Rattle.dsr_node.specs.Conduct.{post_of}
+use Rattle.dsr_run.specs.Step.{log_of}
+use Rattle.dsr_node.specs.Support.Party.{Plays}
 use Rattle.dsr_world.specs.World.{World}
 use Rattle.dsr_world.specs.declared.letters.Letters.{Letters}
 use Rattle.dsr_world.proofs.Worlds.{cleared, conduct_cleared}

@@ -1,7 +1,7 @@
 use Rattle.std.proofs.Common.{◌≡◌, ◌+◌, ◌<◌, ◌∙◌, suc, reverse, refl, ap₂, sym, subst, arith}
 use Rattle.dsr_names.specs.declared.actor.Actor.TheVariants.{Replica, Client}
 use Rattle.dsr_world.specs.Support.Boxes.{AreSquare}
-use Rattle.dsr_world.specs.Step.{log_of}
+use Rattle.dsr_run.specs.Step.{log_of}
 use Rattle.dsr_world.specs.Support.WorldFields.{AreParts, AreLetters, AreOpened, AreKeysBelow}
 use Rattle.dsr_world.proofs.Opening.{none_opened, one_opened, no_keys, more_keys, opened}
 use Rattle.dsr_world.proofs.Repeating.{no_letters_kept}

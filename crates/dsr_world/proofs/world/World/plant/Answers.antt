@@ -1,11 +1,11 @@
 use Rattle.std.proofs.Common.{◌≡◌, ◌∷◌, None, reverse, ap, ap₂, sym, ◌∙◌, subst}
 use Rattle.dsr_names.specs.Shape.{IsActor}
 use Rattle.dsr_names.specs.declared.actor.Actor.TheVariants.{Replica}
-use Rattle.dsr_replica.specs.declared.entry.Entry.TheVariants.{Post as PostEntry}
-use Rattle.dsr_world.specs.declared.event.Event.TheVariants.{Plant}
+use Rattle.dsr_envelope.specs.declared.entry.Entry.TheVariants.{Post as PostEntry}
+use Rattle.dsr_play.specs.declared.event.Event.TheVariants.{Plant}
 use Rattle.dsr_world.specs.Event.{refusal_of, is_full, is_used_up}
-use Rattle.dsr_world.specs.Run.{ForgesNothing}
-use Rattle.dsr_world.specs.Step.{log_of}
+use Rattle.dsr_run.specs.Run.{ForgesNothing}
+use Rattle.dsr_run.specs.Step.{log_of}
 use Rattle.dsr_world.specs.Support.Boxes.{box_at, with_box, with_post}
 use Rattle.dsr_world.specs.Support.WorldFields.{place_of, AreParts, AreLetters}
 use Rattle.dsr_world.specs.World.{World}

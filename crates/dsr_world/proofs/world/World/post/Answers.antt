@@ -3,13 +3,14 @@ use Rattle.std.specs.Prelude.{Any, slice_set, slice_index_or}
 use Rattle.dsr_base.specs.Member.{In}
 use Rattle.dsr_names.specs.declared.actor.Actor.{Actor}
 use Rattle.dsr_desk.specs.Signature.{Signature}
-use Rattle.dsr_replica.specs.Envelope.{Carries}
-use Rattle.dsr_replica.specs.declared.entry.Entry.TheVariants.{Post as PostEntry}
-use Rattle.dsr_world.specs.declared.event.Event.TheVariants.{Post}
-use Rattle.dsr_world.specs.Event.{refusal_of, post_of, HasDone}
-use Rattle.dsr_world.specs.Step.{log_of}
+use Rattle.dsr_envelope.specs.Envelope.{Carries}
+use Rattle.dsr_envelope.specs.declared.entry.Entry.TheVariants.{Post as PostEntry}
+use Rattle.dsr_play.specs.declared.event.Event.TheVariants.{Post}
+use Rattle.dsr_world.specs.Event.{refusal_of, HasDone}
+use Rattle.dsr_node.specs.Conduct.{post_of}
+use Rattle.dsr_run.specs.Step.{log_of}
 use Rattle.dsr_world.specs.Support.Boxes.{row_of, box_at, with_box, with_post}
-use Rattle.dsr_world.specs.Support.Party.{Plays}
+use Rattle.dsr_node.specs.Support.Party.{Plays}
 use Rattle.dsr_world.specs.Support.WorldFields.{place_of, with_letter, AreParts, AreLetters}
 use Rattle.dsr_world.specs.World.{World}
 use Rattle.dsr_world.proofs.Worlds.{cleared, conduct_cleared, row_long, posts_few, parts_after_post, done_post}

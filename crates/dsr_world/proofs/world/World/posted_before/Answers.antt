@@ -4,12 +4,13 @@ use Rattle.std.specs.Prelude.{slice_index_or}
 use Rattle.std.proofs.lemmas.List.{get_or_default}
 use Rattle.dsr_names.specs.declared.actor.Actor.{Actor}
 use Rattle.dsr_names.specs.declared.actor.Actor.TheVariants.{Replica}
-use Rattle.dsr_replica.specs.declared.envelope.Envelope.{Envelope}
-use Rattle.dsr_replica.specs.declared.step.Pick.{Pick}
-use Rattle.dsr_replica.specs.declared.step.Pick.TheVariants.{Plain}
-use Rattle.dsr_world.specs.declared.event.Event.TheVariants.{Post}
-use Rattle.dsr_world.specs.Event.{refusal_of, post_of}
-use Rattle.dsr_world.specs.Step.{log_of}
+use Rattle.dsr_envelope.specs.declared.envelope.Envelope.{Envelope}
+use Rattle.dsr_envelope.specs.declared.step.Pick.{Pick}
+use Rattle.dsr_envelope.specs.declared.step.Pick.TheVariants.{Plain}
+use Rattle.dsr_play.specs.declared.event.Event.TheVariants.{Post}
+use Rattle.dsr_world.specs.Event.{refusal_of}
+use Rattle.dsr_node.specs.Conduct.{post_of}
+use Rattle.dsr_run.specs.Step.{log_of}
 use Rattle.dsr_world.specs.World.{World}
 use Rattle.dsr_world.proofs.Repeating.{again_posted}
 use Rattle.dsr_world.proofs.Worlds.{IsCleared, cleared}

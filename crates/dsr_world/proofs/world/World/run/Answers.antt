@@ -1,11 +1,11 @@
 use Rattle.dsr_names.specs.Shape.{HasFewTraitors}
 use Rattle.std.proofs.Common.{◌≤◌, rules, length, ◌∙◌, subst, arith}
 use Rattle.dsr_world.specs.Outcome.{IsOutcome}
-use Rattle.dsr_world.specs.Run.{IsRun}
+use Rattle.dsr_run.specs.Run.{IsRun}
 use Rattle.dsr_world.specs.World.{World}
-use Rattle.dsr_world.proofs.Agreements.{all_agree}
+use Rattle.dsr_run.proofs.Lemmas.{all_agree}
 use Rattle.dsr_world.proofs.Ending.{step_outcome, ended_next, ended_few, ended_last, ended_all, ended_grew}
-use Rattle.dsr_world.proofs.Righting.{all_right}
+use Rattle.dsr_run.proofs.Lemmas.{all_right}
 use Rattle.dsr_world.proofs.world.World.run.Goals as goal
 
 pub with-end-requires-clause-few : goal.with-end-requires-clause-few

@@ -1,8 +1,8 @@
 use Rattle.std.proofs.Common.{sym, subst}
 use Rattle.dsr_names.specs.declared.refusal.Refusal.TheVariants.{Forged}
-use Rattle.dsr_world.specs.declared.event.Event.{Event}
+use Rattle.dsr_play.specs.declared.event.Event.{Event}
 use Rattle.dsr_world.specs.Event.{IsForgedAtLast, IsRefusedBy}
-use Rattle.dsr_world.specs.Step.{log_of}
+use Rattle.dsr_run.specs.Step.{log_of}
 use Rattle.dsr_world.proofs.WorldPosts.{forged_at_last}
 use Rattle.dsr_world.proofs.world.World.step.Goals as goal
 

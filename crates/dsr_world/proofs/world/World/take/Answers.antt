@@ -1,11 +1,11 @@
 use Rattle.std.proofs.Common.{◌≡◌, ◌∷◌, ◌++◌, [], ◌<◌, None, Some, length, reverse, ap, ap₂, sym, ◌∙◌, subst, arith}
 use Rattle.std.specs.Prelude.{slice_set, slice_index_or}
-use Rattle.dsr_replica.specs.declared.entry.Entry.TheVariants.{Take as TakeEntry}
-use Rattle.dsr_world.specs.declared.event.Event.TheVariants.{Take}
+use Rattle.dsr_envelope.specs.declared.entry.Entry.TheVariants.{Take as TakeEntry}
+use Rattle.dsr_play.specs.declared.event.Event.TheVariants.{Take}
 use Rattle.dsr_world.specs.Event.{refusal_of, HasDone}
-use Rattle.dsr_world.specs.Step.{log_of}
+use Rattle.dsr_run.specs.Step.{log_of}
 use Rattle.dsr_world.specs.Support.Boxes.{box_at, with_box, without_letter}
-use Rattle.dsr_world.specs.Support.Party.{Plays, CanTake, TakesReply}
+use Rattle.dsr_node.specs.Support.Party.{Plays, CanTake, TakesReply}
 use Rattle.dsr_world.specs.Support.WorldFields.{place_of, AreParts, AreLetters}
 use Rattle.dsr_world.specs.World.{World}
 use Rattle.std.proofs.lemmas.Option.{same_Some}

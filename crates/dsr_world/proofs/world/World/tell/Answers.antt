@@ -4,16 +4,16 @@ use Rattle.dsr_base.specs.Member.{In}
 use Rattle.dsr_names.specs.Shape.{IsActor}
 use Rattle.dsr_names.specs.declared.actor.Actor.{Actor}
 use Rattle.dsr_names.specs.declared.actor.Actor.TheVariants.{Client}
-use Rattle.dsr_replica.specs.declared.envelope.Envelope.TheVariants.{Seen}
+use Rattle.dsr_envelope.specs.declared.envelope.Envelope.TheVariants.{Seen}
 use Rattle.dsr_client.specs.State.{seen}
 use Rattle.dsr_desk.specs.Signature.{Signature}
-use Rattle.dsr_replica.specs.Envelope.{Carries}
-use Rattle.dsr_replica.specs.declared.entry.Entry.TheVariants.{Post as PostEntry}
-use Rattle.dsr_world.specs.declared.event.Event.TheVariants.{Tell}
+use Rattle.dsr_envelope.specs.Envelope.{Carries}
+use Rattle.dsr_envelope.specs.declared.entry.Entry.TheVariants.{Post as PostEntry}
+use Rattle.dsr_play.specs.declared.event.Event.TheVariants.{Tell}
 use Rattle.dsr_world.specs.Event.{refusal_of, is_full, is_used_up, HasDone}
-use Rattle.dsr_world.specs.Step.{log_of}
+use Rattle.dsr_run.specs.Step.{log_of}
 use Rattle.dsr_world.specs.Support.Boxes.{box_at, with_box, with_post}
-use Rattle.dsr_world.specs.Support.Party.{Plays}
+use Rattle.dsr_node.specs.Support.Party.{Plays}
 use Rattle.dsr_world.specs.Support.WorldFields.{place_of, AreParts, AreLetters}
 use Rattle.dsr_world.specs.World.{World}
 use Rattle.dsr_world.proofs.WorldPosts.{cleared_tell, parts_after_tell, done_tell}

@@ -4,12 +4,12 @@ use Rattle.dsr_names.specs.Shape.{IsActor}
 use Rattle.dsr_names.specs.declared.actor.Actor.TheVariants.{Replica}
 use Rattle.dsr_names.specs.declared.refusal.Refusal.{Refusal}
 use Rattle.dsr_names.specs.declared.refusal.Refusal.TheVariants.{Forged, NoMemory}
-use Rattle.dsr_replica.specs.declared.entry.Entry.TheVariants.{Post as PostEntry}
+use Rattle.dsr_envelope.specs.declared.entry.Entry.TheVariants.{Post as PostEntry}
 use Rattle.dsr_script.specs.Held.{IsUnforged}
-use Rattle.dsr_world.specs.declared.event.Event.TheVariants.{Plant}
+use Rattle.dsr_play.specs.declared.event.Event.TheVariants.{Plant}
 use Rattle.dsr_world.specs.Event.{refusal_of}
-use Rattle.dsr_world.specs.Run.{IsTraitor, ForgesNothing}
-use Rattle.dsr_world.specs.Step.{log_of}
+use Rattle.dsr_run.specs.Run.{IsTraitor, ForgesNothing}
+use Rattle.dsr_run.specs.Step.{log_of}
 use Rattle.dsr_world.specs.World.{World}
 use Rattle.dsr_world.proofs.WorldPosts.{cleared_plant, unforged_made, made_unforged}
 use Rattle.dsr_world.proofs.world.World.unforged.Goals as goal

@@ -1,0 +1,4 @@
+pub mod Envelope
+pub mod Limits
+pub mod Log
+pub mod Pick

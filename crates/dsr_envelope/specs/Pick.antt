@@ -1,0 +1,16 @@
+-- What a loyal actor chooses where its conduct leaves it a choice (this project).
+use Rattle.std.specs.Prelude.{◌≢◌, ℕ, ◌<◌, ◌≤◌, List, AllPairs, length}
+use Rattle.dsr_envelope.specs.declared.step.Pick.{Pick}
+use Rattle.dsr_envelope.specs.declared.step.Pick.TheVariants.{Plain, From, Begin}
+
+-- 1 to 8 clients, no two of them the same
+pub record IsClients (clients : List ℕ) : Type 0 where
+  pub some : 0 < length clients
+  pub few : length clients ≤ 8
+  pub distinct : AllPairs (λ a b. a ≢ b) clients
+
+-- a choice that can be made: the clients of `From` are 1 to 8 different ones
+abbrev pub IsPick : Pick → Type 0
+IsPick Plain = Unit {0}
+IsPick (From clients) = IsClients clients
+IsPick (Begin op) = Unit {0}

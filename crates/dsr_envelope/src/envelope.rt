@@ -1,0 +1,88 @@
+ghost use Rattle.std.specs.Prelude.{◌≡◌, ◌↔◌, IfOk, IsTrue, IsOkUnless};
+ghost use Rattle.dsr_envelope.specs.Limits.{IsEnvelope};
+
+use crate::chains::Chains;
+use crate::limits::{chains_fit, reply_fits, signed_fits};
+use dsr_chain::SignedRequest;
+use dsr_ledger::Reply;
+use dsr_names::{NUMBER_END, Refusal};
+use std::alloc::Global;
+
+/// What one actor posts to another, and the other takes.
+#[derive(Drop)]
+pub enum Envelope {
+    /// Nothing: a replica has no chain to send.
+    Empty,
+    /// The chains that a replica sends in a global round.
+    Round {
+        /// The global round, counted from 0.
+        round: u64,
+        /// The chains, at most 32.
+        chains: Chains,
+    },
+    /// A client's request.
+    Ask(SignedRequest),
+    /// A replica's reply to a client.
+    Reply(Reply),
+    /// A client's seen front: one more than the greatest place of the history that it knows of, 0 where it knows of none.
+    Seen(u64),
+}
+
+impl Envelope {
+    /// The same envelope once more: its chains share what they hold. `NoMemory` where memory runs out or one
+    /// handle more is refused.
+    pub fn try_copy(&self, alloc: Global) -> Result<Envelope, Refusal>
+        ensures same { IfOk result (λ copy. copy ≡ self.now) }
+        ensures refusal { IsOkUnless result Refusal.NoMemory }
+    {
+        match self {
+            Envelope::Empty => Ok(Envelope::Empty),
+            Envelope::Round { round, chains } => {
+                let chains = chains.try_copy(alloc)?;
+                Ok(Envelope::Round {
+                    round: *round,
+                    chains,
+                })
+            }
+            Envelope::Ask(request) => Ok(Envelope::Ask(*request)),
+            Envelope::Reply(reply) => Ok(Envelope::Reply(*reply)),
+            Envelope::Seen(front) => Ok(Envelope::Seen(*front)),
+        }
+    }
+
+    /// Whether the envelope is within the limits: numbers of rounds, slots, places, fronts and requests below 2^40, at most 32
+    /// chains, at most 16 signatures and 8 requests in each, and the same for the statements of all signatures.
+    pub fn fits(&self) -> bool
+        ensures { IsTrue result ↔ IsEnvelope self.now }
+    {
+        match self {
+            Envelope::Empty => true,
+            Envelope::Round { round, chains } => {
+                *round < NUMBER_END && chains_fit(chains.as_slice())
+            }
+            Envelope::Ask(ask) => signed_fits(ask),
+            Envelope::Reply(reply) => reply_fits(reply),
+            Envelope::Seen(front) => *front < NUMBER_END,
+        }
+    }
+
+    /// Whether two envelopes are the same.
+    pub fn same(&self, other: &Envelope) -> bool
+        ensures { IsTrue result ↔ (self.now ≡ other.now) }
+    {
+        match (self, other) {
+            (Envelope::Empty, Envelope::Empty) => true,
+            (
+                Envelope::Round { round, chains },
+                Envelope::Round {
+                    round: other_round,
+                    chains: other_chains,
+                },
+            ) => round == other_round && chains.same(other_chains),
+            (Envelope::Ask(request), Envelope::Ask(other)) => request.same(other),
+            (Envelope::Reply(reply), Envelope::Reply(other)) => reply == other,
+            (Envelope::Seen(front), Envelope::Seen(other)) => front == other,
+            _ => false,
+        }
+    }
+}

@@ -1,0 +1,20 @@
+//! What actors send each other: envelopes, the letters that hold them, the entries of a log, and the choices that a log leaves open.
+#![tactic(auto)]
+
+mod chains;
+mod clients;
+mod entry;
+mod envelope;
+mod letter;
+mod limits;
+mod step;
+
+pub use chains::Chains;
+pub use clients::Clients;
+pub use entry::Entry;
+pub use envelope::Envelope;
+pub use letter::Letter;
+pub use step::{Due, Pick};
+
+#[cfg(test)]
+mod envelope_tests;

@@ -1,0 +1,59 @@
+//! Whether what an envelope carries is within the limits of the texts that spell it.
+
+ghost use Rattle.std.specs.Prelude.{◌↔◌, IsTrue};
+ghost use Rattle.dsr_envelope.specs.Limits.{IsSignature, IsSigned, IsChain, AreChains, IsReply};
+
+use dsr_base::Token;
+use dsr_chain::{Chain, SignedRequest};
+use dsr_desk::Signature;
+use dsr_ledger::Reply;
+use dsr_names::NUMBER_END;
+use dsr_request::MOST_REQUESTS;
+
+/// The most chains of an envelope.
+const MOST_CHAINS: usize = 32;
+
+/// The most signatures of a chain.
+const MOST_SIGNATURES: usize = 16;
+
+/// Whether the reply's number and place are within the limits.
+pub(crate) fn reply_fits(reply: &Reply) -> bool
+    ensures { IsTrue result ↔ IsReply reply.now }
+{
+    reply.number > 0 && reply.number < NUMBER_END && reply.place < NUMBER_END
+}
+
+/// Whether there are at most 32 chains, each of them within the limits.
+pub(crate) fn chains_fit(chains: &[Chain]) -> bool
+    ensures { IsTrue result ↔ AreChains chains.now }
+{
+    chains.len() <= MOST_CHAINS && chains.iter().all(|chain| chain_fits(chain))
+}
+
+/// Whether the chain is within the limits.
+fn chain_fits(chain: &Chain) -> bool
+    ensures { IsTrue result ↔ IsChain chain.now }
+{
+    chain.slot() < NUMBER_END
+        && chain.signed().len() <= MOST_REQUESTS
+        && chain.signed().iter().all(|ask| signed_fits(ask))
+        && chain.signatures().len() <= MOST_SIGNATURES
+        && chain
+            .signatures()
+            .iter()
+            .all(|signature| signature_fits(signature))
+}
+
+/// Whether the request and the signature beside it are within the limits.
+pub(crate) fn signed_fits(ask: &SignedRequest) -> bool
+    ensures { IsTrue result ↔ IsSigned ask.now }
+{
+    ask.request.fits() && signature_fits(&ask.signature)
+}
+
+/// Whether the signer and the statement are within the limits.
+fn signature_fits(signature: &Signature) -> bool
+    ensures { IsTrue result ↔ IsSignature signature.now }
+{
+    signature.signer().fits() && signature.statement().fits()
+}

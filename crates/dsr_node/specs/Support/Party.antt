@@ -1,0 +1,82 @@
+-- How an actor of a world stands for its log (this project).
+use Rattle.std.specs.Prelude.{◌≡◌, ◌≢◌, ℕ, ◌<◌, true, false, List, ◌∷◌, Option, None, Some, reverse, if◌then◌else◌}
+use Rattle.std.specs.Option.{is_none, option_map}
+use Rattle.dsr_names.specs.Shape.{Shape, is_traitor, IsActor}
+use Rattle.dsr_names.specs.declared.actor.Actor.{Actor}
+use Rattle.dsr_names.specs.declared.actor.Actor.TheVariants.{Replica as ReplicaNumber, Client as ClientNumber}
+use Rattle.dsr_names.specs.declared.refusal.Refusal.{Refusal}
+use Rattle.dsr_names.specs.declared.refusal.Refusal.TheVariants.{NotDue, Exhausted}
+use Rattle.dsr_ledger.specs.declared.reply.Reply.{Reply as AReply}
+use Rattle.dsr_chain.specs.declared.signed_request.SignedRequest.{SignedRequest}
+use Rattle.dsr_envelope.specs.declared.envelope.Envelope.{Envelope}
+use Rattle.dsr_envelope.specs.declared.envelope.Envelope.TheVariants.{Ask}
+use Rattle.dsr_envelope.specs.declared.entry.Entry.{Entry}
+use Rattle.dsr_envelope.specs.declared.entry.Entry.TheVariants.{Take}
+use Rattle.dsr_envelope.specs.declared.step.Due.TheVariants.{Take as TakeFrom}
+use Rattle.dsr_envelope.specs.declared.step.Pick.{Pick}
+use Rattle.dsr_envelope.specs.Limits.{IsEnvelope}
+use Rattle.dsr_replica.specs.Replica.{Replica, HasRoom, StandsFor}
+use Rattle.dsr_client.specs.Client.{StandsFor as StandsForClient}
+use Rattle.dsr_client.specs.State.{outstanding, accepted}
+use Rattle.dsr_node.specs.Conduct.{post_of, is_exhausted, AcceptsBy}
+use Rattle.dsr_node.specs.Support.Customer.{Customer}
+use Rattle.dsr_node.specs.declared.party.Party.{Party}
+use Rattle.dsr_node.specs.declared.party.Party.TheVariants.{Loyal, Traitor, Client}
+
+-- the replica is this loyal one, and stands for the log
+pub record PlaysReplica (shape : Shape) (p : ℕ) (log : List Entry) (r : Replica) : Type 0 where
+  pub honest : is_traitor shape p ≡ false
+  pub me : r.me ≡ ReplicaNumber p
+  pub shape_is : r.shape ≡ shape
+  pub stands : StandsFor r log
+
+-- the client is this one, stands for the log, and has noted what it accepted
+pub record PlaysClient (shape : Shape) (c : ℕ) (log : List Entry) (x : Customer) : Type 0 where
+  pub me : x.client.me ≡ c
+  pub shape_is : x.client.shape ≡ shape
+  pub stands : StandsForClient x.client log
+  pub noted : x.accepted ≡ reverse (accepted shape log)
+
+-- the party plays the actor, whose log this is
+abbrev pub Plays : Shape → Actor → List Entry → Party → Type 0
+Plays shape (ReplicaNumber p) log (Loyal r) = PlaysReplica shape p log r
+Plays shape (ReplicaNumber p) log Traitor = is_traitor shape p ≡ true
+Plays shape (ReplicaNumber p) log (Client x) = ⊥
+Plays shape (ClientNumber c) log (Loyal r) = ⊥
+Plays shape (ClientNumber c) log Traitor = ⊥
+Plays shape (ClientNumber c) log (Client x) = PlaysClient shape c log x
+
+-- what the actor's conduct refuses a post with; none where it makes the post
+abbrev pub post_refusal : Shape → List Entry → Actor → Actor → Pick → Option Refusal
+post_refusal shape log me to pick =
+    if is_none (post_of shape log me to pick) then Some NotDue
+    else if is_exhausted shape log me to pick then Some Exhausted
+    else None
+
+-- the party can take this envelope from this actor: what it takes is due, within the limits, and there is room for it
+abbrev pub CanTake : Party → Actor → Envelope → Type 0
+CanTake (Loyal r) (ReplicaNumber p) envelope = (r.next ≡ TakeFrom p) × HasRoom r
+CanTake (Loyal r) (ClientNumber c) envelope = c < r.shape.m
+CanTake Traitor from envelope = Unit {0}
+CanTake (Client x) from envelope = IsActor x.client.shape from × (from ≢ ClientNumber x.client.me) × IsEnvelope envelope × (0 < x.room)
+
+-- the party has room for what it may take
+abbrev pub HasRoomToTake : Party → Type 0
+HasRoomToTake (Loyal r) = HasRoom r
+HasRoomToTake Traitor = Unit {0}
+HasRoomToTake (Client x) = 0 < x.room
+
+-- the reply that a take has the actor accept, if it has
+abbrev pub TakesReply : Shape → Actor → List Entry → Actor → Envelope → Option AReply → Type 0
+TakesReply shape (ReplicaNumber p) log from envelope reply = reply ≡ None
+TakesReply shape (ClientNumber c) log from envelope reply = AcceptsBy reply (accepted shape (Take from envelope ∷ log)) (accepted shape log)
+
+-- the actor is a replica
+abbrev pub IsReplicaNumber : Actor → Type 0
+IsReplicaNumber (ReplicaNumber p) = Unit {0}
+IsReplicaNumber (ClientNumber c) = ⊥
+
+-- the envelope is an ask of the number that is outstanding with the client
+abbrev pub IsOutstandingAsk : Shape → List Entry → Envelope → Type 0
+IsOutstandingAsk shape log envelope =
+    (ask : SignedRequest) × (envelope ≡ Ask ask) × (option_map (λ current. current.request.number) (outstanding shape log) ≡ Some ask.request.number)

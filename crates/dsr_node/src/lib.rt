@@ -1,0 +1,8 @@
+//! One actor of any kind, over its own log: a loyal replica, a client, or a traitor. What it posts and takes, and what it is refused.
+#![tactic(auto)]
+
+mod customer;
+mod party;
+
+pub use customer::Customer;
+pub use party::Party;

@@ -1,0 +1,310 @@
+ghost use Rattle.std.specs.Prelude.{true, reverse, ◌≡◌, ◌≢◌, ◌↔◌, ℕ, ◌∷◌, List, None, Some, IfOk, IfSome, IfNone, IsOk, OnOk, IsOkUnless, IsTrue, IsSome};
+ghost use Rattle.dsr_names.specs.Shape.{Shape, is_traitor};
+ghost use Rattle.dsr_names.specs.declared.actor.Actor.{Actor};
+ghost use Rattle.dsr_names.specs.declared.actor.Actor.TheVariants.{Replica as ReplicaNumber, Client as ClientNumber};
+ghost use Rattle.dsr_envelope.specs.declared.envelope.Envelope.{Envelope};
+ghost use Rattle.dsr_envelope.specs.declared.entry.Entry.{Entry};
+ghost use Rattle.dsr_envelope.specs.declared.entry.Entry.TheVariants.{Post, Take};
+ghost use Rattle.dsr_envelope.specs.declared.step.Pick.TheVariants.{Begin};
+ghost use Rattle.dsr_replica.specs.Conduct.{envelope_to};
+ghost use Rattle.dsr_replica.specs.Replica.{StandsFor, Allows};
+ghost use Rattle.dsr_client.specs.Client.{StandsFor as StandsForClient};
+ghost use Rattle.dsr_client.specs.State.{accepted, seen};
+ghost use Rattle.dsr_node.specs.Conduct.{post_of, takes_from, is_undue};
+ghost use Rattle.dsr_node.specs.Support.Party.{Plays, PlaysReplica, post_refusal, CanTake, HasRoomToTake, TakesReply, IsReplicaNumber, IsOutstandingAsk};
+
+use crate::customer::Customer;
+use dsr_client::Client;
+use dsr_envelope::{Due, Envelope, Pick};
+use dsr_ledger::Reply;
+use dsr_names::{Actor, Refusal, ReplicaId};
+use dsr_replica::Replica;
+use dsr_request::Op;
+use std::alloc::Global;
+
+/// An actor of a world.
+#[derive(Drop)]
+pub enum Party {
+    /// A loyal replica.
+    Loyal(Replica),
+    /// A traitor. There is no code of it: it posts what it likes, as far as it forges nothing.
+    Traitor,
+    /// A client.
+    Client(Customer),
+}
+
+impl Party {
+    /// What its conduct refuses a post to this actor by this choice with, if it does.
+    pub fn post_refusal(&self, alloc: Global, to: Actor, pick: Pick) -> Option<Refusal>
+        ensures same { (shape : Shape) (me : Actor) (log : List Entry) → Plays shape me log self.now → self.now ≢ Party.Traitor
+            → result ≡ post_refusal shape log me to pick }
+    {
+        match self {
+            Party::Loyal(replica) => replica_refusal(alloc, replica, to, pick),
+            Party::Traitor => None,
+            Party::Client(customer) => client_refusal(customer.client(), to, pick),
+        }
+    }
+
+    /// The envelope that it posts to this actor by this choice. `NoMemory` where memory runs out.
+    pub fn envelope_for(
+        &self,
+        alloc: Global,
+        to: Actor,
+        pick: Pick,
+    ) -> Result<Envelope, Refusal>
+        ensures given { (shape : Shape) (me : Actor) (log : List Entry) → Plays shape me log self.now
+            → post_refusal shape log me to pick ≡ None → IfOk result (λ envelope. post_of shape log me to pick ≡ Some envelope) }
+        ensures refusal { (shape : Shape) (me : Actor) (log : List Entry) → Plays shape me log self.now
+            → post_refusal shape log me to pick ≡ None → IsOkUnless result Refusal.NoMemory }
+    {
+        match self {
+            Party::Loyal(replica) => replica_envelope(alloc, replica, to, pick),
+            Party::Traitor => Err(Refusal::NoMemory),
+            Party::Client(customer) => client_envelope(customer.client(), to, pick),
+        }
+    }
+
+    /// Posts to this actor by this choice.
+    pub fn posted(&mut self, to: Actor, pick: Pick)
+        ensures plays { (shape : Shape) (me : Actor) (log : List Entry) (envelope : Envelope) → Plays shape me log self.old
+            → post_refusal shape log me to pick ≡ None → post_of shape log me to pick ≡ Some envelope → Plays shape me (Post to envelope ∷ log) self.new }
+    {
+        match self {
+            Party::Loyal(replica) => {
+                if let Actor::Replica(number) = to {
+                    post_round(replica, number, &pick);
+                }
+            }
+            Party::Traitor => {}
+            Party::Client(customer) => {
+                if let Pick::Begin(op) = pick {
+                    customer.begin(op);
+                }
+            }
+        }
+    }
+
+    /// Makes room for what it may take. `NoMemory` where it is refused: then nothing changed, but that there may be more room.
+    pub fn room(&mut self) -> Result<(), Refusal>
+        ensures plays { (shape : Shape) (me : Actor) (log : List Entry) → Plays shape me log self.old → Plays shape me log self.new }
+        ensures room { OnOk result (HasRoomToTake self.new) }
+        ensures refusal { IsOkUnless result Refusal.NoMemory }
+    {
+        match self {
+            Party::Loyal(replica) => replica.room(),
+            Party::Traitor => Ok(()),
+            Party::Client(customer) => customer.room(),
+        }
+    }
+
+    /// A client's seen front; 0 of others.
+    pub fn seen(&self) -> u64
+        ensures { (shape : Shape) (c : ℕ) (log : List Entry) → Plays shape (ClientNumber c) log self.now → result ≡ seen shape log }
+    {
+        match self {
+            Party::Loyal(_) | Party::Traitor => 0,
+            Party::Client(customer) => customer.client().seen(),
+        }
+    }
+
+    /// Whether the envelope is an ask of the number that is outstanding with this client; no envelope is with others.
+    pub fn has_outstanding(&self, envelope: &Envelope) -> bool
+        ensures { (shape : Shape) (c : ℕ) (log : List Entry) → Plays shape (ClientNumber c) log self.now
+            → IsTrue result ↔ IsOutstandingAsk shape log envelope.now }
+    {
+        match (self, envelope) {
+            (Party::Client(customer), Envelope::Ask(ask)) => {
+                customer.client().outstanding() == Some(ask.request.number())
+            }
+            _ => false,
+        }
+    }
+
+    /// The loyal replica, where it is one.
+    pub fn replica(&self) -> Option<&Replica>
+        ensures loyal { (shape : Shape) (p : ℕ) (log : List Entry) → Plays shape (ReplicaNumber p) log self.now
+            → IfSome result (λ replica. PlaysReplica shape p log replica.now) }
+        ensures traitor { (shape : Shape) (p : ℕ) (log : List Entry) → Plays shape (ReplicaNumber p) log self.now
+            → IfNone result (is_traitor shape p ≡ true) }
+    {
+        match self {
+            Party::Loyal(replica) => Some(replica),
+            Party::Traitor | Party::Client(_) => None,
+        }
+    }
+
+    /// The replies that a client accepted, in their order; none of others.
+    pub fn accepted(&self) -> &[Reply]
+        ensures { (shape : Shape) (c : ℕ) (log : List Entry) → Plays shape (ClientNumber c) log self.now
+            → result.now ≡ reverse (accepted shape log) }
+    {
+        match self {
+            Party::Loyal(_) | Party::Traitor => &[],
+            Party::Client(customer) => customer.accepted(),
+        }
+    }
+
+    /// Whether a take from this actor is one of a loyal replica from a replica, and not due.
+    pub fn is_undue(&self, from: Actor) -> bool
+        ensures { (shape : Shape) (me : Actor) (log : List Entry) → Plays shape me log self.now → result ≡ is_undue shape log me from }
+    {
+        match (self, from) {
+            (Party::Loyal(replica), Actor::Replica(number)) => !takes_from(replica.due(), number),
+            _ => false,
+        }
+    }
+
+    /// Takes the envelope from this actor, and returns the reply that a client accepts by it. Requires that it can.
+    pub fn taken(&mut self, from: Actor, envelope: Envelope) -> Option<Reply>
+        requires { CanTake self.old from envelope }
+        ensures plays { (shape : Shape) (me : Actor) (log : List Entry) → Plays shape me log self.old
+            → Plays shape me (Take from envelope ∷ log) self.new }
+        ensures accepted { (shape : Shape) (me : Actor) (log : List Entry) → Plays shape me log self.old
+            → TakesReply shape me log from envelope result }
+    {
+        match self {
+            Party::Loyal(replica) => {
+                match from {
+                    Actor::Replica(number) => replica.taken(number, envelope),
+                    Actor::Client(client) => replica.ask_taken(client, envelope),
+                }
+                None
+            }
+            Party::Traitor => None,
+            Party::Client(customer) => customer.taken(from, envelope),
+        }
+    }
+}
+
+/// What a loyal replica's conduct refuses a post to this actor by this choice with, if it does.
+fn replica_refusal(alloc: Global, replica: &Replica, to: Actor, pick: Pick) -> Option<Refusal>
+    ensures same { (p : ℕ) (log : List Entry) → replica.now.me ≡ ReplicaNumber p → StandsFor replica.now log
+        → result ≡ post_refusal replica.now.shape log (ReplicaNumber p) to pick }
+{
+    match to {
+        Actor::Replica(number) => round_refusal(alloc, replica, number, &pick),
+        Actor::Client(client) => match pick {
+            Pick::Plain => match replica.reply_for(client) {
+                Some(_) => None,
+                None => Some(Refusal::NotDue),
+            },
+            Pick::From(_) | Pick::Begin(_) => Some(Refusal::NotDue),
+        },
+    }
+}
+
+/// What a loyal replica's conduct refuses a post to this replica by this choice with, if it does.
+fn round_refusal(alloc: Global, replica: &Replica, to: ReplicaId, pick: &Pick) -> Option<Refusal>
+    ensures same { (p : ℕ) (log : List Entry) → replica.now.me ≡ ReplicaNumber p → StandsFor replica.now log
+        → result ≡ post_refusal replica.now.shape log (ReplicaNumber p) (ReplicaNumber to) pick.now }
+{
+    let _due = replica.due();
+    if replica.allows(to, copy_of(pick)) {
+        None
+    } else {
+        let refused = replica.envelope_for(alloc, to, copy_of(pick)).err();
+        Some(refused.unwrap_or(Refusal::NotDue))
+    }
+}
+
+/// Posts to this replica by this choice, where it is allowed.
+fn post_round(replica: &mut Replica, to: ReplicaId, pick: &Pick)
+    ensures stands { (p : ℕ) (log : List Entry) (envelope : Envelope) → replica.old.me ≡ ReplicaNumber p → StandsFor replica.old log
+        → post_refusal replica.old.shape log (ReplicaNumber p) (ReplicaNumber to) pick.now ≡ None
+        → envelope_to replica.old.shape (ReplicaNumber p) log to pick.now ≡ Some envelope
+        → StandsFor replica.new (Post (ReplicaNumber to) envelope ∷ log) }
+    ensures me { replica.new.me ≡ replica.old.me }
+    ensures shape { replica.new.shape ≡ replica.old.shape }
+{
+    if replica.allows(to, copy_of(pick)) {
+        replica.posted(to, copy_of(pick));
+    }
+}
+
+/// The choice once more.
+fn copy_of(pick: &Pick) -> Pick
+    ensures { result ≡ pick.now }
+{
+    *pick
+}
+
+/// What a client's conduct refuses a post to this actor by this choice with, if it does.
+fn client_refusal(client: &Client, to: Actor, pick: Pick) -> Option<Refusal>
+    ensures same { (log : List Entry) → StandsForClient client.now log
+        → result ≡ post_refusal client.now.shape log (ClientNumber client.now.me) to pick }
+{
+    if let Actor::Client(_) = to {
+        return Some(Refusal::NotDue);
+    }
+    match pick {
+        Pick::Plain => match client.outstanding() {
+            Some(_) => None,
+            None => Some(Refusal::NotDue),
+        },
+        Pick::From(_) => Some(Refusal::NotDue),
+        Pick::Begin(op) => begin_refusal(client, to, op),
+    }
+}
+
+/// What a client refuses to begin a request of this operation with, if it does.
+fn begin_refusal(client: &Client, to: Actor, op: Op) -> Option<Refusal>
+    requires { IsReplicaNumber to }
+    ensures same { (log : List Entry) → StandsForClient client.now log
+        → result ≡ post_refusal client.now.shape log (ClientNumber client.now.me) to (Begin op) }
+{
+    if client.outstanding().is_some() {
+        return Some(Refusal::NotDue);
+    }
+    match client.first_ask(op) {
+        Some(_) => None,
+        None => Some(Refusal::Exhausted),
+    }
+}
+
+/// The envelope that a loyal replica posts to this actor by this choice.
+fn replica_envelope(
+    alloc: Global,
+    replica: &Replica,
+    to: Actor,
+    pick: Pick,
+) -> Result<Envelope, Refusal>
+    ensures given { (p : ℕ) (log : List Entry) → replica.now.me ≡ ReplicaNumber p → StandsFor replica.now log
+        → IfOk result (λ envelope. post_of replica.now.shape log (ReplicaNumber p) to pick ≡ Some envelope) }
+    ensures refusal { (p : ℕ) (log : List Entry) → replica.now.me ≡ ReplicaNumber p → StandsFor replica.now log
+        → post_refusal replica.now.shape log (ReplicaNumber p) to pick ≡ None → IsOkUnless result Refusal.NoMemory }
+{
+    match to {
+        Actor::Replica(number) => replica.envelope_for(alloc, number, pick),
+        Actor::Client(client) => match pick {
+            Pick::Plain => replica.reply_for(client).ok_or(Refusal::NotDue),
+            Pick::From(_) | Pick::Begin(_) => Err(Refusal::NotDue),
+        },
+    }
+}
+
+/// The envelope that a client posts to this actor by this choice.
+fn client_envelope(client: &Client, to: Actor, pick: Pick) -> Result<Envelope, Refusal>
+    ensures given { (log : List Entry) → StandsForClient client.now log
+        → post_refusal client.now.shape log (ClientNumber client.now.me) to pick ≡ None
+        → IfOk result (λ envelope. post_of client.now.shape log (ClientNumber client.now.me) to pick ≡ Some envelope) }
+    ensures refusal { (log : List Entry) → StandsForClient client.now log
+        → post_refusal client.now.shape log (ClientNumber client.now.me) to pick ≡ None → IsOk result }
+{
+    let envelope = match pick {
+        Pick::Plain => client.ask_for(ReplicaId::FIRST),
+        Pick::From(_) => None,
+        Pick::Begin(op) => client.first_ask(op),
+    };
+    envelope.ok_or(Refusal::NotDue)
+}
+
+/// Whether the take from this replica is due.
+fn takes_from(due: Due, replica: ReplicaId) -> bool
+    ensures { result ≡ takes_from due replica }
+{
+    match due {
+        Due::Post(_) => false,
+        Due::Take(next) => next == replica,
+    }
+}

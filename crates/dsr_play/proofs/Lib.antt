@@ -1,0 +1,4 @@
+mod PlayLemmas
+mod PlayLineLemmas
+mod PlayPartLemmas
+mod PlayWithin

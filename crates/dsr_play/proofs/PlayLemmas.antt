@@ -1,0 +1,109 @@
+-- One more line of a play, and whole plays.
+use Rattle.std.proofs.Common.{◌≡◌, ◌↔◌, ℕ, ◌<◌, ◌≤◌, Bool, true, false, List, ◌∷◌, ◌++◌, codes, length, IsTrue, refl, sym, ◌∙◌, ap, ap₂, subst, arith, lit<}
+use Rattle.std.proofs.lemmas.Bool.{false≢true}
+use Rattle.dsr_base.specs.Joined.{joined}
+use Rattle.dsr_names.specs.Actor.{IsNumbered, actor_text, client_text, replica_text}
+use Rattle.dsr_names.specs.declared.actor.Actor.{Actor}
+use Rattle.dsr_names.specs.declared.actor.Actor.TheVariants.{Client}
+use Rattle.dsr_names.specs.Shape.{Shape}
+use Rattle.dsr_request.specs.OpText.{op_text}
+use Rattle.dsr_request.specs.Support.Texts.{op_without}
+use Rattle.dsr_envelope.specs.declared.step.Pick.{Pick}
+use Rattle.dsr_envelope.specs.declared.step.Pick.TheVariants.{Plain, From, Begin}
+use Rattle.dsr_script.specs.EnvelopeText.{envelope_text}
+use Rattle.dsr_text.proofs.Clean.{IsClean, clean_nil, clean_append, field_clean, word_clean, joined_clean, replica_clean, actor_clean}
+use Rattle.dsr_script.proofs.FeedLemmas.{envelope_clean}
+use Rattle.dsr_text.proofs.LinesLemmas.{TakenSoFar}
+use Rattle.dsr_play.specs.declared.event.Event.{Event}
+use Rattle.dsr_play.specs.declared.event.Event.TheVariants.{Post, Plant, Take, Tell}
+use Rattle.dsr_play.specs.declared.play_line.PlayLine.{PlayLine}
+use Rattle.dsr_play.specs.declared.play_line.PlayLine.TheVariants.{One, Posts, PostsAll, Plants, Takes, TakesAll, Asks, Hears, Replies}
+use Rattle.dsr_play.specs.PlayText.{line_text, line_rest, pick_text, ends_text, IsPlayLine, IsSpelledPick, CanFollow, all_events, events_of, plays}
+use Rattle.dsr_play.specs.Play.{Play, Spells}
+
+-- ---- no line feed stands in a line
+
+client_clean : (c : ℕ) → c < 32 → IsClean (client_text c)
+client_clean c small = actor_clean (Client c) small
+
+pick_clean : (pick : Pick) → IsSpelledPick pick → IsClean (pick_text pick)
+pick_clean Plain is = clean_nil
+pick_clean (From clients) is =
+    clean_append (codes " from ") (joined 43 client_text clients) (word_clean (codes " from ") refl)
+    (joined_clean (λ (c : ℕ). c < 32) client_text 43 (lit< tt) client_clean clients is.1)
+pick_clean (Begin op) is =
+    clean_append (codes " begin ") (op_text 32 op) (word_clean (codes " begin ") refl) (op_without 10 32 op refl (λ (e : ◌≡◌ {A = ℕ} 32 10). omega arith) is)
+
+ends_clean : (a b : Actor) → IsNumbered a → IsNumbered b → IsClean (ends_text a b)
+ends_clean a b one other = field_clean 32 (actor_text a) (actor_text b) (lit< tt) (actor_clean a one) (actor_clean b other)
+
+rest_clean : (line : PlayLine) → IsPlayLine line → IsClean (line_rest line)
+rest_clean (One (Post from to pick)) is =
+    field_clean 32 (actor_text from) (actor_text to ++ pick_text pick) (lit< tt) (actor_clean from is.0)
+    (clean_append (actor_text to) (pick_text pick) (actor_clean to is.1) (pick_clean pick is.2))
+rest_clean (One (Plant from to envelope)) is =
+    field_clean 32 (actor_text from) _ (lit< tt) (actor_clean from is.0)
+    (field_clean 32 (actor_text to) (envelope_text envelope) (lit< tt) (actor_clean to is.1) (envelope_clean envelope is.2))
+rest_clean (One (Take at from)) is = ends_clean at from is.0 is.1
+rest_clean (One (Tell from to)) is = ends_clean from to is.0 is.1
+rest_clean (Posts by pick) is = clean_append (replica_text by) (pick_text pick) (replica_clean by is.0) (pick_clean pick is.1)
+rest_clean PostsAll is = word_clean (codes "*") refl
+rest_clean (Plants by envelope) is =
+    field_clean 32 (replica_text by) (envelope_text envelope) (lit< tt) (replica_clean by is.0) (envelope_clean envelope is.1)
+rest_clean (Takes at) is = actor_clean at is
+rest_clean TakesAll is = word_clean (codes "*") refl
+rest_clean (Asks by pick) is = clean_append (client_text by) (pick_text pick) (client_clean by is.0) (pick_clean pick is.1)
+rest_clean (Hears from) is = client_clean from is
+rest_clean (Replies to) is = client_clean to is
+
+after_word : (word : List ℕ) (line : PlayLine) → IsClean word → IsPlayLine line → IsClean (word ++ 32 ∷ line_rest line)
+after_word word line clean is = field_clean 32 word (line_rest line) (lit< tt) clean (rest_clean line is)
+
+pub line_clean : (line : PlayLine) → IsPlayLine line → IsClean (line_text line)
+line_clean (One (Post from to pick)) is = after_word (codes "post") (One (Post from to pick)) (word_clean (codes "post") refl) is
+line_clean (One (Plant from to envelope)) is = after_word (codes "plant") (One (Plant from to envelope)) (word_clean (codes "plant") refl) is
+line_clean (One (Take at from)) is = after_word (codes "take") (One (Take at from)) (word_clean (codes "take") refl) is
+line_clean (One (Tell from to)) is = after_word (codes "tell") (One (Tell from to)) (word_clean (codes "tell") refl) is
+line_clean (Posts by pick) is = after_word (codes "posts") (Posts by pick) (word_clean (codes "posts") refl) is
+line_clean PostsAll is = after_word (codes "posts") PostsAll (word_clean (codes "posts") refl) is
+line_clean (Plants by envelope) is = after_word (codes "plants") (Plants by envelope) (word_clean (codes "plants") refl) is
+line_clean (Takes at) is = after_word (codes "takes") (Takes at) (word_clean (codes "takes") refl) is
+line_clean TakesAll is = after_word (codes "takes") TakesAll (word_clean (codes "takes") refl) is
+line_clean (Asks by pick) is = after_word (codes "asks") (Asks by pick) (word_clean (codes "asks") refl) is
+line_clean (Hears from) is = after_word (codes "hears") (Hears from) (word_clean (codes "hears") refl) is
+line_clean (Replies to) is = after_word (codes "replies") (Replies to) (word_clean (codes "replies") refl) is
+
+-- ---- lines taken in
+
+-- the events that these lines stand for, in a text of this shape
+abbrev pub Gives : Shape → Play → List PlayLine → Type 0
+Gives shape play lines = play.events ≡ all_events shape lines
+
+-- the lines before the rest were taken in
+abbrev pub TakenIn : Shape → List ℕ → List ℕ → ℕ → Play → Type 0
+TakenIn shape text rest number play = TakenSoFar plays shape (Gives shape play) text rest number
+
+-- what `take` says of a line
+module _ (line : PlayLine) (play later : Play) (shape : Shape) (same : play.shape ≡ shape) (lines : List PlayLine) (gives : Gives shape play lines) where
+  all_same : play.events ++ events_of play.shape line ≡ all_events shape (line ∷ lines)
+  all_same = ap₂ (λ events x. events ++ events_of x line) gives same
+
+  pub gives_more : later.events ≡ play.events ++ events_of play.shape line → Gives shape later (line ∷ lines)
+  gives_more taken = taken ∙ all_same
+
+  module _ (can : Bool) (when : IsTrue can ↔ length (play.events ++ events_of play.shape line) ≤ 1000000) where
+    pub follows : can ≡ true → CanFollow shape lines line
+    follows is = subst (λ events. length events ≤ 1000000) all_same (when.0 is)
+
+    pub cannot_follow : can ≡ false → CanFollow shape lines line → ⊥
+    cannot_follow is few = false≢true (sym is ∙ when.1 (subst (λ events. length events ≤ 1000000) (sym all_same) few))
+
+-- ---- whole plays
+
+abbrev pub make_play : Shape → List Event → Play
+make_play shape events = record { shape = shape; events = events }
+
+-- the play that has the events which a text's lines stand for is the play that the text spells
+pub same_play : (text : List ℕ) (play : Play) (s : Spells text play) (shape : Shape) → shape ≡ play.shape → (events : List Event)
+    → events ≡ all_events shape s.lines → make_play shape events ≡ play
+same_play text play s shape same events given = ap₂ make_play same (given ∙ (ap (λ x. all_events x s.lines) same ∙ sym s.events))

@@ -1,0 +1,11 @@
+use Rattle.std.proofs.Common.{codes, sym, subst}
+use Rattle.dsr_base.specs.Reads.{Reads}
+use Rattle.dsr_play.specs.PlayText.{line_rest}
+use Rattle.dsr_play.specs.Support.PlayParts.{IsLineOf}
+use Rattle.dsr_play.proofs.PlayLineLemmas.{reads_asks}
+use Rattle.dsr_play.proofs.play_line.read_asks.Goals as goal
+
+pub returns : goal.returns
+returns c =
+    subst (Reads (IsLineOf (codes "asks")) line_rest c.args.rest.now) (sym c.asks_line.ensures)
+    (reads_asks c.args.rest.now c.read_choice.result c.read_choice.ensures)

@@ -1,0 +1,4 @@
+pub mod Event
+pub mod Play
+pub mod PlayText
+pub mod Support

@@ -1,0 +1,2 @@
+-- What private readers of plays promise.
+pub mod PlayParts

@@ -1,0 +1,391 @@
+ghost use Rattle.std.specs.Prelude.{◌≡◌, codes, Some, IfOk, IsOkUnless};
+ghost use Rattle.std.specs.Option.{option_zip};
+ghost use Rattle.dsr_base.specs.Reads.{Reads};
+ghost use Rattle.dsr_names.specs.declared.actor.Actor.TheVariants.{Replica, Client};
+ghost use Rattle.dsr_play.specs.PlayText.{line_text, line_rest, IsPlayLine};
+ghost use Rattle.dsr_play.specs.Support.PlayParts.{IsLineOf, post_line, plant_line, take_line, tell_line, posts_line, plants_line, asks_line};
+ghost use Rattle.dsr_play.specs.Support.PlayParts.{AreEnds, two_text, IsPosted, posted_text, IsChoice, choice_text, IsSaidPick, said_pick};
+ghost use Rattle.dsr_play.specs.Support.PlayParts.{AreSpelledClients, clients_text, IsPlanted, planted_text, IsEnd, end_text};
+ghost use Rattle.dsr_play.specs.Support.PlayParts.{IsPlantedForAll, planted_for_all_text};
+
+use crate::event::Event;
+use dsr_base::{Few, split_once};
+use dsr_envelope::{Clients, Pick};
+use dsr_names::{Actor, ClientId, Refusal, ReplicaId};
+use dsr_request::Op;
+use dsr_script::Draft;
+use std::alloc::Global;
+
+/// A line of a play.
+#[derive(Drop)]
+pub(crate) enum PlayLine {
+    /// One event.
+    One(Event),
+    /// Posts of a replica to each replica.
+    Posts {
+        /// Who posts.
+        by: ReplicaId,
+        /// What it chooses at its post to replica 0.
+        pick: Pick,
+    },
+    /// Posts of each loyal replica to each replica.
+    PostsAll,
+    /// An envelope that a replica plants for each replica.
+    Plants {
+        /// Who posts.
+        by: ReplicaId,
+        /// What it posts.
+        draft: Draft,
+    },
+    /// Takes of an actor from each replica.
+    Takes {
+        /// Who takes.
+        at: Actor,
+    },
+    /// Takes of each replica from each replica.
+    TakesAll,
+    /// Posts of a client to each replica.
+    Asks {
+        /// Who posts.
+        by: ClientId,
+        /// What it chooses at its post to replica 0.
+        pick: Pick,
+    },
+    /// Takes of each replica from a client.
+    Hears {
+        /// From whom.
+        from: ClientId,
+    },
+    /// Posts of each loyal replica to a client.
+    Replies {
+        /// To whom.
+        to: ClientId,
+    },
+}
+
+impl PlayLine {
+    /// The line that the bytes spell, without its line feed. The inner `None` comes exactly where they spell none. `NoMemory` where
+    /// memory runs out.
+    pub(crate) fn read(alloc: Global, bytes: &[u8]) -> Result<Option<PlayLine>, Refusal>
+        ensures read { IfOk result (λ line. Reads IsPlayLine line_text bytes.now line) }
+        ensures refusal { IsOkUnless result Refusal.NoMemory }
+    {
+        match split_once(bytes, b' ') {
+            None => Ok(None),
+            Some((word, rest)) => read_rest(alloc, word, rest),
+        }
+    }
+}
+
+/// The line that begins with this word, and goes on with these bytes after a space.
+fn read_rest(alloc: Global, word: &[u8], rest: &[u8]) -> Result<Option<PlayLine>, Refusal>
+    ensures read { IfOk result (λ line. Reads (IsLineOf word.now) line_rest rest.now line) }
+    ensures refusal { IsOkUnless result Refusal.NoMemory }
+{
+    if word == b"post".as_slice() {
+        Ok(read_post(rest))
+    } else if word == b"plant".as_slice() {
+        read_plant(alloc, rest)
+    } else if word == b"take".as_slice() {
+        Ok(read_take(rest))
+    } else if word == b"tell".as_slice() {
+        Ok(read_tell(rest))
+    } else if word == b"posts".as_slice() {
+        Ok(read_posts(rest))
+    } else if word == b"plants".as_slice() {
+        read_plants(alloc, rest)
+    } else if word == b"takes".as_slice() {
+        Ok(read_takes(rest))
+    } else if word == b"asks".as_slice() {
+        Ok(read_asks(rest))
+    } else if word == b"hears".as_slice() {
+        Ok(read_hears(rest))
+    } else if word == b"replies".as_slice() {
+        Ok(read_replies(rest))
+    } else {
+        Ok(None)
+    }
+}
+
+/// The post whose line has these bytes after its word.
+fn read_post(rest: &[u8]) -> Option<PlayLine>
+    ensures { Reads (IsLineOf (codes "post")) line_rest rest.now result }
+{
+    post_line(read_posted(rest))
+}
+
+/// The line of this post, where there is one.
+fn post_line(posted: Option<(Actor, (Actor, Pick))>) -> Option<PlayLine>
+    ensures { result ≡ post_line posted }
+{
+    match posted {
+        None => None,
+        Some((from, (to, pick))) => Some(PlayLine::One(Event::Post { from, to, pick })),
+    }
+}
+
+/// The planted envelope whose line has these bytes after its word.
+fn read_plant(alloc: Global, rest: &[u8]) -> Result<Option<PlayLine>, Refusal>
+    ensures read { IfOk result (Reads (IsLineOf (codes "plant")) line_rest rest.now) }
+    ensures refusal { IsOkUnless result Refusal.NoMemory }
+{
+    let planted = read_planted(alloc, rest)?;
+    Ok(plant_line(planted))
+}
+
+/// The line of this planted envelope, where there is one.
+fn plant_line(planted: Option<(Actor, (Actor, Draft))>) -> Option<PlayLine>
+    ensures { result ≡ plant_line planted }
+{
+    match planted {
+        None => None,
+        Some((from, (to, draft))) => Some(PlayLine::One(Event::Plant { from, to, draft })),
+    }
+}
+
+/// The take whose line has these bytes after its word.
+fn read_take(rest: &[u8]) -> Option<PlayLine>
+    ensures { Reads (IsLineOf (codes "take")) line_rest rest.now result }
+{
+    take_line(read_ends(rest))
+}
+
+/// The line of a take by the first actor from the other, where there are both.
+fn take_line(ends: Option<(Actor, Actor)>) -> Option<PlayLine>
+    ensures { result ≡ take_line ends }
+{
+    match ends {
+        None => None,
+        Some((at, from)) => Some(PlayLine::One(Event::Take { at, from })),
+    }
+}
+
+/// The front that is told, whose line has these bytes after its word.
+fn read_tell(rest: &[u8]) -> Option<PlayLine>
+    ensures { Reads (IsLineOf (codes "tell")) line_rest rest.now result }
+{
+    tell_line(read_ends(rest))
+}
+
+/// The line by which the first actor tells the other, where there are both.
+fn tell_line(ends: Option<(Actor, Actor)>) -> Option<PlayLine>
+    ensures { result ≡ tell_line ends }
+{
+    match ends {
+        None => None,
+        Some((from, to)) => Some(PlayLine::One(Event::Tell { from, to })),
+    }
+}
+
+/// The posts of replicas whose line has these bytes after its word.
+fn read_posts(rest: &[u8]) -> Option<PlayLine>
+    ensures { Reads (IsLineOf (codes "posts")) line_rest rest.now result }
+{
+    if rest == b"*".as_slice() {
+        Some(PlayLine::PostsAll)
+    } else {
+        posts_line(read_choice(rest))
+    }
+}
+
+/// The posts of this replica with this choice, where it is a replica and can choose so.
+fn posts_line(choice: Option<(Actor, Pick)>) -> Option<PlayLine>
+    ensures { result ≡ posts_line choice }
+{
+    let (by, pick) = choice?;
+    match by {
+        Actor::Replica(by) => replicas_line(by, pick),
+        Actor::Client(_) => None,
+    }
+}
+
+/// The posts of this replica with this choice, where a replica can choose so.
+fn replicas_line(by: ReplicaId, pick: Pick) -> Option<PlayLine>
+    ensures { result ≡ posts_line (Some (Replica by, pick)) }
+{
+    match pick {
+        Pick::Plain => Some(PlayLine::Posts { by, pick }),
+        Pick::From(_) => Some(PlayLine::Posts { by, pick }),
+        Pick::Begin(_) => None,
+    }
+}
+
+/// The envelope planted for each replica, whose line has these bytes after its word.
+fn read_plants(alloc: Global, rest: &[u8]) -> Result<Option<PlayLine>, Refusal>
+    ensures read { IfOk result (Reads (IsLineOf (codes "plants")) line_rest rest.now) }
+    ensures refusal { IsOkUnless result Refusal.NoMemory }
+{
+    let planted = read_planted_for_all(alloc, rest)?;
+    Ok(plants_line(planted))
+}
+
+/// The line of this envelope planted for each replica, where there is one.
+fn plants_line(planted: Option<(ReplicaId, Draft)>) -> Option<PlayLine>
+    ensures { result ≡ plants_line planted }
+{
+    match planted {
+        None => None,
+        Some((by, draft)) => Some(PlayLine::Plants { by, draft }),
+    }
+}
+
+/// The takes from replicas whose line has these bytes after its word.
+fn read_takes(rest: &[u8]) -> Option<PlayLine>
+    ensures { Reads (IsLineOf (codes "takes")) line_rest rest.now result }
+{
+    if rest == b"*".as_slice() {
+        Some(PlayLine::TakesAll)
+    } else {
+        Actor::read(rest).map(|at| PlayLine::Takes { at })
+    }
+}
+
+/// The posts of a client whose line has these bytes after its word.
+fn read_asks(rest: &[u8]) -> Option<PlayLine>
+    ensures { Reads (IsLineOf (codes "asks")) line_rest rest.now result }
+{
+    asks_line(read_choice(rest))
+}
+
+/// The posts of this client with this choice, where it is a client and can choose so.
+fn asks_line(choice: Option<(Actor, Pick)>) -> Option<PlayLine>
+    ensures { result ≡ asks_line choice }
+{
+    let (by, pick) = choice?;
+    match by {
+        Actor::Client(by) => clients_line(by, pick),
+        Actor::Replica(_) => None,
+    }
+}
+
+/// The posts of this client with this choice, where a client can choose so.
+fn clients_line(by: ClientId, pick: Pick) -> Option<PlayLine>
+    ensures { result ≡ asks_line (Some (Client by, pick)) }
+{
+    match pick {
+        Pick::Plain => Some(PlayLine::Asks { by, pick }),
+        Pick::From(_) => None,
+        Pick::Begin(_) => Some(PlayLine::Asks { by, pick }),
+    }
+}
+
+/// The takes from a client whose line has these bytes after its word.
+fn read_hears(rest: &[u8]) -> Option<PlayLine>
+    ensures { Reads (IsLineOf (codes "hears")) line_rest rest.now result }
+{
+    ClientId::read(rest).map(|from| PlayLine::Hears { from })
+}
+
+/// The posts to a client whose line has these bytes after its word.
+fn read_replies(rest: &[u8]) -> Option<PlayLine>
+    ensures { Reads (IsLineOf (codes "replies")) line_rest rest.now result }
+{
+    ClientId::read(rest).map(|to| PlayLine::Replies { to })
+}
+
+/// The two actors that the bytes spell.
+fn read_ends(bytes: &[u8]) -> Option<(Actor, Actor)>
+    ensures { Reads AreEnds two_text bytes.now result }
+{
+    match split_once(bytes, b' ') {
+        None => None,
+        Some((one, other)) => Actor::read(one).zip(Actor::read(other)),
+    }
+}
+
+/// Who posts, to whom, and with which choice.
+fn read_posted(bytes: &[u8]) -> Option<(Actor, (Actor, Pick))>
+    ensures { Reads IsPosted posted_text bytes.now result }
+{
+    match split_once(bytes, b' ') {
+        None => None,
+        Some((from, rest)) => posted(Actor::read(from), read_choice(rest)),
+    }
+}
+
+/// Both, where there are both.
+fn posted(from: Option<Actor>, choice: Option<(Actor, Pick)>) -> Option<(Actor, (Actor, Pick))>
+    ensures { result ≡ option_zip from choice }
+{
+    let from = from?;
+    let choice = choice?;
+    Some((from, choice))
+}
+
+/// An actor, and the choice that is spelled after it.
+fn read_choice(bytes: &[u8]) -> Option<(Actor, Pick)>
+    ensures { Reads IsChoice choice_text bytes.now result }
+{
+    match split_once(bytes, b' ') {
+        None => chosen(Actor::read(bytes), Some(Pick::Plain)),
+        Some((actor, pick)) => chosen(Actor::read(actor), read_pick(pick)),
+    }
+}
+
+/// Both, where there are both.
+fn chosen(actor: Option<Actor>, pick: Option<Pick>) -> Option<(Actor, Pick)>
+    ensures { result ≡ option_zip actor pick }
+{
+    let actor = actor?;
+    let pick = pick?;
+    Some((actor, pick))
+}
+
+/// The choice that the bytes spell, as `from c0+c1` or `begin write a 5`.
+fn read_pick(bytes: &[u8]) -> Option<Pick>
+    ensures { Reads IsSaidPick said_pick bytes.now result }
+{
+    match split_once(bytes, b' ') {
+        None => None,
+        Some((word, rest)) => {
+            if word == b"from".as_slice() {
+                read_clients(rest).map(|clients| Pick::From(clients))
+            } else if word == b"begin".as_slice() {
+                Op::read(rest, b' ').map(|op| Pick::Begin(op))
+            } else {
+                None
+            }
+        }
+    }
+}
+
+/// The clients that the bytes spell, as `c0+c1`.
+fn read_clients(bytes: &[u8]) -> Option<Clients>
+    ensures { Reads AreSpelledClients clients_text bytes.now result }
+{
+    let list: Few<ClientId, 8> = Few::read(bytes)?;
+    Clients::of(list.as_slice())
+}
+
+/// Who plants, for whom, and which envelope.
+fn read_planted(alloc: Global, bytes: &[u8]) -> Result<Option<(Actor, (Actor, Draft))>, Refusal>
+    ensures read { IfOk result (Reads IsPlanted planted_text bytes.now) }
+    ensures refusal { IsOkUnless result Refusal.NoMemory }
+{
+    match split_once(bytes, b' ') {
+        None => Ok(None),
+        Some((from, rest)) => Ok(Actor::read(from).zip(read_end(alloc, rest)?)),
+    }
+}
+
+/// For whom an envelope is planted, and the envelope.
+fn read_end(alloc: Global, bytes: &[u8]) -> Result<Option<(Actor, Draft)>, Refusal>
+    ensures read { IfOk result (Reads IsEnd end_text bytes.now) }
+    ensures refusal { IsOkUnless result Refusal.NoMemory }
+{
+    match split_once(bytes, b' ') {
+        None => Ok(None),
+        Some((to, draft)) => Ok(Actor::read(to).zip(Draft::read(alloc, draft)?)),
+    }
+}
+
+/// The replica that plants an envelope for each replica, and the envelope.
+fn read_planted_for_all(alloc: Global, bytes: &[u8]) -> Result<Option<(ReplicaId, Draft)>, Refusal>
+    ensures read { IfOk result (Reads IsPlantedForAll planted_for_all_text bytes.now) }
+    ensures refusal { IsOkUnless result Refusal.NoMemory }
+{
+    match split_once(bytes, b' ') {
+        None => Ok(None),
+        Some((by, draft)) => Ok(ReplicaId::read(by).zip(Draft::read(alloc, draft)?)),
+    }
+}

@@ -1,0 +1,22 @@
+mod Accepting
+mod Agreeing
+mod Agreements
+mod Alike
+mod Asking
+mod Blindness
+mod Boxes
+mod Deciding
+mod Family
+mod Forging
+mod Histories
+mod Issuing
+pub mod Lemmas
+mod Links
+mod Logs
+mod MoreTraitors
+mod NextSteps
+mod Posts
+mod Proposing
+mod Righting
+mod Signing
+mod Within

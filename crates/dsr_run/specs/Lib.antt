@@ -1,0 +1,6 @@
+pub mod Agreement
+pub mod Blind
+pub mod History
+pub mod Right
+pub mod Run
+pub mod Step

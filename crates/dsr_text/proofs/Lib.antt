@@ -1,0 +1,4 @@
+pub mod Clean
+mod HeaderLemmas
+mod ItemsLemmas
+pub mod LinesLemmas

@@ -1,0 +1,18 @@
+-- What private functions promise that take in the lines of a text after its header. No public contract cites this.
+use Rattle.std.specs.Prelude.{ℕ, List, []}
+use Rattle.dsr_names.specs.Shape.{Shape}
+use Rattle.dsr_names.specs.declared.refusal.Refusal.{Refusal}
+use Rattle.dsr_names.specs.declared.refusal.Refusal.TheVariants.{BadText, NoMemory}
+use Rattle.dsr_text.specs.Lines.{TextKind, BeginsWithLines, IsBadAfter}
+
+-- the text after a header of this shape is lines, and what was read has what they give
+pub record HasTaken {Line : Type 0} (kind : TextKind Line) (shape : Shape) (Gives : List Line → Type 0) (text : List ℕ) : Type 0 where
+  pub lines : List Line
+  pub begins : BeginsWithLines kind text shape lines []
+  pub gives : Gives lines
+
+-- what a refusal says of the text after a header of this shape
+abbrev pub IsLinesRefusal : {Line : Type 0} → TextKind Line → Shape → List ℕ → Refusal → Type 0
+IsLinesRefusal kind shape text (BadText number) = IsBadAfter kind shape text number
+IsLinesRefusal kind shape text NoMemory = Unit {0}
+IsLinesRefusal kind shape text other = ⊥

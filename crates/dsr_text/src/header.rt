@@ -1,0 +1,54 @@
+ghost use Rattle.std.specs.Prelude.{◌≡◌, ◌∷◌, ◌++◌, ◌↔◌, List, ℕ, IsOk, IfOk, IfErr, IfSome, IfNone};
+ghost use Rattle.dsr_base.specs.Split.{IsAbsent};
+ghost use Rattle.dsr_names.specs.Shape.{Shape, IsAllowed};
+ghost use Rattle.dsr_text.specs.Header.{BeginsWithHeader, IsHeaderRefusal};
+
+use dsr_base::split_once;
+use dsr_names::{Refusal, Shape};
+
+/// The shape that a header spells, and the text after that line.
+#[derive(Clone, Copy, Debug)]
+pub struct Header<'a> {
+    /// The shape, within the limits.
+    pub shape: Shape,
+    /// The lines after the header.
+    pub rest: &'a [u8],
+}
+
+/// The header of this title, as `dsr-serve 1`, at the beginning of the text. Requires a title without a line feed.
+///
+/// `BadShape` where the text begins with such a header, but of a shape outside the limits, whatever follows it; else `BadText`
+/// of line 1 where it does not begin with one: also where the header's line feed is missing, and where the text is empty.
+pub fn read_header<'a>(title: &[u8], text: &'a [u8]) -> Result<Header<'a>, Refusal>
+    requires { IsAbsent 10 title.now }
+    ensures read { IfOk result (λ header. BeginsWithHeader title.now text.now header.shape header.rest.now) }
+    ensures allowed { IfOk result (λ header. IsAllowed header.shape) }
+    ensures refused { IfErr result (IsHeaderRefusal title.now text.now) }
+    ensures only { (shape : Shape) (rest : List ℕ) → BeginsWithHeader title.now text.now shape rest
+        → IfOk result (λ header. (header.shape ≡ shape) × (header.rest.now ≡ rest)) }
+    ensures when { (shape : Shape) (rest : List ℕ) → BeginsWithHeader title.now text.now shape rest
+        → IsOk result ↔ IsAllowed shape }
+{
+    let Some((line, rest)) = split_once(text, b'\n') else {
+        return Err(Refusal::BadText { line: 1 });
+    };
+    let Some(token) = after_title(title, line) else {
+        return Err(Refusal::BadText { line: 1 });
+    };
+    match Shape::read(token) {
+        None => Err(Refusal::BadText { line: 1 }),
+        Some(Err(refusal)) => Err(refusal),
+        Some(Ok(shape)) => Ok(Header { shape, rest }),
+    }
+}
+
+/// What stands after the title and a space. `None` exactly where the line does not begin with them.
+fn after_title<'a>(title: &[u8], line: &'a [u8]) -> Option<&'a [u8]>
+    ensures found { IfSome result (λ rest. line.now ≡ title.now ++ 32 ∷ rest.now) }
+    ensures none { IfNone result ((rest : List ℕ) → line.now ≡ title.now ++ 32 ∷ rest → ⊥) }
+{
+    match line.strip_prefix(title)? {
+        [b' ', token @ ..] => Some(token),
+        _ => None,
+    }
+}
