@@ -1,2 +1,3 @@
 pub mod Conduct
-pub mod Support
+pub mod Customer
+pub mod Node

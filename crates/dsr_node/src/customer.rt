@@ -26,7 +26,7 @@ pub struct Customer {
 
 impl Model for Customer {
     ghost use Rattle.std.specs.Prelude.{◌-◌, vec_len, vec_capacity};
-    ghost use Rattle.dsr_node.specs.Support.Customer.{Customer};
+    ghost use Rattle.dsr_node.specs.Customer.{Customer};
 
     ghost Value = { Customer };
 
@@ -59,16 +59,17 @@ impl Customer {
         self.accepted.as_slice()
     }
 
-    /// Begins a request of this operation, where it may.
+    /// Begins a request of this operation. Requires that it may.
     pub fn begin(&mut self, op: Op)
+        requires { MayBegin self.old.client }
         ensures me { self.new.client.me ≡ self.old.client.me }
         ensures shape { self.new.client.shape ≡ self.old.client.shape }
-        ensures begun { MayBegin self.old.client → (log : List Entry) (q : ℕ) → StandsFor self.old.client log
+        ensures begun { (log : List Entry) (q : ℕ) → StandsFor self.old.client log
             → StandsFor self.new.client (Post (Replica q) (Ask (ask_of self.old.client.me (suc self.old.client.accepted) op)) ∷ log) }
         ensures rest { self.new ≡ record self.old { client = self.new.client } }
     {
         let Ok(_number) = self.client.begin(op) else {
-            return;
+            unreachable!()
         };
     }
 

@@ -3,8 +3,8 @@
 
 mod customer;
 mod laws;
-mod party;
+mod node;
 
 pub use customer::Customer;
 pub use laws::{choices_are_blind, choices_keep_conduct};
-pub use party::Party;
+pub use node::Node;

@@ -5,6 +5,7 @@
 pub use Rattle.dsr_replica.proofs.Acting.{acted_source}
 pub use Rattle.dsr_replica.proofs.Asks.{IsOwnAsk, WasHeld, held_from}
 pub use Rattle.dsr_replica.proofs.Blindness.{due_blind, rounds_blind, slot_kept_blind, decided_values_blind, held_blind, envelope_to_blind, reply_to_blind, next_blind, loyal_blind}
+pub use Rattle.dsr_replica.proofs.Choosing.{allowed_is}
 pub use Rattle.dsr_replica.proofs.Counting.{post_due, counts, all_taken}
 pub use Rattle.dsr_replica.proofs.Growing.{HasTaken, kept_same, decided_same, chains_same, values_same, values_grow, decided_grow, rounds_grow}
 pub use Rattle.dsr_replica.proofs.Joining.{get_grown}

@@ -1,4 +1,4 @@
--- How a world is opened, party by party.
+-- How a world is opened, node by node.
 use Rattle.std.proofs.Common.{◌≡◌, ◌↔◌, ℕ, suc, ◌+◌, true, List, [], ◌∷◌, ◌++◌, Option, None, Some, length, length-append, ◌⊎◌, inl, inr, refl, ap, sym, ◌∙◌, subst, arith}
 use Rattle.std.specs.Prelude.{Any, IfSome, IsSome, slice_index_or}
 use Rattle.std.specs.Option.{option_to_list}
@@ -12,30 +12,30 @@ use Rattle.dsr_names.specs.declared.actor.Actor.TheVariants.{Replica, Client}
 use Rattle.dsr_desk.specs.Signature.{Signature}
 use Rattle.dsr_run.specs.Run.{IsTraitor}
 use Rattle.dsr_world.specs.Support.Boxes.{AreSquare, empty_box, box_at, held_in}
-use Rattle.dsr_node.specs.Support.Party.{Plays}
+use Rattle.dsr_node.specs.Node.{Plays}
 use Rattle.dsr_world.specs.Support.WorldFields.{place_of, AreParts, AreOpened, IsTraitorBelow, AreKeysBelow}
 use Rattle.dsr_world.specs.declared.mail_boxes.MailBox.{MailBox}
-use Rattle.dsr_node.specs.declared.party.Party.{Party}
+use Rattle.dsr_node.specs.declared.node.Node.{Node}
 use Rattle.dsr_world.proofs.Stepping.{same_place, place_below}
 
--- ---- parties
+-- ---- nodes
 
 pub none_opened : (shape : Shape) → AreOpened shape 0 []
 none_opened shape = record { count = refl; each = λ who inside below d. absurd (omega (arith, below)) }
 
--- one party more
-pub one_opened : (shape : Shape) (k : ℕ) (parties : List Party) (who : Actor) (x : Party) → AreOpened shape k parties → IsActor shape who
-    → place_of shape who ≡ k → Plays shape who [] x → AreOpened shape (suc k) (parties ++ x ∷ [])
-one_opened shape k parties who x are actor at plays = record {
-  count = let count = are.count in omega (arith, count, length-append parties (x ∷ []));
+-- one node more
+pub one_opened : (shape : Shape) (k : ℕ) (nodes : List Node) (who : Actor) (x : Node) → AreOpened shape k nodes → IsActor shape who
+    → place_of shape who ≡ k → Plays shape who [] x → AreOpened shape (suc k) (nodes ++ x ∷ [])
+one_opened shape k nodes who x are actor at plays = record {
+  count = let count = are.count in omega (arith, count, length-append nodes (x ∷ []));
   each = λ other inside below d. elim (cases_lt (place_of shape other) k) [
     | inl earlier ↦
-        subst (Plays shape other []) (sym (get_or_append_left parties (x ∷ []) d (place_of shape other) (let count = are.count in omega (arith, earlier, count))))
+        subst (Plays shape other []) (sym (get_or_append_left nodes (x ∷ []) d (place_of shape other) (let count = are.count in omega (arith, earlier, count))))
         (are.each other inside earlier d)
     | inr late ↦
-        let same : place_of shape other ≡ length parties = let count = are.count in omega (arith, late, below, count) in
+        let same : place_of shape other ≡ length nodes = let count = are.count in omega (arith, late, below, count) in
         let who_is = same_place shape who other actor inside (at ∙ (sym are.count ∙ sym same)) in
-        subst (λ y. Plays shape other [] y) (sym (ap (λ i. slice_index_or (parties ++ x ∷ []) i d) same ∙ get_or-append_seam parties x [] d))
+        subst (λ y. Plays shape other [] y) (sym (ap (λ i. slice_index_or (nodes ++ x ∷ []) i d) same ∙ get_or-append_seam nodes x [] d))
         (subst (λ a. Plays shape a [] x) who_is plays)
   ];
 }
@@ -110,10 +110,10 @@ more_keys shape k keys (Some key) are is when a = (
 
 -- ---- the world
 
-pub opened : (shape : Shape) (parties : List Party) (rows : List (List MailBox)) (keys : List Actor) (known : List Signature)
-    → AreOpened shape (shape.n + shape.m) parties → AreKeysBelow shape shape.n keys → AreSquare (shape.n + shape.m) rows
-    → ((from to : ℕ) → box_at rows from to ≡ empty_box) → known ≡ [] → AreParts shape [] parties rows keys known
-opened shape parties rows keys known are held square empty none = record {
+pub opened : (shape : Shape) (nodes : List Node) (rows : List (List MailBox)) (keys : List Actor) (known : List Signature)
+    → AreOpened shape (shape.n + shape.m) nodes → AreKeysBelow shape shape.n keys → AreSquare (shape.n + shape.m) rows
+    → ((from to : ℕ) → box_at rows from to ≡ empty_box) → known ≡ [] → AreParts shape [] nodes rows keys known
+opened shape nodes rows keys known are held square empty none = record {
   is_run = tt;
   played = record { count = are.count; each = λ who inside d. are.each who inside (place_below shape who inside) d };
   boxes = record {

@@ -28,7 +28,7 @@ use Rattle.dsr_client.proofs.Lemmas.{numbered}
 use Rattle.dsr_node.specs.Conduct.{post_of}
 use Rattle.dsr_run.specs.Run.{IsRun}
 use Rattle.dsr_run.specs.Step.{Step, log_of}
-use Rattle.dsr_node.specs.Support.Party.{IsOutstandingAsk}
+use Rattle.dsr_node.specs.Node.{IsOutstandingAsk}
 use Rattle.dsr_world.specs.Support.WorldFields.{AreLetters, place_of, kept_of, with_letter}
 use Rattle.dsr_run.proofs.Lemmas.{was_asked}
 use Rattle.dsr_run.proofs.Lemmas.{posted_entry}

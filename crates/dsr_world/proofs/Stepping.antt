@@ -17,10 +17,10 @@ use Rattle.dsr_envelope.specs.Log.{posted_to, taken_from}
 use Rattle.dsr_run.specs.Run.{HasPosted}
 use Rattle.dsr_run.specs.Step.{Step, Logs, log_of}
 use Rattle.dsr_world.specs.Support.Boxes.{empty_box, box_in, row_of, box_at, with_box, with_post, without_letter, held_in, AreSquare, IsBoxOf}
-use Rattle.dsr_node.specs.Support.Party.{Plays}
+use Rattle.dsr_node.specs.Node.{Plays}
 use Rattle.dsr_world.specs.Support.WorldFields.{place_of, ArePlayed, AreBoxes, KnowsPosts}
 use Rattle.dsr_world.specs.declared.mail_boxes.MailBox.{MailBox}
-use Rattle.dsr_node.specs.declared.party.Party.{Party}
+use Rattle.dsr_node.specs.declared.node.Node.{Node}
 use Rattle.dsr_run.proofs.Lemmas.{from_log, posted_cases, posted_still, taken_cases, taken_still}
 use Rattle.dsr_run.proofs.Lemmas.{has_posted_later}
 use Rattle.dsr_run.proofs.Lemmas.{log_cases}
@@ -38,65 +38,65 @@ same_place shape (Replica p) (Client c) inside too e = absurd (omega (arith, ins
 same_place shape (Client c) (Replica q) inside too e = absurd (omega (arith, too, e))
 same_place shape (Client c) (Client d) inside too e = let same : c ≡ d = omega (arith, e) in ap Client same
 
--- ---- parties
+-- ---- nodes
 
--- the party of the step's actor plays it with the step, and all others go on
-pub played_step : (shape : Shape) (older : List Step) (parties : List Party) (step : Step) (x : Party) → ArePlayed shape (log_of older) parties
+-- the node of the step's actor plays it with the step, and all others go on
+pub played_step : (shape : Shape) (older : List Step) (nodes : List Node) (step : Step) (x : Node) → ArePlayed shape (log_of older) nodes
     → IsActor shape step.0 → Plays shape step.0 (step.1 ∷ log_of older step.0) x
-    → ArePlayed shape (log_of (step ∷ older)) (slice_set parties (place_of shape step.0) x)
-played_step shape older parties step x are actor plays = record {
-  count = length-set parties (place_of shape step.0) x ∙ are.count;
+    → ArePlayed shape (log_of (step ∷ older)) (slice_set nodes (place_of shape step.0) x)
+played_step shape older nodes step x are actor plays = record {
+  count = length-set nodes (place_of shape step.0) x ∙ are.count;
   each = λ who inside d. elim (log_cases step older who) [
     | inl own ↦
-        let here_is : place_of shape step.0 < length parties = let below = place_below shape step.0 actor in omega (arith, below, are.count) in
-        subst (λ a. Plays shape a (log_of (step ∷ older) a) (slice_index_or (slice_set parties (place_of shape step.0) x) (place_of shape a) d)) own.0
-        (subst (λ y. Plays shape step.0 (log_of (step ∷ older) step.0) y) (sym (get_or-set_same parties (place_of shape step.0) x d here_is))
+        let here_is : place_of shape step.0 < length nodes = let below = place_below shape step.0 actor in omega (arith, below, are.count) in
+        subst (λ a. Plays shape a (log_of (step ∷ older) a) (slice_index_or (slice_set nodes (place_of shape step.0) x) (place_of shape a) d)) own.0
+        (subst (λ y. Plays shape step.0 (log_of (step ∷ older) step.0) y) (sym (get_or-set_same nodes (place_of shape step.0) x d here_is))
         (subst (λ l. Plays shape step.0 l x) (sym (subst (λ a. log_of (step ∷ older) a ≡ step.1 ∷ log_of older a) (sym own.0) own.1)) plays))
     | inr other ↦
-        subst (λ l. Plays shape who l (slice_index_or (slice_set parties (place_of shape step.0) x) (place_of shape who) d)) (sym other.1)
+        subst (λ l. Plays shape who l (slice_index_or (slice_set nodes (place_of shape step.0) x) (place_of shape who) d)) (sym other.1)
         (subst (Plays shape who (log_of older who))
-        (sym (get_or-set_other parties (place_of shape step.0) (place_of shape who) x d (λ e. other.0 (same_place shape step.0 who actor inside (sym e)))))
+        (sym (get_or-set_other nodes (place_of shape step.0) (place_of shape who) x d (λ e. other.0 (same_place shape step.0 who actor inside (sym e)))))
         (are.each who inside d))
   ];
 }
 
--- a step that leaves its actor's party as it is
-pub played_on : (shape : Shape) (older : List Step) (parties : List Party) (step : Step) → ArePlayed shape (log_of older) parties
-    → ((x : Party) → Plays shape step.0 (log_of older step.0) x → Plays shape step.0 (step.1 ∷ log_of older step.0) x)
-    → ArePlayed shape (log_of (step ∷ older)) parties
-played_on shape older parties step are on = record {
+-- a step that leaves its actor's node as it is
+pub played_on : (shape : Shape) (older : List Step) (nodes : List Node) (step : Step) → ArePlayed shape (log_of older) nodes
+    → ((x : Node) → Plays shape step.0 (log_of older step.0) x → Plays shape step.0 (step.1 ∷ log_of older step.0) x)
+    → ArePlayed shape (log_of (step ∷ older)) nodes
+played_on shape older nodes step are on = record {
   count = are.count;
   each = λ who inside d. elim (log_cases step older who) [
     | inl own ↦ by_own who own.0 own.1 inside d
     | inr other ↦
-        subst (λ l. Plays shape who l (slice_index_or parties (place_of shape who) d)) (sym other.1) (are.each who inside d)
+        subst (λ l. Plays shape who l (slice_index_or nodes (place_of shape who) d)) (sym other.1) (are.each who inside d)
   ];
 }
   where
-    by_own : (who : Actor) → step.0 ≡ who → log_of (step ∷ older) who ≡ step.1 ∷ log_of older who → IsActor shape who → (d : Party)
-        → Plays shape who (log_of (step ∷ older) who) (slice_index_or parties (place_of shape who) d)
+    by_own : (who : Actor) → step.0 ≡ who → log_of (step ∷ older) who ≡ step.1 ∷ log_of older who → IsActor shape who → (d : Node)
+        → Plays shape who (log_of (step ∷ older) who) (slice_index_or nodes (place_of shape who) d)
     by_own who own grown inside d =
-        subst (λ l. Plays shape who l (slice_index_or parties (place_of shape who) d)) (sym grown)
-        (subst (λ a. (x : Party) → Plays shape a (log_of older a) x → Plays shape a (step.1 ∷ log_of older a) x) own on
-        (slice_index_or parties (place_of shape who) d) (are.each who inside d))
+        subst (λ l. Plays shape who l (slice_index_or nodes (place_of shape who) d)) (sym grown)
+        (subst (λ a. (x : Node) → Plays shape a (log_of older a) x → Plays shape a (step.1 ∷ log_of older a) x) own on
+        (slice_index_or nodes (place_of shape who) d) (are.each who inside d))
 
--- a party that plays on as another one does changes nothing
-pub played_same : (shape : Shape) (logs : Logs) (parties : List Party) (who : Actor) (x : Party) → ArePlayed shape logs parties
-    → IsActor shape who → Plays shape who (logs who) x → ArePlayed shape logs (slice_set parties (place_of shape who) x)
-played_same shape logs parties who x are actor plays = record {
-  count = length-set parties (place_of shape who) x ∙ are.count;
+-- a node that plays on as another one does changes nothing
+pub played_same : (shape : Shape) (logs : Logs) (nodes : List Node) (who : Actor) (x : Node) → ArePlayed shape logs nodes
+    → IsActor shape who → Plays shape who (logs who) x → ArePlayed shape logs (slice_set nodes (place_of shape who) x)
+played_same shape logs nodes who x are actor plays = record {
+  count = length-set nodes (place_of shape who) x ∙ are.count;
   each = λ other inside d. by_place other inside d;
 }
   where
-    by_place : (other : Actor) → IsActor shape other → (d : Party) → Plays shape other (logs other) (slice_index_or (slice_set parties (place_of shape who) x) (place_of shape other) d)
+    by_place : (other : Actor) → IsActor shape other → (d : Node) → Plays shape other (logs other) (slice_index_or (slice_set nodes (place_of shape who) x) (place_of shape other) d)
     by_place other inside d = elim (holds_or_not (actor_eq who other) (actor_eq-Decides who other)) [
       | inl own ↦
-          let here_is : place_of shape who < length parties = let below = place_below shape who actor in omega (arith, below, are.count) in
-          subst (λ a. Plays shape a (logs a) (slice_index_or (slice_set parties (place_of shape who) x) (place_of shape a) d)) own
-          (subst (Plays shape who (logs who)) (sym (get_or-set_same parties (place_of shape who) x d here_is)) plays)
+          let here_is : place_of shape who < length nodes = let below = place_below shape who actor in omega (arith, below, are.count) in
+          subst (λ a. Plays shape a (logs a) (slice_index_or (slice_set nodes (place_of shape who) x) (place_of shape a) d)) own
+          (subst (Plays shape who (logs who)) (sym (get_or-set_same nodes (place_of shape who) x d here_is)) plays)
       | inr apart ↦
           subst (Plays shape other (logs other))
-          (sym (get_or-set_other parties (place_of shape who) (place_of shape other) x d (λ e. apart (same_place shape who other actor inside (sym e)))))
+          (sym (get_or-set_other nodes (place_of shape who) (place_of shape other) x d (λ e. apart (same_place shape who other actor inside (sym e)))))
           (are.each other inside d)
     ]
 

@@ -22,10 +22,10 @@ use Rattle.dsr_world.specs.Event.{is_full, is_used_up, refusal_of, first_of, Has
 use Rattle.dsr_run.specs.Run.{IsNextStep, IsTraitor}
 use Rattle.dsr_run.specs.Step.{Step, Logs, log_of}
 use Rattle.dsr_world.specs.Support.Boxes.{box_at, with_box, with_post}
-use Rattle.dsr_node.specs.Support.Party.{Plays}
+use Rattle.dsr_node.specs.Node.{Plays}
 use Rattle.dsr_world.specs.Support.WorldFields.{place_of, AreParts, KnowsAll}
 use Rattle.dsr_world.specs.declared.mail_boxes.MailBox.{MailBox}
-use Rattle.dsr_node.specs.declared.party.Party.{Party}
+use Rattle.dsr_node.specs.declared.node.Node.{Node}
 use Rattle.dsr_world.proofs.Stepping.{boxes_posted, known_posted, known_still}
 use Rattle.std.proofs.lemmas.Bool.Decides.{Decides-eqb}
 use Rattle.dsr_envelope.specs.Limits.{IsEnvelope}
@@ -34,7 +34,7 @@ use Rattle.dsr_script.specs.Held.{IsUnforged}
 use Rattle.dsr_world.specs.Event.{refusals, IsRefusedBy, IsForgedAtLast}
 use Rattle.dsr_node.specs.Conduct.{are_two_clients}
 use Rattle.dsr_run.specs.Run.{IsMadeOrPosted, HasPosted, ForgesNothing}
-use Rattle.dsr_node.specs.declared.party.Party.TheVariants.{Loyal, Traitor, Client as ClientParty}
+use Rattle.dsr_node.specs.declared.node.Node.TheVariants.{Loyal, Traitor, Client as ClientNode}
 use Rattle.dsr_run.proofs.Lemmas.{actors_within}
 use Rattle.dsr_run.proofs.Lemmas.{all_made}
 use Rattle.dsr_world.proofs.NextSteps.{plants_next, tells_next}
@@ -48,11 +48,11 @@ not_true false e = absurd (true≢false e)
 -- ---- a client tells another
 
 -- what a client tells another leaves it as it is
-told_plays : (shape : Shape) (c d : ℕ) (log : List Entry) (x : Envelope) (party : Party) → Plays shape (Client c) log party
-    → Plays shape (Client c) (PostEntry (Client d) x ∷ log) party
+told_plays : (shape : Shape) (c d : ℕ) (log : List Entry) (x : Envelope) (node : Node) → Plays shape (Client c) log node
+    → Plays shape (Client c) (PostEntry (Client d) x ∷ log) node
 told_plays shape c d log x (Loyal r) plays = elim plays [ ]
 told_plays shape c d log x Traitor plays = elim plays [ ]
-told_plays shape c d log x (ClientParty y) plays = record {
+told_plays shape c d log x (ClientNode y) plays = record {
   me = plays.me;
   shape_is = plays.shape_is;
   stands = record { outstanding = plays.stands.outstanding; accepted = plays.stands.accepted; votes = plays.stands.votes; seen = plays.stands.seen };
@@ -124,17 +124,17 @@ cleared_plant shape logs from to x e =
       room = none.fourth;
     }
 
--- a traitor's party plays whatever its log
-planted_plays : (shape : Shape) (p : ℕ) (log : List Entry) (entry : Entry) (party : Party) → is_traitor shape p ≡ true → Plays shape (Replica p) log party
-    → Plays shape (Replica p) (entry ∷ log) party
+-- a traitor's node plays whatever its log
+planted_plays : (shape : Shape) (p : ℕ) (log : List Entry) (entry : Entry) (node : Node) → is_traitor shape p ≡ true → Plays shape (Replica p) log node
+    → Plays shape (Replica p) (entry ∷ log) node
 planted_plays shape p log entry (Loyal r) traitor plays = absurd (true≢false (sym traitor ∙ plays.honest))
 planted_plays shape p log entry Traitor traitor plays = plays
-planted_plays shape p log entry (ClientParty y) traitor plays = elim plays [ ]
+planted_plays shape p log entry (ClientNode y) traitor plays = elim plays [ ]
 
--- ---- posts that leave their actor's party as it is
+-- ---- posts that leave their actor's node as it is
 
-module _ (shape : Shape) (run : List Step) (parties : List Party) (rows : List (List MailBox)) (keys : List Actor) (known : List Signature)
-    (are : AreParts shape run parties rows keys known) where
+module _ (shape : Shape) (run : List Step) (nodes : List Node) (rows : List (List MailBox)) (keys : List Actor) (known : List Signature)
+    (are : AreParts shape run nodes rows keys known) where
   box_open : (from to : Actor) → IsActor shape from → IsActor shape to → is_full (log_of run) from to ≡ false
       → (box_at rows (place_of shape from) (place_of shape to)).letter ≡ None
   box_open from to actor other room =
@@ -143,13 +143,13 @@ module _ (shape : Shape) (run : List Step) (parties : List Party) (rows : List (
 
   parts_still : (from to : Actor) (x : Envelope) (new : List Signature) → IsActor shape from → IsActor shape to
       → IsNextStep shape (log_of run) (from, PostEntry to x)
-      → ((y : Party) → Plays shape from (log_of run from) y → Plays shape from (PostEntry to x ∷ log_of run from) y)
+      → ((y : Node) → Plays shape from (log_of run from) y → Plays shape from (PostEntry to x ∷ log_of run from) y)
       → (box_at rows (place_of shape from) (place_of shape to)).letter ≡ None → KnowsAll shape (log_of ((from, PostEntry to x) ∷ run)) new
-      → AreParts shape ((from, PostEntry to x) ∷ run) parties
+      → AreParts shape ((from, PostEntry to x) ∷ run) nodes
       (with_box rows (place_of shape from) (place_of shape to) (with_post (box_at rows (place_of shape from) (place_of shape to)) x)) keys new
   parts_still from to x new actor other next plays empty knows = record {
     is_run = (are.is_run, next);
-    played = played_on shape run parties (from, PostEntry to x) are.played plays;
+    played = played_on shape run nodes (from, PostEntry to x) are.played plays;
     boxes = boxes_posted shape run rows from to x are.boxes actor other empty;
     held = are.held;
     knows = knows;
@@ -159,7 +159,7 @@ module _ (shape : Shape) (run : List Step) (parties : List Party) (rows : List (
       → is_used_up (log_of run) (Client c) (Client d) ≡ false → is_full (log_of run) (Client c) (Client d) ≡ false
       → ((holder : Actor) → Any (λ h. h ≡ holder) keys → (s : Signature)
       → In s new ↔ (In s known ⊎ Carries (Seen (seen shape (log_of run (Client c)))) s))
-      → AreParts shape ((Client c, PostEntry (Client d) (Seen (seen shape (log_of run (Client c))))) ∷ run) parties
+      → AreParts shape ((Client c, PostEntry (Client d) (Seen (seen shape (log_of run (Client c))))) ∷ run) nodes
       (with_box rows (place_of shape (Client c)) (place_of shape (Client d))
       (with_post (box_at rows (place_of shape (Client c)) (place_of shape (Client d))) (Seen (seen shape (log_of run (Client c)))))) keys new
   parts_after_tell c d new allowed actor other apart used room learned =
@@ -208,7 +208,7 @@ module _ (shape : Shape) (run : List Step) (parties : List Party) (rows : List (
 
   pub parts_after_plant : (p : ℕ) (to : Actor) (x : Envelope) → IsAllowed shape → p < shape.n → IsActor shape to → is_traitor shape p ≡ true → IsEnvelope x
       → is_used_up (log_of run) (Replica p) to ≡ false → is_full (log_of run) (Replica p) to ≡ false → ForgesNothing shape (log_of run) (PostEntry to x)
-      → AreParts shape ((Replica p, PostEntry to x) ∷ run) parties
+      → AreParts shape ((Replica p, PostEntry to x) ∷ run) nodes
       (with_box rows (place_of shape (Replica p)) (place_of shape to) (with_post (box_at rows (place_of shape (Replica p)) (place_of shape to)) x)) keys known
   parts_after_plant p to x allowed inside other traitor fits used room forges =
       let empty = box_open (Replica p) to inside other room in

@@ -19,10 +19,10 @@ use Rattle.dsr_node.specs.Conduct.{is_actor}
 use Rattle.dsr_world.specs.Event.{is_full, refusal_of, Answers, HasDone}
 use Rattle.dsr_run.specs.Step.{Step, Logs, log_of}
 use Rattle.dsr_world.specs.Support.Boxes.{box_at, with_box, held_in}
-use Rattle.dsr_node.specs.Support.Party.{Plays}
+use Rattle.dsr_node.specs.Node.{Plays}
 use Rattle.dsr_world.specs.Support.WorldFields.{place_of, AreParts}
 use Rattle.dsr_world.specs.declared.mail_boxes.MailBox.{MailBox}
-use Rattle.dsr_node.specs.declared.party.Party.{Party}
+use Rattle.dsr_node.specs.declared.node.Node.{Node}
 use Rattle.dsr_world.proofs.Stepping.{played_step, known_still}
 use Rattle.std.specs.Prelude.{slice_get}
 use Rattle.std.proofs.lemmas.Bool.Decides.{Decides-eqb}
@@ -30,8 +30,8 @@ use Rattle.dsr_envelope.specs.Limits.{IsEnvelope}
 use Rattle.dsr_envelope.specs.Log.{due}
 use Rattle.dsr_node.specs.Conduct.{is_own_client, is_undue, AcceptsBy}
 use Rattle.dsr_world.specs.Support.Boxes.{without_letter}
-use Rattle.dsr_node.specs.Support.Party.{CanTake, HasRoomToTake, TakesReply}
-use Rattle.dsr_node.specs.declared.party.Party.TheVariants.{Loyal, Traitor, Client as ClientParty}
+use Rattle.dsr_node.specs.Node.{CanTake, HasRoomToTake, TakesReply}
+use Rattle.dsr_node.specs.declared.node.Node.TheVariants.{Loyal, Traitor, Client as ClientNode}
 use Rattle.dsr_ledger.specs.declared.reply.Reply.{Reply as AReply}
 use Rattle.dsr_run.proofs.Lemmas.{posted_entry}
 use Rattle.dsr_node.proofs.Lemmas.{take_due}
@@ -79,8 +79,8 @@ last_of : (xs : List Envelope) (x : Envelope) → slice_get (xs ++ x ∷ []) (le
 last_of [] x = refl
 last_of (y ∷ xs) x = last_of xs x
 
-module _ (shape : Shape) (run : List Step) (parties : List Party) (rows : List (List MailBox)) (keys : List Actor) (known : List Signature)
-    (are : AreParts shape run parties rows keys known) where
+module _ (shape : Shape) (run : List Step) (nodes : List Node) (rows : List (List MailBox)) (keys : List Actor) (known : List Signature)
+    (are : AreParts shape run nodes rows keys known) where
   -- what is in the box was posted and not taken
   box_holds : (at from : Actor) (x : Envelope) → IsActor shape at → IsActor shape from → (box_at rows (place_of shape from) (place_of shape at)).letter ≡ Some x
       → posted_to at (log_of run from) ≡ taken_from from (log_of run at) ++ x ∷ []
@@ -94,10 +94,10 @@ module _ (shape : Shape) (run : List Step) (parties : List Party) (rows : List (
       (posted_entry at (log_of run from) x
       (subst (In x) (sym (box_holds at from x actor other full)) (In-append_right x (taken_from from (log_of run at)) (x ∷ []) (here refl))))
 
-  -- a party with room can take it
-  pub can_take : (at from : Actor) (x : Envelope) (party : Party) → IsAllowed shape → IsTaken shape (log_of run) at from
-      → (box_at rows (place_of shape from) (place_of shape at)).letter ≡ Some x → Plays shape at (log_of run at) party → HasRoomToTake party
-      → CanTake party from x
+  -- a node with room can take it
+  pub can_take : (at from : Actor) (x : Envelope) (node : Node) → IsAllowed shape → IsTaken shape (log_of run) at from
+      → (box_at rows (place_of shape from) (place_of shape at)).letter ≡ Some x → Plays shape at (log_of run at) node → HasRoomToTake node
+      → CanTake node from x
   can_take (Replica p) (Replica q) x (Loyal r) allowed is full plays room = (
     plays.stands.due_is ∙ (ap (λ s. due s (log_of run (Replica p))) plays.shape_is ∙ take_due shape (log_of run (Replica p)) p q plays.honest is.timely),
     room,
@@ -105,8 +105,8 @@ module _ (shape : Shape) (run : List Step) (parties : List Party) (rows : List (
   can_take (Replica p) (Client c) x (Loyal r) allowed is full plays room = subst (λ s. c < s.m) (sym plays.shape_is) is.other
   can_take (Client c) from x (Loyal r) allowed is full plays room = elim plays [ ]
   can_take at from x Traitor allowed is full plays room = tt
-  can_take (Replica p) from x (ClientParty y) allowed is full plays room = elim plays [ ]
-  can_take (Client c) from x (ClientParty y) allowed is full plays room = (
+  can_take (Replica p) from x (ClientNode y) allowed is full plays room = elim plays [ ]
+  can_take (Client c) from x (ClientNode y) allowed is full plays room = (
     subst (λ s. IsActor s from) (sym plays.shape_is) is.other,
     λ e. not_own (Client c) from is.own (sym (e ∙ ap Client plays.me)) c refl,
     box_within (Client c) from x is.actor is.other full,
@@ -114,27 +114,27 @@ module _ (shape : Shape) (run : List Step) (parties : List Party) (rows : List (
   )
 
   -- the parts while room is made
-  pub parts_with_room : (at : Actor) (party : Party) → IsActor shape at → Plays shape at (log_of run at) party
-      → AreParts shape run (slice_set parties (place_of shape at) party) rows keys known
-  parts_with_room at party actor plays = record {
+  pub parts_with_room : (at : Actor) (node : Node) → IsActor shape at → Plays shape at (log_of run at) node
+      → AreParts shape run (slice_set nodes (place_of shape at) node) rows keys known
+  parts_with_room at node actor plays = record {
     is_run = are.is_run;
-    played = played_same shape (log_of run) parties at party are.played actor plays;
+    played = played_same shape (log_of run) nodes at node are.played actor plays;
     boxes = are.boxes;
     held = are.held;
     knows = are.knows;
   }
 
   -- the parts after the take
-  pub parts_after_take : (at from : Actor) (x : Envelope) (party : Party) → IsAllowed shape → IsTaken shape (log_of run) at from
-      → (box_at rows (place_of shape from) (place_of shape at)).letter ≡ Some x → Plays shape at (TakeEntry from x ∷ log_of run at) party
-      → AreParts shape ((at, TakeEntry from x) ∷ run) (slice_set parties (place_of shape at) party)
+  pub parts_after_take : (at from : Actor) (x : Envelope) (node : Node) → IsAllowed shape → IsTaken shape (log_of run) at from
+      → (box_at rows (place_of shape from) (place_of shape at)).letter ≡ Some x → Plays shape at (TakeEntry from x ∷ log_of run at) node
+      → AreParts shape ((at, TakeEntry from x) ∷ run) (slice_set nodes (place_of shape at) node)
       (with_box rows (place_of shape from) (place_of shape at) (without_letter (box_at rows (place_of shape from) (place_of shape at)))) keys known
-  parts_after_take at from x party allowed is full plays = record {
+  parts_after_take at from x node allowed is full plays = record {
     is_run = (
       are.is_run,
       takes_next shape allowed run are.is_run at from x is.actor is.other (not_own at from is.own) is.timely (box_holds at from x is.actor is.other full),
     );
-    played = played_step shape run parties (at, TakeEntry from x) party are.played is.actor plays;
+    played = played_step shape run nodes (at, TakeEntry from x) node are.played is.actor plays;
     boxes = boxes_taken shape run rows at from x are.boxes is.actor is.other full;
     held = are.held;
     knows = λ p traitor. known_still shape run known (at, TakeEntry from x) (are.knows p traitor) (λ t y e loyal. no_post from x t y e);

@@ -29,11 +29,11 @@ use Rattle.dsr_world.specs.Event.{is_full, is_used_up, refusal_of, first_of, Ans
 use Rattle.dsr_run.specs.Run.{IsNextStep}
 use Rattle.dsr_run.specs.Step.{Step, Logs, log_of}
 use Rattle.dsr_world.specs.Support.Boxes.{box_at, row_of, with_box, with_post, held_in, IsBoxOf}
-use Rattle.dsr_node.specs.Support.Party.{Plays, post_refusal}
+use Rattle.dsr_node.specs.Node.{Plays, post_refusal}
 use Rattle.dsr_world.specs.Support.WorldFields.{place_of, AreParts, KnowsAll}
 use Rattle.dsr_node.specs.Conduct.{HasSpelledOp}
 use Rattle.dsr_world.specs.declared.mail_boxes.MailBox.{MailBox}
-use Rattle.dsr_node.specs.declared.party.Party.{Party}
+use Rattle.dsr_node.specs.declared.node.Node.{Node}
 use Rattle.dsr_world.proofs.NextSteps.{posts_next}
 use Rattle.dsr_world.proofs.Stepping.{place_below, played_step, boxes_posted, known_posted}
 
@@ -132,8 +132,8 @@ pushed entries more step e = ap reverse e ∙ reverse-append entries (step ∷ [
 
 -- ---- posts
 
-module _ (shape : Shape) (run : List Step) (parties : List Party) (rows : List (List MailBox)) (keys : List Actor) (known : List Signature)
-    (are : AreParts shape run parties rows keys known) where
+module _ (shape : Shape) (run : List Step) (nodes : List Node) (rows : List (List MailBox)) (keys : List Actor) (known : List Signature)
+    (are : AreParts shape run nodes rows keys known) where
   -- the box of a post that nothing refuses is empty
   pub room_for : (from to : Actor) (pick : Pick) → IsCleared shape (log_of run) from to pick
       → (box_at rows (place_of shape from) (place_of shape to)).letter ≡ None
@@ -141,15 +141,15 @@ module _ (shape : Shape) (run : List Step) (parties : List Party) (rows : List (
       box_is_empty (box_at rows (place_of shape from) (place_of shape to)).letter (box_at rows (place_of shape from) (place_of shape to))
       (posted_to to (log_of run from)) (taken_from from (log_of run to)) refl (are.boxes.each from to is.actor is.other) is.room
 
-  -- after a step of an actor whose party plays on, with its envelope in an empty box
-  pub parts_posted : (from to : Actor) (x : Envelope) (party : Party) (new : List Signature) → IsActor shape from → IsActor shape to
-      → IsNextStep shape (log_of run) (from, PostEntry to x) → Plays shape from (PostEntry to x ∷ log_of run from) party
+  -- after a step of an actor whose node plays on, with its envelope in an empty box
+  pub parts_posted : (from to : Actor) (x : Envelope) (node : Node) (new : List Signature) → IsActor shape from → IsActor shape to
+      → IsNextStep shape (log_of run) (from, PostEntry to x) → Plays shape from (PostEntry to x ∷ log_of run from) node
       → (box_at rows (place_of shape from) (place_of shape to)).letter ≡ None → KnowsAll shape (log_of ((from, PostEntry to x) ∷ run)) new
-      → AreParts shape ((from, PostEntry to x) ∷ run) (slice_set parties (place_of shape from) party)
+      → AreParts shape ((from, PostEntry to x) ∷ run) (slice_set nodes (place_of shape from) node)
       (with_box rows (place_of shape from) (place_of shape to) (with_post (box_at rows (place_of shape from) (place_of shape to)) x)) keys new
-  parts_posted from to x party new actor other next plays empty knows = record {
+  parts_posted from to x node new actor other next plays empty knows = record {
     is_run = (are.is_run, next);
-    played = played_step shape run parties (from, PostEntry to x) party are.played actor plays;
+    played = played_step shape run nodes (from, PostEntry to x) node are.played actor plays;
     boxes = boxes_posted shape run rows from to x are.boxes actor other empty;
     held = are.held;
     knows = knows;
@@ -184,17 +184,17 @@ module _ (shape : Shape) (run : List Step) (parties : List Party) (rows : List (
       below_end a b e = grind (arith, nat_tests)
 
   -- after a loyal actor's post that nothing refused
-  pub parts_after_post : (from to : Actor) (pick : Pick) (x : Envelope) (party : Party) (new : List Signature) → IsAllowed shape → IsPick pick → HasSpelledOp pick
+  pub parts_after_post : (from to : Actor) (pick : Pick) (x : Envelope) (node : Node) (new : List Signature) → IsAllowed shape → IsPick pick → HasSpelledOp pick
       → IsCleared shape (log_of run) from to pick → post_of shape (log_of run from) from to pick ≡ Some x
-      → Plays shape from (PostEntry to x ∷ log_of run from) party
+      → Plays shape from (PostEntry to x ∷ log_of run from) node
       → ((holder : Actor) → Any (λ h. h ≡ holder) keys → (s : Signature) → In s new ↔ (In s known ⊎ Carries x s))
-      → AreParts shape ((from, PostEntry to x) ∷ run) (slice_set parties (place_of shape from) party)
+      → AreParts shape ((from, PostEntry to x) ∷ run) (slice_set nodes (place_of shape from) node)
       (with_box rows (place_of shape from) (place_of shape to) (with_post (box_at rows (place_of shape from) (place_of shape to)) x)) keys new
-  parts_after_post from to pick x party new allowed good spelled is e plays learned =
+  parts_after_post from to pick x node new allowed good spelled is e plays learned =
       let empty = room_for from to pick is in
       let same = empty_same (box_at rows (place_of shape from) (place_of shape to)) (posted_to to (log_of run from)) (taken_from from (log_of run to)) empty
       (are.boxes.each from to is.actor is.other) in
-      parts_posted from to x party new is.actor is.other
+      parts_posted from to x node new is.actor is.other
       (posts_next shape allowed run are.is_run from to pick x is.actor is.other good spelled is.honest e is.more is.used same) plays empty
       (learned_post from to x new is.actor is.honest learned)
 

@@ -1,5 +1,5 @@
 ghost use Rattle.std.specs.Prelude.{◌≡◌, IfOk, IfSome, IsOk, IsOkUnless};
-ghost use Rattle.dsr_node.specs.Support.Party.{IsReplicaNumber};
+ghost use Rattle.dsr_node.specs.Node.{IsReplicaNumber};
 
 use crate::letters::{Letters, no_letters};
 use dsr_envelope::{Envelope, Letter};

@@ -2,7 +2,7 @@ ghost use Rattle.std.specs.Prelude.{true, ◌++◌, IfSome, IsSome, ◌⊎◌, A
 ghost use Rattle.std.specs.Option.{option_to_list};
 ghost use Rattle.dsr_names.specs.Shape.{IsActor, IsLoyal, is_traitor};
 ghost use Rattle.dsr_names.specs.declared.actor.Actor.TheVariants.{Replica as ReplicaNumber, Client as ClientNumber};
-ghost use Rattle.dsr_node.specs.Support.Party.{Plays};
+ghost use Rattle.dsr_node.specs.Node.{Plays};
 ghost use Rattle.dsr_names.specs.declared.refusal.Refusal.TheVariants.{NoActor, WrongRole};
 ghost use Rattle.dsr_envelope.specs.declared.envelope.Envelope.{Envelope};
 ghost use Rattle.dsr_envelope.specs.Limits.{IsEnvelope};
@@ -41,7 +41,7 @@ use dsr_desk::{Key, Keys};
 use dsr_envelope::{Entry, Envelope, Letter, Pick};
 use dsr_ledger::Reply;
 use dsr_names::{Actor, ClientId, NUMBER_END, Refusal, ReplicaId, Shape};
-use dsr_node::{Customer, Party};
+use dsr_node::{Customer, Node};
 use dsr_play::Event;
 use dsr_replica::Replica;
 use dsr_request::Request;
@@ -55,7 +55,7 @@ use std::marker::Model;
 #[derive(Drop)]
 pub struct World {
     shape: Shape,
-    parties: Vec<Party>,
+    nodes: Vec<Node>,
     boxes: MailBoxes,
     keys: Vec<Key>,
     known: Known,
@@ -85,19 +85,19 @@ impl World {
     {
         let count = shape.n() as usize + shape.m() as usize;
         let mut keys = Keys::new(alloc, shape)?;
-        let mut parties = Vec::with_capacity(alloc, count)?;
+        let mut nodes = Vec::with_capacity(alloc, count)?;
         let mut traitors = Vec::new(alloc);
         for number in 0..shape.n() {
-            let (party, key) = replica_party(alloc, &shape, &mut keys, number)?;
-            parties.push(party)?;
+            let (node, key) = replica_node(alloc, &shape, &mut keys, number)?;
+            nodes.push(node)?;
             keep(&mut traitors, key)?;
         }
         for number in 0..shape.m() {
-            parties.push(client_party(alloc, &shape, &mut keys, number)?)?;
+            nodes.push(client_node(alloc, &shape, &mut keys, number)?)?;
         }
         Ok(World {
             shape,
-            parties,
+            nodes,
             boxes: MailBoxes::new(alloc, count)?,
             keys: traitors,
             known: Known::new(alloc),
@@ -135,7 +135,7 @@ impl World {
         if client.number() >= self.shape.m() {
             return Err(Refusal::NoActor);
         }
-        Ok(self.parties[place_of(&self.shape, &Actor::Client(client))].accepted())
+        Ok(self.nodes[place_of(&self.shape, &Actor::Client(client))].accepted())
     }
 
     /// A client's seen front. `NoActor` where it is no client of the shape.
@@ -147,7 +147,7 @@ impl World {
         if client.number() >= self.shape.m() {
             return Err(Refusal::NoActor);
         }
-        Ok(self.parties[place_of(&self.shape, &Actor::Client(client))].seen())
+        Ok(self.nodes[place_of(&self.shape, &Actor::Client(client))].seen())
     }
 
     /// What a loyal replica decided of its closed slots, by their numbers. `NoActor` where it is no replica of the shape, `WrongRole`
@@ -161,7 +161,7 @@ impl World {
         if replica.number() >= self.shape.n() {
             return Err(Refusal::NoActor);
         }
-        match self.parties[replica.number() as usize].replica() {
+        match self.nodes[replica.number() as usize].replica() {
             Some(loyal) => Ok(loyal.decided()),
             None => Err(Refusal::WrongRole),
         }
@@ -177,7 +177,7 @@ impl World {
         let mut history: &[Request] = &[];
         let mut closed = 0;
         for number in 0..self.shape.n() {
-            if let Some(replica) = self.parties[number as usize].replica() {
+            if let Some(replica) = self.nodes[number as usize].replica() {
                 let decided = replica.decided();
                 if decided.len() > closed {
                     closed = decided.len();
@@ -268,7 +268,7 @@ impl World {
             self.keys.as_slice(),
             letters.kept.envelope(),
         )?;
-        self.parties[poster].posted(*to, *pick);
+        self.nodes[poster].posted(*to, *pick);
         keep_letter(&mut self.letters, poster, again);
         self.boxes.put(poster, taker, letters.sent);
         log_post(&mut self.entries, from, to, letters.kept);
@@ -294,7 +294,7 @@ impl World {
             return Letters::again(letter);
         }
         let poster = place_of(&self.shape, from);
-        let Ok(envelope) = self.parties[poster].envelope_for(alloc, *to, *pick) else {
+        let Ok(envelope) = self.nodes[poster].envelope_for(alloc, *to, *pick) else {
             return Err(Refusal::NoMemory);
         };
         self.replies.letters_of(alloc, to, envelope)
@@ -322,7 +322,7 @@ impl World {
     {
         let place = place_of(&self.shape, &Actor::Client(client));
         let letter = self.letters[place].as_ref()?;
-        if self.parties[place].has_outstanding(letter.envelope()) {
+        if self.nodes[place].has_outstanding(letter.envelope()) {
             Some(letter)
         } else {
             None
@@ -348,10 +348,10 @@ impl World {
             return Err(Refusal::NoMemory);
         };
         make_room(&mut self.entries)?;
-        let Ok(()) = self.parties[taker].room() else {
+        let Ok(()) = self.nodes[taker].room() else {
             return Err(Refusal::NoMemory);
         };
-        let reply = self.parties[taker].taken(*from, envelope);
+        let reply = self.nodes[taker].taken(*from, envelope);
         let letter = self.boxes.take(poster, taker);
         self.entries.push_reserved((
             *at,
@@ -378,7 +378,7 @@ impl World {
         }
         let _n = self.shape.n();
         let (poster, taker) = (place_of(&self.shape, from), place_of(&self.shape, to));
-        let envelope = Envelope::Seen(self.parties[poster].seen());
+        let envelope = Envelope::Seen(self.nodes[poster].seen());
         let letters = Letters::of(alloc, envelope)?;
         make_room(&mut self.entries)?;
         learn(
@@ -460,7 +460,7 @@ impl World {
             return Some(Refusal::WrongRole);
         }
         let place = place_of(&self.shape, from);
-        match self.parties[place].post_refusal(alloc, *to, *pick) {
+        match self.nodes[place].post_refusal(alloc, *to, *pick) {
             Some(refusal) => Some(refusal),
             None => self.box_refusal(from, to),
         }
@@ -490,7 +490,7 @@ impl World {
             return Some(Refusal::WrongRole);
         }
         let place = place_of(&self.shape, at);
-        if self.parties[place].is_undue(*from) {
+        if self.nodes[place].is_undue(*from) {
             return Some(Refusal::NotDue);
         }
         if !self.is_full(from, at) {
@@ -640,13 +640,13 @@ fn learn(known: &mut Known, keys: &[Key], envelope: &Envelope) -> Result<(), Ref
     }
 }
 
-/// The party of a replica of the shape, and its key where it is a traitor. `NoMemory` where memory runs out, or the key was taken.
-fn replica_party(
+/// The node of a replica of the shape, and its key where it is a traitor. `NoMemory` where memory runs out, or the key was taken.
+fn replica_node(
     alloc: Global,
     shape: &Shape,
     keys: &mut Keys,
     number: u8,
-) -> Result<(Party, Option<Key>), Refusal>
+) -> Result<(Node, Option<Key>), Refusal>
     requires inside { number < shape.now.n }
     ensures plays { IfOk result (λ made. Plays shape.now (ReplicaNumber number) [] made.0) }
     ensures held { IfOk result (λ made. IfSome made.1 (λ key. key ≡ ReplicaNumber number)) }
@@ -659,14 +659,14 @@ fn replica_party(
         return Err(Refusal::NoMemory);
     };
     if shape.is_loyal(key.signer()) {
-        Ok((Party::Loyal(Replica::new(alloc, key, shape)?), None))
+        Ok((Node::Loyal(Replica::new(alloc, key, shape)?), None))
     } else {
-        Ok((Party::Traitor, Some(key)))
+        Ok((Node::Traitor, Some(key)))
     }
 }
 
-/// The party of a client of the shape. `NoMemory` where memory runs out, or the key was taken.
-fn client_party(alloc: Global, shape: &Shape, keys: &mut Keys, number: u8) -> Result<Party, Refusal>
+/// The node of a client of the shape. `NoMemory` where memory runs out, or the key was taken.
+fn client_node(alloc: Global, shape: &Shape, keys: &mut Keys, number: u8) -> Result<Node, Refusal>
     requires inside { number < shape.now.m }
     ensures plays { IfOk result (Plays shape.now (ClientNumber number) []) }
     ensures refusal { IsOkUnless result Refusal.NoMemory }
@@ -676,7 +676,7 @@ fn client_party(alloc: Global, shape: &Shape, keys: &mut Keys, number: u8) -> Re
     let Some(key) = keys.take(actor) else {
         return Err(Refusal::NoMemory);
     };
-    Ok(Party::Client(Customer::new(alloc, Client::new(key, shape))))
+    Ok(Node::Client(Customer::new(alloc, Client::new(key, shape))))
 }
 
 /// Keeps the key, where there is one. `NoMemory` where memory runs out.

@@ -16,10 +16,10 @@ use Rattle.dsr_world.specs.Event.{is_full, is_used_up}
 use Rattle.dsr_run.specs.Run.{IsTraitor, HasPosted, IsRun}
 use Rattle.dsr_run.specs.Step.{Step, Logs, log_of}
 use Rattle.dsr_world.specs.Support.Boxes.{AreSquare, box_at, IsBoxOf}
-use Rattle.dsr_node.specs.Support.Party.{Plays}
+use Rattle.dsr_node.specs.Node.{Plays}
 use Rattle.dsr_world.specs.World.{World}
 use Rattle.dsr_world.specs.declared.mail_boxes.MailBox.{MailBox}
-use Rattle.dsr_node.specs.declared.party.Party.{Party}
+use Rattle.dsr_node.specs.declared.node.Node.{Node}
 use Rattle.dsr_world.specs.declared.world.World.TheInside.{Inside}
 
 -- the place of an actor: replicas first, then clients
@@ -27,10 +27,10 @@ abbrev pub place_of : Shape → Actor → ℕ
 place_of shape (Replica p) = p
 place_of shape (Client c) = shape.n + c
 
--- there is a party for each actor of the shape, at its place, which plays it
-pub record ArePlayed (shape : Shape) (logs : Logs) (parties : List Party) : Type 0 where
-  pub count : length parties ≡ shape.n + shape.m
-  pub each : (who : Actor) → IsActor shape who → (d : Party) → Plays shape who (logs who) (slice_index_or parties (place_of shape who) d)
+-- there is a node for each actor of the shape, at its place, which plays it
+pub record ArePlayed (shape : Shape) (logs : Logs) (nodes : List Node) : Type 0 where
+  pub count : length nodes ≡ shape.n + shape.m
+  pub each : (who : Actor) → IsActor shape who → (d : Node) → Plays shape who (logs who) (slice_index_or nodes (place_of shape who) d)
 
 -- the boxes are as the logs have left them
 pub record AreBoxes (shape : Shape) (logs : Logs) (rows : List (List MailBox)) : Type 0 where
@@ -51,10 +51,10 @@ pub record KnowsPosts (shape : Shape) (logs : Logs) (known : List Signature) : T
 abbrev pub KnowsAll : Shape → Logs → List Signature → Type 0
 KnowsAll shape logs known = (p : ℕ) → IsTraitor shape (Replica p) → KnowsPosts shape logs known
 
--- the parts of a world stand for a run: the parties, the boxes, the traitors' keys, and what is known
-pub record AreParts (shape : Shape) (run : List Step) (parties : List Party) (rows : List (List MailBox)) (keys : List Actor) (known : List Signature) : Type 0 where
+-- the parts of a world stand for a run: the nodes, the boxes, the traitors' keys, and what is known
+pub record AreParts (shape : Shape) (run : List Step) (nodes : List Node) (rows : List (List MailBox)) (keys : List Actor) (known : List Signature) : Type 0 where
   pub is_run : IsRun shape run
-  pub played : ArePlayed shape (log_of run) parties
+  pub played : ArePlayed shape (log_of run) nodes
   pub boxes : AreBoxes shape (log_of run) rows
   pub held : AreKeys shape keys
   pub knows : KnowsAll shape (log_of run) known
@@ -78,7 +78,7 @@ with_letter place (Some x) letters = slice_set letters place (Some x)
 
 -- the fields of a world stand for the run that its entries are
 abbrev pub IsWorldFields : Inside → Type 0
-IsWorldFields a = AreParts a.shape (reverse a.entries.items) a.parties.items a.boxes a.keys.items a.known.signatures
+IsWorldFields a = AreParts a.shape (reverse a.entries.items) a.nodes.items a.boxes a.keys.items a.known.signatures
     × AreLetters a.shape (log_of (reverse a.entries.items)) a.letters.items
 
 -- the shape and the run
@@ -92,10 +92,10 @@ box_refusal logs from to =
     else if is_full logs from to then Some BoxFull
     else None
 
--- while a world is opened: there are parties for the actors at the first places, none of which has taken a step
-pub record AreOpened (shape : Shape) (k : ℕ) (parties : List Party) : Type 0 where
-  pub count : length parties ≡ k
-  pub each : (who : Actor) → IsActor shape who → place_of shape who < k → (d : Party) → Plays shape who [] (slice_index_or parties (place_of shape who) d)
+-- while a world is opened: there are nodes for the actors at the first places, none of which has taken a step
+pub record AreOpened (shape : Shape) (k : ℕ) (nodes : List Node) : Type 0 where
+  pub count : length nodes ≡ k
+  pub each : (who : Actor) → IsActor shape who → place_of shape who < k → (d : Node) → Plays shape who [] (slice_index_or nodes (place_of shape who) d)
 
 -- a traitor among the first replicas
 abbrev pub IsTraitorBelow : Shape → ℕ → Actor → Type 0

@@ -5,7 +5,7 @@ use Rattle.dsr_names.specs.declared.actor.Actor.TheVariants.{Client}
 use Rattle.dsr_run.specs.History.{accepted_by}
 use Rattle.dsr_run.specs.Run.{IsRun}
 use Rattle.dsr_run.specs.Step.{log_of}
-use Rattle.dsr_node.specs.Support.Party.{Plays}
+use Rattle.dsr_node.specs.Node.{Plays}
 use Rattle.dsr_world.specs.World.{World}
 use Rattle.dsr_run.proofs.Lemmas.{lent_right, lent_answered}
 use Rattle.dsr_world.proofs.world.World.accepted.Goals as goal
@@ -19,7 +19,7 @@ returns-clause-same c =
     let size = c.m.ensures.same in
     let inside : c.args.client < a.shape.m = omega (arith, below, number, size) in
     let plays : Plays a.shape (Client c.args.client) log c.index.result.now =
-    subst (Plays a.shape (Client c.args.client) log) (sym (c.index.ensures ∙ ap (λ k. slice_index_or a.parties.items k c.index.result.now) c.place_of.ensures))
+    subst (Plays a.shape (Client c.args.client) log) (sym (c.index.ensures ∙ ap (λ k. slice_index_or a.nodes.items k c.index.result.now) c.place_of.ensures))
     (c.self.invariant.0.played.each (Client c.args.client) inside c.index.result.now) in
     subst (λ (w : World). c.accepted.result.now ≡ reverse (accepted_by w.shape (log_of w.run) c.args.client)) c.self.view_is (c.accepted.ensures a.shape c.args.client log plays)
 
@@ -32,7 +32,7 @@ returns-clause-right c reply =
     let size = c.m.ensures.same in
     let inside : c.args.client < a.shape.m = omega (arith, below, number, size) in
     let plays : Plays a.shape (Client c.args.client) log c.index.result.now =
-    subst (Plays a.shape (Client c.args.client) log) (sym (c.index.ensures ∙ ap (λ k. slice_index_or a.parties.items k c.index.result.now) c.place_of.ensures))
+    subst (Plays a.shape (Client c.args.client) log) (sym (c.index.ensures ∙ ap (λ k. slice_index_or a.nodes.items k c.index.result.now) c.place_of.ensures))
     (c.self.invariant.0.played.each (Client c.args.client) inside c.index.result.now) in
     let same = subst (λ (w : World). c.accepted.result.now ≡ reverse (accepted_by w.shape (log_of w.run) c.args.client)) c.self.view_is (c.accepted.ensures a.shape c.args.client log plays) in
     let world = c.args.self.now in
@@ -49,7 +49,7 @@ returns-clause-answered c wanted =
     let size = c.m.ensures.same in
     let inside : c.args.client < a.shape.m = omega (arith, below, number, size) in
     let plays : Plays a.shape (Client c.args.client) log c.index.result.now =
-    subst (Plays a.shape (Client c.args.client) log) (sym (c.index.ensures ∙ ap (λ k. slice_index_or a.parties.items k c.index.result.now) c.place_of.ensures))
+    subst (Plays a.shape (Client c.args.client) log) (sym (c.index.ensures ∙ ap (λ k. slice_index_or a.nodes.items k c.index.result.now) c.place_of.ensures))
     (c.self.invariant.0.played.each (Client c.args.client) inside c.index.result.now) in
     let same = subst (λ (w : World). c.accepted.result.now ≡ reverse (accepted_by w.shape (log_of w.run) c.args.client)) c.self.view_is (c.accepted.ensures a.shape c.args.client log plays) in
     let world = c.args.self.now in

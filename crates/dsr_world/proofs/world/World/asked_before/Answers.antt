@@ -5,7 +5,7 @@ use Rattle.dsr_names.specs.declared.actor.Actor.TheVariants.{Client}
 use Rattle.dsr_envelope.specs.declared.step.Pick.TheVariants.{Plain}
 use Rattle.dsr_client.specs.Conduct.{ask_to}
 use Rattle.dsr_run.specs.Step.{log_of}
-use Rattle.dsr_node.specs.Support.Party.{Plays, IsOutstandingAsk}
+use Rattle.dsr_node.specs.Node.{Plays, IsOutstandingAsk}
 use Rattle.dsr_world.specs.Support.WorldFields.{place_of}
 use Rattle.dsr_world.specs.World.{World}
 use Rattle.dsr_world.proofs.Repeating.{asked_again}
@@ -27,7 +27,7 @@ returns-then-has_outstanding c =
     ∙ (sym c.index.ensures ∙ sym c.in_ok-letter.ensures.value)) in
     let plays : Plays a.shape (Client client) (log_of run (Client client)) c.index-2.result.now =
     subst (Plays a.shape (Client client) (log_of run (Client client)))
-    (sym (c.index-2.ensures ∙ ap (λ k. slice_index_or a.parties.items k c.index-2.result.now) c.place_of-place.ensures))
+    (sym (c.index-2.ensures ∙ ap (λ k. slice_index_or a.nodes.items k c.index-2.result.now) c.place_of-place.ensures))
     (c.self.invariant.0.played.each (Client client) inside c.index-2.result.now) in
     let asks = (c.has_outstanding.ensures a.shape client (log_of run (Client client)) plays).0 c.if-has_outstanding.true in
     let again : ask_to a.shape client (log_of run (Client client)) Plain ≡ Some letter =

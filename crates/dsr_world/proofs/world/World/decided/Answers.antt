@@ -6,7 +6,7 @@ use Rattle.dsr_names.specs.declared.actor.Actor.TheVariants.{Replica}
 use Rattle.dsr_replica.specs.Decided.{decided_values}
 use Rattle.dsr_run.specs.History.{decided_at}
 use Rattle.dsr_run.specs.Step.{log_of}
-use Rattle.dsr_node.specs.Support.Party.{Plays}
+use Rattle.dsr_node.specs.Node.{Plays}
 use Rattle.dsr_world.specs.World.{World}
 use Rattle.dsr_world.proofs.world.World.decided.Goals as goal
 
@@ -20,7 +20,7 @@ returns-in-Some-clause-same c =
     let size = c.n.ensures.same in
     let inside : p < a.shape.n = omega (arith, outside, number, size) in
     let plays : Plays a.shape (Replica p) log c.index.result.now =
-    subst (Plays a.shape (Replica p) log) (sym (c.index.ensures ∙ ap (λ k. slice_index_or a.parties.items k c.index.result.now) c.number-2.ensures.same))
+    subst (Plays a.shape (Replica p) log) (sym (c.index.ensures ∙ ap (λ k. slice_index_or a.nodes.items k c.index.result.now) c.number-2.ensures.same))
     (c.self.invariant.0.played.each (Replica p) inside c.index.result.now) in
     let is = c.in-Some.ensures.loyal a.shape p log plays in
     subst (λ (w : World). c.decided.result.now ≡ reverse (decided_at w.shape (log_of w.run) p)) c.self.view_is
@@ -36,7 +36,7 @@ returns-in-Some-clause-when c =
     let size = c.n.ensures.same in
     let inside : p < a.shape.n = omega (arith, outside, number, size) in
     let plays : Plays a.shape (Replica p) log c.index.result.now =
-    subst (Plays a.shape (Replica p) log) (sym (c.index.ensures ∙ ap (λ k. slice_index_or a.parties.items k c.index.result.now) c.number-2.ensures.same))
+    subst (Plays a.shape (Replica p) log) (sym (c.index.ensures ∙ ap (λ k. slice_index_or a.nodes.items k c.index.result.now) c.number-2.ensures.same))
     (c.self.invariant.0.played.each (Replica p) inside c.index.result.now) in
     let is = c.in-Some.ensures.loyal a.shape p log plays in
     (λ e. subst (λ (w : World). IsLoyal w.shape (Replica p)) c.self.view_is (inside, is.honest), λ loyal. refl)
@@ -51,7 +51,7 @@ returns-in-None-clause-when c =
     let size = c.n.ensures.same in
     let inside : p < a.shape.n = omega (arith, outside, number, size) in
     let plays : Plays a.shape (Replica p) log c.index.result.now =
-    subst (Plays a.shape (Replica p) log) (sym (c.index.ensures ∙ ap (λ k. slice_index_or a.parties.items k c.index.result.now) c.number-2.ensures.same))
+    subst (Plays a.shape (Replica p) log) (sym (c.index.ensures ∙ ap (λ k. slice_index_or a.nodes.items k c.index.result.now) c.number-2.ensures.same))
     (c.self.invariant.0.played.each (Replica p) inside c.index.result.now) in
     let traitor = subst (λ (w : World). is_traitor w.shape p ≡ true) c.self.view_is (c.in-None.ensures.traitor a.shape p log plays) in
     (λ e. absurd (false≢true e), λ loyal. absurd (true≢false (sym traitor ∙ loyal.1)))

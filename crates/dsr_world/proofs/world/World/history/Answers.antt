@@ -5,7 +5,7 @@ use Rattle.dsr_history.specs.History.{acted}
 use Rattle.dsr_replica.specs.Decided.{decided_requests, decided_values}
 use Rattle.dsr_run.specs.Run.{IsRun}
 use Rattle.dsr_run.specs.Step.{log_of}
-use Rattle.dsr_node.specs.Support.Party.{Plays}
+use Rattle.dsr_node.specs.Node.{Plays}
 use Rattle.dsr_world.specs.World.{World}
 use Rattle.dsr_run.proofs.Lemmas.{best_past, best_kept, best_more, as_best}
 use Rattle.dsr_run.proofs.Lemmas.{history_grows, history_legal}
@@ -21,11 +21,11 @@ loop-number-preserved c =
     let before = c.loop-number-test.true in
     let size = c.n-number-end.ensures.same in
     let inside : p < a.shape.n = omega (arith, before, size) in
-    let party_plays : Plays a.shape (Replica p) (log_of (reverse a.entries.items) (Replica p)) c.index.result.now =
+    let node_plays : Plays a.shape (Replica p) (log_of (reverse a.entries.items) (Replica p)) c.index.result.now =
     subst (Plays a.shape (Replica p) (log_of (reverse a.entries.items) (Replica p))) (sym c.index.ensures)
     (c.self.invariant.0.played.each (Replica p) inside c.index.result.now) in
     let plays : Plays world.shape (Replica p) (log_of world.run (Replica p)) c.index.result.now =
-    subst (λ (w : World). Plays w.shape (Replica p) (log_of w.run (Replica p)) c.index.result.now) c.self.view_is party_plays in
+    subst (λ (w : World). Plays w.shape (Replica p) (log_of w.run (Replica p)) c.index.result.now) c.self.view_is node_plays in
     let best = c.loop-number.invariant.0 in (
       elim c.match-replica.branch [
         | in-Some+then-decided-closed w ↦

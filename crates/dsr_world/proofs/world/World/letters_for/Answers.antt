@@ -5,7 +5,7 @@ use Rattle.dsr_play.specs.declared.event.Event.TheVariants.{Post}
 use Rattle.dsr_world.specs.Event.{refusal_of}
 use Rattle.dsr_node.specs.Conduct.{post_of}
 use Rattle.dsr_run.specs.Step.{log_of}
-use Rattle.dsr_node.specs.Support.Party.{Plays}
+use Rattle.dsr_node.specs.Node.{Plays}
 use Rattle.dsr_world.specs.World.{World}
 use Rattle.dsr_world.specs.declared.letters.Letters.{Letters}
 use Rattle.dsr_world.proofs.Worlds.{cleared, conduct_cleared}
@@ -22,7 +22,7 @@ returns-clause-given c =
     let is = cleared a.shape (log_of run) from to pick none in
     let conduct = conduct_cleared a.shape (log_of run) from to pick is in
     let at_first : Plays a.shape from (log_of run from) c.index.result.now =
-    subst (Plays a.shape from (log_of run from)) (sym (c.index.ensures ∙ ap (λ k. slice_index_or a.parties.items k c.index.result.now) c.place_of-poster.ensures))
+    subst (Plays a.shape from (log_of run from)) (sym (c.index.ensures ∙ ap (λ k. slice_index_or a.nodes.items k c.index.result.now) c.place_of-poster.ensures))
     (c.self.invariant.0.played.each from is.actor c.index.result.now) in
     let given : post_of a.shape (log_of run from) from to pick ≡ Some c.in-Ok.envelope = c.in-Ok.ensures.given a.shape from (log_of run from) at_first conduct in
     let seen = subst (λ (w : World). post_of w.shape (log_of w.run from) from to pick ≡ Some c.in-Ok.envelope) c.self.view_is given in

@@ -9,7 +9,7 @@ use Rattle.dsr_world.proofs.world.World.open.Goals as goal
 
 pub loop-number-init : goal.loop-number-init
 loop-number-init c = (
-  subst (AreOpened c.args.shape 0) (sym c.in_ok-parties.ensures.items) (none_opened c.args.shape),
+  subst (AreOpened c.args.shape 0) (sym c.in_ok-nodes.ensures.items) (none_opened c.args.shape),
   subst (AreKeysBelow c.args.shape 0) (sym c.new-traitors.ensures.items) (no_keys c.args.shape),
   c.n-number-end.ensures.same,
 )
@@ -20,9 +20,9 @@ loop-number-preserved c =
     let end = c.loop-number-test.true in
     let inside : k < c.args.shape.n = let is = c.n-number-end.ensures.same in omega (arith, end, is) in
     let next : suc k ≡ k + 1 = omega arith in
-    let parties = one_opened c.args.shape k c.loop-number.parties.items (Replica k) c.in_ok-party.party c.loop-number.invariant.0 inside refl c.in_ok-party.ensures.plays in
-    let keys = more_keys c.args.shape k c.loop-number.traitors.items c.in_ok-party.key c.loop-number.invariant.1 c.in_ok-party.ensures.held c.in_ok-party.ensures.traitor in (
-      subst (λ j. AreOpened c.args.shape j c.push.new.self.items) next (subst (AreOpened c.args.shape (suc k)) (sym c.in_ok-push.ensures.items) parties),
+    let nodes = one_opened c.args.shape k c.loop-number.nodes.items (Replica k) c.in_ok-node.node c.loop-number.invariant.0 inside refl c.in_ok-node.ensures.plays in
+    let keys = more_keys c.args.shape k c.loop-number.traitors.items c.in_ok-node.key c.loop-number.invariant.1 c.in_ok-node.ensures.held c.in_ok-node.ensures.traitor in (
+      subst (λ j. AreOpened c.args.shape j c.push.new.self.items) next (subst (AreOpened c.args.shape (suc k)) (sym c.in_ok-push.ensures.items) nodes),
       subst (λ j. AreKeysBelow c.args.shape j c.keep.new.keys.items) next (subst (AreKeysBelow c.args.shape (suc k)) (sym c.in_ok-keep.ensures.kept) keys),
       c.n-number-end.ensures.same,
     )
@@ -33,7 +33,7 @@ loop-number-2-init c =
     let most = c.loop-number.auto.number-end in
     let all : c.loop-number.number ≡ c.args.shape.n = let is = c.n-number-end.ensures.same in omega (arith, last, most, is) in
     let zero_more : c.loop-number.number ≡ c.args.shape.n + 0 = omega (arith, all) in (
-      subst (λ j. AreOpened c.args.shape j c.loop-number.parties.items) zero_more c.loop-number.invariant.0,
+      subst (λ j. AreOpened c.args.shape j c.loop-number.nodes.items) zero_more c.loop-number.invariant.0,
       subst (λ j. AreKeysBelow c.args.shape j c.loop-number.traitors.items) all c.loop-number.invariant.1,
       c.m-number-end.ensures.same,
     )
@@ -44,10 +44,10 @@ loop-number-2-preserved c =
     let end = c.loop-number-2-test.true in
     let inside : k < c.args.shape.m = let is = c.m-number-end.ensures.same in omega (arith, end, is) in
     let next : suc (c.args.shape.n + k) ≡ c.args.shape.n + (k + 1) = omega arith in
-    let parties = one_opened c.args.shape (c.args.shape.n + k) c.loop-number-2.parties.items (Client k) c.in_ok-client_party.field-0 c.loop-number-2.invariant.0 inside refl
-    c.in_ok-client_party.ensures.plays in (
+    let nodes = one_opened c.args.shape (c.args.shape.n + k) c.loop-number-2.nodes.items (Client k) c.in_ok-client_node.field-0 c.loop-number-2.invariant.0 inside refl
+    c.in_ok-client_node.ensures.plays in (
       subst (λ j. AreOpened c.args.shape j c.push-in-loop-number-2.new.self.items) next
-          (subst (AreOpened c.args.shape (suc (c.args.shape.n + k))) (sym c.in_ok-push-2.ensures.items) parties),
+          (subst (AreOpened c.args.shape (suc (c.args.shape.n + k))) (sym c.in_ok-push-2.ensures.items) nodes),
       c.loop-number-2.invariant.1,
       c.m-number-end.ensures.same,
     )
@@ -58,10 +58,10 @@ invariant_of-result c =
     let most = c.loop-number-2.auto.number-end in
     let all : c.args.shape.n + c.loop-number-2.number ≡ c.args.shape.n + c.args.shape.m = let is = c.m-number-end.ensures.same in omega (arith, last, most, is) in
     let size : c.n.result + c.m.result ≡ c.args.shape.n + c.args.shape.m = ap₂ (λ a b. a + b) c.n.ensures.same c.m.ensures.same in (
-      subst (λ es. AreParts c.args.shape (reverse es) c.loop-number-2.parties.items c.in_ok-new.field-0 c.loop-number.traitors.items c.new-3.result.signatures)
+      subst (λ es. AreParts c.args.shape (reverse es) c.loop-number-2.nodes.items c.in_ok-new.field-0 c.loop-number.traitors.items c.new-3.result.signatures)
           (sym c.new-4.ensures.items)
-          (opened c.args.shape c.loop-number-2.parties.items c.in_ok-new.field-0 c.loop-number.traitors.items c.new-3.result.signatures
-          (subst (λ k. AreOpened c.args.shape k c.loop-number-2.parties.items) all c.loop-number-2.invariant.0) c.loop-number-2.invariant.1
+          (opened c.args.shape c.loop-number-2.nodes.items c.in_ok-new.field-0 c.loop-number.traitors.items c.new-3.result.signatures
+          (subst (λ k. AreOpened c.args.shape k c.loop-number-2.nodes.items) all c.loop-number-2.invariant.0) c.loop-number-2.invariant.1
           (subst (λ k. AreSquare k c.in_ok-new.field-0) size c.in_ok-new.ensures.count) c.in_ok-new.ensures.empty c.new-3.ensures.none),
       subst (λ es. AreLetters c.args.shape (log_of (reverse es)) c.in_ok-no_letters.field-0.items) (sym c.new-4.ensures.items)
           (no_letters_kept c.args.shape c.in_ok-no_letters.field-0.items (c.in_ok-no_letters.ensures.count ∙ size) c.in_ok-no_letters.ensures.none),

@@ -26,7 +26,7 @@ invariant_of-self-2 c =
     subst (λ (w : World). ForgesNothing w.shape (log_of w.run) (PostEntry to x)) (sym c.self.view_is) c.in-Ok.ensures.made in
     let kept : c.in_ok-letters.letters.kept ≡ x = c.in_ok-letters.ensures.kept ∙ c.in-Ok.ensures.same in
     let sent : c.in_ok-letters.letters.sent ≡ x = c.in_ok-letters.ensures.sent ∙ c.in-Ok.ensures.same in
-    let parts = parts_after_plant a.shape run a.parties.items a.boxes a.keys.items a.known.signatures c.self.invariant.0 is.p to x c.n-n.ensures.allowed
+    let parts = parts_after_plant a.shape run a.nodes.items a.boxes a.keys.items a.known.signatures c.self.invariant.0 is.p to x c.n-n.ensures.allowed
     (subst (IsActor a.shape) is.from_is is.actor) is.other is.traitor c.requires
     (ap (λ b. is_used_up (log_of run) b to) (sym is.from_is) ∙ is.used) (ap (λ b. is_full (log_of run) b to) (sym is.from_is) ∙ is.room) made in
     let went : reverse c.log_post.new.entries.items ≡ (Replica is.p, PostEntry to x) ∷ run =
@@ -37,7 +37,7 @@ invariant_of-self-2 c =
     c.put.ensures
     ∙ (ap (λ y. with_box a.boxes c.place_of-poster.result c.place_of-taker.result (with_post (box_at a.boxes c.place_of-poster.result c.place_of-taker.result) y)) sent
     ∙ ap₂ (λ k l. with_box a.boxes k l (with_post (box_at a.boxes k l) x)) (c.place_of-poster.ensures ∙ ap (place_of a.shape) is.from_is) c.place_of-taker.ensures) in (
-      subst (λ r. AreParts a.shape r a.parties.items c.put.new.self a.keys.items a.known.signatures) (sym went)
-          (subst (λ rows. AreParts a.shape ((Replica is.p, PostEntry to x) ∷ run) a.parties.items rows a.keys.items a.known.signatures) (sym box) parts),
+      subst (λ r. AreParts a.shape r a.nodes.items c.put.new.self a.keys.items a.known.signatures) (sym went)
+          (subst (λ rows. AreParts a.shape ((Replica is.p, PostEntry to x) ∷ run) a.nodes.items rows a.keys.items a.known.signatures) (sym box) parts),
       subst (λ r. AreLetters a.shape (log_of r) a.letters.items) (sym went) (letters_of_traitor a.shape run a.letters.items c.self.invariant.1 is.p (PostEntry to x) is.traitor),
     )

@@ -10,7 +10,7 @@ use Rattle.dsr_world.specs.Event.{refusal_of, HasDone}
 use Rattle.dsr_node.specs.Conduct.{post_of}
 use Rattle.dsr_run.specs.Step.{log_of}
 use Rattle.dsr_world.specs.Support.Boxes.{row_of, box_at, with_box, with_post}
-use Rattle.dsr_node.specs.Support.Party.{Plays}
+use Rattle.dsr_node.specs.Node.{Plays}
 use Rattle.dsr_world.specs.Support.WorldFields.{place_of, with_letter, AreParts, AreLetters}
 use Rattle.dsr_world.specs.World.{World}
 use Rattle.dsr_world.proofs.Worlds.{cleared, conduct_cleared, row_long, posts_few, parts_after_post, done_post}
@@ -25,7 +25,7 @@ put-requires-clause-row c =
     let is = cleared a.shape (log_of (reverse a.entries.items)) c.args.from.now c.args.to.now c.args.pick.now none in
     subst (λ k. k < length (row_of a.boxes c.place_of-poster.result)) (sym c.place_of-taker.ensures)
     (subst (λ k. place_of a.shape c.args.to.now < length (row_of a.boxes k)) (sym c.place_of-poster.ensures)
-    (row_long a.shape (reverse a.entries.items) a.parties.items a.boxes a.keys.items a.known.signatures c.self.invariant.0 c.args.from.now c.args.to.now is.actor is.other))
+    (row_long a.shape (reverse a.entries.items) a.nodes.items a.boxes a.keys.items a.known.signatures c.self.invariant.0 c.args.from.now c.args.to.now is.actor is.other))
 
 pub put-requires-clause-few : goal.put-requires-clause-few
 put-requires-clause-few c =
@@ -35,7 +35,7 @@ put-requires-clause-few c =
     let is = cleared a.shape (log_of (reverse a.entries.items)) c.args.from.now c.args.to.now c.args.pick.now none in
     subst (λ k. (box_at a.boxes c.place_of-poster.result k).posts < 2 ^ 40) (sym c.place_of-taker.ensures)
     (subst (λ k. (box_at a.boxes k (place_of a.shape c.args.to.now)).posts < 2 ^ 40) (sym c.place_of-poster.ensures)
-    (posts_few a.shape (reverse a.entries.items) a.parties.items a.boxes a.keys.items a.known.signatures c.self.invariant.0 c.args.from.now c.args.to.now is.actor is.other is.used))
+    (posts_few a.shape (reverse a.entries.items) a.nodes.items a.boxes a.keys.items a.known.signatures c.self.invariant.0 c.args.from.now c.args.to.now is.actor is.other is.used))
 
 pub invariant_of-self-2 : goal.invariant_of-self-2
 invariant_of-self-2 c =
@@ -51,7 +51,7 @@ invariant_of-self-2 c =
     let given : post_of a.shape (log_of run from) from to pick ≡ Some c.in-Ok.letters.kept =
     subst (λ (w : World). post_of w.shape (log_of w.run from) from to pick ≡ Some c.in-Ok.letters.kept) (sym c.self.view_is) c.in-Ok.ensures.given in
     let at_last : Plays a.shape from (log_of run from) c.index_mut.result.now =
-    subst (Plays a.shape from (log_of run from)) (sym (c.index_mut.ensures.value ∙ ap (λ k. slice_index_or a.parties.items k c.index_mut.result.now) c.place_of-poster.ensures))
+    subst (Plays a.shape from (log_of run from)) (sym (c.index_mut.ensures.value ∙ ap (λ k. slice_index_or a.nodes.items k c.index_mut.result.now) c.place_of-poster.ensures))
     (c.self.invariant.0.played.each from is.actor c.index_mut.result.now) in
     let plays : Plays a.shape from (PostEntry to c.in-Ok.letters.kept ∷ log_of run from) c.posted.new.self =
     c.posted.ensures.plays a.shape from (log_of run from) c.in-Ok.letters.kept at_last conduct given in
@@ -60,7 +60,7 @@ invariant_of-self-2 c =
     → In s c.learn.new.known.signatures ↔ (In s a.known.signatures ⊎ Carries c.in-Ok.letters.kept s) =
     λ holder h s. subst (λ y. In s c.learn.new.known.signatures ↔ (In s a.known.signatures ⊎ Carries y s)) same
     (c.in_ok-learn.ensures.learned holder (subst (Any (λ h. h ≡ holder)) (sym c.as_slice.ensures.value) h) s) in
-    let parts = parts_after_post a.shape run a.parties.items a.boxes a.keys.items a.known.signatures c.self.invariant.0 from to pick c.in-Ok.letters.kept c.posted.new.self
+    let parts = parts_after_post a.shape run a.nodes.items a.boxes a.keys.items a.known.signatures c.self.invariant.0 from to pick c.in-Ok.letters.kept c.posted.new.self
     c.learn.new.known.signatures c.n-n.ensures.allowed c.look_at.ensures.pick c.look_at.ensures.spelled is given plays learned in
     let went : reverse c.log_post.new.entries.items ≡ (from, PostEntry to c.in-Ok.letters.kept) ∷ run =
     c.log_post.ensures ∙ ap (λ es. (from, PostEntry to c.in-Ok.letters.kept) ∷ reverse es) c.make_room.ensures.same in
@@ -69,10 +69,10 @@ invariant_of-self-2 c =
     c.put.ensures
     ∙ (ap (λ x. with_box a.boxes c.place_of-poster.result c.place_of-taker.result (with_post (box_at a.boxes c.place_of-poster.result c.place_of-taker.result) x)) c.in-Ok.ensures.sent
     ∙ ap₂ (λ k l. with_box a.boxes k l (with_post (box_at a.boxes k l) c.in-Ok.letters.kept)) c.place_of-poster.ensures c.place_of-taker.ensures) in (
-      subst (λ r. AreParts a.shape r (slice_set a.parties.items c.place_of-poster.result c.posted.new.self) c.put.new.self a.keys.items c.learn.new.known.signatures) (sym went)
-          (subst (λ k. AreParts a.shape ((from, PostEntry to c.in-Ok.letters.kept) ∷ run) (slice_set a.parties.items k c.posted.new.self) c.put.new.self a.keys.items c.learn.new.known.signatures)
+      subst (λ r. AreParts a.shape r (slice_set a.nodes.items c.place_of-poster.result c.posted.new.self) c.put.new.self a.keys.items c.learn.new.known.signatures) (sym went)
+          (subst (λ k. AreParts a.shape ((from, PostEntry to c.in-Ok.letters.kept) ∷ run) (slice_set a.nodes.items k c.posted.new.self) c.put.new.self a.keys.items c.learn.new.known.signatures)
           (sym c.place_of-poster.ensures)
-          (subst (λ rows. AreParts a.shape ((from, PostEntry to c.in-Ok.letters.kept) ∷ run) (slice_set a.parties.items (place_of a.shape from) c.posted.new.self) rows a.keys.items
+          (subst (λ rows. AreParts a.shape ((from, PostEntry to c.in-Ok.letters.kept) ∷ run) (slice_set a.nodes.items (place_of a.shape from) c.posted.new.self) rows a.keys.items
           c.learn.new.known.signatures) (sym box) parts)),
       subst (λ r. AreLetters a.shape (log_of r) c.keep_letter.new.letters.items) (sym went)
           (subst (AreLetters a.shape (log_of ((from, PostEntry to c.in-Ok.letters.kept) ∷ run)))

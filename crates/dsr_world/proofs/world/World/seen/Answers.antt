@@ -3,7 +3,7 @@ use Rattle.std.specs.Prelude.{slice_index_or}
 use Rattle.dsr_names.specs.declared.actor.Actor.TheVariants.{Client}
 use Rattle.dsr_run.specs.History.{seen_by}
 use Rattle.dsr_run.specs.Step.{log_of}
-use Rattle.dsr_node.specs.Support.Party.{Plays}
+use Rattle.dsr_node.specs.Node.{Plays}
 use Rattle.dsr_world.specs.World.{World}
 use Rattle.dsr_world.proofs.world.World.seen.Goals as goal
 
@@ -16,6 +16,6 @@ returns-clause-same c =
     let size = c.m.ensures.same in
     let inside : c.args.client < a.shape.m = omega (arith, below, number, size) in
     let plays : Plays a.shape (Client c.args.client) log c.index.result.now =
-    subst (Plays a.shape (Client c.args.client) log) (sym (c.index.ensures ∙ ap (λ k. slice_index_or a.parties.items k c.index.result.now) c.place_of.ensures))
+    subst (Plays a.shape (Client c.args.client) log) (sym (c.index.ensures ∙ ap (λ k. slice_index_or a.nodes.items k c.index.result.now) c.place_of.ensures))
     (c.self.invariant.0.played.each (Client c.args.client) inside c.index.result.now) in
     subst (λ (w : World). c.seen.result ≡ seen_by w.shape (log_of w.run) c.args.client) c.self.view_is (c.seen.ensures a.shape c.args.client log plays)

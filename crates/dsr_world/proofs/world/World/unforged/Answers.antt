@@ -35,7 +35,7 @@ returns-in-Ok-clause-made c =
     subst (λ ks. IsUnforged ks a.known.signatures x) c.as_slice.ensures.value
     (subst (IsUnforged c.as_slice.result.now a.known.signatures) c.in-Ok.ensures.same c.in-Ok.ensures.unforged) in
     let made : ForgesNothing a.shape (log_of run) (PostEntry to x) =
-    unforged_made a.shape run a.parties.items a.boxes a.keys.items a.known.signatures c.self.invariant.0 is.p traitor x sound in
+    unforged_made a.shape run a.nodes.items a.boxes a.keys.items a.known.signatures c.self.invariant.0 is.p traitor x sound in
     subst (λ (w : World). ForgesNothing w.shape (log_of w.run) (PostEntry to x)) c.self.view_is made
 
 pub returns-in-Ok-clause-forged : goal.returns-in-Ok-clause-forged
@@ -54,11 +54,11 @@ returns-in-Err-clause-last c refusal e =
     let traitor : IsTraitor a.shape (Replica is.p) = (subst (IsActor a.shape) is.from_is is.actor, is.traitor) in
     let made : IsUnforged c.as_slice.result.now a.known.signatures x → ForgesNothing c.args.self.now.shape (log_of c.args.self.now.run) (PostEntry to x) =
     λ sound. subst (λ (w : World). ForgesNothing w.shape (log_of w.run) (PostEntry to x)) c.self.view_is
-    (unforged_made a.shape run a.parties.items a.boxes a.keys.items a.known.signatures c.self.invariant.0 is.p traitor x
+    (unforged_made a.shape run a.nodes.items a.boxes a.keys.items a.known.signatures c.self.invariant.0 is.p traitor x
     (subst (λ ks. IsUnforged ks a.known.signatures x) c.as_slice.ensures.value sound)) in
     let sound : ForgesNothing c.args.self.now.shape (log_of c.args.self.now.run) (PostEntry to x) → IsUnforged c.as_slice.result.now a.known.signatures x =
     λ forges. subst (λ ks. IsUnforged ks a.known.signatures x) (sym c.as_slice.ensures.value)
-    (made_unforged a.shape run a.parties.items a.boxes a.keys.items a.known.signatures c.self.invariant.0 is.p traitor x
+    (made_unforged a.shape run a.nodes.items a.boxes a.keys.items a.known.signatures c.self.invariant.0 is.p traitor x
     (subst (λ (w : World). ForgesNothing w.shape (log_of w.run) (PostEntry to x)) (sym c.self.view_is) forges)) in
     let same = same_refusal c.in-Err.refusal refusal e in
     elim c.in-Err.ensures.refusal [
@@ -85,10 +85,10 @@ returns-in-Err-clause-forged c forged =
     let traitor : IsTraitor a.shape (Replica is.p) = (subst (IsActor a.shape) is.from_is is.actor, is.traitor) in
     let made : IsUnforged c.as_slice.result.now a.known.signatures x → ForgesNothing c.args.self.now.shape (log_of c.args.self.now.run) (PostEntry to x) =
     λ sound. subst (λ (w : World). ForgesNothing w.shape (log_of w.run) (PostEntry to x)) c.self.view_is
-    (unforged_made a.shape run a.parties.items a.boxes a.keys.items a.known.signatures c.self.invariant.0 is.p traitor x
+    (unforged_made a.shape run a.nodes.items a.boxes a.keys.items a.known.signatures c.self.invariant.0 is.p traitor x
     (subst (λ ks. IsUnforged ks a.known.signatures x) c.as_slice.ensures.value sound)) in
     let sound : ForgesNothing c.args.self.now.shape (log_of c.args.self.now.run) (PostEntry to x) → IsUnforged c.as_slice.result.now a.known.signatures x =
     λ forges. subst (λ ks. IsUnforged ks a.known.signatures x) (sym c.as_slice.ensures.value)
-    (made_unforged a.shape run a.parties.items a.boxes a.keys.items a.known.signatures c.self.invariant.0 is.p traitor x
+    (made_unforged a.shape run a.nodes.items a.boxes a.keys.items a.known.signatures c.self.invariant.0 is.p traitor x
     (subst (λ (w : World). ForgesNothing w.shape (log_of w.run) (PostEntry to x)) (sym c.self.view_is) forges)) in
     ap Err (same_refusal c.in-Err.refusal Forged (c.in-Err.ensures.forged.1 (λ unforged. forged.1 (made unforged))))

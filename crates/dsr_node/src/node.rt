@@ -7,11 +7,12 @@ ghost use Rattle.dsr_envelope.specs.declared.entry.Entry.{Entry};
 ghost use Rattle.dsr_envelope.specs.declared.entry.Entry.TheVariants.{Post, Take};
 ghost use Rattle.dsr_envelope.specs.declared.step.Pick.TheVariants.{Begin};
 ghost use Rattle.dsr_replica.specs.Conduct.{envelope_to};
-ghost use Rattle.dsr_replica.specs.Replica.{StandsFor, Allows};
+ghost use Rattle.dsr_replica.specs.Replica.{StandsFor};
 ghost use Rattle.dsr_client.specs.Client.{StandsFor as StandsForClient};
-ghost use Rattle.dsr_client.specs.State.{accepted, seen};
+ghost use Rattle.dsr_client.specs.State.{accepted, outstanding, seen};
+ghost use Rattle.std.specs.Option.{option_map};
 ghost use Rattle.dsr_node.specs.Conduct.{post_of, takes_from, is_undue};
-ghost use Rattle.dsr_node.specs.Support.Party.{Plays, PlaysReplica, post_refusal, CanTake, HasRoomToTake, TakesReply, IsReplicaNumber, IsOutstandingAsk};
+ghost use Rattle.dsr_node.specs.Node.{Plays, PlaysReplica, IsHonest, IsClient, post_refusal, CanPost, CanTake, HasRoomToTake, TakesReply, IsReplicaNumber, IsOutstandingAsk};
 
 use crate::customer::Customer;
 use dsr_client::Client;
@@ -22,57 +23,61 @@ use dsr_replica::Replica;
 use dsr_request::Op;
 use std::alloc::Global;
 
-/// An actor of a world.
+/// One actor over its own log. A loyal actor is a real replica or client; a traitor posts what it likes, as far as it forges nothing,
+/// so there is no code of it.
 #[derive(Drop)]
-pub enum Party {
+pub enum Node {
     /// A loyal replica.
     Loyal(Replica),
-    /// A traitor. There is no code of it: it posts what it likes, as far as it forges nothing.
+    /// A traitor.
     Traitor,
     /// A client.
     Client(Customer),
 }
 
-impl Party {
-    /// What its conduct refuses a post to this actor by this choice with, if it does.
-    pub fn post_refusal(&self, alloc: Global, to: Actor, pick: Pick) -> Option<Refusal>
-        ensures same { (shape : Shape) (me : Actor) (log : List Entry) → Plays shape me log self.now → self.now ≢ Party.Traitor
+impl Node {
+    /// What its conduct refuses a post to this actor by this choice with, if it does: `NotDue` where it has no such post now, else
+    /// `Exhausted` where a counter would pass its limit. It allocates nothing. Requires that it is no traitor.
+    pub fn refusal(&self, to: Actor, pick: Pick) -> Option<Refusal>
+        requires { IsHonest self.now }
+        ensures same { (shape : Shape) (me : Actor) (log : List Entry) → Plays shape me log self.now
             → result ≡ post_refusal shape log me to pick }
     {
         match self {
-            Party::Loyal(replica) => replica_refusal(alloc, replica, to, pick),
-            Party::Traitor => None,
-            Party::Client(customer) => client_refusal(customer.client(), to, pick),
+            Node::Loyal(replica) => replica_refusal(replica, to, pick),
+            Node::Traitor => unreachable!(),
+            Node::Client(customer) => client_refusal(customer.client(), to, pick),
         }
     }
 
-    /// The envelope that it posts to this actor by this choice. `NoMemory` where memory runs out.
+    /// The envelope that it posts to this actor by this choice. `NoMemory` where memory runs out. Requires that nothing refuses the post.
     pub fn envelope_for(&self, alloc: Global, to: Actor, pick: Pick) -> Result<Envelope, Refusal>
+        requires { CanPost self.now to pick }
         ensures given { (shape : Shape) (me : Actor) (log : List Entry) → Plays shape me log self.now
             → post_refusal shape log me to pick ≡ None → IfOk result (λ envelope. post_of shape log me to pick ≡ Some envelope) }
-        ensures refusal { (shape : Shape) (me : Actor) (log : List Entry) → Plays shape me log self.now
-            → post_refusal shape log me to pick ≡ None → IsOkUnless result Refusal.NoMemory }
+        ensures refusal { IsOkUnless result Refusal.NoMemory }
     {
         match self {
-            Party::Loyal(replica) => replica_envelope(alloc, replica, to, pick),
-            Party::Traitor => Err(Refusal::NoMemory),
-            Party::Client(customer) => client_envelope(customer.client(), to, pick),
+            Node::Loyal(replica) => replica_envelope(alloc, replica, to, pick),
+            Node::Traitor => unreachable!(),
+            Node::Client(customer) => client_envelope(customer.client(), to, pick),
         }
     }
 
-    /// Posts to this actor by this choice.
+    /// Posts to this actor by this choice. Requires that nothing refuses the post.
     pub fn posted(&mut self, to: Actor, pick: Pick)
+        requires { CanPost self.old to pick }
         ensures plays { (shape : Shape) (me : Actor) (log : List Entry) (envelope : Envelope) → Plays shape me log self.old
             → post_refusal shape log me to pick ≡ None → post_of shape log me to pick ≡ Some envelope → Plays shape me (Post to envelope ∷ log) self.new }
     {
         match self {
-            Party::Loyal(replica) => {
+            Node::Loyal(replica) => {
                 if let Actor::Replica(number) = to {
-                    post_round(replica, number, &pick);
+                    replica.posted(number, pick);
                 }
             }
-            Party::Traitor => {}
-            Party::Client(customer) => {
+            Node::Traitor => unreachable!(),
+            Node::Client(customer) => {
                 if let Pick::Begin(op) = pick {
                     customer.begin(op);
                 }
@@ -87,56 +92,9 @@ impl Party {
         ensures refusal { IsOkUnless result Refusal.NoMemory }
     {
         match self {
-            Party::Loyal(replica) => replica.room(),
-            Party::Traitor => Ok(()),
-            Party::Client(customer) => customer.room(),
-        }
-    }
-
-    /// A client's seen front; 0 of others.
-    pub fn seen(&self) -> u64
-        ensures { (shape : Shape) (c : ℕ) (log : List Entry) → Plays shape (ClientNumber c) log self.now → result ≡ seen shape log }
-    {
-        match self {
-            Party::Loyal(_) | Party::Traitor => 0,
-            Party::Client(customer) => customer.client().seen(),
-        }
-    }
-
-    /// Whether the envelope is an ask of the number that is outstanding with this client; no envelope is with others.
-    pub fn has_outstanding(&self, envelope: &Envelope) -> bool
-        ensures { (shape : Shape) (c : ℕ) (log : List Entry) → Plays shape (ClientNumber c) log self.now
-            → IsTrue result ↔ IsOutstandingAsk shape log envelope.now }
-    {
-        match (self, envelope) {
-            (Party::Client(customer), Envelope::Ask(ask)) => {
-                customer.client().outstanding() == Some(ask.request.number())
-            }
-            _ => false,
-        }
-    }
-
-    /// The loyal replica, where it is one.
-    pub fn replica(&self) -> Option<&Replica>
-        ensures loyal { (shape : Shape) (p : ℕ) (log : List Entry) → Plays shape (ReplicaNumber p) log self.now
-            → IfSome result (λ replica. PlaysReplica shape p log replica.now) }
-        ensures traitor { (shape : Shape) (p : ℕ) (log : List Entry) → Plays shape (ReplicaNumber p) log self.now
-            → IfNone result (is_traitor shape p ≡ true) }
-    {
-        match self {
-            Party::Loyal(replica) => Some(replica),
-            Party::Traitor | Party::Client(_) => None,
-        }
-    }
-
-    /// The replies that a client accepted, in their order; none of others.
-    pub fn accepted(&self) -> &[Reply]
-        ensures { (shape : Shape) (c : ℕ) (log : List Entry) → Plays shape (ClientNumber c) log self.now
-            → result.now ≡ reverse (accepted shape log) }
-    {
-        match self {
-            Party::Loyal(_) | Party::Traitor => &[],
-            Party::Client(customer) => customer.accepted(),
+            Node::Loyal(replica) => replica.room(),
+            Node::Traitor => Ok(()),
+            Node::Client(customer) => customer.room(),
         }
     }
 
@@ -145,7 +103,7 @@ impl Party {
         ensures { (shape : Shape) (me : Actor) (log : List Entry) → Plays shape me log self.now → result ≡ is_undue shape log me from }
     {
         match (self, from) {
-            (Party::Loyal(replica), Actor::Replica(number)) => !takes_from(replica.due(), number),
+            (Node::Loyal(replica), Actor::Replica(number)) => !takes_from(replica.due(), number),
             _ => false,
         }
     }
@@ -159,26 +117,88 @@ impl Party {
             → TakesReply shape me log from envelope result }
     {
         match self {
-            Party::Loyal(replica) => {
+            Node::Loyal(replica) => {
                 match from {
                     Actor::Replica(number) => replica.taken(number, envelope),
                     Actor::Client(client) => replica.ask_taken(client, envelope),
                 }
                 None
             }
-            Party::Traitor => None,
-            Party::Client(customer) => customer.taken(from, envelope),
+            Node::Traitor => None,
+            Node::Client(customer) => customer.taken(from, envelope),
+        }
+    }
+
+    /// The loyal replica, where it is one.
+    pub fn replica(&self) -> Option<&Replica>
+        ensures loyal { (shape : Shape) (p : ℕ) (log : List Entry) → Plays shape (ReplicaNumber p) log self.now
+            → IfSome result (λ replica. PlaysReplica shape p log replica.now) }
+        ensures traitor { (shape : Shape) (p : ℕ) (log : List Entry) → Plays shape (ReplicaNumber p) log self.now
+            → IfNone result (is_traitor shape p ≡ true) }
+    {
+        match self {
+            Node::Loyal(replica) => Some(replica),
+            Node::Traitor | Node::Client(_) => None,
+        }
+    }
+
+    /// A client's seen front. Requires a client.
+    pub fn seen(&self) -> u64
+        requires { IsClient self.now }
+        ensures { (shape : Shape) (c : ℕ) (log : List Entry) → Plays shape (ClientNumber c) log self.now → result ≡ seen shape log }
+    {
+        match self {
+            Node::Client(customer) => customer.client().seen(),
+            Node::Loyal(_) | Node::Traitor => unreachable!(),
+        }
+    }
+
+    /// The number of the request that is outstanding with a client. Requires a client.
+    pub fn outstanding(&self) -> Option<u64>
+        requires { IsClient self.now }
+        ensures { (shape : Shape) (c : ℕ) (log : List Entry) → Plays shape (ClientNumber c) log self.now
+            → result ≡ option_map (λ ask. ask.request.number) (outstanding shape log) }
+    {
+        match self {
+            Node::Client(customer) => customer.client().outstanding(),
+            Node::Loyal(_) | Node::Traitor => unreachable!(),
+        }
+    }
+
+    /// Whether the envelope is an ask of the number that is outstanding with a client. Requires a client.
+    pub fn has_outstanding(&self, envelope: &Envelope) -> bool
+        requires { IsClient self.now }
+        ensures { (shape : Shape) (c : ℕ) (log : List Entry) → Plays shape (ClientNumber c) log self.now
+            → IsTrue result ↔ IsOutstandingAsk shape log envelope.now }
+    {
+        match (self, envelope) {
+            (Node::Client(customer), Envelope::Ask(ask)) => {
+                customer.client().outstanding() == Some(ask.request.number())
+            }
+            _ => false,
+        }
+    }
+
+    /// The replies that a client accepted, in their order. Requires a client.
+    pub fn accepted(&self) -> &[Reply]
+        requires { IsClient self.now }
+        ensures { (shape : Shape) (c : ℕ) (log : List Entry) → Plays shape (ClientNumber c) log self.now
+            → result.now ≡ reverse (accepted shape log) }
+    {
+        match self {
+            Node::Client(customer) => customer.accepted(),
+            Node::Loyal(_) | Node::Traitor => unreachable!(),
         }
     }
 }
 
 /// What a loyal replica's conduct refuses a post to this actor by this choice with, if it does.
-fn replica_refusal(alloc: Global, replica: &Replica, to: Actor, pick: Pick) -> Option<Refusal>
+fn replica_refusal(replica: &Replica, to: Actor, pick: Pick) -> Option<Refusal>
     ensures same { (p : ℕ) (log : List Entry) → replica.now.me ≡ ReplicaNumber p → StandsFor replica.now log
         → result ≡ post_refusal replica.now.shape log (ReplicaNumber p) to pick }
 {
     match to {
-        Actor::Replica(number) => round_refusal(alloc, replica, number, &pick),
+        Actor::Replica(number) => round_refusal(replica, number, pick),
         Actor::Client(client) => match pick {
             Pick::Plain => match replica.reply_for(client) {
                 Some(_) => None,
@@ -190,38 +210,12 @@ fn replica_refusal(alloc: Global, replica: &Replica, to: Actor, pick: Pick) -> O
 }
 
 /// What a loyal replica's conduct refuses a post to this replica by this choice with, if it does.
-fn round_refusal(alloc: Global, replica: &Replica, to: ReplicaId, pick: &Pick) -> Option<Refusal>
+fn round_refusal(replica: &Replica, to: ReplicaId, pick: Pick) -> Option<Refusal>
     ensures same { (p : ℕ) (log : List Entry) → replica.now.me ≡ ReplicaNumber p → StandsFor replica.now log
-        → result ≡ post_refusal replica.now.shape log (ReplicaNumber p) (ReplicaNumber to) pick.now }
+        → result ≡ post_refusal replica.now.shape log (ReplicaNumber p) (ReplicaNumber to) pick }
 {
     let _due = replica.due();
-    if replica.allows(to, copy_of(pick)) {
-        None
-    } else {
-        let refused = replica.envelope_for(alloc, to, copy_of(pick)).err();
-        Some(refused.unwrap_or(Refusal::NotDue))
-    }
-}
-
-/// Posts to this replica by this choice, where it is allowed.
-fn post_round(replica: &mut Replica, to: ReplicaId, pick: &Pick)
-    ensures stands { (p : ℕ) (log : List Entry) (envelope : Envelope) → replica.old.me ≡ ReplicaNumber p → StandsFor replica.old log
-        → post_refusal replica.old.shape log (ReplicaNumber p) (ReplicaNumber to) pick.now ≡ None
-        → envelope_to replica.old.shape (ReplicaNumber p) log to pick.now ≡ Some envelope
-        → StandsFor replica.new (Post (ReplicaNumber to) envelope ∷ log) }
-    ensures me { replica.new.me ≡ replica.old.me }
-    ensures shape { replica.new.shape ≡ replica.old.shape }
-{
-    if replica.allows(to, copy_of(pick)) {
-        replica.posted(to, copy_of(pick));
-    }
-}
-
-/// The choice once more.
-fn copy_of(pick: &Pick) -> Pick
-    ensures { result ≡ pick.now }
-{
-    *pick
+    replica.refusal(to, pick)
 }
 
 /// What a client's conduct refuses a post to this actor by this choice with, if it does.

@@ -1,4 +1,4 @@
--- How an actor of a world stands for its log (this project).
+-- How an actor of any kind stands for its log, and what it may do by it (this project).
 use Rattle.std.specs.Prelude.{◌≡◌, ◌≢◌, ℕ, ◌<◌, true, false, List, ◌∷◌, Option, None, Some, reverse, if◌then◌else◌}
 use Rattle.std.specs.Option.{is_none, option_map}
 use Rattle.dsr_names.specs.Shape.{Shape, is_traitor, IsActor}
@@ -19,9 +19,9 @@ use Rattle.dsr_replica.specs.Replica.{Replica, HasRoom, StandsFor}
 use Rattle.dsr_client.specs.Client.{StandsFor as StandsForClient}
 use Rattle.dsr_client.specs.State.{outstanding, accepted}
 use Rattle.dsr_node.specs.Conduct.{post_of, is_exhausted, AcceptsBy}
-use Rattle.dsr_node.specs.Support.Customer.{Customer}
-use Rattle.dsr_node.specs.declared.party.Party.{Party}
-use Rattle.dsr_node.specs.declared.party.Party.TheVariants.{Loyal, Traitor, Client}
+use Rattle.dsr_node.specs.Customer.{Customer}
+use Rattle.dsr_node.specs.declared.node.Node.{Node}
+use Rattle.dsr_node.specs.declared.node.Node.TheVariants.{Loyal, Traitor, Client}
 
 -- the replica is this loyal one, and stands for the log
 pub record PlaysReplica (shape : Shape) (p : ℕ) (log : List Entry) (r : Replica) : Type 0 where
@@ -37,8 +37,8 @@ pub record PlaysClient (shape : Shape) (c : ℕ) (log : List Entry) (x : Custome
   pub stands : StandsForClient x.client log
   pub noted : x.accepted ≡ reverse (accepted shape log)
 
--- the party plays the actor, whose log this is
-abbrev pub Plays : Shape → Actor → List Entry → Party → Type 0
+-- the node plays the actor, whose log this is
+abbrev pub Plays : Shape → Actor → List Entry → Node → Type 0
 Plays shape (ReplicaNumber p) log (Loyal r) = PlaysReplica shape p log r
 Plays shape (ReplicaNumber p) log Traitor = is_traitor shape p ≡ true
 Plays shape (ReplicaNumber p) log (Client x) = ⊥
@@ -53,15 +53,36 @@ post_refusal shape log me to pick =
     else if is_exhausted shape log me to pick then Some Exhausted
     else None
 
--- the party can take this envelope from this actor: what it takes is due, within the limits, and there is room for it
-abbrev pub CanTake : Party → Actor → Envelope → Type 0
+-- a loyal replica or a client: an actor that has a conduct to keep
+abbrev pub IsHonest : Node → Type 0
+IsHonest (Loyal r) = Unit {0}
+IsHonest Traitor = ⊥
+IsHonest (Client x) = Unit {0}
+
+-- a client
+abbrev pub IsClient : Node → Type 0
+IsClient (Loyal r) = ⊥
+IsClient Traitor = ⊥
+IsClient (Client x) = Unit {0}
+
+-- the node may post to this actor by this choice: it plays an actor that is no traitor, over a log by which nothing refuses the post
+pub record CanPost (node : Node) (to : Actor) (pick : Pick) : Type 0 where
+  pub shape : Shape
+  pub me : Actor
+  pub log : List Entry
+  pub plays : Plays shape me log node
+  pub honest : IsHonest node
+  pub none : post_refusal shape log me to pick ≡ None
+
+-- the node can take this envelope from this actor: what it takes is due, within the limits, and there is room for it
+abbrev pub CanTake : Node → Actor → Envelope → Type 0
 CanTake (Loyal r) (ReplicaNumber p) envelope = (r.next ≡ TakeFrom p) × HasRoom r
 CanTake (Loyal r) (ClientNumber c) envelope = c < r.shape.m
 CanTake Traitor from envelope = Unit {0}
 CanTake (Client x) from envelope = IsActor x.client.shape from × (from ≢ ClientNumber x.client.me) × IsEnvelope envelope × (0 < x.room)
 
--- the party has room for what it may take
-abbrev pub HasRoomToTake : Party → Type 0
+-- the node has room for what it may take
+abbrev pub HasRoomToTake : Node → Type 0
 HasRoomToTake (Loyal r) = HasRoom r
 HasRoomToTake Traitor = Unit {0}
 HasRoomToTake (Client x) = 0 < x.room
