@@ -1,8 +1,9 @@
 -- How a world is opened, node by node.
-use Rattle.std.proofs.Common.{◌≡◌, ◌↔◌, ℕ, suc, ◌+◌, true, List, [], ◌∷◌, ◌++◌, Option, None, Some, length, length-append, ◌⊎◌, inl, inr, refl, ap, sym, ◌∙◌, subst, arith}
+use Rattle.dsr_desk.specs.Keys.{Keys, is_taken}
+use Rattle.std.proofs.Common.{◌≡◌, ◌≢◌, ◌↔◌, ℕ, suc, ◌+◌, ◌≤◌, Bool, true, false, List, [], ◌∷◌, ◌++◌, Option, None, Some, length, length-append, ◌⊎◌, inl, inr, refl, ap, sym, ◌∙◌, subst, arith}
 use Rattle.std.specs.Prelude.{Any, IfSome, IsSome, slice_index_or}
 use Rattle.std.specs.Option.{option_to_list}
-use Rattle.std.proofs.lemmas.Bool.{cases_lt, true≢false}
+use Rattle.std.proofs.lemmas.Bool.{cases_lt, true≢false, false≢true}
 use Rattle.std.proofs.lemmas.List.{append-nil, get_or_append_left}
 use Rattle.std.proofs.Math.Seq.{get_or-append_seam}
 use Rattle.dsr_base.specs.Member.{In}
@@ -128,3 +129,30 @@ opened shape nodes rows keys known are held square empty none = record {
     traitors : (a : Actor) → Any (λ holder. holder ≡ a) keys ↔ IsTraitor shape a
     traitors (Replica p) = held (Replica p)
     traitors (Client c) = held (Client c)
+
+-- ---- keys that are not taken yet
+
+abbrev number_of : Actor → ℕ
+number_of (Replica p) = p
+number_of (Client c) = c
+
+abbrev is_replica : Actor → Bool
+is_replica (Replica p) = true
+is_replica (Client c) = false
+
+module _ (k : ℕ) (older newer : Keys) where
+  -- when a replica's key was taken, those of later replicas and of all clients were not
+  pub later_replicas : ((other : Actor) → other ≢ Replica k → is_taken newer other ≡ is_taken older other)
+      → ((q : ℕ) → k ≤ q → is_taken older (Replica q) ≡ false) → (q : ℕ) → k + 1 ≤ q → is_taken newer (Replica q) ≡ false
+  later_replicas others untaken q above =
+      others (Replica q) (λ e. let same = ap number_of e in omega (arith, same, above)) ∙ untaken q (omega (arith, above))
+
+  pub all_clients : ((other : Actor) → other ≢ Replica k → is_taken newer other ≡ is_taken older other)
+      → ((c : ℕ) → is_taken older (Client c) ≡ false) → (c : ℕ) → is_taken newer (Client c) ≡ false
+  all_clients others untaken c = others (Client c) (λ e. false≢true (ap is_replica e)) ∙ untaken c
+
+  -- when a client's key was taken, those of later clients were not
+  pub later_clients : ((other : Actor) → other ≢ Client k → is_taken newer other ≡ is_taken older other)
+      → ((c : ℕ) → k ≤ c → is_taken older (Client c) ≡ false) → (c : ℕ) → k + 1 ≤ c → is_taken newer (Client c) ≡ false
+  later_clients others untaken c above =
+      others (Client c) (λ e. let same = ap number_of e in omega (arith, same, above)) ∙ untaken c (omega (arith, above))

@@ -29,7 +29,8 @@ use Rattle.dsr_world.specs.Event.{is_full, is_used_up, refusal_of, first_of, Ans
 use Rattle.dsr_run.specs.Run.{IsNextStep}
 use Rattle.dsr_run.specs.Step.{Step, Logs, log_of}
 use Rattle.dsr_world.specs.Support.Boxes.{box_at, row_of, with_box, with_post, held_in, IsBoxOf}
-use Rattle.dsr_node.specs.Node.{Plays, post_refusal}
+use Rattle.dsr_node.proofs.Lemmas.{honest_plays}
+use Rattle.dsr_node.specs.Node.{CanPost, Plays, post_refusal}
 use Rattle.dsr_world.specs.Support.WorldFields.{place_of, AreParts, KnowsAll}
 use Rattle.dsr_node.specs.Conduct.{HasSpelledOp}
 use Rattle.dsr_world.specs.declared.mail_boxes.MailBox.{MailBox}
@@ -107,6 +108,18 @@ pub conduct_cleared : (shape : Shape) (logs : Logs) (from to : Actor) (pick : Pi
 conduct_cleared shape logs from to pick is =
     ap (λ b. if b then Some NotDue else if is_exhausted shape (logs from) from to pick then Some Exhausted else None) is.given
     ∙ ap (λ b. if b then Some Exhausted else None) is.more
+
+-- so the actor's node may make it
+pub can_post : (shape : Shape) (logs : Logs) (from to : Actor) (pick : Pick) (node : Node) → IsCleared shape logs from to pick
+    → Plays shape from (logs from) node → CanPost node to pick
+can_post shape logs from to pick node is plays = record {
+  shape = shape;
+  me = from;
+  log = logs from;
+  plays = plays;
+  honest = honest_plays shape from (logs from) node is.honest plays;
+  none = conduct_cleared shape logs from to pick is;
+}
 
 -- ---- boxes
 

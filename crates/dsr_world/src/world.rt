@@ -1,4 +1,4 @@
-ghost use Rattle.std.specs.Prelude.{true, ◌++◌, IfSome, IsSome, ◌⊎◌, Any, OnOk, vec_len, vec_capacity, ◌≡◌, ◌≢◌, ◌↔◌, ◌&&◌, ℕ, ◌<◌, ◌≤◌, ◌+◌, [], ◌∷◌, List, Option, None, Some, Err, length, reverse, slice_index_or, IfOk, IsOk, OnErr, IsTrue, IsOkUnless};
+ghost use Rattle.std.specs.Prelude.{true, false, ◌++◌, IfSome, IsSome, ◌⊎◌, Any, OnOk, vec_len, vec_capacity, ◌≡◌, ◌≢◌, ◌↔◌, ◌&&◌, ℕ, ◌<◌, ◌≤◌, ◌+◌, [], ◌∷◌, List, Option, None, Some, Err, length, reverse, slice_index_or, IfOk, IsOk, OnErr, IsTrue, IsOkUnless};
 ghost use Rattle.std.specs.Option.{option_to_list};
 ghost use Rattle.dsr_names.specs.Shape.{IsActor, IsLoyal, is_traitor};
 ghost use Rattle.dsr_names.specs.declared.actor.Actor.TheVariants.{Replica as ReplicaNumber, Client as ClientNumber};
@@ -11,6 +11,7 @@ ghost use Rattle.dsr_play.specs.declared.event.Event.TheVariants.{Post, Plant, T
 ghost use Rattle.dsr_base.specs.Growth.{Extends};
 ghost use Rattle.dsr_base.specs.Member.{In};
 ghost use Rattle.dsr_history.specs.History.{IsLegal};
+ghost use Rattle.dsr_desk.specs.Keys.{is_taken};
 ghost use Rattle.dsr_desk.specs.Signature.{Signature};
 ghost use Rattle.dsr_envelope.specs.Envelope.{Carries};
 ghost use Rattle.dsr_names.specs.declared.actor.Actor.{Actor};
@@ -93,7 +94,7 @@ impl World {
             keep(&mut traitors, key)?;
         }
         for number in 0..shape.m() {
-            nodes.push(client_node(alloc, &shape, &mut keys, number)?)?;
+            nodes.push(client_node(alloc, &shape, &mut keys, number))?;
         }
         Ok(World {
             shape,
@@ -251,7 +252,7 @@ impl World {
         ensures unchanged { OnErr result (self.new ≡ self.old) }
         ensures shape { self.new.shape ≡ self.old.shape }
     {
-        if let Some(refusal) = self.post_refusal(alloc, from, to, pick) {
+        if let Some(refusal) = self.post_refusal(from, to, pick) {
             return Err(refusal);
         }
         look_at(pick);
@@ -450,7 +451,7 @@ impl World {
     }
 
     /// What a post of a loyal actor is refused with, if it is.
-    fn post_refusal(&self, alloc: Global, from: &Actor, to: &Actor, pick: &Pick) -> Option<Refusal>
+    fn post_refusal(&self, from: &Actor, to: &Actor, pick: &Pick) -> Option<Refusal>
         ensures { result ≡ refusal_of self.now.shape (log_of self.now.run) (Post from.now to.now pick.now) }
     {
         if !self.are_actors(from, to) {
@@ -460,7 +461,7 @@ impl World {
             return Some(Refusal::WrongRole);
         }
         let place = place_of(&self.shape, from);
-        match self.nodes[place].post_refusal(alloc, *to, *pick) {
+        match self.nodes[place].refusal(*to, *pick) {
             Some(refusal) => Some(refusal),
             None => self.box_refusal(from, to),
         }
@@ -640,7 +641,8 @@ fn learn(known: &mut Known, keys: &[Key], envelope: &Envelope) -> Result<(), Ref
     }
 }
 
-/// The node of a replica of the shape, and its key where it is a traitor. `NoMemory` where memory runs out, or the key was taken.
+/// The node of a replica of the shape, and its key where it is a traitor. `NoMemory` where memory runs out. Requires that its key was not
+/// taken.
 fn replica_node(
     alloc: Global,
     shape: &Shape,
@@ -648,6 +650,10 @@ fn replica_node(
     number: u8,
 ) -> Result<(Node, Option<Key>), Refusal>
     requires inside { number < shape.now.n }
+    requires keys { keys.old.shape ≡ shape.now }
+    requires untaken { is_taken keys.old (ReplicaNumber number) ≡ false }
+    ensures keys { keys.new.shape ≡ keys.old.shape }
+    ensures others { (other : Actor) → other ≢ ReplicaNumber number → is_taken keys.new other ≡ is_taken keys.old other }
     ensures plays { IfOk result (λ made. Plays shape.now (ReplicaNumber number) [] made.0) }
     ensures held { IfOk result (λ made. IfSome made.1 (λ key. key ≡ ReplicaNumber number)) }
     ensures traitor { IfOk result (λ made. IsSome made.1 ↔ (is_traitor shape.now number ≡ true)) }
@@ -656,7 +662,7 @@ fn replica_node(
     let _n = shape.n();
     let actor = Actor::Replica(replica_of(number));
     let Some(key) = keys.take(actor) else {
-        return Err(Refusal::NoMemory);
+        unreachable!()
     };
     if shape.is_loyal(key.signer()) {
         Ok((Node::Loyal(Replica::new(alloc, key, shape)?), None))
@@ -665,18 +671,21 @@ fn replica_node(
     }
 }
 
-/// The node of a client of the shape. `NoMemory` where memory runs out, or the key was taken.
-fn client_node(alloc: Global, shape: &Shape, keys: &mut Keys, number: u8) -> Result<Node, Refusal>
+/// The node of a client of the shape, whose key was not taken.
+fn client_node(alloc: Global, shape: &Shape, keys: &mut Keys, number: u8) -> Node
     requires inside { number < shape.now.m }
-    ensures plays { IfOk result (Plays shape.now (ClientNumber number) []) }
-    ensures refusal { IsOkUnless result Refusal.NoMemory }
+    requires keys { keys.old.shape ≡ shape.now }
+    requires untaken { is_taken keys.old (ClientNumber number) ≡ false }
+    ensures keys { keys.new.shape ≡ keys.old.shape }
+    ensures others { (other : Actor) → other ≢ ClientNumber number → is_taken keys.new other ≡ is_taken keys.old other }
+    ensures plays { Plays shape.now (ClientNumber number) [] result }
 {
     let _m = shape.m();
     let actor = Actor::Client(client_of(number));
     let Some(key) = keys.take(actor) else {
-        return Err(Refusal::NoMemory);
+        unreachable!()
     };
-    Ok(Node::Client(Customer::new(alloc, Client::new(key, shape))))
+    Node::Client(Customer::new(alloc, Client::new(key, shape)))
 }
 
 /// Keeps the key, where there is one. `NoMemory` where memory runs out.

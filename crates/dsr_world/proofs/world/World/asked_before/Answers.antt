@@ -11,6 +11,18 @@ use Rattle.dsr_world.specs.World.{World}
 use Rattle.dsr_world.proofs.Repeating.{asked_again}
 use Rattle.dsr_world.proofs.Stepping.{place_below}
 use Rattle.dsr_world.proofs.world.World.asked_before.Goals as goal
+use Rattle.dsr_node.proofs.Lemmas.{client_plays}
+
+pub has_outstanding-requires : goal.has_outstanding-requires
+has_outstanding-requires c =
+    let a = c.self.inside in
+    let client = c.args.client in
+    let log = log_of (reverse a.entries.items) (Client client) in
+    let inside = subst (λ (w : World). client < w.shape.m) (sym c.self.view_is) c.requires in
+    let plays : Plays a.shape (Client client) log c.index-2.result.now =
+    subst (Plays a.shape (Client client) log) (sym (c.index-2.ensures ∙ ap (λ k. slice_index_or a.nodes.items k c.index-2.result.now) c.place_of-place.ensures))
+    (c.self.invariant.0.played.each (Client client) inside c.index-2.result.now) in
+    client_plays a.shape client log c.index-2.result.now plays
 
 pub returns-then-has_outstanding : goal.returns-then-has_outstanding
 returns-then-has_outstanding c =

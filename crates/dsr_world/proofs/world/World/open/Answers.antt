@@ -3,7 +3,7 @@ use Rattle.dsr_names.specs.declared.actor.Actor.TheVariants.{Replica, Client}
 use Rattle.dsr_world.specs.Support.Boxes.{AreSquare}
 use Rattle.dsr_run.specs.Step.{log_of}
 use Rattle.dsr_world.specs.Support.WorldFields.{AreParts, AreLetters, AreOpened, AreKeysBelow}
-use Rattle.dsr_world.proofs.Opening.{none_opened, one_opened, no_keys, more_keys, opened}
+use Rattle.dsr_world.proofs.Opening.{later_replicas, all_clients, later_clients, none_opened, one_opened, no_keys, more_keys, opened}
 use Rattle.dsr_world.proofs.Repeating.{no_letters_kept}
 use Rattle.dsr_world.proofs.world.World.open.Goals as goal
 
@@ -12,6 +12,9 @@ loop-number-init c = (
   subst (AreOpened c.args.shape 0) (sym c.in_ok-nodes.ensures.items) (none_opened c.args.shape),
   subst (AreKeysBelow c.args.shape 0) (sym c.new-traitors.ensures.items) (no_keys c.args.shape),
   c.n-number-end.ensures.same,
+  c.in_ok-keys.ensures.shape,
+  λ q above. c.in_ok-keys.ensures.whole (Replica q),
+  λ d. c.in_ok-keys.ensures.whole (Client d),
 )
 
 pub loop-number-preserved : goal.loop-number-preserved
@@ -25,6 +28,9 @@ loop-number-preserved c =
       subst (λ j. AreOpened c.args.shape j c.push.new.self.items) next (subst (AreOpened c.args.shape (suc k)) (sym c.in_ok-push.ensures.items) nodes),
       subst (λ j. AreKeysBelow c.args.shape j c.keep.new.keys.items) next (subst (AreKeysBelow c.args.shape (suc k)) (sym c.in_ok-keep.ensures.kept) keys),
       c.n-number-end.ensures.same,
+      c.replica_node.ensures.keys ∙ c.loop-number.invariant.3,
+      later_replicas k c.loop-number.keys c.replica_node.new.keys c.replica_node.ensures.others c.loop-number.invariant.4,
+      all_clients k c.loop-number.keys c.replica_node.new.keys c.replica_node.ensures.others c.loop-number.invariant.5,
     )
 
 pub loop-number-2-init : goal.loop-number-2-init
@@ -36,6 +42,8 @@ loop-number-2-init c =
       subst (λ j. AreOpened c.args.shape j c.loop-number.nodes.items) zero_more c.loop-number.invariant.0,
       subst (λ j. AreKeysBelow c.args.shape j c.loop-number.traitors.items) all c.loop-number.invariant.1,
       c.m-number-end.ensures.same,
+      c.loop-number.invariant.3,
+      λ d above. c.loop-number.invariant.5 d,
     )
 
 pub loop-number-2-preserved : goal.loop-number-2-preserved
@@ -44,12 +52,14 @@ loop-number-2-preserved c =
     let end = c.loop-number-2-test.true in
     let inside : k < c.args.shape.m = let is = c.m-number-end.ensures.same in omega (arith, end, is) in
     let next : suc (c.args.shape.n + k) ≡ c.args.shape.n + (k + 1) = omega arith in
-    let nodes = one_opened c.args.shape (c.args.shape.n + k) c.loop-number-2.nodes.items (Client k) c.in_ok-client_node.field-0 c.loop-number-2.invariant.0 inside refl
-    c.in_ok-client_node.ensures.plays in (
+    let nodes = one_opened c.args.shape (c.args.shape.n + k) c.loop-number-2.nodes.items (Client k) c.client_node.result c.loop-number-2.invariant.0 inside refl
+    c.client_node.ensures.plays in (
       subst (λ j. AreOpened c.args.shape j c.push-in-loop-number-2.new.self.items) next
           (subst (AreOpened c.args.shape (suc (c.args.shape.n + k))) (sym c.in_ok-push-2.ensures.items) nodes),
       c.loop-number-2.invariant.1,
       c.m-number-end.ensures.same,
+      c.client_node.ensures.keys ∙ c.loop-number-2.invariant.3,
+      later_clients k c.loop-number-2.keys c.client_node.new.keys c.client_node.ensures.others c.loop-number-2.invariant.4,
     )
 
 pub invariant_of-result : goal.invariant_of-result

@@ -13,9 +13,24 @@ use Rattle.dsr_world.specs.Support.Boxes.{row_of, box_at, with_box, with_post}
 use Rattle.dsr_node.specs.Node.{Plays}
 use Rattle.dsr_world.specs.Support.WorldFields.{place_of, with_letter, AreParts, AreLetters}
 use Rattle.dsr_world.specs.World.{World}
-use Rattle.dsr_world.proofs.Worlds.{cleared, conduct_cleared, row_long, posts_few, parts_after_post, done_post}
+use Rattle.dsr_world.proofs.Worlds.{can_post, cleared, conduct_cleared, row_long, posts_few, parts_after_post, done_post}
 use Rattle.dsr_world.proofs.Repeating.{letters_posted}
 use Rattle.dsr_world.proofs.world.World.post.Goals as goal
+
+pub posted-requires : goal.posted-requires
+posted-requires c =
+    let a = c.self.inside in
+    let from = c.args.from.now in
+    let to = c.args.to.now in
+    let pick = c.args.pick.now in
+    let run = reverse a.entries.items in
+    let none = subst (λ (w : World). refusal_of w.shape (log_of w.run) (Post from to pick) ≡ None) (sym c.self.view_is)
+    (sym c.post_refusal.ensures ∙ c.in_default.is) in
+    let is = cleared a.shape (log_of run) from to pick none in
+    let at_last : Plays a.shape from (log_of run from) c.index_mut.result.now =
+    subst (Plays a.shape from (log_of run from)) (sym (c.index_mut.ensures.value ∙ ap (λ k. slice_index_or a.nodes.items k c.index_mut.result.now) c.place_of-poster.ensures))
+    (c.self.invariant.0.played.each from is.actor c.index_mut.result.now) in
+    can_post a.shape (log_of run) from to pick c.index_mut.result.now is at_last
 
 pub put-requires-clause-row : goal.put-requires-clause-row
 put-requires-clause-row c =

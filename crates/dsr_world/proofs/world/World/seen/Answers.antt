@@ -6,6 +6,20 @@ use Rattle.dsr_run.specs.Step.{log_of}
 use Rattle.dsr_node.specs.Node.{Plays}
 use Rattle.dsr_world.specs.World.{World}
 use Rattle.dsr_world.proofs.world.World.seen.Goals as goal
+use Rattle.dsr_node.proofs.Lemmas.{client_plays}
+
+pub seen-requires : goal.seen-requires
+seen-requires c =
+    let a = c.self.inside in
+    let log = log_of (reverse a.entries.items) (Client c.args.client) in
+    let below = c.if-number-m.false in
+    let number = c.number.ensures.same in
+    let size = c.m.ensures.same in
+    let inside : c.args.client < a.shape.m = omega (arith, below, number, size) in
+    let plays : Plays a.shape (Client c.args.client) log c.index.result.now =
+    subst (Plays a.shape (Client c.args.client) log) (sym (c.index.ensures ∙ ap (λ k. slice_index_or a.nodes.items k c.index.result.now) c.place_of.ensures))
+    (c.self.invariant.0.played.each (Client c.args.client) inside c.index.result.now) in
+    client_plays a.shape c.args.client log c.index.result.now plays
 
 pub returns-clause-same : goal.returns-clause-same
 returns-clause-same c =

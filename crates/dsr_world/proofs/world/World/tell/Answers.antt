@@ -19,6 +19,22 @@ use Rattle.dsr_world.specs.World.{World}
 use Rattle.dsr_world.proofs.WorldPosts.{cleared_tell, parts_after_tell, done_tell}
 use Rattle.dsr_world.proofs.Repeating.{letters_told}
 use Rattle.dsr_world.proofs.world.World.tell.Goals as goal
+use Rattle.dsr_node.proofs.Lemmas.{client_plays}
+
+pub seen-requires : goal.seen-requires
+seen-requires c =
+    let a = c.self.inside in
+    let from = c.args.from.now in
+    let to = c.args.to.now in
+    let run = reverse a.entries.items in
+    let none = subst (λ (w : World). refusal_of w.shape (log_of w.run) (Tell from to) ≡ None) (sym c.self.view_is)
+    (sym c.tell_refusal.ensures ∙ c.in_default.is) in
+    let is = cleared_tell a.shape (log_of run) from to none in
+    let at : Plays a.shape (Client is.c) (log_of run (Client is.c)) c.index.result.now =
+    subst (λ b. Plays a.shape b (log_of run b) c.index.result.now) is.from_is
+    (subst (Plays a.shape from (log_of run from)) (sym (c.index.ensures ∙ ap (λ k. slice_index_or a.nodes.items k c.index.result.now) c.place_of-poster.ensures))
+    (c.self.invariant.0.played.each from is.actor c.index.result.now)) in
+    client_plays a.shape is.c (log_of run (Client is.c)) c.index.result.now at
 
 pub invariant_of-self-2 : goal.invariant_of-self-2
 invariant_of-self-2 c =
