@@ -1,10 +1,12 @@
-//! The law that nobody forges, and that texts and drafts tell each other: the contracts of functions that do nothing.
+//! The law that nobody forges, that what texts can spell is within the limits of envelopes, and that texts and drafts tell each other:
+//! the contracts of functions that do nothing.
 
 ghost use Rattle.std.specs.Prelude.{◌≡◌, ◌⊎◌, ℕ, List, Option, Some};
 ghost use Rattle.dsr_base.specs.Reads.{Reads};
 ghost use Rattle.dsr_names.specs.declared.actor.Actor.{Actor};
 ghost use Rattle.dsr_desk.specs.Signature.{Signature};
 ghost use Rattle.dsr_envelope.specs.Envelope.{Carries};
+ghost use Rattle.dsr_envelope.specs.Limits.{IsEnvelope};
 ghost use Rattle.dsr_envelope.specs.declared.envelope.Envelope.{Envelope};
 ghost use Rattle.dsr_script.specs.EnvelopeText.{envelope_text, IsSpelledEnvelope};
 ghost use Rattle.dsr_script.specs.Known.{StandFor, WasCarried};
@@ -16,6 +18,12 @@ pub fn nobody_forges()
     ensures { (holders : List Actor) (known : List Signature) (envelopes : List Envelope) (envelope : Envelope)
         → StandFor known envelopes → IsUnforged holders known envelope
         → (s : Signature) → Carries envelope s → IsHeld holders s ⊎ WasCarried envelopes s }
+{}
+
+/// What a text can spell is within the limits of envelopes. Besides that it has a request in each value that is not idle, and
+/// numbers below 2^64 in answers: so has each envelope in hand, as its types allow nothing else.
+pub fn spelled_is_within_limits()
+    ensures { (envelope : Envelope) → IsSpelledEnvelope envelope → IsEnvelope envelope }
 {}
 
 /// Where bytes were read, they spell one draft alone, whatever it is; and a draft that was read has one text alone.

@@ -5,7 +5,6 @@
 mod brief;
 mod building;
 mod draft;
-mod draft_fits;
 mod draft_text;
 mod known;
 mod laws;
@@ -24,7 +23,7 @@ pub use building::build;
 pub use draft::Draft;
 pub use dsr_text::{Header, read_header};
 pub use known::Known;
-pub use laws::{nobody_forges, texts_tell_drafts};
+pub use laws::{nobody_forges, spelled_is_within_limits, texts_tell_drafts};
 pub use script::Script;
 
 #[cfg(test)]

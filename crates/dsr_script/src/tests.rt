@@ -53,6 +53,9 @@ fn round_of(alloc: Global, slot: u64, number: u64) -> Result<Envelope, Fail> {
 
 /// Whether the draft of the envelope is built as that envelope, from these keys and what is known.
 fn is_built(alloc: Global, envelope: &Envelope, keys: &[Key], known: &Known) -> Result<bool, Fail> {
+    if !envelope.fits() {
+        return Ok(false);
+    }
     let draft = Draft::of(alloc, envelope)?;
     match build(alloc, &draft, keys, known) {
         Ok(built) => Ok(built.same(envelope)),
