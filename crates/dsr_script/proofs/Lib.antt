@@ -7,7 +7,9 @@ mod HeldLemmas
 mod KeptLemmas
 mod KnownLemmas
 mod PairLemmas
+mod PlainLemmas
+mod SameLemmas
 mod ScriptLemmas
 mod ServeLemmas
-mod SpelledWithin
 mod SpelledLemmas
+mod SpelledWithin

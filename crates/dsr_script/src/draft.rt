@@ -1,6 +1,7 @@
 ghost use Rattle.std.specs.Prelude.{◌≡◌, IfOk, IsOkUnless};
 ghost use Rattle.dsr_request.specs.AnswerText.{IsAnswer};
 ghost use Rattle.dsr_envelope.specs.Limits.{IsEnvelope};
+ghost use Rattle.dsr_envelope.specs.declared.envelope.Envelope.TheVariants.{Empty};
 ghost use Rattle.dsr_script.specs.EnvelopeText.{IsSpelledEnvelope};
 ghost use Rattle.dsr_script.specs.Support.Described.{described};
 
@@ -35,6 +36,13 @@ impl Model for Draft {
 }
 
 impl Draft {
+    /// The draft of the empty envelope. It takes no memory.
+    pub fn empty() -> Draft
+        ensures { result ≡ Empty }
+    {
+        Draft { plan: Plan::Empty }
+    }
+
     /// The draft of an envelope, which is to be within the limits. `NoMemory` where memory runs out.
     pub fn of(alloc: Global, envelope: &Envelope) -> Result<Draft, Refusal>
         requires { IsEnvelope envelope.now }
@@ -90,6 +98,7 @@ impl Draft {
     /// The cases of the draft.
     pub(crate) fn plan(&self) -> &Plan
         ensures same { described result.now ≡ self.now }
+        ensures spelled { IsSpelledEnvelope self.now }
         ensures within { IsEnvelope self.now }
     {
         &self.plan

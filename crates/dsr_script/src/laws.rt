@@ -12,6 +12,8 @@ ghost use Rattle.dsr_script.specs.EnvelopeText.{envelope_text, IsSpelledEnvelope
 ghost use Rattle.dsr_script.specs.Known.{StandFor, WasCarried};
 ghost use Rattle.dsr_script.specs.Held.{IsHeld, IsUnforged};
 
+use crate::draft::Draft;
+
 /// Whoever makes envelopes by `build` forges nothing: where the known signatures are those that some envelopes carried, each
 /// signature of a built envelope is by the holder of one of the keys, or was carried by one of those envelopes.
 pub fn nobody_forges()
@@ -25,6 +27,13 @@ pub fn nobody_forges()
 pub fn spelled_is_within_limits()
     ensures { (envelope : Envelope) → IsSpelledEnvelope envelope → IsEnvelope envelope }
 {}
+
+/// Each draft has a text, so what is written of it is read as that draft again.
+pub fn each_draft_has_a_text(draft: &Draft)
+    ensures { IsSpelledEnvelope draft.now }
+{
+    let _plan = draft.plan();
+}
 
 /// Where bytes were read, they spell one draft alone, whatever it is; and a draft that was read has one text alone.
 pub fn texts_tell_drafts()
