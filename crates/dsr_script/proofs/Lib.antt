@@ -6,6 +6,8 @@ pub mod FeedLemmas
 mod HeldLemmas
 mod KeptLemmas
 mod KnownLemmas
+mod OneEnvelope
+mod OneValue
 mod PairLemmas
 mod PlainLemmas
 mod SameLemmas

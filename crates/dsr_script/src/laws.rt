@@ -1,7 +1,7 @@
 //! The law that nobody forges, that what texts can spell is within the limits of envelopes, and that texts and drafts tell each other:
 //! the contracts of functions that do nothing.
 
-ghost use Rattle.std.specs.Prelude.{◌≡◌, ◌⊎◌, ℕ, List, Option, Some};
+ghost use Rattle.std.specs.Prelude.{◌≡◌, ◌⊎◌, ℕ, List, Some};
 ghost use Rattle.dsr_base.specs.Reads.{Reads};
 ghost use Rattle.dsr_names.specs.declared.actor.Actor.{Actor};
 ghost use Rattle.dsr_desk.specs.Signature.{Signature};
@@ -35,10 +35,10 @@ pub fn each_draft_has_a_text(draft: &Draft)
     let _plan = draft.plan();
 }
 
-/// Where bytes were read, they spell one draft alone, whatever it is; and a draft that was read has one text alone.
+/// A text has one value: of two envelopes that texts can spell, only the same have one text. And a draft that was read has one text
+/// alone.
 pub fn texts_tell_drafts()
-    ensures one_draft { (bytes : List ℕ) (answer : Option Envelope) → Reads IsSpelledEnvelope envelope_text bytes answer
-        → (a b : Envelope) → IsSpelledEnvelope a → IsSpelledEnvelope b → bytes ≡ envelope_text a → bytes ≡ envelope_text b → a ≡ b }
+    ensures one_draft { (a b : Envelope) → IsSpelledEnvelope a → IsSpelledEnvelope b → envelope_text a ≡ envelope_text b → a ≡ b }
     ensures one_text { (bytes others : List ℕ) (envelope : Envelope) → Reads IsSpelledEnvelope envelope_text bytes (Some envelope)
         → Reads IsSpelledEnvelope envelope_text others (Some envelope) → bytes ≡ others }
 {}
