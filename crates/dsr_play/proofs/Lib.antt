@@ -1,4 +1,3 @@
 mod PlayLemmas
 mod PlayLineLemmas
 mod PlayPartLemmas
-mod PlayWithin

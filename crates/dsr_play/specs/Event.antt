@@ -1,7 +1,5 @@
--- Who does what an event says, its limits, and its spelling (this project).
-use Rattle.std.specs.Prelude.{All, List}
+-- Who does what an event says, and its spelling (this project).
 use Rattle.dsr_names.specs.declared.actor.Actor.{Actor}
-use Rattle.dsr_envelope.specs.Limits.{IsEnvelope}
 use Rattle.dsr_play.specs.PlayText.{IsPlayLine}
 use Rattle.dsr_play.specs.declared.event.Event.{Event}
 use Rattle.dsr_play.specs.declared.event.Event.TheVariants.{Post, Plant, Take, Tell}
@@ -13,17 +11,6 @@ actor_of (Post from to pick) = from
 actor_of (Plant from to draft) = from
 actor_of (Take at from) = at
 actor_of (Tell from to) = from
-
--- what a traitor is to post is within the limits of envelopes
-abbrev pub IsWithin : Event → Type 0
-IsWithin (Post from to pick) = Unit {0}
-IsWithin (Plant from to draft) = IsEnvelope draft
-IsWithin (Take at from) = Unit {0}
-IsWithin (Tell from to) = Unit {0}
-
--- what traitors are to post is within the limits of envelopes
-abbrev pub AreWithin : List Event → Type 0
-AreWithin events = All IsWithin events
 
 -- an event that a text can spell, as a line of a play
 abbrev pub IsSpelledEvent : Event → Type 0

@@ -2,11 +2,13 @@
 #![tactic(auto)]
 
 mod event;
+mod laws;
 mod play;
 mod play_events;
 mod play_line;
 
 pub use event::Event;
+pub use laws::each_event_has_a_line;
 pub use play::{MOST_EVENTS, Play};
 
 #[cfg(test)]

@@ -2,7 +2,6 @@ ghost use Rattle.std.specs.Prelude.{◌≡◌, ◌↔◌, ◌≤◌, ◌∷◌, 
 ghost use Rattle.dsr_text.specs.Lines.{AreLines, lines_text};
 ghost use Rattle.dsr_text.specs.Support.TakenLines.{HasTaken, IsLinesRefusal};
 ghost use Rattle.dsr_play.specs.declared.play_line.PlayLine.{PlayLine};
-ghost use Rattle.dsr_play.specs.Event.{AreWithin};
 ghost use Rattle.dsr_play.specs.PlayText.{all_events, events_of, plays};
 ghost use Rattle.dsr_play.specs.Play.{Play as APlay, Spells, IsPlayRefusal};
 
@@ -18,8 +17,7 @@ use std::marker::Model;
 /// The most events of a play.
 pub const MOST_EVENTS: usize = 1_000_000;
 
-/// What is to happen in one world: its shape, and the events in their order. What traitors are to post in them is within the limits
-/// of envelopes.
+/// What is to happen in one world: its shape, and the events in their order.
 #[derive(Drop)]
 pub struct Play {
     shape: Shape,
@@ -27,14 +25,11 @@ pub struct Play {
 }
 
 impl Model for Play {
-    ghost use Rattle.dsr_play.specs.Event.{AreWithin};
     ghost use Rattle.dsr_play.specs.Play.{Play};
 
     ghost Value = { Play };
 
     ghost view = { λ p. record { shape = p.shape; events = p.events.items } };
-
-    ghost invariant = { λ p. AreWithin p.events.items };
 }
 
 impl Play {
@@ -53,15 +48,12 @@ impl Play {
             Ok(header) => header,
             Err(refusal) => return Err(refusal),
         };
-        let mut reading = Reading {
+        let mut play = Play {
             shape: header.shape,
             events: Vec::new(alloc),
         };
-        match reading.take_lines(alloc, header.rest) {
-            Ok(()) => Ok(Play {
-                shape: reading.shape,
-                events: reading.events,
-            }),
+        match play.take_lines(alloc, header.rest) {
+            Ok(()) => Ok(play),
             Err(refusal) => Err(refusal),
         }
     }
@@ -75,29 +67,11 @@ impl Play {
 
     /// The events, in their order, at most 1,000,000 of them.
     pub fn events(&self) -> &[Event]
-        ensures same { result.now ≡ self.now.events }
-        ensures within { AreWithin result.now }
+        ensures { result.now ≡ self.now.events }
     {
         self.events.as_slice()
     }
-}
 
-/// A play while its lines are read.
-#[derive(Drop)]
-struct Reading {
-    shape: Shape,
-    events: Vec<Event>,
-}
-
-impl Model for Reading {
-    ghost use Rattle.dsr_play.specs.Play.{Play};
-
-    ghost Value = { Play };
-
-    ghost view = { λ p. record { shape = p.shape; events = p.events.items } };
-}
-
-impl Reading {
     /// Takes in the lines after the header.
     fn take_lines(&mut self, alloc: Global, text: &[u8]) -> Result<(), Refusal>
         requires { self.old.events ≡ [] }

@@ -17,19 +17,19 @@ use Rattle.dsr_script.specs.Support.AskText.{ask_parts}
 use Rattle.dsr_script.proofs.PairLemmas.{reads_pair, reads_through}
 use Rattle.dsr_script.proofs.SpelledLemmas.{said_kinds}
 
-no_tilde : (request : Request) → IsRequest request → IsAbsent 126 (request_token request)
+pub no_tilde : (request : Request) → IsRequest request → IsAbsent 126 (request_token request)
 no_tilde request h =
     let no_mark : ◌≡◌ {A = ℕ} 35 126 → ⊥ = λ (e : ◌≡◌ {A = ℕ} 35 126). omega arith in
     let no_colon : ◌≡◌ {A = ℕ} 58 126 → ⊥ = λ (e : ◌≡◌ {A = ℕ} 58 126). omega arith in
     token_without 126 request refl no_mark no_colon h
 
-abbrev IsPair : Request × Spelled → Type 0
+abbrev pub IsPair : Request × Spelled → Type 0
 IsPair = AreBoth IsRequest request_token IsSpelled spelled_text 126 (at_byte 126) no_tilde
 
-abbrev pair_text : Request × Spelled → List ℕ
+abbrev pub pair_text : Request × Spelled → List ℕ
 pair_text = both_text IsRequest request_token IsSpelled spelled_text 126 (at_byte 126) no_tilde
 
-ask_kinds : (x : SignedRequest) → IsSigned x ↔ IsPair (ask_parts x)
+pub ask_kinds : (x : SignedRequest) → IsSigned x ↔ IsPair (ask_parts x)
 ask_kinds x = (
   λ h. (h.request, (said_kinds (Ask x.request) h.request x.signature).0 h.signature),
   λ h. record { request = h.0; signature = (said_kinds (Ask x.request) h.0 x.signature).1 h.1 },

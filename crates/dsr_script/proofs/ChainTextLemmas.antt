@@ -91,31 +91,31 @@ module _ (slot : ℕ) (value : Option (List Request)) (small : slot < 2 ^ 40) (f
 
 -- ---- the parts of a chain
 
-no_slash_in_slot : (slot : ℕ) → IsCount slot → IsAbsent 47 (decimal slot)
+pub no_slash_in_slot : (slot : ℕ) → IsCount slot → IsAbsent 47 (decimal slot)
 no_slash_in_slot slot small = decimal_without_low 47 slot (lit< tt) (omega (arith, small))
 
-value_apart : (value : SlotValue) → IsValue value → IsPart 47 (value_text value)
+pub value_apart : (value : SlotValue) → IsValue value → IsPart 47 (value_text value)
 value_apart value h = value_part 47 (lit< tt) (λ (e : ◌≡◌ {A = ℕ} 40 47). omega arith) (λ (e : ◌≡◌ {A = ℕ} 35 47). omega arith) (λ (e : ◌≡◌ {A = ℕ} 44 47). omega arith) refl value h
 
-abbrev AreLinks : List Spelled → Type 0
+abbrev pub AreLinks : List Spelled → Type 0
 AreLinks = AreUpTo IsSpelled 16
 
-abbrev links_joined : List Spelled → List ℕ
+abbrev pub links_joined : List Spelled → List ℕ
 links_joined = joined_or_dash 43 spelled_text
 
-abbrev IsEnd : SlotValue × List Spelled → Type 0
+abbrev pub IsEnd : SlotValue × List Spelled → Type 0
 IsEnd = AreBoth IsValue value_text AreLinks links_joined 47 (outside 47) value_apart
 
-abbrev end_text : SlotValue × List Spelled → List ℕ
+abbrev pub end_text : SlotValue × List Spelled → List ℕ
 end_text = both_text IsValue value_text AreLinks links_joined 47 (outside 47) value_apart
 
-abbrev IsWhole : ℕ × (SlotValue × List Spelled) → Type 0
+abbrev pub IsWhole : ℕ × (SlotValue × List Spelled) → Type 0
 IsWhole = AreBoth IsCount decimal IsEnd end_text 47 (at_byte 47) no_slash_in_slot
 
-abbrev whole_text : ℕ × (SlotValue × List Spelled) → List ℕ
+abbrev pub whole_text : ℕ × (SlotValue × List Spelled) → List ℕ
 whole_text = both_text IsCount decimal IsEnd end_text 47 (at_byte 47) no_slash_in_slot
 
-chain_kinds : (x : Chain) → IsSpelledChain x ↔ IsWhole (chain_parts x)
+pub chain_kinds : (x : Chain) → IsSpelledChain x ↔ IsWhole (chain_parts x)
 chain_kinds x = (
   λ h. (h.slot, (h.value, (links_kinds x.slot (content x.value) h.slot (content_fits x.value h.value) x.signatures).0 h.signatures)),
   λ h.

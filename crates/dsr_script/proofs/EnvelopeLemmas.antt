@@ -28,7 +28,7 @@ use Rattle.dsr_script.proofs.PairLemmas.{reads_pair, reads_through}
 -- ---- words
 
 -- words whose first two letters have another sum are other words
-other_key : (xs ys : List ℕ) → nat_eq (get_or xs 0 0 + get_or xs 1 0) (get_or ys 0 0 + get_or ys 1 0) ≡ false → xs ≡ ys → ⊥
+pub other_key : (xs ys : List ℕ) → nat_eq (get_or xs 0 0 + get_or xs 1 0) (get_or ys 0 0 + get_or ys 1 0) ≡ false → xs ≡ ys → ⊥
 other_key xs ys differ e =
     let same : get_or xs 0 0 + get_or xs 1 0 ≡ get_or ys 0 0 + get_or ys 1 0 = ap (λ zs. get_or zs 0 0 + get_or zs 1 0) e in
     grind (arith, nat_tests)
@@ -94,7 +94,7 @@ reads_seen rest rp reads = reads_word IsCount decimal Seen (codes "seen ") rest 
 
 -- ---- a round
 
-no_space_in : (n : ℕ) → IsCount n → IsAbsent 32 (decimal n)
+pub no_space_in : (n : ℕ) → IsCount n → IsAbsent 32 (decimal n)
 no_space_in n small = decimal_without_low 32 n (lit< tt) (omega (arith, small))
 
 -- a round without chains has no space in it

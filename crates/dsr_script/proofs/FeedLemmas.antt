@@ -1,19 +1,11 @@
 -- No line feed stands in the text of an envelope.
-use Rattle.std.proofs.Common.{All, ◌≡◌, ◌≢◌, ℕ, zero, suc, ◌<◌, ◌^◌, Bool, true, false, ◌&&◌, nat_lt, List, [], ◌∷◌, ◌++◌, codes, Option, None, Some, refl, arith, lit<}
+use Rattle.std.proofs.Common.{All, ◌≢◌, ℕ, Bool, true, false, List, [], ◌∷◌, ◌++◌, codes, Option, None, Some, refl, arith, lit<}
 use Rattle.std.specs.Prelude.{if◌then◌else◌}
 use Rattle.std.specs.Fmt.{decimal}
-use Rattle.std.proofs.lemmas.Bool.{false≢true}
-use Rattle.std.proofs.lemmas.Bool.Decides.{nat_tests}
-use Rattle.std.proofs.lemmas.List.Elements.{All-nil, All-cons, All-append, All-head, All-tail}
-use Rattle.dsr_base.specs.Bits.{is_bit_set}
-use Rattle.dsr_base.specs.Joined.{joined, more_joined, joined_or_dash}
-use Rattle.dsr_base.specs.Split.{IsAbsent}
-use Rattle.dsr_base.proofs.Marks.{decimal_without_low}
-use Rattle.dsr_names.specs.Actor.{IsNumbered, actor_text, replica_text}
+use Rattle.std.proofs.lemmas.List.Elements.{All-nil, All-cons, All-head, All-tail}
+use Rattle.dsr_base.specs.Joined.{more_joined}
+use Rattle.dsr_names.specs.Actor.{IsNumbered, actor_text}
 use Rattle.dsr_names.specs.declared.actor.Actor.{Actor}
-use Rattle.dsr_names.specs.declared.actor.Actor.TheVariants.{Replica, Client}
-use Rattle.dsr_names.specs.Shape.{Shape}
-use Rattle.dsr_names.specs.ShapeText.{shape_text, numbers_below, replicas_of, replicas_text, IsSpelled}
 use Rattle.dsr_request.specs.AnswerText.{answer_text}
 use Rattle.dsr_request.specs.Request.{Request}
 use Rattle.dsr_request.specs.RequestText.{request_token, IsRequest}

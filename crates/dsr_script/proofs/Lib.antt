@@ -3,12 +3,15 @@ mod BriefLemmas
 mod ChainTextLemmas
 mod EnvelopeLemmas
 pub mod FeedLemmas
-mod FitLemmas
 mod HeldLemmas
 mod KeptLemmas
 mod KnownLemmas
+mod OneEnvelope
+mod OneValue
 mod PairLemmas
+mod PlainLemmas
+mod SameLemmas
 mod ScriptLemmas
 mod ServeLemmas
-pub mod SpelledWithin
 mod SpelledLemmas
+mod SpelledWithin

@@ -23,7 +23,7 @@ use Rattle.dsr_envelope.specs.Limits.{IsSignature}
 use Rattle.dsr_script.specs.SignatureText.{Spelled, spelled_at, spelled_text, other_text}
 use Rattle.dsr_script.specs.Support.SpelledText.{IsSpelled, IsOther, closed_text, long_form, pair_of}
 
-abbrev said_of : Actor → Option Statement → Spelled
+abbrev pub said_of : Actor → Option Statement → Spelled
 said_of signer other = record { signer = signer; other = other }
 
 -- ---- the signature of a place
@@ -91,7 +91,7 @@ long_of_fitting fitting signer other statement x seen some fits s = (
 
 -- ---- reading
 
-no_open_in_actor : (a : Actor) → IsNumbered a → IsAbsent 40 (actor_text a)
+pub no_open_in_actor : (a : Actor) → IsNumbered a → IsAbsent 40 (actor_text a)
 no_open_in_actor (Replica r) h = letter_then_without 114 40 (decimal r) (lit< tt) (decimal_without_low 40 r (lit< tt) (omega (arith, h)))
 no_open_in_actor (Client c) h = letter_then_without 99 40 (decimal c) (lit< tt) (decimal_without_low 40 c (lit< tt) (omega (arith, h)))
 

@@ -2,6 +2,7 @@ pub mod ChainText
 pub mod EnvelopeText
 pub mod Held
 pub mod Known
+pub mod Plain
 pub mod Script
 pub mod ServeText
 pub mod SignatureText

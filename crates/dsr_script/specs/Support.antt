@@ -9,6 +9,7 @@ pub mod Links
 pub mod Noted
 pub mod PlaceEquality
 pub mod PlaceHash
+pub mod PlainSaid
 pub mod SaidEquality
 pub mod SaidHash
 pub mod SpelledText

@@ -1,4 +1,5 @@
 ghost use Rattle.std.specs.Prelude.{◌≡◌, ◌↔◌, IfOk, IsTrue, IsOkUnless};
+ghost use Rattle.std.specs.Option.{option_map};
 ghost use Rattle.dsr_script.specs.SignatureText.{spelled_at};
 ghost use Rattle.dsr_script.specs.Support.Links.{said_in};
 
@@ -64,6 +65,16 @@ impl Brief {
         match &self.other {
             Some(other) => Spelled::of_parts(self.signer, Some(other.copy())),
             None => Spelled::of_parts(self.signer, None),
+        }
+    }
+
+    /// The other statement, where it is on another than fits.
+    pub(crate) fn other(&self) -> Option<&Statement>
+        ensures { option_map (λ s. s.now) result ≡ self.now.other }
+    {
+        match &self.other {
+            Some(other) => Some(&**other),
+            None => None,
         }
     }
 

@@ -1,5 +1,6 @@
 ghost use Rattle.std.specs.Prelude.{◌≡◌, ◌≤◌, ◌↔◌, ◌⊎◌, [], All, Any, Err, length, IfOk, IfErr, IfSome, IsSome, IsTrue, IsOkUnless};
 ghost use Rattle.dsr_chain.specs.Support.SignedLists.{value_of as value_in};
+ghost use Rattle.dsr_envelope.specs.Limits.{IsEnvelope};
 ghost use Rattle.dsr_script.specs.Held.{IsHeldOrKnown, IsUnforged};
 ghost use Rattle.dsr_script.specs.Support.Described.{described};
 ghost use Rattle.dsr_script.specs.Support.Links.{said_by};
@@ -20,12 +21,14 @@ use dsr_request::Requests;
 use std::alloc::Global;
 
 /// The envelope that the draft describes. A signature by the holder of one of the keys is made; any other is taken from those that are
-/// known. `Forged` where one is neither by the holder of one of the keys nor known; `NoMemory` where memory runs out.
+/// known. `Forged` where one is neither by the holder of one of the keys nor known; `NoMemory` where memory runs out. What the draft
+/// describes is within the limits of envelopes, as it is of each draft.
 pub fn build(alloc: Global, draft: &Draft, keys: &[Key], known: &Known) -> Result<Envelope, Refusal>
     ensures same { IfOk result (λ envelope. envelope ≡ draft.now) }
     ensures unforged { IfOk result (λ envelope. IsUnforged keys.now known.now.signatures envelope) }
     ensures forged { (result ≡ Err Refusal.Forged) ↔ (¬ IsUnforged keys.now known.now.signatures draft.now) }
     ensures refusal { IfErr result (λ refusal. (refusal ≡ Refusal.Forged) ⊎ (refusal ≡ Refusal.NoMemory)) }
+    ensures within { IsEnvelope draft.now }
 {
     let plan = draft.plan();
     if is_unforged(plan, keys, known) {

@@ -9,7 +9,6 @@ ghost use Rattle.dsr_script.specs.Support.SpelledText.{pair_of};
 ghost use Rattle.dsr_ledger.specs.declared.reply.Reply.{Reply as AReply};
 
 use crate::draft::Draft;
-use crate::draft_fits::MOST_CHAINS;
 use crate::plan::Plan;
 use crate::said::SaidRequest;
 use crate::said_chain::{SaidChain, SaidChains};
@@ -20,6 +19,9 @@ use dsr_request::Answer;
 use dsr_text::{read_items, write_more};
 use std::alloc::Global;
 use std::fmt;
+
+/// The most chains of an envelope that a text spells.
+const MOST_CHAINS: usize = 32;
 
 impl Draft {
     /// The draft that the bytes spell, as `round 0 0/c0#1:write:a:5~c0/r0`. The inner `None` comes exactly where they spell none.

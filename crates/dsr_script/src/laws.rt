@@ -1,14 +1,18 @@
-//! The law that nobody forges, and that texts and drafts tell each other: the contracts of functions that do nothing.
+//! The law that nobody forges, that what texts can spell is within the limits of envelopes, and that texts and drafts tell each other:
+//! the contracts of functions that do nothing.
 
-ghost use Rattle.std.specs.Prelude.{◌≡◌, ◌⊎◌, ℕ, List, Option, Some};
+ghost use Rattle.std.specs.Prelude.{◌≡◌, ◌⊎◌, ℕ, List, Some};
 ghost use Rattle.dsr_base.specs.Reads.{Reads};
 ghost use Rattle.dsr_names.specs.declared.actor.Actor.{Actor};
 ghost use Rattle.dsr_desk.specs.Signature.{Signature};
 ghost use Rattle.dsr_envelope.specs.Envelope.{Carries};
+ghost use Rattle.dsr_envelope.specs.Limits.{IsEnvelope};
 ghost use Rattle.dsr_envelope.specs.declared.envelope.Envelope.{Envelope};
 ghost use Rattle.dsr_script.specs.EnvelopeText.{envelope_text, IsSpelledEnvelope};
 ghost use Rattle.dsr_script.specs.Known.{StandFor, WasCarried};
 ghost use Rattle.dsr_script.specs.Held.{IsHeld, IsUnforged};
+
+use crate::draft::Draft;
 
 /// Whoever makes envelopes by `build` forges nothing: where the known signatures are those that some envelopes carried, each
 /// signature of a built envelope is by the holder of one of the keys, or was carried by one of those envelopes.
@@ -18,10 +22,23 @@ pub fn nobody_forges()
         → (s : Signature) → Carries envelope s → IsHeld holders s ⊎ WasCarried envelopes s }
 {}
 
-/// Where bytes were read, they spell one draft alone, whatever it is; and a draft that was read has one text alone.
+/// What a text can spell is within the limits of envelopes. Besides that it has a request in each value that is not idle, and
+/// numbers below 2^64 in answers: so has each envelope in hand, as its types allow nothing else.
+pub fn spelled_is_within_limits()
+    ensures { (envelope : Envelope) → IsSpelledEnvelope envelope → IsEnvelope envelope }
+{}
+
+/// Each draft has a text, so what is written of it is read as that draft again.
+pub fn each_draft_has_a_text(draft: &Draft)
+    ensures { IsSpelledEnvelope draft.now }
+{
+    let _plan = draft.plan();
+}
+
+/// A text has one value: of two envelopes that texts can spell, only the same have one text. And a draft that was read has one text
+/// alone.
 pub fn texts_tell_drafts()
-    ensures one_draft { (bytes : List ℕ) (answer : Option Envelope) → Reads IsSpelledEnvelope envelope_text bytes answer
-        → (a b : Envelope) → IsSpelledEnvelope a → IsSpelledEnvelope b → bytes ≡ envelope_text a → bytes ≡ envelope_text b → a ≡ b }
+    ensures one_draft { (a b : Envelope) → IsSpelledEnvelope a → IsSpelledEnvelope b → envelope_text a ≡ envelope_text b → a ≡ b }
     ensures one_text { (bytes others : List ℕ) (envelope : Envelope) → Reads IsSpelledEnvelope envelope_text bytes (Some envelope)
         → Reads IsSpelledEnvelope envelope_text others (Some envelope) → bytes ≡ others }
 {}

@@ -5,17 +5,18 @@
 mod brief;
 mod building;
 mod draft;
-mod draft_fits;
 mod draft_text;
 mod known;
 mod laws;
 mod ops;
 mod place;
+mod plain;
 mod plan;
 mod said;
 mod said_chain;
 mod said_display;
 mod said_text;
+mod same;
 mod script;
 mod serve_line;
 mod spelled;
@@ -24,7 +25,7 @@ pub use building::build;
 pub use draft::Draft;
 pub use dsr_text::{Header, read_header};
 pub use known::Known;
-pub use laws::{nobody_forges, texts_tell_drafts};
+pub use laws::{each_draft_has_a_text, nobody_forges, spelled_is_within_limits, texts_tell_drafts};
 pub use script::Script;
 
 #[cfg(test)]

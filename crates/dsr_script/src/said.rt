@@ -196,9 +196,9 @@ impl SaidRequest {
     }
 
     /// What a text says of the signature beside it.
-    pub(crate) fn spelled(&self) -> Spelled
-        ensures { result ≡ spelled_at (Ask self.now.request) self.now.signature }
+    pub(crate) fn brief(&self) -> &Brief
+        ensures { result.now ≡ spelled_at (Ask self.now.request) self.now.signature }
     {
-        self.brief.spelled()
+        &self.brief
     }
 }

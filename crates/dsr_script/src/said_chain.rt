@@ -1,8 +1,10 @@
-ghost use Rattle.std.specs.Prelude.{◌≡◌, ◌≤◌, [], length, IfOk, IsOkUnless};
+ghost use Rattle.std.specs.Prelude.{◌≡◌, ◌≤◌, [], All, length, IfOk, IsOkUnless};
 ghost use Rattle.dsr_desk.specs.declared.statement.Statement.TheVariants.{Link};
 ghost use Rattle.dsr_chain.specs.Chain.{chain_of};
 ghost use Rattle.dsr_chain.specs.Support.SignedLists.{value_of, content_of as content_in};
-ghost use Rattle.dsr_script.specs.ChainText.{spelled_links};
+ghost use Rattle.dsr_chain.specs.Content.{signed_in};
+ghost use Rattle.dsr_envelope.specs.Limits.{IsChain, IsSigned};
+ghost use Rattle.dsr_script.specs.ChainText.{spelled_links, IsValue, IsSpelledChain};
 ghost use Rattle.dsr_script.specs.Support.Links.{AreKept, said_by};
 
 use crate::brief::Brief;
@@ -41,7 +43,9 @@ impl SaidChain {
 
     /// The chain as data. `NoMemory` where memory runs out.
     pub(crate) fn of(alloc: Global, chain: &Chain) -> Result<SaidChain, Refusal>
+        requires { IsChain chain.now }
         ensures same { IfOk result (λ said. said ≡ chain.now) }
+        ensures spelled { IfOk result IsSpelledChain }
         ensures refusal { IsOkUnless result Refusal.NoMemory }
     {
         let asks = said_value(alloc, &chain.value())?;
@@ -119,7 +123,9 @@ impl Model for SaidChains {
 impl SaidChains {
     /// The chains as data. `NoMemory` where memory runs out.
     pub(crate) fn of(alloc: Global, chains: &[Chain]) -> Result<SaidChains, Refusal>
+        requires { All IsChain chains.now }
         ensures same { IfOk result (λ said. said ≡ chains.now) }
+        ensures spelled { IfOk result (All IsSpelledChain) }
         ensures refusal { IsOkUnless result Refusal.NoMemory }
     {
         let mut items = Vec::with_capacity(alloc, chains.len())?;
@@ -223,6 +229,8 @@ fn copied_asks(alloc: Global, asks: &[SaidRequest]) -> Result<Vec<SaidRequest>, 
 
 /// The requests of this value, with what the signatures beside them say.
 fn said_value(alloc: Global, value: &SlotValue) -> Result<Vec<SaidRequest>, Refusal>
+    requires { All IsSigned (signed_in value.now) }
+    ensures spelled { IsValue value.now }
     ensures same { IfOk result (λ said. value_of said.items ≡ value.now) }
     ensures few { IfOk result (λ said. length said.items ≤ 8) }
     ensures refusal { IsOkUnless result Refusal.NoMemory }

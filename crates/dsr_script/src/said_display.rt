@@ -40,8 +40,8 @@ impl fmt::Display for SaidRequest {
 
     fn fmt<W: fmt::Write>(&self, f: &mut fmt::Formatter<W>) -> fmt::Result {
         let request = self.request();
-        let spelled = self.spelled();
-        write!(f, "{request}~{spelled}")
+        let brief = self.brief();
+        write!(f, "{request}~{brief}")
     }
 }
 

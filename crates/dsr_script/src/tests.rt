@@ -53,6 +53,9 @@ fn round_of(alloc: Global, slot: u64, number: u64) -> Result<Envelope, Fail> {
 
 /// Whether the draft of the envelope is built as that envelope, from these keys and what is known.
 fn is_built(alloc: Global, envelope: &Envelope, keys: &[Key], known: &Known) -> Result<bool, Fail> {
+    if !envelope.fits() {
+        return Ok(false);
+    }
     let draft = Draft::of(alloc, envelope)?;
     match build(alloc, &draft, keys, known) {
         Ok(built) => Ok(built.same(envelope)),
@@ -133,5 +136,62 @@ fn room_is_made_and_what_is_known_stays(rt: HostRuntime) -> Result<(), Fail> {
     known.room()?;
     known.learn(&round_of(rt.alloc(), 0, 1)?)?;
     assert!(rt; is_built(rt.alloc(), &ask, &[], &known)?);
+    Ok(())
+}
+
+#[test]
+fn drafts_of_the_same_envelope_are_the_same(rt: HostRuntime) -> Result<(), Fail> {
+    let rows = [
+        "empty",
+        "seen 1",
+        "ask c0#1:read:a~c0",
+        "ask c0#1:read:a~c0(c0#2:read:a)",
+        "round 0",
+        "round 0 0/c0#1:read:a~c0/r0",
+        "round 0 0/c0#1:read:a~c0/r0+r1",
+        "reply 1 0 held 5",
+    ];
+    assert!(rt; is_the_same(rt.alloc(), &Draft::empty(), "empty")?);
+    for i in 0..rows.len() {
+        let Some(draft) = Draft::read(rt.alloc(), rows[i].as_bytes())? else {
+            return Err("no draft".into());
+        };
+        for j in 0..rows.len() {
+            assert!(rt;
+                is_the_same(rt.alloc(), &draft, rows[j])? == (i == j),
+                "{i} {j}"
+            );
+        }
+    }
+    Ok(())
+}
+
+/// Whether the draft is the one that the text spells.
+fn is_the_same(alloc: Global, draft: &Draft, text: &str) -> Result<bool, Fail> {
+    match Draft::read(alloc, text.as_bytes())? {
+        Some(other) => Ok(draft.same(&other)),
+        None => Ok(false),
+    }
+}
+
+#[test]
+fn a_draft_is_plain_without_lists_and_removals(rt: HostRuntime) -> Result<(), Fail> {
+    let rows = [
+        ("empty", true),
+        ("round 0 0/c0#1:read:a~c0/r0", true),
+        ("round 0 0/c0#1:read:a~c0,c1#1:read:a~c1/r0", false),
+        ("round 0 0/idle/r0(0/c0#1:read:a,c1#1:read:a/-)", false),
+        ("round 0 0/idle/r0(0/c0#1:remove:a/-)", false),
+        ("ask c0#1:remove:a~c0", false),
+        ("ask c0#1:read:a~c0(c0#1:remove:a)", false),
+        ("reply 1 0 held 5", true),
+        ("reply 1 0 removed 5", false),
+    ];
+    for (text, plain) in &rows {
+        let Some(draft) = Draft::read(rt.alloc(), text.as_bytes())? else {
+            return Err("no draft".into());
+        };
+        assert!(rt; draft.is_plain() == *plain, "{text}");
+    }
     Ok(())
 }

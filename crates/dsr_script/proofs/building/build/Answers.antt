@@ -21,7 +21,7 @@ pub returns-then-is_unforged-clause-forged : goal.returns-then-is_unforged-claus
 returns-then-is_unforged-clause-forged c =
     let keys = c.args.keys.now in
     let known = c.args.known.now.signatures in
-    let held = subst (IsHeldEnvelope keys known) c.plan-plan.ensures (c.is_unforged.ensures.0 c.if-is_unforged.true) in (
+    let held = subst (IsHeldEnvelope keys known) c.plan-plan.ensures.same (c.is_unforged.ensures.0 c.if-is_unforged.true) in (
       λ e unforged. let no : Forged ≡ NoMemory = subst (λ r. IsOkUnless r NoMemory) e c.envelope_of.ensures.refusal in absurd cc,
       λ not. absurd (not ((held_is keys known c.args.draft.now).0 held)),
     )
@@ -32,7 +32,7 @@ returns-else-is_unforged-clause-forged c =
     let known = c.args.known.now.signatures in (
       λ e unforged.
           let yes : c.is_unforged.result ≡ true =
-          c.is_unforged.ensures.1 (subst (IsHeldEnvelope keys known) (sym c.plan-plan.ensures) ((held_is keys known c.args.draft.now).1 unforged)) in
+          c.is_unforged.ensures.1 (subst (IsHeldEnvelope keys known) (sym c.plan-plan.ensures.same) ((held_is keys known c.args.draft.now).1 unforged)) in
           let no : c.is_unforged.result ≡ false = c.if-is_unforged.false in
           absurd cc,
       λ not. refl,

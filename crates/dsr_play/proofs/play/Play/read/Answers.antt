@@ -1,10 +1,7 @@
 use Rattle.std.proofs.Common.{ap, refl, sym, ◌∙◌, subst}
 use Rattle.dsr_text.specs.Header.{BeginsWithHeader}
 use Rattle.dsr_text.proofs.LinesLemmas.{header_refused, its_header, its_lines}
-use Rattle.dsr_play.specs.Event.{AreWithin}
-use Rattle.dsr_play.specs.Play.{Play as APlay}
 use Rattle.dsr_play.specs.PlayText.{plays}
-use Rattle.dsr_play.proofs.PlayWithin.{lines_within}
 use Rattle.dsr_play.proofs.PlayLemmas.{make_play, same_play}
 use Rattle.dsr_play.proofs.play.Play.read.Goals as goal
 
@@ -37,11 +34,5 @@ returns-in-Ok-take_lines-clause-only c other s =
     other.shape s.after s.header s.lines s.begins shape refl in
     let header =
     its_header plays c.as_slice.result.now c.args.text.now c.in-Ok.header.rest.now shape c.as_slice.ensures c.in-Ok.ensures.only other.shape s.after s.header in
-    c.reading.view_is
-    ∙ (ap (λ x. make_play x read.events) c.in-Ok-take_lines.ensures.shape
-    ∙ same_play c.args.text.now other s shape header.0 read.events (c.in-Ok-take_lines.ensures.only s.lines lines.0 lines.1))
-
-pub invariant_of-result : goal.invariant_of-result
-invariant_of-result c =
-    let taken = c.in-Ok-take_lines.ensures.taken in
-    subst AreWithin (sym (ap (λ (p : APlay). p.events) c.reading.view_is ∙ taken.gives)) (lines_within c.in-Ok.header.shape taken.lines taken.begins.each)
+    ap (λ x. make_play x read.events) c.in-Ok-take_lines.ensures.shape
+    ∙ same_play c.args.text.now other s shape header.0 read.events (c.in-Ok-take_lines.ensures.only s.lines lines.0 lines.1)

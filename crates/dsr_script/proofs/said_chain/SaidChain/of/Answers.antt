@@ -1,6 +1,6 @@
-use Rattle.std.proofs.Common.{◌≡◌, ◌∙◌, [], subst}
+use Rattle.std.proofs.Common.{◌≡◌, ◌∙◌, [], subst, sym}
 use Rattle.dsr_chain.specs.Content.{content}
-use Rattle.dsr_script.specs.ChainText.{spelled_links}
+use Rattle.dsr_script.specs.ChainText.{spelled_links, IsValue, IsSpelledChain}
 use Rattle.dsr_script.proofs.KeptLemmas.{HasParts, kept_here, same_chain}
 use Rattle.dsr_script.proofs.said_chain.SaidChain.of.Goals as goal
 
@@ -27,3 +27,13 @@ returns-clause-same c =
     let parts : HasParts c.slot-2.result c.in_ok-asks.asks.items links x =
     record { slot_is = c.slot-2.ensures; value_is = c.in_ok-asks.ensures.same ∙ c.value.ensures; links_are = links_are } in
     same_chain c.slot-2.result c.in_ok-asks.asks.items links x parts
+
+pub returns-clause-spelled : goal.returns-clause-spelled
+returns-clause-spelled c =
+    let spelled : IsSpelledChain c.args.chain.now =
+    record {
+      slot = c.requires.slot;
+      value = subst IsValue c.value.ensures c.said_value.ensures.spelled;
+      signatures = record { few = c.requires.few_signatures; each = c.requires.signatures };
+    } in
+    subst IsSpelledChain (sym (returns-clause-same c)) spelled

@@ -2,7 +2,7 @@ use Rattle.std.proofs.Common.{rules, ◌∙◌, arith}
 use Rattle.dsr_play.specs.PlayText.{plays}
 use Rattle.dsr_text.proofs.LinesLemmas.{no_feed, none_read, no_follower, bad_after, one_more, no_lines, only_lines, no_rest, shorter}
 use Rattle.dsr_play.proofs.PlayLemmas.{line_clean, Gives, gives_more, follows, cannot_follow}
-use Rattle.dsr_play.proofs.play.Reading.take_lines.Goals as goal
+use Rattle.dsr_play.proofs.play.Play.take_lines.Goals as goal
 
 -- with no line feed in the rest, the text is no lines
 pub returns-in_default-clause-when : goal.returns-in_default-clause-when

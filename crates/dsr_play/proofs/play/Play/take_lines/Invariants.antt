@@ -1,6 +1,6 @@
 use Rattle.std.proofs.Common.{◌≡◌, ◌+◌, ◌≤◌, length}
 use Rattle.dsr_play.proofs.PlayLemmas.{TakenIn}
-use Rattle.dsr_play.proofs.play.Reading.take_lines.Given as goal
+use Rattle.dsr_play.proofs.play.Play.take_lines.Given as goal
 
 -- the lines before the rest were taken in
 abbrev pub invariant-loop-rest : goal.invariant-loop-rest

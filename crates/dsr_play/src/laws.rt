@@ -1,0 +1,73 @@
+//! The law that each event can be written in a play: the contract of a function that does nothing.
+
+ghost use Rattle.std.specs.Prelude.{◌<◌, All, ℕ};
+ghost use Rattle.dsr_names.specs.Actor.{IsNumbered};
+ghost use Rattle.dsr_play.specs.Event.{IsSpelledEvent};
+ghost use Rattle.dsr_play.specs.PlayText.{IsSpelledPick};
+
+use crate::event::Event;
+use dsr_envelope::Pick;
+use dsr_names::{Actor, ClientId};
+use dsr_script::each_draft_has_a_text;
+
+/// Each event can be spelled, as a line of a play.
+pub fn each_event_has_a_line(event: &Event)
+    ensures { IsSpelledEvent event.now }
+{
+    match event {
+        Event::Post { from, to, pick } => {
+            number_actor(from);
+            number_actor(to);
+            spell_pick(pick);
+        }
+        Event::Plant { from, to, draft } => {
+            number_actor(from);
+            number_actor(to);
+            each_draft_has_a_text(draft);
+        }
+        Event::Take { at, from } => {
+            number_actor(at);
+            number_actor(from);
+        }
+        Event::Tell { from, to } => {
+            number_actor(from);
+            number_actor(to);
+        }
+    }
+}
+
+/// That the actor has a number that texts can name, as each has.
+fn number_actor(actor: &Actor)
+    ensures { IsNumbered actor.now }
+{
+    match actor {
+        Actor::Replica(replica) => {
+            let _number = replica.number();
+        }
+        Actor::Client(client) => {
+            let _number = client.number();
+        }
+    }
+}
+
+/// That a text can spell the choice, as it can each.
+fn spell_pick(pick: &Pick)
+    ensures { IsSpelledPick pick.now }
+{
+    match pick {
+        Pick::Plain => {}
+        Pick::From(clients) => number_clients(clients.as_slice()),
+        Pick::Begin(op) => {
+            let _name = op.name();
+        }
+    }
+}
+
+/// That the clients have numbers below 32, as each has.
+fn number_clients(clients: &[ClientId])
+    ensures { All (λ (c : ℕ). c < 32) clients.now }
+{
+    for client in clients {
+        let _number = client.number();
+    }
+}
