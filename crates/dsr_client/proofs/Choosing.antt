@@ -34,6 +34,10 @@ module _ (me number : ℕ) where
   begun_beside None op ask e = same_Some (ask_of me number op) ask e
   begun_beside (Some current) op ask e = absurd (none-some ask e)
 
+  none_beside : (o : Option SignedRequest) (op : Op) (ask : SignedRequest) → chosen_beside o me number (Begin op) ≡ Some ask → o ≡ None
+  none_beside None op ask e = refl
+  none_beside (Some current) op ask e = absurd (none-some ask e)
+
   plain_beside : (o : Option SignedRequest) → chosen_beside o me number Plain ≡ o
   plain_beside None = refl
   plain_beside (Some ask) = refl
@@ -49,6 +53,12 @@ module _ (shape : Shape) (me : ℕ) (log : List Entry) where
   pub operation_told : (op : Op) (ask : SignedRequest) → ask_to shape me log (Begin op) ≡ Some (Ask ask) → ask_of me (next_number shape log) op ≡ ask
   operation_told op ask e =
       begun_beside me (next_number shape log) (outstanding shape log) op ask
+      (same_ask (chosen_beside (outstanding shape log) me (next_number shape log) (Begin op)) ask e)
+
+  -- and nothing was outstanding before it
+  pub none_told : (op : Op) (ask : SignedRequest) → ask_to shape me log (Begin op) ≡ Some (Ask ask) → outstanding shape log ≡ None
+  none_told op ask e =
+      none_beside me (next_number shape log) (outstanding shape log) op ask
       (same_ask (chosen_beside (outstanding shape log) me (next_number shape log) (Begin op)) ask e)
 
   -- the plain choice asks for what is outstanding

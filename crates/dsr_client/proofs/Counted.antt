@@ -5,11 +5,13 @@ use Rattle.std.proofs.lemmas.Bool.Decides.{Decides-eqb}
 use Rattle.std.proofs.lemmas.Option.{none-some}
 use Rattle.dsr_base.specs.Member.{In, here, there}
 use Rattle.dsr_names.specs.Shape.{Shape}
+use Rattle.dsr_names.specs.declared.actor.Actor.{Actor}
 use Rattle.dsr_names.specs.declared.actor.Actor.TheVariants.{Replica, Client}
 use Rattle.dsr_ledger.specs.declared.reply.Reply.{Reply as AReply}
 use Rattle.dsr_chain.specs.declared.signed_request.SignedRequest.{SignedRequest}
 use Rattle.dsr_quorum.specs.Votes.{votes, winner}
 use Rattle.dsr_envelope.specs.Limits.{IsCount}
+use Rattle.dsr_envelope.specs.declared.envelope.Envelope.{Envelope}
 use Rattle.dsr_envelope.specs.declared.envelope.Envelope.TheVariants.{Empty, Round, Ask, Reply, Seen}
 use Rattle.dsr_envelope.specs.declared.entry.Entry.{Entry}
 use Rattle.dsr_envelope.specs.declared.entry.Entry.TheVariants.{Post, Take}
@@ -105,6 +107,31 @@ module _ (shape : Shape) where
   accept_cases (Take (Replica p) (Ask a)) log = inl (same_state (Take (Replica p) (Ask a)) log refl)
   accept_cases (Take (Replica p) (Reply reply)) log = reply_cases p reply log
   accept_cases (Take (Replica p) (Seen front)) log = inl (same_state (Take (Replica p) (Seen front)) log refl)
+
+  -- where nothing is outstanding a take changes nothing
+  pub take_quiet : (from : Actor) (envelope : Envelope) (log : List Entry) → outstanding shape log ≡ None
+      → state_after shape (Take from envelope ∷ log) ≡ state_after shape log
+  take_quiet (Client c) envelope log none = refl
+  take_quiet (Replica p) Empty log none = refl
+  take_quiet (Replica p) (Round round chains) log none = refl
+  take_quiet (Replica p) (Ask ask) log none = refl
+  take_quiet (Replica p) (Reply reply) log none = ap (λ o. replied_beside o shape p reply (state_after shape log)) none
+  take_quiet (Replica p) (Seen front) log none = refl
+
+  -- an ask is the outstanding one, where nothing was
+  pub ask_begins : (q : ℕ) (ask : SignedRequest) (log : List Entry) → outstanding shape log ≡ None
+      → outstanding shape (Post (Replica q) (Ask ask) ∷ log) ≡ Some ask
+  ask_begins q ask log none = ap (λ o. (asked_beside o ask (state_after shape log)).outstanding) none
+
+  -- a post accepts nothing
+  pub post_none : (to : Actor) (envelope : Envelope) (log : List Entry) → AcceptsNone shape (Post to envelope) log
+  post_none to envelope log = elim (accept_cases (Post to envelope) log) [
+    | inl none ↦ none
+    | inr new ↦ absurd (no_take new.1.replica new.0 new.1.taken)
+  ]
+    where
+      no_take : (p : ℕ) (reply : AReply) → Post to envelope ≡ Take (Replica p) (Reply reply) → ⊥
+      no_take p reply e = cc
 
   -- ---- a whole log
 

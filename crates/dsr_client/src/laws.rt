@@ -50,6 +50,8 @@ pub fn asks_tell_choices()
         → ask_to shape me log pick ≡ Some (Ask ask) → pick ≡ told_choice (outstanding shape log) ask }
     ensures operation { (shape : Shape) (me : ℕ) (log : List Entry) (op : Op) (ask : SignedRequest)
         → ask_to shape me log (Begin op) ≡ Some (Ask ask) → ask.request.op ≡ op }
+    ensures new { (shape : Shape) (me : ℕ) (log : List Entry) (op : Op) (ask : SignedRequest) → ask_to shape me log (Begin op) ≡ Some (Ask ask)
+        → (outstanding shape log ≡ None) × (ask_of me (next_number shape log) op ≡ ask) }
     ensures begun { (shape : Shape) (me : ℕ) (log : List Entry) → outstanding shape log ≡ None → (op : Op)
         → ask_to shape me log (Begin op) ≡ Some (Ask (ask_of me (next_number shape log) op)) }
     ensures plain { (shape : Shape) (me : ℕ) (log : List Entry) → ask_to shape me log Plain ≡ option_map Ask (outstanding shape log) }
@@ -58,22 +60,32 @@ pub fn asks_tell_choices()
 {}
 
 /// Each accepted reply was given by more than f replicas, each in a take of the log when a request of the reply's number was
-/// outstanding. Where at most f replicas are traitors, one of those is loyal. What is accepted stays accepted. An entry accepts at
-/// most one reply: the one that it takes, to what was outstanding before it and is not any more; else that stays outstanding. A reply
-/// counts for nothing where no request of its number is outstanding, and where the replica has replied to it before.
+/// outstanding. Where at most f replicas are traitors, one of those is loyal. What is accepted stays accepted. A reply counts
+/// for nothing where no request of its number is outstanding, and where the replica has replied to it before.
 pub fn accepted_replies_have_enough_votes()
     ensures votes { (shape : Shape) (log : List Entry) (reply : AReply) → In reply (accepted shape log) → WasAccepted shape log reply }
     ensures loyal { (shape : Shape) (log : List Entry) (reply : AReply) → HasFewTraitors shape → In reply (accepted shape log)
         → (p : ℕ) × IsLoyal shape (Replica p) × WasTaken shape log p reply }
     ensures stay { (shape : Shape) (entry : Entry) (log : List Entry) → Extends (accepted shape (entry ∷ log)) (accepted shape log) }
-    ensures one { (shape : Shape) (entry : Entry) (log : List Entry)
-        → AcceptsNone shape entry log ⊎ ((reply : AReply) × Accepts shape entry log reply) }
     ensures early { (shape : Shape) (log : List Entry) (p : ℕ) (reply : AReply)
         → ((ask : SignedRequest) → outstanding shape log ≡ Some ask → reply.number ≢ ask.request.number)
         → state_after shape (Take (Replica p) (Reply reply) ∷ log) ≡ state_after shape log }
     ensures again { (shape : Shape) (log : List Entry) (p : ℕ) (reply first : AReply) → first_of p (state_after shape log).notes ≡ Some first
         → (accepted shape (Take (Replica p) (Reply reply) ∷ log) ≡ accepted shape log)
         × (outstanding shape (Take (Replica p) (Reply reply) ∷ log) ≡ outstanding shape log) }
+{}
+
+/// An entry accepts the reply that it takes, to what was outstanding before it and is not any more; or it accepts nothing, and what was
+/// outstanding still is. Where nothing is outstanding a take changes nothing but the seen front, and an ask that is posted to a replica
+/// becomes the outstanding one. No post accepts anything.
+pub fn takes_settle()
+    ensures settles { (shape : Shape) (entry : Entry) (log : List Entry)
+        → AcceptsNone shape entry log ⊎ ((reply : AReply) × Accepts shape entry log reply) }
+    ensures quiet { (shape : Shape) (from : Actor) (envelope : Envelope) (log : List Entry) → outstanding shape log ≡ None
+        → state_after shape (Take from envelope ∷ log) ≡ state_after shape log }
+    ensures begins { (shape : Shape) (q : ℕ) (ask : SignedRequest) (log : List Entry) → outstanding shape log ≡ None
+        → outstanding shape (Post (Replica q) (Ask ask) ∷ log) ≡ Some ask }
+    ensures posts { (shape : Shape) (to : Actor) (envelope : Envelope) (log : List Entry) → AcceptsNone shape (Post to envelope) log }
 {}
 
 /// Where at most f replicas are traitors, and n is at least 2f+1: a client that took, while its request was outstanding, one and

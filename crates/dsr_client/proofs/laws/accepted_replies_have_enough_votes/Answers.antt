@@ -1,6 +1,5 @@
 use Rattle.dsr_client.proofs.Accepting.{was_accepted, loyal_gave}
 use Rattle.dsr_client.proofs.Answering.{accepted_grow}
-use Rattle.dsr_client.proofs.Counted.{accept_cases}
 use Rattle.dsr_client.proofs.Dropping.{early, again}
 use Rattle.dsr_client.proofs.laws.accepted_replies_have_enough_votes.Goals as goal
 
@@ -18,6 +17,3 @@ returns-clause-early c shape log p reply other = early shape log p reply other
 
 pub returns-clause-again : goal.returns-clause-again
 returns-clause-again c shape log p reply first had = again shape log p reply first had
-
-pub returns-clause-one : goal.returns-clause-one
-returns-clause-one c shape entry log = accept_cases shape entry log
