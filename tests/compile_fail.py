@@ -65,7 +65,7 @@ def main():
     with open(f"{TOP}/crates.txt") as file:
         crates = file.read()
     with tempfile.TemporaryDirectory(prefix="compile-fail-") as room:
-        shutil.copytree(f"{TOP}/crates", f"{room}/crates", ignore=shutil.ignore_patterns("out", "must-fail"))
+        shutil.copytree(f"{TOP}/crates", f"{room}/crates", ignore=shutil.ignore_patterns("out", "wrong-bodies"))
         if os.path.exists(f"{TOP}/HANDLES"):
             shutil.copy(f"{TOP}/HANDLES", room)
         os.makedirs(f"{room}/crates/refused_case/src")

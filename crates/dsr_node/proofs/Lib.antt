@@ -1,1 +1,4 @@
+mod Blindness
+mod Conduct
+pub mod Lemmas
 mod Playing

@@ -2,7 +2,9 @@
 #![tactic(auto)]
 
 mod customer;
+mod laws;
 mod party;
 
 pub use customer::Customer;
+pub use laws::{choices_are_blind, choices_keep_conduct};
 pub use party::Party;

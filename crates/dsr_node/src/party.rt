@@ -47,12 +47,7 @@ impl Party {
     }
 
     /// The envelope that it posts to this actor by this choice. `NoMemory` where memory runs out.
-    pub fn envelope_for(
-        &self,
-        alloc: Global,
-        to: Actor,
-        pick: Pick,
-    ) -> Result<Envelope, Refusal>
+    pub fn envelope_for(&self, alloc: Global, to: Actor, pick: Pick) -> Result<Envelope, Refusal>
         ensures given { (shape : Shape) (me : Actor) (log : List Entry) → Plays shape me log self.now
             → post_refusal shape log me to pick ≡ None → IfOk result (λ envelope. post_of shape log me to pick ≡ Some envelope) }
         ensures refusal { (shape : Shape) (me : Actor) (log : List Entry) → Plays shape me log self.now

@@ -14,7 +14,7 @@ use Rattle.dsr_text.specs.Lines.{AreLines}
 use Rattle.dsr_play.specs.Event.{IsWithin}
 use Rattle.dsr_play.specs.Event.{AreWithin}
 use Rattle.dsr_play.specs.PlayText.{IsPlayLine, with_each, pick_for, posts_by, takes_at, events_of, all_events, plays}
-use Rattle.dsr_script.proofs.Spelled.{spelled_within}
+use Rattle.dsr_script.proofs.SpelledWithin.{spelled_within}
 
 one_within : (event : Event) → IsWithin event → AreWithin (event ∷ [])
 one_within event is = All-cons IsWithin event [] is (All-nil IsWithin)

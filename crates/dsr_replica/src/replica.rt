@@ -1,4 +1,4 @@
-ghost use Rattle.std.specs.Prelude.{◌≡◌, ℕ, suc, ◌+◌, ◌<◌, ◌≤◌, ◌^◌, ◌↔◌, ◌∷◌, [], List, Some, All, length, map, reverse, OnOk, IfOk, IsSome, IsTrue, IsOkUnless, None, Err, IfErr};
+ghost use Rattle.std.specs.Prelude.{◌≡◌, ℕ, suc, ◌+◌, ◌<◌, ◌≤◌, ◌^◌, ◌↔◌, ◌∷◌, [], List, Some, All, length, map, reverse, OnOk, IfOk, IsSome, IsTrue, IsOkUnless, None, Err, IfErr, IfSome, IsNone, ◌⊎◌};
 ghost use Rattle.std.specs.Option.{option_map};
 ghost use Rattle.dsr_names.specs.Shape.{Shape, IsActor};
 ghost use Rattle.dsr_names.specs.Support.ActorEquality.{actor_eq};
@@ -140,6 +140,27 @@ impl Replica {
             return Err(Refusal::Exhausted);
         }
         self.chosen(alloc, to, pick)
+    }
+
+    /// What a post to this replica by this choice is refused with, if it is: `NotDue` exactly where there is no such envelope, as the
+    /// post is not due, or the choice not allowed there; else `Exhausted` exactly in round 2^36. It allocates nothing.
+    pub fn refusal(&self, to: ReplicaId, pick: Pick) -> Option<Refusal>
+        ensures not_due { (log : List Entry) → StandsFor self.now log
+            → (result ≡ Some Refusal.NotDue) ↔ (envelope_to self.now.shape self.now.me log to pick ≡ None) }
+        ensures exhausted { (log : List Entry) → StandsFor self.now log → (result ≡ Some Refusal.Exhausted)
+            ↔ (IsSome (envelope_to self.now.shape self.now.me log to pick) × (rounds self.now.shape log ≡ 2 ^ 36)) }
+        ensures none { IsNone result ↔ Allows self.now to pick }
+        ensures refusal { IfSome result (λ e. (e ≡ Refusal.NotDue) ⊎ (e ≡ Refusal.Exhausted)) }
+        ensures pick { IsPick pick }
+    {
+        look_at(&pick);
+        if !self.has_value(to, pick) {
+            return Some(Refusal::NotDue);
+        }
+        if self.flights.round() >= ROUND_END {
+            return Some(Refusal::Exhausted);
+        }
+        None
     }
 
     /// Posts to this replica by this choice. Requires that it is allowed.

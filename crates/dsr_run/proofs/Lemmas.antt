@@ -1,6 +1,6 @@
 -- What the crates above take from runs: the logs of a run keep their conduct, and an earlier run is one.
 pub use Rattle.dsr_run.proofs.Logs.{log_cases, run_before, log_loyal, log_client, logs_grew, logs_step, no_logs}
-pub use Rattle.dsr_run.proofs.Boxes.{in_log, from_log, posted_entry, IsBox, boxes, found_was_posted, taken_was_posted, actors_within}
+pub use Rattle.dsr_run.proofs.Boxes.{in_log, from_log, posted_entry, IsBox, boxes, found_was_posted, taken_was_posted, actors_within, posted_cases, posted_still, taken_cases, taken_still}
 pub use Rattle.dsr_run.proofs.Forging.{has_posted_later, AllMade, all_made, step_made, taken_made, posted_made}
 pub use Rattle.dsr_run.proofs.Family.{rounds_near}
 pub use Rattle.dsr_run.proofs.Agreeing.{same_decided, decided_extends, one_extends}
@@ -9,3 +9,7 @@ pub use Rattle.dsr_run.proofs.Links.{two_links, one_link}
 pub use Rattle.dsr_run.proofs.Histories.{extends_on, IsFrom, most_from, most_long, most_extends, history_extends, history_is, history_grows, history_legal}
 pub use Rattle.dsr_run.proofs.Within.{rounds_within, posted_within, taken_within, loyal_next_within, history_within}
 pub use Rattle.dsr_run.proofs.Asking.{WasAsked, was_asked, outstanding_within}
+pub use Rattle.dsr_run.proofs.Agreements.{all_agree}
+pub use Rattle.dsr_run.proofs.Deciding.{IsBest, as_best, best_kept, best_more, best_past}
+pub use Rattle.dsr_run.proofs.Righting.{all_right, lent_answered, lent_right}
+pub use Rattle.dsr_run.proofs.NextSteps.{run_logs, post_within, post_next, take_next, own_keeps}

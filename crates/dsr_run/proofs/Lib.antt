@@ -12,6 +12,7 @@ mod Histories
 mod Issuing
 pub mod Lemmas
 mod Links
+mod LogLaws
 mod Logs
 mod MoreTraitors
 mod NextSteps

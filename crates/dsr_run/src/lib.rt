@@ -4,6 +4,7 @@
 mod blind;
 mod headline;
 mod laws;
+mod own;
 
 pub use blind::{loyal_actors_are_blind, traitors_may_be_loyal};
 pub use headline::{clients_are_answered, runs_are_right};
@@ -12,3 +13,4 @@ pub use laws::{
     loyal_replicas_sign_few_links, loyal_senders_values_are_decided, no_signature_is_forged,
     runs_agree, runs_go_on, runs_keep_conduct,
 };
+pub use own::{counters_are_kept, logs_are_right, own_logs_are_enough};

@@ -10,5 +10,5 @@ mod KnownLemmas
 mod PairLemmas
 mod ScriptLemmas
 mod ServeLemmas
-pub mod Spelled
+pub mod SpelledWithin
 mod SpelledLemmas

@@ -37,7 +37,7 @@ use Rattle.dsr_run.specs.Run.{IsMadeOrPosted, HasPosted, ForgesNothing}
 use Rattle.dsr_node.specs.declared.party.Party.TheVariants.{Loyal, Traitor, Client as ClientParty}
 use Rattle.dsr_run.proofs.Lemmas.{actors_within}
 use Rattle.dsr_run.proofs.Lemmas.{all_made}
-use Rattle.dsr_run.proofs.Lemmas.{plants_next, tells_next}
+use Rattle.dsr_world.proofs.NextSteps.{plants_next, tells_next}
 use Rattle.dsr_world.proofs.Stepping.{played_on}
 use Rattle.dsr_world.proofs.Worlds.{none_holds, both_hold, actor_is, box_is_empty, empty_same, post_answers}
 

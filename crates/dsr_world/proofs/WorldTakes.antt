@@ -34,7 +34,8 @@ use Rattle.dsr_node.specs.Support.Party.{CanTake, HasRoomToTake, TakesReply}
 use Rattle.dsr_node.specs.declared.party.Party.TheVariants.{Loyal, Traitor, Client as ClientParty}
 use Rattle.dsr_ledger.specs.declared.reply.Reply.{Reply as AReply}
 use Rattle.dsr_run.proofs.Lemmas.{posted_entry}
-use Rattle.dsr_run.proofs.Lemmas.{takes_next, take_due}
+use Rattle.dsr_node.proofs.Lemmas.{take_due}
+use Rattle.dsr_world.proofs.NextSteps.{takes_next}
 use Rattle.dsr_world.proofs.Stepping.{played_same, boxes_taken}
 use Rattle.dsr_run.proofs.Lemmas.{posted_within}
 use Rattle.dsr_world.proofs.Worlds.{none_holds, both_hold, actor_is}
@@ -98,7 +99,7 @@ module _ (shape : Shape) (run : List Step) (parties : List Party) (rows : List (
       → (box_at rows (place_of shape from) (place_of shape at)).letter ≡ Some x → Plays shape at (log_of run at) party → HasRoomToTake party
       → CanTake party from x
   can_take (Replica p) (Replica q) x (Loyal r) allowed is full plays room = (
-    plays.stands.due_is ∙ (ap (λ s. due s (log_of run (Replica p))) plays.shape_is ∙ take_due shape allowed run are.is_run p q plays.honest is.timely),
+    plays.stands.due_is ∙ (ap (λ s. due s (log_of run (Replica p))) plays.shape_is ∙ take_due shape (log_of run (Replica p)) p q plays.honest is.timely),
     room,
   )
   can_take (Replica p) (Client c) x (Loyal r) allowed is full plays room = subst (λ s. c < s.m) (sym plays.shape_is) is.other

@@ -34,7 +34,7 @@ use Rattle.dsr_world.specs.Support.WorldFields.{place_of, AreParts, KnowsAll}
 use Rattle.dsr_node.specs.Conduct.{HasSpelledOp}
 use Rattle.dsr_world.specs.declared.mail_boxes.MailBox.{MailBox}
 use Rattle.dsr_node.specs.declared.party.Party.{Party}
-use Rattle.dsr_run.proofs.Lemmas.{posts_next}
+use Rattle.dsr_world.proofs.NextSteps.{posts_next}
 use Rattle.dsr_world.proofs.Stepping.{place_below, played_step, boxes_posted, known_posted}
 
 -- ---- what was not refused

@@ -1,0 +1,3 @@
+-- What the crates above take from one actor's conduct.
+pub use Rattle.dsr_node.proofs.Blindness.{post_blind, is_actor_blind, exhausted_blind, undue_blind}
+pub use Rattle.dsr_node.proofs.Conduct.{replica_next, round_below, client_next, new_request_within, take_due, take_next}

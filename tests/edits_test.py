@@ -1,0 +1,291 @@
+#!/usr/bin/env python3
+"""Tests of what decides which wrong bodies are tried again, and what counts as refused: tests/edits_test.py, with no arguments.
+
+A wrong rule there would pass over an edit in silence. The repositories are made up, the toolchain's lines are as it printed them, and no
+prover runs. The last line is `N passed, M failed`.
+"""
+
+import contextlib
+import io
+import os
+import shutil
+import sys
+import tempfile
+import unittest
+
+sys.dont_write_bytecode = True
+
+import edits
+import refused
+from refused import Outcome, Record, Repository
+
+VERSION = "toolchain-1 logic 0123"
+SAID = """\
+rt: must-fail low/kept.edit: refused, as it must be: note: src/lib.rt:36:5: it is not proved that what the function ensures holds when it returns (`returns`); `search` gave up at one of its l
+rt: must-fail low/at-a-path.edit: refused, as it must be: note: /tmp/rt-edit-x1/src/lib.rt:7:1: it is not proved
+rt: must-fail low/nowhere.edit: refused, as it must be
+rt: must-fail low/still-proved.edit: NOT REFUSED: the crate is still proved with this edit
+rt: must-fail low/no-such-text.edit: BAD EDIT: an 'old:' text is in src/lib.rt 0 times, and not once
+rt: must-fail low/no-such-name.edit: BAD EDIT: it did not reach the prover; the first lines of what it said:
+src/lib.rt:39:28: error[unknown-name]: cannot find value `other` in this scope
+rt: must-fail low/no-such-field.edit: BAD EDIT: the prover cannot read the edited text, so no contract was tried: src/lib.rt:59:30: error: `ensures-some`: record `Slots` has no field `firsts`
+rt: must-fail low/proof-name.edit: refused, as it must be (only because a proof file names what the edit took away, so this says little of the contract: change a value and keep the names): ./proofs/A.antt:3:4: error: `a` is not in scope
+rt: must-fail low/warned.edit: refused, as it must be: proofs/A.antt:3:4: warning: this import is not used
+rt: waiting for another rt to finish in low
+a line that belongs to no edit
+"""
+
+
+def write(path, text):
+    os.makedirs(os.path.dirname(path), exist_ok=True)
+    with open(path, "w", encoding="utf-8") as file:
+        file.write(text)
+
+
+class Made(unittest.TestCase):
+    """A made-up repository: `high` stands on `low`, and `side` on nothing."""
+
+    def setUp(self):
+        self.top = tempfile.mkdtemp(prefix="edits-test-")
+        self.addCleanup(shutil.rmtree, self.top)
+        self.write("crates.txt", "# lowest first\nlow: memchr\nhigh: low itoa\nside:\n")
+        self.write("HANDLES", "Handles allowed: none.\n")
+        for crate in ("low", "high", "side"):
+            self.write(f"crates/{crate}/src/lib.rt", f"pub fn {crate}() {{}}\n")
+            self.write(f"crates/{crate}/wrong-bodies/one.edit", "file: src/lib.rt\nold: {}\nnew: { loop {} }\n")
+
+    def write(self, path, text):
+        write(f"{self.top}/{path}", text)
+
+    def edits(self):
+        return Repository(self.top, VERSION).edits()
+
+    def sums(self, version=VERSION):
+        repository = Repository(self.top, version)
+        return {refused.key_of(edit): repository.sum_of(edit) for edit in repository.edits()[0]}
+
+    def changed_by(self, path, text):
+        """The crates whose edits have another sum once this file has this text, or is gone."""
+        before = self.sums()
+        if text is None:
+            os.remove(f"{self.top}/{path}")
+        else:
+            self.write(path, text)
+        after = self.sums()
+        return {key.split("/")[0] for key in before if before[key] != after[key]}
+
+
+class Sums(Made):
+    def test_a_source_reaches_its_crate_and_those_above(self):
+        self.assertEqual(self.changed_by("crates/low/src/lib.rt", "pub fn lower() {}\n"), {"low", "high"})
+
+    def test_a_source_reaches_no_crate_below(self):
+        self.assertEqual(self.changed_by("crates/high/src/lib.rt", "pub fn higher() {}\n"), {"high"})
+
+    def test_new_specs_proofs_and_tests_count(self):
+        for path in ("specs/A.antt", "proofs/low/B.antt", "src/tests.rt"):
+            self.assertEqual(self.changed_by(f"crates/low/{path}", "-- new\n"), {"low", "high"}, path)
+
+    def test_a_file_that_goes_or_has_another_name_counts(self):
+        self.write("crates/low/proofs/A.antt", "-- a\n")
+        self.assertEqual(self.changed_by("crates/low/proofs/A.antt", None), {"low", "high"})
+        self.write("crates/low/proofs/A.antt", "-- a\n")
+        before = self.sums()
+        os.rename(f"{self.top}/crates/low/proofs/A.antt", f"{self.top}/crates/low/proofs/B.antt")
+        self.assertNotEqual(before["low/one.edit"], self.sums()["low/one.edit"])
+
+    def test_a_text_that_moves_to_the_next_file_counts(self):
+        self.write("crates/low/proofs/A.antt", "-- a\n-- b\n")
+        self.write("crates/low/proofs/B.antt", "-- c\n")
+        before = self.sums()
+        self.write("crates/low/proofs/A.antt", "-- a\n")
+        self.write("crates/low/proofs/B.antt", "-- b\n-- c\n")
+        self.assertNotEqual(before["low/one.edit"], self.sums()["low/one.edit"])
+
+    def test_rows_count_and_comments_do_not(self):
+        self.assertEqual(self.changed_by("crates.txt", "low:   memchr # still\nhigh: low itoa\nside:\n"), set())
+        self.assertEqual(self.changed_by("crates.txt", "low: memchr itoa\nhigh: low itoa\nside:\n"), {"low", "high"})
+        self.assertEqual(self.changed_by("crates.txt", "low: memchr itoa\nhigh: low\nside:\n"), {"high"})
+
+    def test_handles_count(self):
+        self.assertEqual(self.changed_by("HANDLES", "Handles allowed: Wait.\n"), {"low", "high", "side"})
+
+    def test_the_text_of_an_edit_counts_for_itself(self):
+        self.assertEqual(self.changed_by("crates/low/wrong-bodies/one.edit", "file: src/lib.rt\nold: {}\nnew: {;}\n"), {"low"})
+
+    def test_what_was_built_does_not_count(self):
+        self.assertEqual(self.changed_by("crates/low/out/rlib/stamp", "1\n"), set())
+
+    def test_the_toolchain_counts(self):
+        before, after = self.sums(), self.sums("toolchain-2 logic 0123")
+        self.assertTrue(all(before[key] != after[key] for key in before))
+
+    def test_below_is_whole_and_lowest_first(self):
+        self.write("crates.txt", "top: high\nhigh: low\nlow:\nside: top low\n")
+        self.assertEqual(Repository(self.top, VERSION).below("side"), ["low", "high", "top"])
+
+
+class Folders(Made):
+    def faults(self):
+        return self.edits()[1]
+
+    def test_all_is_well(self):
+        self.write("crates/low/wrong-bodies/notes.md", "only to be read\n")
+        found, faults = self.edits()
+        self.assertEqual([refused.key_of(edit) for edit in found], ["high/one.edit", "low/one.edit", "side/one.edit"])
+        self.assertEqual(faults, [])
+
+    def test_an_edit_in_the_other_folder_is_a_fault(self):
+        self.write("crates/low/must-fail/two.edit", "file: src/lib.rt\n")
+        self.assertEqual(len(self.faults()), 1)
+        self.assertIn("crates/low/must-fail/two.edit", self.faults()[0])
+
+    def test_an_edit_of_no_crate_is_a_fault(self):
+        self.write("crates/gone/wrong-bodies/one.edit", "file: src/lib.rt\n")
+        self.assertEqual(len(self.faults()), 1)
+
+    def test_a_wrong_name_or_place_is_a_fault(self):
+        for name in ("two.txt", "a b.edit", "deeper/two.edit"):
+            self.write(f"crates/low/wrong-bodies/{name}", "file: src/lib.rt\n")
+        self.assertEqual(len(self.faults()), 3)
+
+
+class Choice(Made):
+    def chosen(self, record, *words):
+        found = self.edits()[0]
+        sums = {edit: self.sums()[refused.key_of(edit)] for edit in found}
+        return [refused.key_of(edit) for edit in edits.chosen(found, edits.asked_by([*words]), sums, record)]
+
+    def record(self):
+        return {key: Record(value, "src/lib.rt:1:1: it is not proved") for key, value in self.sums().items()}
+
+    def test_what_is_recorded_over_these_sources_is_not_tried(self):
+        self.assertEqual(self.chosen(self.record()), [])
+
+    def test_what_is_not_recorded_is_tried(self):
+        self.assertEqual(len(self.chosen({})), 3)
+
+    def test_what_is_recorded_over_other_sources_is_tried(self):
+        record = self.record()
+        self.write("crates/low/src/lib.rt", "pub fn lower() {}\n")
+        self.assertEqual(self.chosen(record), ["high/one.edit", "low/one.edit"])
+
+    def test_the_sum_of_another_edit_does_not_count(self):
+        record = self.record()
+        record["low/one.edit"] = record["side/one.edit"]
+        self.assertEqual(self.chosen(record), ["low/one.edit"])
+
+    def test_anew_and_names(self):
+        self.assertEqual(len(self.chosen(self.record(), "anew")), 3)
+        self.assertEqual(self.chosen(self.record(), "low/one"), ["low/one.edit"])
+        self.assertEqual(self.chosen(self.record(), "--record", "side", "low/one.edit", "low/one"), ["side/one.edit", "low/one.edit"])
+
+    def test_words_that_are_not_understood(self):
+        for words in (["--recrd"], ["anew", "low/one"], ["low/two"], ["--proved-since"], ["--proved-since", "now"]):
+            with self.assertRaises(SystemExit) as stopped, contextlib.redirect_stderr(io.StringIO()):
+                self.chosen({}, *words)
+            self.assertEqual(stopped.exception.code, 2, words)
+
+
+class TheRecord(Made):
+    def test_it_is_read_as_it_was_written(self):
+        record = {key: Record(value, "src/lib.rt:1:1: it is not proved") for key, value in self.sums().items()}
+        refused.write_record(f"{self.top}/refused.txt", record)
+        self.assertEqual(refused.read_record(f"{self.top}/refused.txt"), record)
+
+    def test_other_lines_are_no_verdict(self):
+        self.write("refused.txt", "# low/one.edit\nlow/one.edit\nlow/one.edit refused here\nlow/one.edit " + "0" * 63 + " here\n\n")
+        self.assertEqual(refused.read_record(f"{self.top}/refused.txt"), {})
+        self.assertEqual(refused.read_record(f"{self.top}/none.txt"), {})
+
+    def test_only_what_is_refused_is_recorded(self):
+        found = self.edits()[0]
+        high, low, side = found
+        sums = {edit: refused.key_of(edit) for edit in found}
+        record = {"low/one.edit": Record("low/one.edit", "here"), "side/one.edit": Record("side/one.edit", "here")}
+        report = edits.Report(sums, record, edits.asked_by([]))
+        with contextlib.redirect_stdout(io.StringIO()) as printed:
+            report.ended("high", {high: Outcome("here", None)}, 1, True)
+            report.ended("low", {low: Outcome(None, "NOT REFUSED")}, 1, True)
+            report.ended("side", {side: Outcome("there", None)}, 1, True)
+        self.assertEqual((report.passed, report.failed, report.elsewhere), (2, 1, 1))
+        self.assertEqual(report.found, {"high/one.edit": Record("high/one.edit", "here"), "low/one.edit": None, "side/one.edit": Record("side/one.edit", "there")})
+        self.assertIn("low/one.edit: FAILED: NOT REFUSED", printed.getvalue())
+
+    def test_the_record_loses_what_is_not_refused_or_gone(self):
+        self.addCleanup(setattr, edits, "RECORD", edits.RECORD)
+        edits.RECORD = f"{self.top}/refused.txt"
+        sum_of_all = "0" * 64
+        refused.write_record(edits.RECORD, {f"low/{name}.edit": Record(sum_of_all, "here") for name in ("kept", "proved", "gone")})
+        report = edits.Report({}, {}, edits.asked_by(["--record"]))
+        report.found = {"low/proved.edit": None, "low/new.edit": Record(sum_of_all, "there")}
+        report.write({"low/gone.edit"})
+        self.assertEqual(refused.read_record(edits.RECORD), {"low/kept.edit": Record(sum_of_all, "here"), "low/new.edit": Record(sum_of_all, "there")})
+
+
+class WhatTheToolchainSays(unittest.TestCase):
+    def setUp(self):
+        self.found = refused.outcomes(SAID)
+
+    def test_all_edits_are_read(self):
+        self.assertEqual(len(self.found), 9)
+
+    def test_refused(self):
+        self.assertEqual(self.found["low/kept.edit"], Outcome("src/lib.rt:36:5: it is not proved that what the function ensures holds when it returns (`returns`)", None))
+        self.assertEqual(self.found["low/at-a-path.edit"].place, "src/lib.rt:7:1: it is not proved")
+        self.assertEqual(self.found["low/nowhere.edit"], Outcome("at no place that was told", None))
+
+    def test_not_refused_and_bad(self):
+        for name, word in (("still-proved", "NOT REFUSED"), ("no-such-text", "BAD EDIT"), ("no-such-name", "BAD EDIT"), ("no-such-field", "BAD EDIT")):
+            outcome = self.found[f"low/{name}.edit"]
+            self.assertIsNone(outcome.place, name)
+            self.assertTrue(outcome.fault.startswith(word), name)
+
+    def test_the_lines_below_an_edit_are_its_own(self):
+        self.assertIn("cannot find value `other`", self.found["low/no-such-name.edit"].fault)
+        self.assertNotIn("belongs to no edit", str(self.found))
+
+    def test_refused_for_no_clause_is_a_fault(self):
+        self.assertIsNone(self.found["low/proof-name.edit"].place)
+        self.assertIn("names what the edit took away", self.found["low/proof-name.edit"].fault)
+        self.assertIn("a warning alone", self.found["low/warned.edit"].fault)
+
+
+class Batches(unittest.TestCase):
+    def batches(self, numbers, lines, processors):
+        made = [refused.Edit(crate, f"{at}.edit", "") for crate, number in numbers.items() for at in range(number)]
+        found = edits.batches_of(made, lines, processors)
+        self.assertEqual(sorted(edit for batch in found for edit in batch.edits), sorted(made))
+        self.assertTrue(all(batch.edits and {edit.crate for edit in batch.edits} == {batch.crate} for batch in found))
+        self.assertEqual([batch.seconds for batch in found], sorted((batch.seconds for batch in found), reverse=True))
+        return {crate: sum(batch.crate == crate for batch in found) for crate in numbers}
+
+    def test_none(self):
+        self.assertEqual(edits.batches_of([], {}, 4), [])
+
+    def test_one_processor_needs_no_second_copy(self):
+        self.assertEqual(self.batches({"low": 40, "high": 40}, {"low": 500, "high": 9000}, 1), {"low": 1, "high": 1})
+
+    def test_where_others_take_as_long_there_is_one_copy_each(self):
+        self.assertEqual(self.batches(dict.fromkeys("abcdefgh", 20), dict.fromkeys("abcdefgh", 2000), 4), dict.fromkeys("abcdefgh", 1))
+
+    def test_one_long_crate_is_split(self):
+        self.assertGreater(self.batches({"low": 4, "high": 50}, {"low": 500, "high": 10000}, 4)["high"], 1)
+
+    def test_no_more_copies_than_edits_processors_or_three(self):
+        self.assertEqual(self.batches({"high": 1}, {"high": 10000}, 4), {"high": 1})
+        self.assertLessEqual(self.batches({"high": 2}, {"high": 10000}, 4)["high"], 2)
+        self.assertLessEqual(self.batches({"high": 50}, {"high": 10000}, 2)["high"], 2)
+        self.assertEqual(self.batches({"high": 90}, {"high": 10000}, 16), {"high": 3})
+
+
+def main():
+    tests = unittest.defaultTestLoader.loadTestsFromModule(sys.modules[__name__])
+    ran = unittest.TextTestRunner(stream=sys.stdout).run(tests)
+    failed = len(ran.failures) + len(ran.errors)
+    print(f"{ran.testsRun - failed} passed, {max(failed, not ran.testsRun)} failed")
+    return 1 if failed or not ran.testsRun else 0
+
+
+if __name__ == "__main__":
+    sys.exit(main())

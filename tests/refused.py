@@ -1,0 +1,177 @@
+"""Wrong bodies and the record of their refusals, for tests/edits.py: which edits there are, what the refusal of each rests on, what
+the toolchain says of them, and tests/refused.txt. Nothing here runs a prover.
+
+The record has a line for each edit that was refused: CRATE/EDIT, a sum, and the place at which it was refused. The sum is a SHA-256
+over all that the refusal rests on: the toolchain's line (`rt version`), HANDLES, of the edit's crate and of each below
+it the row in crates.txt and every file of src/, specs/ and proofs/, and the text of the edit. So an edit whose sum stands
+in the record was refused over exactly these sources. A line with any other sum says nothing.
+"""
+
+import hashlib
+import os
+import re
+from collections import namedtuple
+
+FOLDER = "wrong-bodies"
+# Where rt itself looks for edits. `rt ci` would try them all, each time, and no record would be kept of them.
+FOLDER_OF_RT = "must-fail"
+PARTS = ("src", "specs", "proofs")
+NAME = re.compile(r"[A-Za-z0-9_-][A-Za-z0-9_.-]*\.edit")
+LINE = re.compile(r"rt: must-fail (\S+): (.*)")
+REFUSED = "refused, as it must be"
+LONGEST_PLACE = 140
+HEAD = """\
+# Which wrong bodies the prover refused, over which sources, and where; written by tests/edits.py --record.
+"""
+
+Edit = namedtuple("Edit", "crate name path")
+Record = namedtuple("Record", "sum place")
+# What came of an edit: where it was refused, or what is wrong.
+Outcome = namedtuple("Outcome", "place fault")
+
+
+def key_of(edit):
+    return f"{edit.crate}/{edit.name}"
+
+
+def bytes_of(path):
+    with open(path, "rb") as file:
+        return file.read()
+
+
+def digest(parts):
+    """One sum over these texts in this order. Each goes in with its length, so that none can run on into the next."""
+    total = hashlib.sha256()
+    for part in parts:
+        total.update(b"%d:" % len(part) + part)
+    return total.hexdigest()
+
+
+def files_below(folder):
+    """The paths of all files below the folder, in one order everywhere."""
+    found = []
+    for at, folders, names in os.walk(folder):
+        folders.sort()
+        found += [f"{at}/{name}" for name in names]
+    return sorted(found)
+
+
+def rows_of(path):
+    """What crates.txt says of each crate: its row, and the names that stand after the colon."""
+    rows = {}
+    for line in bytes_of(path).decode().split("\n"):
+        row = " ".join(line.partition("#")[0].split())
+        if row:
+            head, _, uses = row.partition(":")
+            rows[head.split()[0]] = row, re.split(r"[\s,]+", uses.strip())
+    return rows
+
+
+class Repository:
+    """The sources of a repository, as far as refusals rest on them."""
+
+    def __init__(self, top, version):
+        self.top, self.version = top, version
+        self.rows = rows_of(f"{top}/crates.txt")
+        self.sums = {}
+
+    def below(self, crate):
+        """The crates below this one, each after those that it stands on itself."""
+        found = []
+        for name in self.rows[crate][1]:
+            if name in self.rows:
+                found += [it for it in [*self.below(name), name] if it not in found]
+        return found
+
+    def files_of(self, crate):
+        return [path for part in PARTS for path in files_below(f"{self.top}/crates/{crate}/{part}")]
+
+    def lines_of(self, crate):
+        return sum(bytes_of(path).count(b"\n") for path in self.files_of(crate))
+
+    def sum_of_crate(self, crate):
+        """The sum over the crate's own row and files."""
+        if crate not in self.sums:
+            parts = [self.rows[crate][0].encode()]
+            for path in self.files_of(crate):
+                parts += [os.path.relpath(path, f"{self.top}/crates/{crate}").encode(), bytes_of(path)]
+            self.sums[crate] = digest(parts)
+        return self.sums[crate]
+
+    def sum_of(self, edit):
+        """The sum over all that the refusal of this edit rests on."""
+        handles = f"{self.top}/HANDLES"
+        parts = [self.version.encode(), bytes_of(handles) if os.path.exists(handles) else b"none"]
+        for crate in sorted([*self.below(edit.crate), edit.crate]):
+            parts += [crate.encode(), self.sum_of_crate(crate).encode()]
+        return digest([*parts, bytes_of(edit.path)])
+
+    def edits(self):
+        """The edits of all crates, and what is wrong with where files lie."""
+        good, faults = [], []
+        for crate in sorted(os.listdir(f"{self.top}/crates")):
+            folder = f"crates/{crate}"
+            for path in files_below(f"{self.top}/{folder}/{FOLDER_OF_RT}"):
+                faults.append(f"{os.path.relpath(path, self.top)}: edits lie in {folder}/{FOLDER}/, where the record counts: move it there")
+            for path in files_below(f"{self.top}/{folder}/{FOLDER}"):
+                name, short = os.path.basename(path), os.path.relpath(path, self.top)
+                if crate not in self.rows:
+                    faults.append(f"{short}: crates.txt has no crate {crate}")
+                elif os.path.dirname(path) == f"{self.top}/{folder}/{FOLDER}" and NAME.fullmatch(name):
+                    good.append(Edit(crate, name, path))
+                elif not name.endswith(".md"):
+                    faults.append(f"{short}: an edit stands right in {FOLDER}/; its name is of letters, digits, _, - and ., and ends in .edit")
+        return good, faults
+
+
+def read_record(path):
+    """The record, by CRATE/EDIT. What is no line of a record is passed over, so that its edit is tried."""
+    found = {}
+    if os.path.exists(path):
+        for line in bytes_of(path).decode(errors="replace").split("\n"):
+            words = line.split(" ", 2)
+            if len(words) == 3 and re.fullmatch(r"[0-9a-f]{64}", words[1]):
+                found[words[0]] = Record(words[1], words[2])
+    return found
+
+
+def write_record(path, record):
+    """Writes the record, in one step, so that a stop leaves the old one or the new one."""
+    lines = [f"{key} {line.sum} {line.place}\n" for key, line in sorted(record.items())]
+    with open(f"{path}.new", "w", encoding="utf-8") as file:
+        file.write(HEAD + "".join(lines))
+    os.replace(f"{path}.new", path)
+
+
+def place_of(text):
+    """A place and what is said of it, without what tells of the machine: the path of a temporary folder, and how a search ended."""
+    text = re.sub(r"(?<![\w.])/\S*/(?=(src|specs|proofs)/)", "", text.removeprefix("note: ").removeprefix("./"))
+    return " ".join(text.split(";")[0].split())[:LONGEST_PLACE].strip()
+
+
+def outcome_of(said):
+    """What came of an edit, of which rt said this after its name."""
+    if not said.startswith(REFUSED):
+        return Outcome(None, said)
+    more = said.removeprefix(REFUSED)
+    # rt takes these two for refused too, but no clause was tried.
+    if more.startswith(" (only because"):
+        return Outcome(None, f"refused{more}")
+    if re.search(r":\d+:\d+: warning: ", more):
+        return Outcome(None, f"refused for a warning alone, which says nothing of a contract{more}")
+    return Outcome(place_of(more.removeprefix(": ")) or "at no place that was told", None)
+
+
+def outcomes(said):
+    """What came of each edit, by CRATE/EDIT, read from all that `rt must-fail` printed."""
+    found, key = {}, None
+    for line in said.split("\n"):
+        begun = LINE.fullmatch(line)
+        if begun:
+            key = begun[1]
+            found[key] = begun[2]
+        elif line.startswith("rt: "):
+            key = None
+        elif key and line.strip():
+            found[key] += f"\n    {line}"
+    return {key: outcome_of(text) for key, text in found.items()}

@@ -1,0 +1,76 @@
+#!/usr/bin/env python3
+"""Proves and builds the program, for ./dsr: tools/build.py, with no arguments.
+
+First the libraries that it stands on, side by side on all processors (tools/libraries.py), then by `rt run` the program itself. That
+run takes each library that is proved as it stands, and proves what is not. So where the toolchain is of another make, and the
+libraries cannot be built side by side, it does all, one after the other.
+
+It writes on standard error alone. The exit status is 0 where crates/dsr/out/dsr is the program of these sources.
+"""
+
+import os
+import subprocess
+import sys
+import time
+
+import libraries
+
+TOP = os.path.dirname(os.path.dirname(os.path.realpath(__file__)))
+NAME = "dsr"
+FOLDER = f"{TOP}/crates/{NAME}"
+PROGRAM = f"{FOLDER}/out/{NAME}"
+
+
+def say(text):
+    print(f"dsr: {text}", file=sys.stderr, flush=True)
+
+
+def progress(proved, total, names):
+    """Tells how far it is. The program is one crate more than the libraries."""
+    if names:
+        say(f"{proved} of {total + 1} proved; now {', '.join(names)}")
+
+
+def build_libraries():
+    """Builds the libraries side by side, where that can be had."""
+    try:
+        proved = libraries.build(TOP, [NAME], progress)
+        progress(proved, proved, [NAME])
+    except libraries.OtherToolchain as other:
+        say(f"one crate after the other, since this toolchain is not the one that was reckoned with ({other})")
+
+
+def build_program():
+    """Builds the program, and gives what the toolchain said where that fails, else None.
+    rt has no command that builds a program and does not run it. This run only shows the help, and leaves the
+    standard input to the run that is wanted."""
+    run = subprocess.run(["rt", "run", "--", "--help"], cwd=FOLDER, stdin=subprocess.DEVNULL, stdout=subprocess.PIPE,
+                         stderr=subprocess.STDOUT, encoding="utf-8", errors="replace")
+    return run.stdout if run.returncode != 0 else None
+
+
+def fault():
+    """Builds all, and gives what the toolchain said where something is not proved, else None."""
+    try:
+        build_libraries()
+    except libraries.NotBuilt as failed:
+        return f"{failed.said}dsr: {failed.name} is not proved"
+    return build_program()
+
+
+def main():
+    begun = time.time()
+    say("building the program; the first build proves all that it stands on, and takes some 20 minutes")
+    said = fault()
+    if said is not None:
+        print(said, file=sys.stderr)
+        say("the program could not be built")
+        return 1
+    # Where the sources are newer and say the same, rt keeps the program as it is, with its old time.
+    os.utime(PROGRAM, (begun, begun))
+    say(f"built in {(time.time() - begun) / 60:.0f} minutes")
+    return 0
+
+
+if __name__ == "__main__":
+    sys.exit(main())

@@ -1,0 +1,182 @@
+"""Proves and builds libraries of this repository side by side.
+
+`rt run` builds the libraries below a program one after the other, and no word of rt's builds them side by side: `rt all check`
+gives each crate one processor, and a second `rt lib` waits for the first, as both stand on the same libraries. So this loads
+the module in which rt keeps its commands and makes the same call for each library as `rt run` does, over the work
+that earlier checks kept, with the stamp that tells what was proved. Nothing here decides what is proved: whoever uses
+a library, `rt run` or `rt must-fail`, goes by its stamp, and builds it once more where that does not fit.
+
+A toolchain of another make may lack that module, or have other calls in it. Then there is OtherToolchain, and the caller goes
+by rt's own words.
+"""
+
+import importlib.machinery
+import importlib.util
+import os
+import re
+import shutil
+import signal
+import sys
+import tempfile
+from concurrent.futures import FIRST_COMPLETED, ThreadPoolExecutor, wait
+
+# What is called of the module, and of each of its crates.
+CALLS = ("crates_below", "files_of", "guarded", "lock", "stop_on_links")
+CRATE_CALLS = ("below", "build_rlib", "is_built", "makes_rlib", "stamp")
+# A check takes at most 3 GB, and each further job of it less.
+MEMORY_OF_A_JOB = 3_000_000_000
+MOST_JOBS = 4
+
+
+class OtherToolchain(Exception):
+    """The toolchain's module is not there, or not as it is used here."""
+
+
+class NotBuilt(Exception):
+    """A library is not proved: its name, and what the toolchain said."""
+
+    def __init__(self, name, said):
+        super().__init__(name)
+        self.name, self.said = name, said
+
+
+def toolchain():
+    """The module in which rt keeps its commands."""
+    command = shutil.which("rt")
+    if not command:
+        raise OtherToolchain("there is no command rt")
+    path = os.path.join(os.path.dirname(os.path.realpath(command)), "rtlib.py")
+    sys.dont_write_bytecode = True
+    loader = importlib.machinery.SourceFileLoader("rtlib", path)
+    module = importlib.util.module_from_spec(importlib.util.spec_from_loader("rtlib", loader))
+    sys.modules["rtlib"] = module
+    try:
+        loader.exec_module(module)
+    except (OSError, SyntaxError, ImportError) as error:
+        raise OtherToolchain(str(error)) from error
+    lacking = [name for name in CALLS if not hasattr(module, name)]
+    lacking += [name for name in CRATE_CALLS if not hasattr(getattr(module, "Crate", None), name)]
+    if lacking:
+        raise OtherToolchain(f"rtlib.py has no {', '.join(lacking)}")
+    return module
+
+
+def crates_of(module, top):
+    """The repository's crates by their names, lowest first."""
+    return {crate.name: crate for crate in module.crates_below(top)}
+
+
+def processors():
+    """How many checks may run at a time: one a processor, as far as there is memory."""
+    free = 0
+    with open("/proc/meminfo", encoding="utf-8") as file:
+        free = 1024 * int(re.search(r"MemAvailable:\s+(\d+)", file.read())[1])
+    return max(1, min(len(os.sched_getaffinity(0)), free // MEMORY_OF_A_JOB))
+
+
+def lines_of(module, crate):
+    """How many lines the crate has: by them the time of its check is guessed."""
+    found = 0
+    for path in module.files_of(crate.folder):
+        with open(path, "rb") as file:
+            found += file.read().count(b"\n")
+    return found
+
+
+def waiting_for(module, crates):
+    """For each crate's name the lines of the longest chain of crates that begins with it, each standing on the one before."""
+    behind = {}
+    for crate in reversed(crates):
+        above = [behind[other.name] for other in crates if crate in other.deps]
+        behind[crate.name] = lines_of(module, crate) + max(above, default=0)
+    return behind
+
+
+def built(crate, jobs):
+    """Proves one library with so many jobs, and gives its status and what the toolchain said."""
+    with tempfile.TemporaryFile("w+", encoding="utf-8", errors="replace") as crate.out:
+        try:
+            status = crate.build_rlib(["--jobs", str(jobs)], anew=False)
+        except SystemExit as stopped:
+            status = stopped.code or 2
+        crate.out.flush()
+        crate.out.seek(0)
+        return status, crate.out.read()
+
+
+class Lanes:
+    """Libraries that are built side by side: each once those below it are, and first those for which most waits."""
+
+    def __init__(self, module, crates, progress):
+        self.left = [crate for crate in crates if not crate.is_built()]
+        self.progress, self.jobs = progress, {}
+        behind = waiting_for(module, crates)
+        self.left.sort(key=lambda crate: -behind[crate.name])
+        self.total = len(self.left)
+        # A check does not keep all its jobs busy all the time, so half as many again may run.
+        self.lanes = max(1, processors() * 3 // 2)
+        self.running = {}
+
+    def ready(self):
+        waited_for = {*self.left, *self.running.values()}
+        return [crate for crate in self.left if not waited_for.intersection(crate.below())]
+
+    def start(self, pool):
+        """Starts what can start. The first, for which most waits, gets all that is free but one job for each other."""
+        ready = self.ready()
+        for at, crate in enumerate(ready):
+            free = self.lanes - sum(self.jobs[it.name] for it in self.running.values())
+            if free < 1:
+                return
+            self.jobs[crate.name] = max(1, min(MOST_JOBS, free - (len(ready) - at - 1)))
+            self.left.remove(crate)
+            self.running[pool.submit(built, crate, self.jobs[crate.name])] = crate
+
+    def end_some(self):
+        """Waits until a library is built or fails."""
+        for future in wait(self.running, return_when=FIRST_COMPLETED).done:
+            crate = self.running.pop(future)
+            status, said = future.result()
+            if status:
+                raise NotBuilt(crate.name, said)
+
+    def run(self):
+        with ThreadPoolExecutor(self.lanes) as pool:
+            while self.left or self.running:
+                self.start(pool)
+                names = [crate.name for crate in self.running.values()]
+                self.progress(self.total - len(self.left) - len(names), self.total, names)
+                self.end_some()
+        return self.total
+
+
+def needed_by(crates, wanted):
+    """The libraries that have these names or stand below them, lowest first."""
+    names = {it.name for name in wanted for it in [*crates[name].below(), crates[name]] if it.makes_rlib()}
+    return [crate for crate in crates.values() if crate.name in names]
+
+
+def build_with(module, top, wanted, progress):
+    # The first call sets a signal's handler, which only the main thread may.
+    module.guarded()
+    crates = needed_by(crates_of(module, top), wanted)
+    held = module.lock(crates)
+    # An interrupt ends all at once, as under rt. Python would first wait for the checks that are under way.
+    before = signal.signal(signal.SIGINT, signal.SIG_DFL)
+    try:
+        for crate in crates:
+            module.stop_on_links(crate.folder)
+        return Lanes(module, crates, progress).run()
+    finally:
+        signal.signal(signal.SIGINT, before)
+        for it in held:
+            os.close(it)
+
+
+def build(top, wanted, progress):
+    """Proves and builds the libraries of this repository that have these names, and all below them, as far as they are not,
+    and gives how many that were. `progress` is called as checks begin and end: how many are proved, of how many, and the names of those that are at it."""
+    try:
+        return build_with(toolchain(), top, wanted, progress)
+    except (AttributeError, KeyError, TypeError, ValueError) as error:
+        raise OtherToolchain(f"{type(error).__name__}: {error}") from error
