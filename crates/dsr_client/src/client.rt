@@ -100,6 +100,8 @@ impl Client {
         ensures shape { self.new.shape ≡ self.old.shape }
         ensures stands { OnOk result ((log : List Entry) (q : ℕ) → StandsFor self.old log
             → StandsFor self.new (Post (Replica q) (Ask (ask_of self.old.me (suc self.old.accepted) op)) ∷ log)) }
+        ensures given { OnOk result ((log : List Entry) → StandsFor self.old log
+            → ask_to self.old.shape self.old.me log (Begin op) ≡ Some (Ask (ask_of self.old.me (suc self.old.accepted) op))) }
     {
         if self.outstanding.is_some() {
             return Err(Refusal::Busy);
