@@ -12,5 +12,5 @@ pub use Rattle.dsr_replica.proofs.Later.{read_later, kept_later, decided_later, 
 pub use Rattle.dsr_replica.proofs.Posting.{equal_posts, lawful_posts}
 pub use Rattle.dsr_replica.proofs.Replied.{reply_later, replied}
 pub use Rattle.dsr_replica.proofs.Replying.{history_few, history_fits, next_fits}
-pub use Rattle.dsr_replica.proofs.Shown.{own_last, sender_last, sender_shows, plain_shows, choice_shown}
+pub use Rattle.dsr_replica.proofs.Shown.{own_last, only_sender_proposes, sender_last, sender_shows, plain_shows, choice_shown}
 pub use Rattle.dsr_replica.proofs.Sources.{taken_entry, in_some, carried_for, in_part, chain_posted, round_source}

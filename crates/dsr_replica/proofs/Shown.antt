@@ -111,6 +111,11 @@ module _ (shape : Shape) (me : Actor) (log : List Entry) where
       → actor_eq me (sender_of shape (rounds shape log)) ≡ true
   from_sender clients value e = only_sender (actor_eq me (sender_of shape (rounds shape log))) (all_held shape log clients) value e
 
+  -- only a sender proposes requests
+  pub only_sender_proposes : (clients : List ℕ) (envelope : Envelope) → envelope_to shape me log 0 (From clients) ≡ Some envelope
+      → actor_eq me (sender_of shape (rounds shape log)) ≡ true
+  only_sender_proposes clients envelope e = let h = given (From clients) envelope e in from_sender clients h.value h.proposes
+
   clients_proposed : (clients : List ℕ) (value : SlotValue) (envelope : Envelope) → proposed shape me log (From clients) ≡ Some value
       → shown_value envelope ≡ value → shown_clients envelope ≡ clients
   clients_proposed clients value envelope e shows =

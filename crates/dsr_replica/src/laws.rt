@@ -128,10 +128,11 @@ pub fn envelopes_tell_choices()
         → envelope_to shape me log q pick ≡ Some envelope → pick ≡ shown_choice shape me q envelope }
     ensures clients { (shape : Shape) (me : Actor) (log : List Entry) (clients : List ℕ) (envelope : Envelope)
         → envelope_to shape me log 0 (From clients) ≡ Some envelope → shown_clients envelope ≡ clients }
-    ensures idle { (shape : Shape) (log : List Entry) (envelope : Envelope)
-        → envelope_to shape (sender_of shape (rounds shape log)) log 0 Plain ≡ Some envelope → shown_value envelope ≡ Idle }
-    ensures last { (shape : Shape) (log : List Entry) (pick : Pick) (envelope : Envelope)
-        → envelope_to shape (sender_of shape (rounds shape log)) log 0 pick ≡ Some envelope
-        → (value : SlotValue) × (proposed shape (sender_of shape (rounds shape log)) log pick ≡ Some value)
-        × IsOwnLast shape (sender_of shape (rounds shape log)) (rounds shape log) value envelope }
+    ensures sender { (shape : Shape) (me : Actor) (log : List Entry) (clients : List ℕ) (envelope : Envelope)
+        → envelope_to shape me log 0 (From clients) ≡ Some envelope → me ≡ sender_of shape (rounds shape log) }
+    ensures idle { (shape : Shape) (me : Actor) (log : List Entry) (envelope : Envelope) → me ≡ sender_of shape (rounds shape log)
+        → envelope_to shape me log 0 Plain ≡ Some envelope → shown_value envelope ≡ Idle }
+    ensures last { (shape : Shape) (me : Actor) (log : List Entry) (pick : Pick) (envelope : Envelope) → me ≡ sender_of shape (rounds shape log)
+        → envelope_to shape me log 0 pick ≡ Some envelope
+        → (value : SlotValue) × (proposed shape me log pick ≡ Some value) × IsOwnLast shape me (rounds shape log) value envelope }
 {}
