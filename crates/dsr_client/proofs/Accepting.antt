@@ -30,7 +30,7 @@ module _ (shape : Shape) where
   asked_accepts (Some other) ask state = refl
 
   -- the reply that wins by a note, where none had won
-  new_winner : (o : Option AReply) → o ≡ None → (b : Bool) (reply w : AReply) → option_or o (if b then Some reply else None) ≡ Some w → reply ≡ w
+  pub new_winner : (o : Option AReply) → o ≡ None → (b : Bool) (reply w : AReply) → option_or o (if b then Some reply else None) ≡ Some w → reply ≡ w
   new_winner (Some r) none b reply w e = absurd (none-some r (sym none))
   new_winner None none true reply w e = same_Some reply w e
   new_winner None none false reply w e = absurd (none-some w e)

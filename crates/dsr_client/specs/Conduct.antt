@@ -34,6 +34,11 @@ chosen_beside o me number (From clients) = None
 abbrev pub ask_to : Shape → ℕ → List Entry → Pick → Option Envelope
 ask_to shape me log pick = option_map Ask (chosen_beside (outstanding shape log) me (next_number shape log) pick)
 
+-- the choice that an ask tells, beside what was outstanding before: to ask for that again, or to begin a request of its operation
+abbrev pub told_choice : Option SignedRequest → SignedRequest → Pick
+told_choice (Some current) ask = Plain
+told_choice None ask = Begin ask.request.op
+
 -- what a client may do next: it asks replicas for the outstanding request, or for a new one where nothing is outstanding; it tells
 -- other clients its seen front; and it takes from every other actor
 abbrev pub IsNext : Shape → ℕ → List Entry → Entry → Type 0

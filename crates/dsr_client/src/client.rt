@@ -4,11 +4,13 @@ ghost use Rattle.dsr_names.specs.Shape.{IsActor};
 ghost use Rattle.dsr_names.specs.declared.actor.Actor.{Actor};
 ghost use Rattle.dsr_names.specs.declared.actor.Actor.TheVariants.{Replica, Client as AClient};
 ghost use Rattle.dsr_envelope.specs.Limits.{IsEnvelope};
+ghost use Rattle.dsr_envelope.specs.declared.envelope.Envelope.{Envelope};
 ghost use Rattle.dsr_envelope.specs.declared.envelope.Envelope.TheVariants.{Ask, Reply as AReply, Seen};
 ghost use Rattle.dsr_envelope.specs.declared.entry.Entry.{Entry};
 ghost use Rattle.dsr_envelope.specs.declared.entry.Entry.TheVariants.{Post, Take};
+ghost use Rattle.dsr_envelope.specs.declared.step.Pick.TheVariants.{Begin};
 ghost use Rattle.dsr_client.specs.Client.{StandsFor, MayBegin, IsClientOf};
-ghost use Rattle.dsr_client.specs.Conduct.{ask_of};
+ghost use Rattle.dsr_client.specs.Conduct.{ask_of, ask_to};
 ghost use Rattle.dsr_client.specs.State.{outstanding, accepted, seen};
 
 use dsr_chain::SignedRequest;
@@ -78,6 +80,8 @@ impl Client {
     pub fn first_ask(&self, op: Op) -> Option<Envelope>
         ensures ask { IfSome result (λ envelope. envelope ≡ Ask (ask_of self.now.me (suc self.now.accepted) op)) }
         ensures when { IsSome result ↔ MayBegin self.now }
+        ensures stands { (log : List Entry) → StandsFor self.now log
+            → IfSome result (λ envelope. ask_to self.now.shape self.now.me log (Begin op) ≡ Some envelope) }
     {
         let ask = self.next_ask(op)?;
         Some(Envelope::Ask(ask))
@@ -96,6 +100,8 @@ impl Client {
         ensures shape { self.new.shape ≡ self.old.shape }
         ensures stands { OnOk result ((log : List Entry) (q : ℕ) → StandsFor self.old log
             → StandsFor self.new (Post (Replica q) (Ask (ask_of self.old.me (suc self.old.accepted) op)) ∷ log)) }
+        ensures given { OnOk result ((log : List Entry) → StandsFor self.old log
+            → ask_to self.old.shape self.old.me log (Begin op) ≡ Some (Ask (ask_of self.old.me (suc self.old.accepted) op))) }
     {
         if self.outstanding.is_some() {
             return Err(Refusal::Busy);
@@ -108,11 +114,14 @@ impl Client {
         Ok(ask.request.number())
     }
 
-    /// The ask of the outstanding request, to be posted to this replica; `None` where nothing is outstanding.
+    /// The ask of the outstanding request, to be posted to this replica; `None` where nothing is outstanding. It may be posted to any
+    /// replica at any time, which changes nothing of the client.
     pub fn ask_for(&self, _replica: ReplicaId) -> Option<Envelope>
         ensures same { result ≡ option_map Ask self.now.outstanding }
         ensures stands { (log : List Entry) → StandsFor self.now log
             → result ≡ option_map Ask (outstanding self.now.shape log) }
+        ensures posted { (log : List Entry) (q : ℕ) (envelope : Envelope) → StandsFor self.now log
+            → result ≡ Some envelope → StandsFor self.now (Post (Replica q) envelope ∷ log) }
     {
         let ask = self.outstanding.as_ref()?;
         Some(Envelope::Ask(*ask))
@@ -142,11 +151,14 @@ impl Client {
         }
     }
 
-    /// The seen front: how many of the history's first places the client knows to be there, at most 2^40.
+    /// The seen front: how many of the history's first places the client knows to be there, at most 2^40. It may be told to another
+    /// client at any time, which changes nothing of the client.
     pub fn seen(&self) -> u64
         ensures same { result ≡ self.now.seen }
         ensures most { result ≤ 2 ^ 40 }
         ensures stands { (log : List Entry) → StandsFor self.now log → result ≡ seen self.now.shape log }
+        ensures posted { (log : List Entry) (c : ℕ) → StandsFor self.now log
+            → StandsFor self.now (Post (AClient c) (Seen result) ∷ log) }
     {
         self.seen
     }

@@ -101,6 +101,16 @@ fn write_5() -> Result<Op, Fail> {
     Ok(Op::Write { name, value: 5 })
 }
 
+/// Clients may be handed to another thread.
+fn may_send<T: Send>(_: &T) {}
+
+#[test]
+fn may_go_into_a_thread(rt: HostRuntime) -> Result<(), Fail> {
+    let shape = Shape::new(3, 1, 2, 0)?;
+    may_send(&client_of(rt.alloc(), &shape)?);
+    Ok(())
+}
+
 #[test]
 fn a_reply_of_two_replicas_is_accepted(rt: HostRuntime) -> Result<(), Fail> {
     let shape = Shape::new(3, 1, 2, 0)?;

@@ -163,3 +163,23 @@ fn no_client_stands_twice(rt: HostRuntime) -> Result<(), Fail> {
 fn an_entry_takes_16_bytes(rt: HostRuntime) {
     assert_eq!(rt; size_of::<Entry>(), 16);
 }
+
+/// What one thread makes and another takes may be handed over.
+fn may_send<T: Send>(_: &T) {}
+
+/// What boxes and logs share may be read by both.
+fn may_share<T: Send + Sync>(_: &T) {}
+
+#[test]
+fn may_go_between_threads(rt: HostRuntime) -> Result<(), Fail> {
+    let envelope = round_of(rt.alloc(), 4, &[3, 4])?;
+    may_share(&envelope);
+    let letter = Letter::of(rt.alloc(), envelope)?;
+    may_share(&letter);
+    let to = Actor::Replica(ReplicaId::FIRST);
+    may_send(&Entry::Post {
+        to,
+        envelope: letter,
+    });
+    Ok(())
+}

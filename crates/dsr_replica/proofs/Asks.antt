@@ -165,7 +165,7 @@ held_may shape log clients asks list are =
       taken = are.taken;
     }
 
-from_parts : (b : Bool) (o : Option (List SignedRequest)) (value : SlotValue) → (if b then option_map Act o else None) ≡ Some value
+pub from_parts : (b : Bool) (o : Option (List SignedRequest)) (value : SlotValue) → (if b then option_map Act o else None) ≡ Some value
     → (asks : List SignedRequest) × (o ≡ Some asks) × (Act asks ≡ value)
 from_parts true None value e = absurd (none-some value e)
 from_parts true (Some asks) value e = (asks, refl, same_Some (Act asks) value e)

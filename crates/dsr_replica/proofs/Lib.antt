@@ -15,5 +15,6 @@ mod Posts
 mod Reading
 mod Replied
 mod Replying
+mod Shown
 mod Sources
 mod Standing

@@ -4,4 +4,5 @@ pub mod Decided
 pub mod Held
 pub mod Posts
 pub mod Replica
+pub mod Shown
 pub mod Support

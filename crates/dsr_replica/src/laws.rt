@@ -12,13 +12,16 @@ ghost use Rattle.dsr_history.specs.History.{acted};
 ghost use Rattle.dsr_rotation.specs.Calendar.{first_round};
 ghost use Rattle.dsr_desk.specs.Signature.{Signature};
 ghost use Rattle.dsr_chain.specs.Chain.{Chain};
-ghost use Rattle.dsr_chain.specs.Proper.{IsReplica};
+ghost use Rattle.dsr_chain.specs.Proper.{IsReplica, sender_of};
+ghost use Rattle.dsr_chain.specs.declared.slot_value.SlotValue.{SlotValue};
+ghost use Rattle.dsr_chain.specs.declared.slot_value.SlotValue.TheVariants.{Idle};
 ghost use Rattle.dsr_envelope.specs.declared.envelope.Envelope.{Envelope};
 ghost use Rattle.dsr_envelope.specs.declared.entry.Entry.{Entry};
 ghost use Rattle.dsr_envelope.specs.declared.entry.Entry.TheVariants.{Post, Take};
 ghost use Rattle.dsr_envelope.specs.declared.step.Due.TheVariants.{Take as TakeFrom};
 ghost use Rattle.dsr_envelope.specs.declared.step.Pick.{Pick};
-ghost use Rattle.dsr_replica.specs.Conduct.{envelope_to, reply_to, IsNext, IsLoyalLog};
+ghost use Rattle.dsr_envelope.specs.declared.step.Pick.TheVariants.{Plain, From};
+ghost use Rattle.dsr_replica.specs.Conduct.{proposed, envelope_to, reply_to, IsNext, IsLoyalLog};
 ghost use Rattle.dsr_replica.specs.Counts.{HasCounts};
 ghost use Rattle.dsr_replica.specs.Decided.{read_in, slot_kept, decided_values, decided_requests};
 ghost use Rattle.dsr_envelope.specs.Envelope.{chains_for, Carries};
@@ -27,6 +30,7 @@ ghost use Rattle.dsr_envelope.specs.Limits.{IsEnvelope};
 ghost use Rattle.dsr_envelope.specs.Log.{posted_to, due, rounds};
 ghost use Rattle.dsr_envelope.specs.Pick.{IsPick};
 ghost use Rattle.dsr_replica.specs.Posts.{IsOfRound, IsPosted, WasTaken};
+ghost use Rattle.dsr_replica.specs.Shown.{shown_value, shown_clients, shown_choice, IsOwnLast};
 
 /// The log of a `Replica` is a loyal one: the empty log is, and so is a loyal log with the entry that a call adds. That is a post to
 /// a replica by an allowed choice, the reply posted to a client, a take that is due, or a take from a client.
@@ -114,4 +118,21 @@ pub fn conduct_is_blind()
         → envelope_to shape me log to pick ≡ envelope_to other me log to pick }
     ensures conduct { (shape other : Shape) → AgreeButForTraitors shape other → (me : Actor) (log : List Entry)
         → IsLoyalLog shape me log → IsLoyalLog other me log }
+{}
+
+/// An envelope to a replica tells the choice by which it was posted: whatever the log, if some choice gave it, it was the one that it
+/// shows. In the round that begins a slot of its own a replica's chain for that slot stands last: on the requests of the chosen
+/// clients, in their order, and on idle for the plain choice. To the replicas after the first all posts are by the plain one.
+pub fn envelopes_tell_choices()
+    ensures choice { (shape : Shape) (me : Actor) (log : List Entry) (q : ℕ) (pick : Pick) (envelope : Envelope) → IsPick pick
+        → envelope_to shape me log q pick ≡ Some envelope → pick ≡ shown_choice shape me q envelope }
+    ensures clients { (shape : Shape) (me : Actor) (log : List Entry) (clients : List ℕ) (envelope : Envelope)
+        → envelope_to shape me log 0 (From clients) ≡ Some envelope → shown_clients envelope ≡ clients }
+    ensures sender { (shape : Shape) (me : Actor) (log : List Entry) (clients : List ℕ) (envelope : Envelope)
+        → envelope_to shape me log 0 (From clients) ≡ Some envelope → me ≡ sender_of shape (rounds shape log) }
+    ensures idle { (shape : Shape) (me : Actor) (log : List Entry) (envelope : Envelope) → me ≡ sender_of shape (rounds shape log)
+        → envelope_to shape me log 0 Plain ≡ Some envelope → shown_value envelope ≡ Idle }
+    ensures last { (shape : Shape) (me : Actor) (log : List Entry) (pick : Pick) (envelope : Envelope) → me ≡ sender_of shape (rounds shape log)
+        → envelope_to shape me log 0 pick ≡ Some envelope
+        → (value : SlotValue) × (proposed shape me log pick ≡ Some value) × IsOwnLast shape me (rounds shape log) value envelope }
 {}

@@ -125,3 +125,13 @@ fn one_replica_decides_and_replies(rt: HostRuntime) -> Result<(), Fail> {
     take(&mut one.replica, envelope)?;
     has_decided(&rt, &one.replica)
 }
+
+/// Replicas may be handed to another thread.
+fn may_send<T: Send>(_: &T) {}
+
+#[test]
+fn may_go_into_a_thread(rt: HostRuntime) -> Result<(), Fail> {
+    let one = begin_alone(rt.alloc())?;
+    may_send(&one.replica);
+    Ok(())
+}

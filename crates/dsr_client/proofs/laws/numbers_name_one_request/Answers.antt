@@ -1,3 +1,4 @@
+use Rattle.dsr_client.proofs.Asked.{was_posted}
 use Rattle.dsr_client.proofs.Numbers.{numbered}
 use Rattle.dsr_client.proofs.laws.numbers_name_one_request.Goals as goal
 
@@ -9,3 +10,6 @@ returns-clause-own c shape me log loyal q ask inside = let own = ((numbered shap
 
 pub returns-clause-next : goal.returns-clause-next
 returns-clause-next c shape me log loyal ask current = ((numbered shape me log loyal).next ask current).0
+
+pub returns-clause-posted : goal.returns-clause-posted
+returns-clause-posted c shape log ask current = was_posted shape log ask current

@@ -1,16 +1,10 @@
-use Rattle.std.proofs.Common.{◌≡◌, ◌≤◌, ◌^◌, ◌∙◌, Some, refl, ap, sym, subst, arith}
-use Rattle.std.specs.Prelude.{IsSome, IfErr}
+use Rattle.std.proofs.Common.{◌≤◌, ◌^◌, ◌∙◌, refl, ap, sym, subst, arith}
+use Rattle.std.specs.Prelude.{IsSome}
 use Rattle.std.proofs.lemmas.Bool.{false≢true}
 use Rattle.std.proofs.lemmas.Option.{none-some}
-use Rattle.std.proofs.lemmas.Result.{IfOk-weaker}
-use Rattle.dsr_names.specs.declared.refusal.Refusal.{Refusal}
-use Rattle.dsr_names.specs.declared.refusal.Refusal.TheVariants.{NotDue, NoMemory}
-use Rattle.dsr_replica.specs.Conduct.{envelope_with, envelope_to}
+use Rattle.dsr_replica.specs.Conduct.{envelope_with}
 use Rattle.dsr_replica.specs.Replica.{Replica, value_for}
-use Rattle.dsr_envelope.specs.Envelope.{round_envelope}
-use Rattle.dsr_replica.specs.Support.Flights.{posts_of}
 use Rattle.dsr_replica.proofs.Choosing.{none_given, some_given, due_of, round_within, is_some, is_none}
-use Rattle.dsr_replica.proofs.Posts.{envelope_made}
 use Rattle.dsr_replica.proofs.Standing.{rounds_are}
 use Rattle.dsr_replica.proofs.replica.Replica.refusal.Goals as goal
 
