@@ -1,5 +1,6 @@
 pub mod Actor
 pub mod Limits
+pub mod Places
 pub mod Refusal
 pub mod Shape
 pub mod ShapeText

@@ -56,8 +56,8 @@ impl ReplicaId {
         }
     }
 
-    /// The replica of this number, where it is known to be below 16.
-    pub(crate) fn of(number: u8) -> ReplicaId
+    /// The replica of this number. Requires that it is below 16: `new` is for a number that may not be.
+    pub fn of(number: u8) -> ReplicaId
         requires { number < 16 }
         ensures { result ≡ number }
     {
@@ -129,6 +129,14 @@ impl ClientId {
             Actor::Client(client) => Some(client),
             Actor::Replica(_) => None,
         }
+    }
+
+    /// The client of this number. Requires that it is below 32: `new` is for a number that may not be.
+    pub fn of(number: u8) -> ClientId
+        requires { number < 32 }
+        ensures { result ≡ number }
+    {
+        ClientId { number }
     }
 
     /// The client's number, below 32.

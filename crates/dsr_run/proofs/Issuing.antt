@@ -18,7 +18,7 @@ use Rattle.dsr_envelope.specs.declared.entry.Entry.TheVariants.{Post}
 use Rattle.dsr_client.specs.State.{seen}
 use Rattle.dsr_client.proofs.Lemmas.{seen_below}
 use Rattle.dsr_run.specs.History.{seen_by, history}
-use Rattle.dsr_run.specs.Right.{is_ask_for, issue_front}
+use Rattle.dsr_client.specs.Issue.{is_ask_for, issue_front}
 use Rattle.dsr_run.specs.Run.{KeepsConduct, IsRun}
 use Rattle.dsr_run.specs.Step.{Step, log_of}
 use Rattle.dsr_run.proofs.Accepting.{WasPosted, stands_in, stands_below, history_posted, accepted_right}

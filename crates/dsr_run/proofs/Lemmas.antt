@@ -13,3 +13,4 @@ pub use Rattle.dsr_run.proofs.Agreements.{all_agree}
 pub use Rattle.dsr_run.proofs.Deciding.{IsBest, as_best, best_kept, best_more, best_past}
 pub use Rattle.dsr_run.proofs.Righting.{all_right, lent_answered, lent_right}
 pub use Rattle.dsr_run.proofs.NextSteps.{run_logs, post_within, post_next, take_next, own_keeps}
+pub use Rattle.dsr_run.proofs.Knowing.{known_posted, known_still}

@@ -10,6 +10,7 @@ mod Family
 mod Forging
 mod Histories
 mod Issuing
+mod Knowing
 pub mod Lemmas
 mod Links
 mod LogLaws

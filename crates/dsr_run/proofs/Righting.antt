@@ -17,7 +17,8 @@ use Rattle.dsr_envelope.specs.declared.entry.Entry.TheVariants.{Take}
 use Rattle.dsr_client.specs.State.{outstanding, accepted}
 use Rattle.dsr_client.proofs.Lemmas.{answered}
 use Rattle.dsr_run.specs.History.{accepted_by, history}
-use Rattle.dsr_run.specs.Right.{issue_front, IsRightReply, IsRight, TookAllReplies, HasReplyTo}
+use Rattle.dsr_client.specs.Issue.{issue_front}
+use Rattle.dsr_run.specs.Right.{IsRightReply, IsRight, TookAllReplies, HasReplyTo}
 use Rattle.dsr_run.specs.Run.{IsRun}
 use Rattle.dsr_run.specs.Step.{Step, log_of}
 use Rattle.dsr_run.proofs.Accepting.{WasPosted, stands_in, history_posted, reply_right, accepted_right}

@@ -15,29 +15,9 @@ use Rattle.dsr_envelope.specs.declared.envelope.Envelope.TheVariants.{Empty, Rou
 use Rattle.dsr_envelope.specs.declared.entry.Entry.{Entry}
 use Rattle.dsr_envelope.specs.declared.entry.Entry.TheVariants.{Post, Take}
 use Rattle.dsr_client.specs.State.{outstanding, seen}
+use Rattle.dsr_client.specs.Issue.{issue_front}
 use Rattle.dsr_run.specs.History.{accepted_by, history}
 use Rattle.dsr_run.specs.Step.{Step, log_of}
-
--- whether the envelope asks for a request of this number
-abbrev pub asks_for : ℕ → Envelope → Bool
-asks_for number Empty = false
-asks_for number (Round round chains) = false
-asks_for number (Ask ask) = ask.request.number == number
-asks_for number (Reply reply) = false
-asks_for number (Seen front) = false
-
--- whether the entry asks a replica for a request of this number
-abbrev pub is_ask_for : ℕ → Entry → Bool
-is_ask_for number (Post (Replica q) envelope) = asks_for number envelope
-is_ask_for number (Post (Client c) envelope) = false
-is_ask_for number (Take from envelope) = false
-
--- the issue front of a number: what the client had seen just before it first asked for a request of this number; none where it
--- never did
-abbrev pub issue_front : Shape → ℕ → List Entry → Option ℕ
-issue_front shape number [] = None
-issue_front shape number (entry ∷ older) =
-    option_or (issue_front shape number older) (if is_ask_for number entry then Some (seen shape older) else None)
 
 -- a client's accepted reply is right: at its place in the history stands the very request that the client posted under its number,
 -- with this answer there; and the place is not before the issue front

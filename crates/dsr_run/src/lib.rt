@@ -13,4 +13,4 @@ pub use laws::{
     loyal_replicas_sign_few_links, loyal_senders_values_are_decided, no_signature_is_forged,
     runs_agree, runs_go_on, runs_keep_conduct,
 };
-pub use own::{counters_are_kept, logs_are_right, own_logs_are_enough};
+pub use own::{counters_are_kept, logs_are_right, own_logs_are_enough, posts_are_known};

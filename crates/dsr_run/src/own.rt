@@ -1,7 +1,7 @@
 //! That an actor's own log and the box that it uses are enough for its next step, and the laws of runs over logs alone. Laws, as the
 //! contracts of functions that do nothing.
 
-ghost use Rattle.std.specs.Prelude.{◌≡◌, ◌⊎◌, ℕ, ◌<◌, ◌≤◌, ◌^◌, [], ◌∷◌, ◌++◌, length};
+ghost use Rattle.std.specs.Prelude.{◌≡◌, ◌⊎◌, ◌↔◌, ℕ, ◌<◌, ◌≤◌, ◌^◌, List, [], ◌∷◌, ◌++◌, length};
 ghost use Rattle.dsr_base.specs.Growth.{Extends};
 ghost use Rattle.dsr_base.specs.Member.{In};
 ghost use Rattle.dsr_names.specs.Shape.{Shape, IsAllowed, HasFewTraitors, IsActor, IsLoyal};
@@ -18,10 +18,12 @@ ghost use Rattle.dsr_replica.specs.Conduct.{IsLoyalLog};
 ghost use Rattle.dsr_replica.specs.Posts.{WasTaken};
 ghost use Rattle.dsr_client.specs.Conduct.{IsClientLog};
 ghost use Rattle.dsr_run.specs.History.{accepted_by, decided_at, seen_by, history};
+ghost use Rattle.dsr_envelope.specs.Envelope.{Carries};
+ghost use Rattle.dsr_run.specs.Known.{KnowsPosts};
 ghost use Rattle.dsr_run.specs.OwnStep.{KeepsOwn, MayPost, HasPostsLeft};
 ghost use Rattle.dsr_run.specs.Right.{IsRightReply};
 ghost use Rattle.dsr_run.specs.Run.{IsNextStep, AreLogs, IsMadeOrPosted};
-ghost use Rattle.dsr_run.specs.Step.{Logs};
+ghost use Rattle.dsr_run.specs.Step.{Step, Logs, log_of};
 
 /// What an actor may do next is a matter of its own log and of the one box that it uses: a post that its own log allows, into a box
 /// whose posted envelopes are all taken, may be next in the run; so may a take that its own log allows, from a box with one envelope
@@ -68,4 +70,15 @@ pub fn counters_are_kept()
     ensures few { (shape : Shape) (logs : Logs) → AreLogs shape logs → length (history shape logs) ≤ 2 ^ 39 }
     ensures numbers { (shape : Shape) (logs : Logs) → HasFewTraitors shape → AreLogs shape logs → (c : ℕ) (reply : AReply)
         → In reply (accepted_by shape logs c) → reply.number < 2 ^ 40 }
+{}
+
+/// What is known of loyal actors' posts grows by what a loyal actor posts, and by nothing else: with each post of a loyal actor what it
+/// carries is known too, and any other step makes nothing known.
+pub fn posts_are_known()
+    ensures posted { (shape : Shape) (older : List Step) (known new : List Signature) (a to : Actor) (envelope : Envelope)
+        → KnowsPosts shape (log_of older) known → IsLoyal shape a → ((s : Signature) → In s new ↔ (In s known ⊎ Carries envelope s))
+        → KnowsPosts shape (log_of ((a, Post to envelope) ∷ older)) new }
+    ensures still { (shape : Shape) (older : List Step) (known : List Signature) (step : Step) → KnowsPosts shape (log_of older) known
+        → ((to : Actor) (envelope : Envelope) → step.1 ≡ Post to envelope → IsLoyal shape step.0 → ⊥)
+        → KnowsPosts shape (log_of (step ∷ older)) known }
 {}

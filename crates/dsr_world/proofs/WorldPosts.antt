@@ -23,10 +23,12 @@ use Rattle.dsr_run.specs.Run.{IsNextStep, IsTraitor}
 use Rattle.dsr_run.specs.Step.{Step, Logs, log_of}
 use Rattle.dsr_world.specs.Support.Boxes.{box_at, with_box, with_post}
 use Rattle.dsr_node.specs.Node.{Plays}
-use Rattle.dsr_world.specs.Support.WorldFields.{place_of, AreParts, KnowsAll}
+use Rattle.dsr_world.specs.Support.WorldFields.{place_of, AreParts}
+use Rattle.dsr_run.specs.Known.{KnowsAll}
 use Rattle.dsr_world.specs.declared.mail_boxes.MailBox.{MailBox}
 use Rattle.dsr_node.specs.declared.node.Node.{Node}
-use Rattle.dsr_world.proofs.Stepping.{boxes_posted, known_posted, known_still}
+use Rattle.dsr_run.proofs.Lemmas.{known_posted, known_still}
+use Rattle.dsr_world.proofs.Stepping.{boxes_posted}
 use Rattle.std.proofs.lemmas.Bool.Decides.{Decides-eqb}
 use Rattle.dsr_envelope.specs.Limits.{IsEnvelope}
 use Rattle.dsr_client.specs.State.{seen}

@@ -23,7 +23,8 @@ use Rattle.dsr_node.specs.Node.{Plays}
 use Rattle.dsr_world.specs.Support.WorldFields.{place_of, AreParts}
 use Rattle.dsr_world.specs.declared.mail_boxes.MailBox.{MailBox}
 use Rattle.dsr_node.specs.declared.node.Node.{Node}
-use Rattle.dsr_world.proofs.Stepping.{played_step, known_still}
+use Rattle.dsr_run.proofs.Lemmas.{known_still}
+use Rattle.dsr_world.proofs.Stepping.{played_step}
 use Rattle.std.specs.Prelude.{slice_get}
 use Rattle.std.proofs.lemmas.Bool.Decides.{Decides-eqb}
 use Rattle.dsr_envelope.specs.Limits.{IsEnvelope}

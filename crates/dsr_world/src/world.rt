@@ -17,13 +17,11 @@ ghost use Rattle.dsr_envelope.specs.Envelope.{Carries};
 ghost use Rattle.dsr_names.specs.declared.actor.Actor.{Actor};
 ghost use Rattle.dsr_names.specs.declared.refusal.Refusal.{Refusal};
 ghost use Rattle.dsr_world.specs.Event.{HasDone, IsRefusedBy, IsForgedAtLast, is_full, is_used_up, refusal_of, first_of};
-ghost use Rattle.dsr_play.specs.Event.{IsWithin};
 ghost use Rattle.dsr_node.specs.Conduct.{is_actor, is_traitor_of, are_clients, is_own_client, are_two_clients, post_of};
 ghost use Rattle.dsr_envelope.specs.declared.entry.Entry.TheVariants.{Post as PostEntry};
 ghost use Rattle.dsr_envelope.specs.declared.step.Pick.TheVariants.{Plain};
 ghost use Rattle.dsr_client.specs.Conduct.{ask_to};
 ghost use Rattle.dsr_run.specs.History.{accepted_by, decided_at, history, seen_by};
-ghost use Rattle.dsr_play.specs.Event.{AreWithin};
 ghost use Rattle.dsr_world.specs.Outcome.{HasEnded};
 ghost use Rattle.dsr_run.specs.Agreement.{HasAgreement};
 ghost use Rattle.dsr_run.specs.Right.{IsRight, IsRightReply, TookAllReplies, HasReplyTo};
@@ -189,15 +187,13 @@ impl World {
         history
     }
 
-    /// Makes the event happen, and returns the reply that a client accepts by it. Requires that a traitor's envelope is within the
-    /// limits.
+    /// Makes the event happen, and returns the reply that a client accepts by it.
     ///
     /// Refused with the first of these that holds: `NoActor` where an actor is not one of the shape; `WrongRole` where it is not the
     /// actor's part; `NotDue` where the actor's conduct has no such step now; `Exhausted` where a counter would pass its limit;
     /// `BoxFull` or `BoxEmpty`; `Forged` where a traitor's envelope has a signature that is neither a traitor's nor posted by its
     /// signer; `NoMemory` where memory runs out. After each of them the world is as before.
     pub fn step(&mut self, alloc: Global, event: &Event) -> Result<Option<Reply>, Refusal>
-        requires { IsWithin event.now }
         ensures done { IfOk result (HasDone self.old.shape self.new.run self.old.run event.now) }
         ensures refused { (refusal : Refusal) → refusal_of self.old.shape (log_of self.old.run) event.now ≡ Some refusal → result ≡ Err refusal }
         ensures forged { (result ≡ Err Refusal.Forged) ↔ IsForgedAtLast self.old.shape (log_of self.old.run) event.now }
@@ -214,10 +210,8 @@ impl World {
     }
 
     /// Makes each of the events happen in turn, refused ones left out, and returns how many were done and refused. An event for which
-    /// memory runs out is refused with `NoMemory`, and counted in `starved` too. Requires that what traitors are to post is within the
-    /// limits.
+    /// memory runs out is refused with `NoMemory`, and counted in `starved` too.
     pub fn run(&mut self, alloc: Global, events: &[Event]) -> RunEnd
-        requires { AreWithin events.now }
         ensures ended { HasEnded self.old.shape self.new.run self.old.run events.now result }
         ensures all { result.done + result.refused ≡ length events.now }
         ensures grew { Extends self.new.run self.old.run }
@@ -401,7 +395,6 @@ impl World {
         to: &Actor,
         draft: &Draft,
     ) -> Result<Option<Reply>, Refusal>
-        requires { IsEnvelope draft.now }
         ensures done { IfOk result (HasDone self.old.shape self.new.run self.old.run (Plant from.now to.now draft.now)) }
         ensures refused { (refusal : Refusal)
             → refusal_of self.old.shape (log_of self.old.run) (Plant from.now to.now draft.now) ≡ Some refusal → result ≡ Err refusal }
@@ -433,6 +426,7 @@ impl World {
         draft: &Draft,
     ) -> Result<Envelope, Refusal>
         ensures same { IfOk result (λ envelope. envelope ≡ draft.now) }
+        ensures within { OnOk result (IsEnvelope draft.now) }
         ensures none { OnOk result (refusal_of self.now.shape (log_of self.now.run) (Plant from.now to.now draft.now) ≡ None) }
         ensures made { OnOk result (ForgesNothing self.now.shape (log_of self.now.run) (PostEntry to.now draft.now)) }
         ensures refused { (refusal : Refusal)

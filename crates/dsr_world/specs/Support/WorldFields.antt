@@ -13,7 +13,8 @@ use Rattle.dsr_envelope.specs.declared.step.Pick.TheVariants.{Plain, From, Begin
 use Rattle.dsr_envelope.specs.declared.envelope.Envelope.{Envelope}
 use Rattle.dsr_envelope.specs.Log.{posted_to, taken_from}
 use Rattle.dsr_world.specs.Event.{is_full, is_used_up}
-use Rattle.dsr_run.specs.Run.{IsTraitor, HasPosted, IsRun}
+use Rattle.dsr_run.specs.Known.{AreKeys, KnowsAll}
+use Rattle.dsr_run.specs.Run.{IsRun}
 use Rattle.dsr_run.specs.Step.{Step, Logs, log_of}
 use Rattle.dsr_world.specs.Support.Boxes.{AreSquare, box_at, IsBoxOf}
 use Rattle.dsr_node.specs.Node.{Plays}
@@ -37,19 +38,6 @@ pub record AreBoxes (shape : Shape) (logs : Logs) (rows : List (List MailBox)) :
   pub square : AreSquare (shape.n + shape.m) rows
   pub each : (from to : Actor) → IsActor shape from → IsActor shape to
       → IsBoxOf (box_at rows (place_of shape from) (place_of shape to)) (posted_to to (logs from)) (taken_from from (logs to))
-
--- the keys are those of the traitors
-abbrev pub AreKeys : Shape → List Actor → Type 0
-AreKeys shape keys = (a : Actor) → Any (λ holder. holder ≡ a) keys ↔ IsTraitor shape a
-
--- what is known is what loyal actors have posted
-pub record KnowsPosts (shape : Shape) (logs : Logs) (known : List Signature) : Type 0 where
-  pub from : (s : Signature) → In s known → (a : Actor) × IsLoyal shape a × HasPosted (logs a) s
-  pub all : (s : Signature) (a : Actor) → IsLoyal shape a → HasPosted (logs a) s → In s known
-
--- where there is a traitor, what is known is what loyal actors have posted; for nobody else it is needed
-abbrev pub KnowsAll : Shape → Logs → List Signature → Type 0
-KnowsAll shape logs known = (p : ℕ) → IsTraitor shape (Replica p) → KnowsPosts shape logs known
 
 -- the parts of a world stand for a run: the nodes, the boxes, the traitors' keys, and what is known
 pub record AreParts (shape : Shape) (run : List Step) (nodes : List Node) (rows : List (List MailBox)) (keys : List Actor) (known : List Signature) : Type 0 where

@@ -27,7 +27,7 @@ invariant_of-self-2 c =
     let kept : c.in_ok-letters.letters.kept ≡ x = c.in_ok-letters.ensures.kept ∙ c.in-Ok.ensures.same in
     let sent : c.in_ok-letters.letters.sent ≡ x = c.in_ok-letters.ensures.sent ∙ c.in-Ok.ensures.same in
     let parts = parts_after_plant a.shape run a.nodes.items a.boxes a.keys.items a.known.signatures c.self.invariant.0 is.p to x c.n-n.ensures.allowed
-    (subst (IsActor a.shape) is.from_is is.actor) is.other is.traitor c.requires
+    (subst (IsActor a.shape) is.from_is is.actor) is.other is.traitor c.in-Ok.ensures.within
     (ap (λ b. is_used_up (log_of run) b to) (sym is.from_is) ∙ is.used) (ap (λ b. is_full (log_of run) b to) (sym is.from_is) ∙ is.room) made in
     let went : reverse c.log_post.new.entries.items ≡ (Replica is.p, PostEntry to x) ∷ run =
     c.log_post.ensures

@@ -1,0 +1,54 @@
+-- How what is known of loyal actors' posts goes on with each step.
+use Rattle.std.proofs.Common.{◌≡◌, ◌↔◌, List, ◌∷◌, ◌⊎◌, inl, inr, refl, ap, sym, ◌∙◌, subst}
+use Rattle.dsr_base.specs.Member.{In, here}
+use Rattle.dsr_names.specs.Shape.{Shape, IsLoyal}
+use Rattle.dsr_names.specs.declared.actor.Actor.{Actor}
+use Rattle.dsr_desk.specs.Signature.{Signature}
+use Rattle.dsr_envelope.specs.declared.envelope.Envelope.{Envelope}
+use Rattle.dsr_envelope.specs.declared.entry.Entry.TheVariants.{Post, Take}
+use Rattle.dsr_envelope.specs.Envelope.{Carries}
+use Rattle.dsr_run.specs.Known.{KnowsPosts}
+use Rattle.dsr_run.specs.Run.{HasPosted}
+use Rattle.dsr_run.specs.Step.{Step, log_of}
+use Rattle.dsr_run.proofs.Boxes.{from_log}
+use Rattle.dsr_run.proofs.Forging.{has_posted_later}
+use Rattle.dsr_run.proofs.Logs.{log_cases}
+
+-- after a loyal actor's post, what it carries is known too
+pub known_posted : (shape : Shape) (older : List Step) (known new : List Signature) (a to : Actor) (x : Envelope)
+    → KnowsPosts shape (log_of older) known → IsLoyal shape a → ((s : Signature) → In s new ↔ (In s known ⊎ Carries x s))
+    → KnowsPosts shape (log_of ((a, Post to x) ∷ older)) new
+known_posted shape older known new a to x knows loyal learned = record {
+  from = λ s h. elim ((learned s).0 h) [
+    | inl old ↦ let was = knows.from s old in (was.0, was.1, has_posted_later (a, Post to x) older was.0 s was.2)
+    | inr carried ↦ (a, loyal, record { to = to; envelope = x; posted = now_in; carried = carried })
+  ];
+  all = λ s b honest h. (learned s).1 (by_entry s b honest h (from_log (a, Post to x) older b (Post h.to h.envelope) h.posted));
+}
+  where
+    now_in : In (Post to x) (log_of ((a, Post to x) ∷ older) a)
+    now_in = elim (log_cases (a, Post to x) older a) [
+      | inl own ↦ subst (In (Post to x)) (sym own.1) (here refl)
+      | inr other ↦ absurd (other.0 refl)
+    ]
+
+    same_envelope : (t u : Actor) (y z : Envelope) → Post t y ≡ Post u z → y ≡ z
+    same_envelope t u y z e = cc
+
+    by_entry : (s : Signature) (b : Actor) → IsLoyal shape b → (h : HasPosted (log_of ((a, Post to x) ∷ older) b) s)
+        → ((a ≡ b) × (Post to x ≡ Post h.to h.envelope)) ⊎ In (Post h.to h.envelope) (log_of older b) → In s known ⊎ Carries x s
+    by_entry s b honest h (inl now) = inr (subst (λ y. Carries y s) (sym (same_envelope to h.to x h.envelope now.1)) h.carried)
+    by_entry s b honest h (inr old) = inl (knows.all s b honest (record { to = h.to; envelope = h.envelope; posted = old; carried = h.carried }))
+
+-- a step that is no loyal actor's post makes nothing known
+pub known_still : (shape : Shape) (older : List Step) (known : List Signature) (step : Step) → KnowsPosts shape (log_of older) known
+    → ((to : Actor) (x : Envelope) → step.1 ≡ Post to x → IsLoyal shape step.0 → ⊥) → KnowsPosts shape (log_of (step ∷ older)) known
+known_still shape older known step knows silent = record {
+  from = λ s h. let was = knows.from s h in (was.0, was.1, has_posted_later step older was.0 s was.2);
+  all = λ s b honest h. by_entry s b honest h (from_log step older b (Post h.to h.envelope) h.posted);
+}
+  where
+    by_entry : (s : Signature) (b : Actor) → IsLoyal shape b → (h : HasPosted (log_of (step ∷ older) b) s)
+        → ((step.0 ≡ b) × (step.1 ≡ Post h.to h.envelope)) ⊎ In (Post h.to h.envelope) (log_of older b) → In s known
+    by_entry s b honest h (inl now) = absurd (silent h.to h.envelope now.1 (subst (IsLoyal shape) (sym now.0) honest))
+    by_entry s b honest h (inr old) = knows.all s b honest (record { to = h.to; envelope = h.envelope; posted = old; carried = h.carried })
