@@ -1,6 +1,5 @@
 -- One more line of a play, and whole plays.
-use Rattle.std.proofs.Common.{◌≡◌, ◌↔◌, ℕ, ◌<◌, ◌≤◌, Bool, true, false, List, ◌∷◌, ◌++◌, codes, length, IsTrue, refl, sym, ◌∙◌, ap, ap₂, subst, arith, lit<}
-use Rattle.std.proofs.lemmas.Bool.{false≢true}
+use Rattle.std.proofs.Common.{◌≡◌, ◌↔◌, ℕ, ◌<◌, ◌≤◌, Bool, List, ◌∷◌, ◌++◌, codes, length, IsTrue, refl, sym, ◌∙◌, ap, ap₂, subst, arith, lit<}
 use Rattle.dsr_base.specs.Joined.{joined}
 use Rattle.dsr_names.specs.Actor.{IsNumbered, actor_text, client_text, replica_text}
 use Rattle.dsr_names.specs.declared.actor.Actor.{Actor}
@@ -13,12 +12,11 @@ use Rattle.dsr_envelope.specs.declared.step.Pick.TheVariants.{Plain, From, Begin
 use Rattle.dsr_script.specs.EnvelopeText.{envelope_text}
 use Rattle.dsr_text.proofs.Clean.{IsClean, clean_nil, clean_append, field_clean, word_clean, joined_clean, replica_clean, actor_clean}
 use Rattle.dsr_script.proofs.FeedLemmas.{envelope_clean}
-use Rattle.dsr_text.proofs.LinesLemmas.{TakenSoFar}
 use Rattle.dsr_play.specs.declared.event.Event.{Event}
 use Rattle.dsr_play.specs.declared.event.Event.TheVariants.{Post, Plant, Take, Tell}
 use Rattle.dsr_play.specs.declared.play_line.PlayLine.{PlayLine}
 use Rattle.dsr_play.specs.declared.play_line.PlayLine.TheVariants.{One, Posts, PostsAll, Plants, Takes, TakesAll, Asks, Hears, Replies}
-use Rattle.dsr_play.specs.PlayText.{line_text, line_rest, pick_text, ends_text, IsPlayLine, IsSpelledPick, CanFollow, all_events, events_of, plays}
+use Rattle.dsr_play.specs.PlayText.{line_text, line_rest, pick_text, ends_text, IsPlayLine, IsSpelledPick, CanFollow, all_events, events_of}
 use Rattle.dsr_play.specs.Play.{Play, Spells}
 
 -- ---- no line feed stands in a line
@@ -75,28 +73,20 @@ line_clean (Replies to) is = after_word (codes "replies") (Replies to) (word_cle
 
 -- ---- lines taken in
 
--- the events that these lines stand for, in a text of this shape
-abbrev pub Gives : Shape → Play → List PlayLine → Type 0
-Gives shape play lines = play.events ≡ all_events shape lines
-
--- the lines before the rest were taken in
-abbrev pub TakenIn : Shape → List ℕ → List ℕ → ℕ → Play → Type 0
-TakenIn shape text rest number play = TakenSoFar plays shape (Gives shape play) text rest number
-
 -- what `take` says of a line
-module _ (line : PlayLine) (play later : Play) (shape : Shape) (same : play.shape ≡ shape) (lines : List PlayLine) (gives : Gives shape play lines) where
-  all_same : play.events ++ events_of play.shape line ≡ all_events shape (line ∷ lines)
-  all_same = ap₂ (λ events x. events ++ events_of x line) gives same
+module _ (line : PlayLine) (play : Play) (lines : List PlayLine) (gives : play.events ≡ all_events play.shape lines) where
+  all_same : play.events ++ events_of play.shape line ≡ all_events play.shape (line ∷ lines)
+  all_same = ap (λ events. events ++ events_of play.shape line) gives
 
-  pub gives_more : later.events ≡ play.events ++ events_of play.shape line → Gives shape later (line ∷ lines)
-  gives_more taken = taken ∙ all_same
+  pub gives_more : (later : Play) → later.shape ≡ play.shape → later.events ≡ play.events ++ events_of play.shape line
+      → later.events ≡ all_events later.shape (line ∷ lines)
+  gives_more later same taken = taken ∙ (all_same ∙ ap (λ x. all_events x (line ∷ lines)) (sym same))
 
-  module _ (can : Bool) (when : IsTrue can ↔ length (play.events ++ events_of play.shape line) ≤ 1000000) where
-    pub follows : can ≡ true → CanFollow shape lines line
-    follows is = subst (λ events. length events ≤ 1000000) all_same (when.0 is)
-
-    pub cannot_follow : can ≡ false → CanFollow shape lines line → ⊥
-    cannot_follow is few = false≢true (sym is ∙ when.1 (subst (λ events. length events ≤ 1000000) (sym all_same) few))
+  pub can_follow : (can : Bool) → IsTrue can ↔ length (play.events ++ events_of play.shape line) ≤ 1000000 → IsTrue can ↔ CanFollow play.shape lines line
+  can_follow can when = (
+    λ is. subst (λ events. length events ≤ 1000000) all_same (when.0 is),
+    λ few. when.1 (subst (λ events. length events ≤ 1000000) (sym all_same) few),
+  )
 
 -- ---- whole plays
 

@@ -1,16 +1,12 @@
-ghost use Rattle.std.specs.Prelude.{◌≡◌, ◌↔◌, ◌≤◌, ◌∷◌, ◌++◌, [], List, length, IfOk, IfErr, OnOk, IsTrue, IsOkUnless};
-ghost use Rattle.dsr_text.specs.Lines.{AreLines, lines_text};
-ghost use Rattle.dsr_text.specs.Support.TakenLines.{HasTaken, IsLinesRefusal};
-ghost use Rattle.dsr_play.specs.declared.play_line.PlayLine.{PlayLine};
-ghost use Rattle.dsr_play.specs.PlayText.{all_events, events_of, plays};
+ghost use Rattle.std.specs.Prelude.{◌≡◌, ◌↔◌, ◌≤◌, ◌++◌, length, IfOk, IfErr, OnOk, IsTrue, IsOkUnless};
+ghost use Rattle.dsr_play.specs.PlayText.{events_of};
 ghost use Rattle.dsr_play.specs.Play.{Play as APlay, Spells, IsPlayRefusal};
 
 use crate::event::Event;
 use crate::play_events::add_events;
 use crate::play_line::PlayLine;
-use dsr_base::split_once;
 use dsr_names::{Refusal, Shape};
-use dsr_text::read_header;
+use dsr_text::{TakesLines, read_header, take_lines};
 use std::alloc::Global;
 use std::marker::Model;
 
@@ -48,12 +44,13 @@ impl Play {
             Ok(header) => header,
             Err(refusal) => return Err(refusal),
         };
-        let mut play = Play {
+        let play = Play {
             shape: header.shape,
             events: Vec::new(alloc),
         };
-        match play.take_lines(alloc, header.rest) {
-            Ok(()) => Ok(play),
+        let mut reading = Reading { play };
+        match take_lines(&mut reading, alloc, header.rest) {
+            Ok(()) => Ok(reading.play),
             Err(refusal) => Err(refusal),
         }
     }
@@ -72,35 +69,6 @@ impl Play {
         self.events.as_slice()
     }
 
-    /// Takes in the lines after the header.
-    fn take_lines(&mut self, alloc: Global, text: &[u8]) -> Result<(), Refusal>
-        requires { self.old.events ≡ [] }
-        ensures taken { OnOk result (HasTaken plays self.old.shape (λ lines. self.new.events ≡ all_events self.old.shape lines) text.now) }
-        ensures refused { IfErr result (IsLinesRefusal plays self.old.shape text.now) }
-        ensures when { (all : List PlayLine) → AreLines plays self.old.shape all → text.now ≡ lines_text plays all
-            → IsOkUnless result Refusal.NoMemory }
-        ensures only { (all : List PlayLine) → AreLines plays self.old.shape all → text.now ≡ lines_text plays all
-            → OnOk result (self.new.events ≡ all_events self.old.shape all) }
-        ensures shape { self.new.shape ≡ self.old.shape }
-    {
-        let mut rest = text;
-        let mut number = 1;
-        while !rest.is_empty() {
-            number += 1;
-            let Some((line, after)) = split_once(rest, b'\n') else {
-                return Err(Refusal::BadText { line: number });
-            };
-            let Some(line) = PlayLine::read(alloc, line)? else {
-                return Err(Refusal::BadText { line: number });
-            };
-            if !self.take(alloc, line)? {
-                return Err(Refusal::BadText { line: number });
-            }
-            rest = after;
-        }
-        Ok(())
-    }
-
     /// Takes in the events that the line stands for, and says whether the events are then at most 1,000,000. Where they are more,
     /// the play is of no use.
     fn take(&mut self, alloc: Global, line: PlayLine) -> Result<bool, Refusal>
@@ -111,5 +79,40 @@ impl Play {
     {
         add_events(alloc, &self.shape, line, &mut self.events)?;
         Ok(self.events.len() <= MOST_EVENTS)
+    }
+}
+
+/// A play while its lines are read.
+#[derive(Drop)]
+struct Reading {
+    play: Play,
+}
+
+impl Model for Reading {
+    ghost use Rattle.dsr_play.specs.Play.{Play};
+
+    ghost Value = { Play };
+
+    ghost view = { λ r. r.play };
+}
+
+impl TakesLines for Reading {
+    type Line = PlayLine;
+
+    ghost use Rattle.std.specs.Prelude.{◌≡◌};
+    ghost use Rattle.dsr_play.specs.PlayText.{all_events, plays};
+
+    ghost kind = { plays };
+
+    ghost shape = { λ play. play.shape };
+
+    ghost gives = { λ play lines. play.events ≡ all_events play.shape lines };
+
+    fn read_line(alloc: Global, bytes: &[u8]) -> Result<Option<PlayLine>, Refusal> {
+        PlayLine::read(alloc, bytes)
+    }
+
+    fn take(&mut self, alloc: Global, line: PlayLine) -> Result<bool, Refusal> {
+        self.play.take(alloc, line)
     }
 }

@@ -1,22 +1,19 @@
-ghost use Rattle.std.specs.Prelude.{◌≡◌, ◌↔◌, ℕ, ◌<◌, ◌∷◌, ◌++◌, [], List, None, Some, if◌then◌else◌, nat_eq, IfOk, IfErr, OnOk, IsTrue, IsOkUnless};
+ghost use Rattle.std.specs.Prelude.{◌≡◌, ◌↔◌, ℕ, ◌<◌, ◌∷◌, ◌++◌, [], List, None, Some, if◌then◌else◌, nat_eq, IfOk, IfErr, IsTrue, IsOkUnless};
 ghost use Rattle.std.specs.Option.{option_map};
 ghost use Rattle.dsr_names.specs.Shape.{IsActor};
-ghost use Rattle.dsr_text.specs.Lines.{AreLines, lines_text};
 ghost use Rattle.dsr_script.specs.declared.place.Place.{Place};
 ghost use Rattle.dsr_script.specs.declared.serve_line.ServeLine.{ServeLine};
-ghost use Rattle.dsr_script.specs.ServeText.{CanFollow, IsTraitor, serve_scripts};
+ghost use Rattle.dsr_script.specs.ServeText.{CanFollow, IsTraitor};
 ghost use Rattle.dsr_script.specs.Script.{Script, ops_of, draft_at, place_of, Gives, Spells, SaysTheSame, IsScriptRefusal};
 ghost use Rattle.dsr_script.specs.Support.PlaceEquality.{place_eq};
-ghost use Rattle.dsr_text.specs.Support.TakenLines.{HasTaken, IsLinesRefusal};
 
 use crate::draft::Draft;
 use crate::ops::Ops;
 use crate::place::Place;
 use crate::serve_line::ServeLine;
-use dsr_base::split_once;
 use dsr_names::{Actor, ClientId, Refusal, ReplicaId, Shape};
 use dsr_request::Op;
-use dsr_text::read_header;
+use dsr_text::{TakesLines, read_header, take_lines};
 use indexmap::IndexMap;
 use std::alloc::Global;
 use std::marker::Model;
@@ -58,9 +55,10 @@ impl Script {
             Ok(header) => header,
             Err(refusal) => return Err(refusal),
         };
-        let mut script = Script::new(alloc, header.shape)?;
-        match script.take_lines(alloc, header.rest) {
-            Ok(()) => Ok(script),
+        let script = Script::new(alloc, header.shape)?;
+        let mut reading = Reading { script };
+        match take_lines(&mut reading, alloc, header.rest) {
+            Ok(()) => Ok(reading.script),
             Err(refusal) => Err(refusal),
         }
     }
@@ -104,35 +102,6 @@ impl Script {
             ops,
             drafts: IndexMap::new(alloc),
         })
-    }
-
-    /// Takes in the lines after the header.
-    fn take_lines(&mut self, alloc: Global, text: &[u8]) -> Result<(), Refusal>
-        requires { Gives [] self.old }
-        ensures taken { OnOk result (HasTaken serve_scripts self.old.shape (λ lines. Gives lines self.new) text.now) }
-        ensures refused { IfErr result (IsLinesRefusal serve_scripts self.old.shape text.now) }
-        ensures when { (all : List ServeLine) → AreLines serve_scripts self.old.shape all → text.now ≡ lines_text serve_scripts all
-            → IsOkUnless result Refusal.NoMemory }
-        ensures only { (all : List ServeLine) → AreLines serve_scripts self.old.shape all → text.now ≡ lines_text serve_scripts all
-            → OnOk result (Gives all self.new) }
-        ensures shape { self.new.shape ≡ self.old.shape }
-    {
-        let mut rest = text;
-        let mut number = 1;
-        while !rest.is_empty() {
-            number += 1;
-            let Some((line, after)) = split_once(rest, b'\n') else {
-                return Err(Refusal::BadText { line: number });
-            };
-            let Some(line) = ServeLine::read(alloc, line)? else {
-                return Err(Refusal::BadText { line: number });
-            };
-            if !self.take(line)? {
-                return Err(Refusal::BadText { line: number });
-            }
-            rest = after;
-        }
-        Ok(())
     }
 
     /// Takes in what the line gives, if it can follow the lines that were taken in, and says whether it can. After a line that
@@ -184,6 +153,41 @@ impl Script {
             Ok(earlier) => Ok(earlier.is_none()),
             Err(_) => Err(Refusal::NoMemory),
         }
+    }
+}
+
+/// A script while its lines are read.
+#[derive(Drop)]
+struct Reading {
+    script: Script,
+}
+
+impl Model for Reading {
+    ghost use Rattle.dsr_script.specs.Script.{Script};
+
+    ghost Value = { Script };
+
+    ghost view = { λ r. r.script };
+}
+
+impl TakesLines for Reading {
+    type Line = ServeLine;
+
+    ghost use Rattle.dsr_script.specs.Script.{Gives};
+    ghost use Rattle.dsr_script.specs.ServeText.{serve_scripts};
+
+    ghost kind = { serve_scripts };
+
+    ghost shape = { λ script. script.shape };
+
+    ghost gives = { λ script lines. Gives lines script };
+
+    fn read_line(alloc: Global, bytes: &[u8]) -> Result<Option<ServeLine>, Refusal> {
+        ServeLine::read(alloc, bytes)
+    }
+
+    fn take(&mut self, _alloc: Global, line: ServeLine) -> Result<bool, Refusal> {
+        self.script.take(line)
     }
 }
 

@@ -11,7 +11,7 @@ use Rattle.dsr_names.specs.Shape.{Shape}
 use Rattle.dsr_names.specs.declared.refusal.Refusal.{Refusal}
 use Rattle.dsr_text.specs.Header.{BeginsWithHeader, IsHeaderRefusal, HasBadShape, HasNoHeader}
 use Rattle.dsr_text.specs.Lines.{TextKind, lines_text, AreLines, IsNext, BeginsWithLines, HasNoNext, IsBadAfter, IsTextRefusal}
-use Rattle.dsr_text.specs.Support.TakenLines.{HasTaken}
+use Rattle.dsr_text.specs.TakenLines.{HasTaken}
 
 -- all lines of a text are these and more, which the rest spells
 pub record HasMore {Line : Type 0} (kind : TextKind Line) (lines : List Line) (rest : List ℕ) (all : List Line) : Type 0 where

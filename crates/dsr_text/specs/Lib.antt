@@ -1,3 +1,3 @@
 pub mod Header
 pub mod Lines
-pub mod Support
+pub mod TakenLines

@@ -3,6 +3,8 @@
 
 mod header;
 mod items;
+mod lines;
 
 pub use header::{Header, read_header};
 pub use items::{Item, read_items, write_more};
+pub use lines::{TakesLines, take_lines};

@@ -1,9 +1,13 @@
-use Rattle.std.proofs.Common.{ap, refl, sym, ◌∙◌, subst}
+use Rattle.std.proofs.Common.{refl, sym, ◌∙◌, subst}
 use Rattle.dsr_text.specs.Header.{BeginsWithHeader}
 use Rattle.dsr_text.proofs.LinesLemmas.{header_refused, its_header, its_lines}
 use Rattle.dsr_play.specs.PlayText.{plays}
-use Rattle.dsr_play.proofs.PlayLemmas.{make_play, same_play}
+use Rattle.dsr_play.proofs.PlayLemmas.{line_clean, same_play}
 use Rattle.dsr_play.proofs.play.Play.read.Goals as goal
+
+-- no line of a play has a line feed in it
+pub take_lines-requires-clause-clean : goal.take_lines-requires-clause-clean
+take_lines-requires-clause-clean c = line_clean
 
 pub returns-in-Err-clause-refused : goal.returns-in-Err-clause-refused
 returns-in-Err-clause-refused c =
@@ -28,11 +32,11 @@ returns-in-Err-take_lines-clause-when c other s =
 pub returns-in-Ok-take_lines-clause-only : goal.returns-in-Ok-take_lines-clause-only
 returns-in-Ok-take_lines-clause-only c other s =
     let shape = c.in-Ok.header.shape in
-    let read = c.take_lines.new.self in
+    let read = c.take_lines.new.taker in
     let lines =
     its_lines plays c.as_slice.result.now c.args.text.now c.in-Ok.header.rest.now shape c.as_slice.ensures c.in-Ok.ensures.only
     other.shape s.after s.header s.lines s.begins shape refl in
     let header =
     its_header plays c.as_slice.result.now c.args.text.now c.in-Ok.header.rest.now shape c.as_slice.ensures c.in-Ok.ensures.only other.shape s.after s.header in
-    ap (λ x. make_play x read.events) c.in-Ok-take_lines.ensures.shape
-    ∙ same_play c.args.text.now other s shape header.0 read.events (c.in-Ok-take_lines.ensures.only s.lines lines.0 lines.1)
+    c.reading.view_is
+    ∙ same_play c.args.text.now other s read.shape (c.in-Ok-take_lines.ensures.shape ∙ header.0) read.events (c.in-Ok-take_lines.ensures.only s.lines lines.0 lines.1)

@@ -2,8 +2,14 @@ use Rattle.std.proofs.Common.{sym, subst, ◌∙◌}
 use Rattle.dsr_text.specs.Header.{BeginsWithHeader}
 use Rattle.dsr_script.specs.ServeText.{serve_scripts}
 use Rattle.dsr_text.proofs.LinesLemmas.{header_refused, its_header, its_lines}
+use Rattle.dsr_script.specs.Script.{SaysTheSame}
+use Rattle.dsr_script.proofs.ServeLemmas.{line_clean}
 use Rattle.dsr_script.proofs.ScriptLemmas.{says_the_same}
 use Rattle.dsr_script.proofs.script.Script.read.Goals as goal
+
+-- no line of a script has a line feed in it
+pub take_lines-requires-clause-clean : goal.take_lines-requires-clause-clean
+take_lines-requires-clause-clean c = line_clean
 
 pub returns-in-Err-clause-refused : goal.returns-in-Err-clause-refused
 returns-in-Err-clause-refused c =
@@ -33,5 +39,6 @@ returns-in-Ok-take_lines-clause-only c other s =
     let header =
     its_header serve_scripts c.as_slice.result.now c.args.text.now c.in-Ok.header.rest.now c.in-Ok.header.shape c.as_slice.ensures c.in-Ok.ensures.only
     other.shape s.after s.header in
-    says_the_same c.args.text.now other c.take_lines.new.self s (c.in-Ok-take_lines.ensures.shape ∙ (c.in_ok-script.ensures.shape ∙ header.0))
-    (c.in-Ok-take_lines.ensures.only s.lines lines.0 lines.1)
+    subst (SaysTheSame other) (sym c.reading.view_is)
+    (says_the_same c.args.text.now other c.take_lines.new.taker s (c.in-Ok-take_lines.ensures.shape ∙ (c.in_ok-script.ensures.shape ∙ header.0))
+    (c.in-Ok-take_lines.ensures.only s.lines lines.0 lines.1))

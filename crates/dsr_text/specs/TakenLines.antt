@@ -1,4 +1,4 @@
--- What private functions promise that take in the lines of a text after its header. No public contract cites this.
+-- What is promised where the lines of a text are taken in after its header (this project).
 use Rattle.std.specs.Prelude.{ℕ, List, []}
 use Rattle.dsr_names.specs.Shape.{Shape}
 use Rattle.dsr_names.specs.declared.refusal.Refusal.{Refusal}

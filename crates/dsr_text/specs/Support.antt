@@ -1,2 +1,0 @@
--- What functions promise that take in the lines of a text after its header.
-pub mod TakenLines
