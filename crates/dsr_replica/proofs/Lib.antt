@@ -10,6 +10,7 @@ mod Joining
 mod Later
 pub mod Lemmas
 mod LoyalLogs
+mod Possible
 mod Posting
 mod Posts
 mod Reading

@@ -1,6 +1,6 @@
 //! The laws of one loyal replica's log, as the contracts of functions that do nothing.
 
-ghost use Rattle.std.specs.Prelude.{◌≡◌, ◌⊎◌, ℕ, ◌+◌, ◌*◌, ◌^◌, ◌<◌, ◌≤◌, List, [], ◌∷◌, length, Some, slice_get};
+ghost use Rattle.std.specs.Prelude.{◌≡◌, ◌⊎◌, ℕ, ◌+◌, ◌*◌, ◌^◌, ◌<◌, ◌≤◌, List, [], ◌∷◌, length, Some, IsSome, slice_get};
 ghost use Rattle.dsr_base.specs.Growth.{Extends};
 ghost use Rattle.dsr_base.specs.Member.{In};
 ghost use Rattle.dsr_names.specs.Shape.{Shape, IsAllowed, AgreeButForTraitors};
@@ -18,7 +18,7 @@ ghost use Rattle.dsr_chain.specs.declared.slot_value.SlotValue.TheVariants.{Idle
 ghost use Rattle.dsr_envelope.specs.declared.envelope.Envelope.{Envelope};
 ghost use Rattle.dsr_envelope.specs.declared.entry.Entry.{Entry};
 ghost use Rattle.dsr_envelope.specs.declared.entry.Entry.TheVariants.{Post, Take};
-ghost use Rattle.dsr_envelope.specs.declared.step.Due.TheVariants.{Take as TakeFrom};
+ghost use Rattle.dsr_envelope.specs.declared.step.Due.TheVariants.{Post as PostTo, Take as TakeFrom};
 ghost use Rattle.dsr_envelope.specs.declared.step.Pick.{Pick};
 ghost use Rattle.dsr_envelope.specs.declared.step.Pick.TheVariants.{Plain, From};
 ghost use Rattle.dsr_replica.specs.Conduct.{proposed, envelope_to, reply_to, IsNext, IsLoyalLog};
@@ -53,6 +53,12 @@ pub fn calls_keep_a_log_loyal()
 pub fn posts_and_takes_keep_step()
     ensures { (shape : Shape) (me : Actor) (log : List Entry) → 0 < shape.n → IsLoyalLog shape me log
         → HasCounts shape log (rounds shape log) }
+{}
+
+/// A post that is due can be made: the plain choice gives an envelope for it.
+pub fn due_posts_can_be_made()
+    ensures { (shape : Shape) (me : Actor) (log : List Entry) → 0 < shape.n → IsLoyalLog shape me log
+        → (q : ℕ) → due shape log ≡ PostTo q → IsSome (envelope_to shape me log q Plain) }
 {}
 
 /// A loyal replica posts the same to all in a round: its envelope of that round by the log that it has now. Each chain in it
