@@ -19,7 +19,7 @@ impl Shape {
 
     /// The place of an actor in a row of all, from 0: replicas first, then clients.
     pub fn place(&self, actor: &Actor) -> usize
-        ensures same { result ≡ place_of self.now actor.now }
+        ensures { result ≡ place_of self.now actor.now }
     {
         match actor {
             Actor::Replica(replica) => replica.number() as usize,

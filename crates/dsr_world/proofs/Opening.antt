@@ -14,10 +14,11 @@ use Rattle.dsr_desk.specs.Signature.{Signature}
 use Rattle.dsr_run.specs.Run.{IsTraitor}
 use Rattle.dsr_world.specs.Support.Boxes.{AreSquare, empty_box, box_at, held_in}
 use Rattle.dsr_node.specs.Node.{Plays}
-use Rattle.dsr_world.specs.Support.WorldFields.{place_of, AreParts, AreOpened, IsTraitorBelow, AreKeysBelow}
+use Rattle.dsr_names.specs.Places.{place_of}
+use Rattle.dsr_world.specs.Support.WorldFields.{AreParts, AreOpened, IsTraitorBelow, AreKeysBelow}
 use Rattle.dsr_world.specs.declared.mail_boxes.MailBox.{MailBox}
 use Rattle.dsr_node.specs.declared.node.Node.{Node}
-use Rattle.dsr_world.proofs.Stepping.{same_place, place_below}
+use Rattle.dsr_names.proofs.PlaceLemmas.{same_place, place_below}
 
 -- ---- nodes
 

@@ -29,10 +29,11 @@ use Rattle.dsr_node.specs.Conduct.{post_of}
 use Rattle.dsr_run.specs.Run.{IsRun}
 use Rattle.dsr_run.specs.Step.{Step, log_of}
 use Rattle.dsr_node.specs.Node.{IsOutstandingAsk}
-use Rattle.dsr_world.specs.Support.WorldFields.{AreLetters, place_of, kept_of, with_letter}
+use Rattle.dsr_names.specs.Places.{place_of}
+use Rattle.dsr_world.specs.Support.WorldFields.{AreLetters, kept_of, with_letter}
 use Rattle.dsr_run.proofs.Lemmas.{was_asked}
 use Rattle.dsr_run.proofs.Lemmas.{posted_entry}
-use Rattle.dsr_world.proofs.Stepping.{place_below, same_place}
+use Rattle.dsr_names.proofs.PlaceLemmas.{place_below, same_place}
 use Rattle.dsr_run.proofs.Lemmas.{log_cases, log_loyal, log_client}
 use Rattle.dsr_world.proofs.Worlds.{IsCleared}
 use Rattle.std.proofs.lemmas.List.{get_or-set_same, get_or-set_other, length-set, length_push}

@@ -4,6 +4,7 @@ use Rattle.std.specs.Prelude.{slice_set, slice_index_or}
 use Rattle.std.proofs.lemmas.List.{get_or-set_same, get_or-set_other, length-set}
 use Rattle.std.proofs.lemmas.Bool.Decides.{Decides-eqb}
 use Rattle.dsr_base.specs.Member.{In, here}
+use Rattle.dsr_names.proofs.PlaceLemmas.{place_below, same_place}
 use Rattle.dsr_names.specs.Shape.{Shape, IsActor, IsLoyal}
 use Rattle.dsr_names.specs.declared.actor.Actor.{Actor}
 use Rattle.dsr_names.specs.declared.actor.Actor.TheVariants.{Replica, Client}
@@ -18,25 +19,13 @@ use Rattle.dsr_run.specs.Run.{HasPosted}
 use Rattle.dsr_run.specs.Step.{Step, Logs, log_of}
 use Rattle.dsr_world.specs.Support.Boxes.{empty_box, box_in, row_of, box_at, with_box, with_post, without_letter, held_in, AreSquare, IsBoxOf}
 use Rattle.dsr_node.specs.Node.{Plays}
-use Rattle.dsr_world.specs.Support.WorldFields.{place_of, ArePlayed, AreBoxes}
+use Rattle.dsr_names.specs.Places.{place_of}
+use Rattle.dsr_world.specs.Support.WorldFields.{ArePlayed, AreBoxes}
 use Rattle.dsr_world.specs.declared.mail_boxes.MailBox.{MailBox}
 use Rattle.dsr_node.specs.declared.node.Node.{Node}
 use Rattle.dsr_run.proofs.Lemmas.{from_log, posted_cases, posted_still, taken_cases, taken_still}
 use Rattle.dsr_run.proofs.Lemmas.{has_posted_later}
 use Rattle.dsr_run.proofs.Lemmas.{log_cases}
-
--- ---- places
-
-pub place_below : (shape : Shape) (who : Actor) → IsActor shape who → place_of shape who < shape.n + shape.m
-place_below shape (Replica p) inside = omega (arith, inside)
-place_below shape (Client c) inside = omega (arith, inside)
-
--- different actors have different places
-pub same_place : (shape : Shape) (a b : Actor) → IsActor shape a → IsActor shape b → place_of shape a ≡ place_of shape b → a ≡ b
-same_place shape (Replica p) (Replica q) inside too e = ap Replica e
-same_place shape (Replica p) (Client c) inside too e = absurd (omega (arith, inside, e))
-same_place shape (Client c) (Replica q) inside too e = absurd (omega (arith, too, e))
-same_place shape (Client c) (Client d) inside too e = let same : c ≡ d = omega (arith, e) in ap Client same
 
 -- ---- nodes
 

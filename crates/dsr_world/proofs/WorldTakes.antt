@@ -20,7 +20,8 @@ use Rattle.dsr_world.specs.Event.{is_full, refusal_of, Answers, HasDone}
 use Rattle.dsr_run.specs.Step.{Step, Logs, log_of}
 use Rattle.dsr_world.specs.Support.Boxes.{box_at, with_box, held_in}
 use Rattle.dsr_node.specs.Node.{Plays}
-use Rattle.dsr_world.specs.Support.WorldFields.{place_of, AreParts}
+use Rattle.dsr_names.specs.Places.{place_of}
+use Rattle.dsr_world.specs.Support.WorldFields.{AreParts}
 use Rattle.dsr_world.specs.declared.mail_boxes.MailBox.{MailBox}
 use Rattle.dsr_node.specs.declared.node.Node.{Node}
 use Rattle.dsr_run.proofs.Lemmas.{known_still}

@@ -31,14 +31,16 @@ use Rattle.dsr_run.specs.Step.{Step, Logs, log_of}
 use Rattle.dsr_world.specs.Support.Boxes.{box_at, row_of, with_box, with_post, held_in, IsBoxOf}
 use Rattle.dsr_node.proofs.Lemmas.{honest_plays}
 use Rattle.dsr_node.specs.Node.{CanPost, Plays, post_refusal}
-use Rattle.dsr_world.specs.Support.WorldFields.{place_of, AreParts}
+use Rattle.dsr_names.specs.Places.{place_of}
+use Rattle.dsr_world.specs.Support.WorldFields.{AreParts}
 use Rattle.dsr_run.specs.Known.{KnowsAll}
 use Rattle.dsr_node.specs.Conduct.{HasSpelledOp}
 use Rattle.dsr_world.specs.declared.mail_boxes.MailBox.{MailBox}
 use Rattle.dsr_node.specs.declared.node.Node.{Node}
 use Rattle.dsr_world.proofs.NextSteps.{posts_next}
 use Rattle.dsr_run.proofs.Lemmas.{known_posted}
-use Rattle.dsr_world.proofs.Stepping.{place_below, played_step, boxes_posted}
+use Rattle.dsr_names.proofs.PlaceLemmas.{place_below}
+use Rattle.dsr_world.proofs.Stepping.{played_step, boxes_posted}
 
 -- ---- what was not refused
 

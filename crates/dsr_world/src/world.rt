@@ -28,7 +28,7 @@ ghost use Rattle.dsr_run.specs.Right.{IsRight, IsRightReply, TookAllReplies, Has
 ghost use Rattle.dsr_ledger.specs.declared.reply.Reply.{Reply as AReply};
 ghost use Rattle.dsr_run.specs.Run.{IsRun, ForgesNothing};
 ghost use Rattle.dsr_run.specs.Step.{Step, log_of};
-ghost use Rattle.dsr_world.specs.Support.WorldFields.{place_of, box_refusal};
+ghost use Rattle.dsr_world.specs.Support.WorldFields.{box_refusal};
 ghost use Rattle.dsr_node.specs.Conduct.{HasSpelledOp};
 
 use crate::letters::{Letters, keep_letter, kept_of, no_letters};
@@ -134,7 +134,7 @@ impl World {
         if client.number() >= self.shape.m() {
             return Err(Refusal::NoActor);
         }
-        Ok(self.nodes[place_of(&self.shape, &Actor::Client(client))].accepted())
+        Ok(self.nodes[self.shape.place(&Actor::Client(client))].accepted())
     }
 
     /// A client's seen front. `NoActor` where it is no client of the shape.
@@ -146,7 +146,7 @@ impl World {
         if client.number() >= self.shape.m() {
             return Err(Refusal::NoActor);
         }
-        Ok(self.nodes[place_of(&self.shape, &Actor::Client(client))].seen())
+        Ok(self.nodes[self.shape.place(&Actor::Client(client))].seen())
     }
 
     /// What a loyal replica decided of its closed slots, by their numbers. `NoActor` where it is no replica of the shape, `WrongRole`
@@ -251,7 +251,7 @@ impl World {
         }
         look_at(pick);
         let _n = self.shape.n();
-        let (poster, taker) = (place_of(&self.shape, from), place_of(&self.shape, to));
+        let (poster, taker) = (self.shape.place(from), self.shape.place(to));
         let Ok(letters) = self.letters_for(alloc, from, to, pick) else {
             return Err(Refusal::NoMemory);
         };
@@ -288,7 +288,7 @@ impl World {
         if let Some(letter) = self.posted_before(from, to, pick) {
             return Letters::again(letter);
         }
-        let poster = place_of(&self.shape, from);
+        let poster = self.shape.place(from);
         let Ok(envelope) = self.nodes[poster].envelope_for(alloc, *to, *pick) else {
             return Err(Refusal::NoMemory);
         };
@@ -315,7 +315,7 @@ impl World {
         requires { client < self.now.shape.m }
         ensures { IfSome result (λ letter. ask_to self.now.shape client (log_of self.now.run (ClientNumber client)) Plain ≡ Some letter.now) }
     {
-        let place = place_of(&self.shape, &Actor::Client(client));
+        let place = self.shape.place(&Actor::Client(client));
         let letter = self.letters[place].as_ref()?;
         if self.nodes[place].has_outstanding(letter.envelope()) {
             Some(letter)
@@ -338,7 +338,7 @@ impl World {
             return Err(refusal);
         }
         let _n = self.shape.n();
-        let (poster, taker) = (place_of(&self.shape, from), place_of(&self.shape, at));
+        let (poster, taker) = (self.shape.place(from), self.shape.place(at));
         let Ok(envelope) = self.boxes.copy(alloc, poster, taker) else {
             return Err(Refusal::NoMemory);
         };
@@ -372,7 +372,7 @@ impl World {
             return Err(refusal);
         }
         let _n = self.shape.n();
-        let (poster, taker) = (place_of(&self.shape, from), place_of(&self.shape, to));
+        let (poster, taker) = (self.shape.place(from), self.shape.place(to));
         let envelope = Envelope::Seen(self.nodes[poster].seen());
         let letters = Letters::of(alloc, envelope)?;
         make_room(&mut self.entries)?;
@@ -409,7 +409,7 @@ impl World {
             Err(refusal) => return Err(refusal),
         };
         let _n = self.shape.n();
-        let (poster, taker) = (place_of(&self.shape, from), place_of(&self.shape, to));
+        let (poster, taker) = (self.shape.place(from), self.shape.place(to));
         let letters = Letters::of(alloc, envelope)?;
         make_room(&mut self.entries)?;
         self.boxes.put(poster, taker, letters.sent);
@@ -454,7 +454,7 @@ impl World {
         if is_traitor(&self.shape, from) || are_clients(from, to) {
             return Some(Refusal::WrongRole);
         }
-        let place = place_of(&self.shape, from);
+        let place = self.shape.place(from);
         match self.nodes[place].refusal(*to, *pick) {
             Some(refusal) => Some(refusal),
             None => self.box_refusal(from, to),
@@ -484,7 +484,7 @@ impl World {
         if is_own_client(at, from) {
             return Some(Refusal::WrongRole);
         }
-        let place = place_of(&self.shape, at);
+        let place = self.shape.place(at);
         if self.nodes[place].is_undue(*from) {
             return Some(Refusal::NotDue);
         }
@@ -515,7 +515,7 @@ impl World {
     {
         let posts = self
             .boxes
-            .posts(place_of(&self.shape, from), place_of(&self.shape, to));
+            .posts(self.shape.place(from), self.shape.place(to));
         if posts >= NUMBER_END - 1 {
             return Some(Refusal::Exhausted);
         }
@@ -532,7 +532,7 @@ impl World {
         ensures { result ≡ is_full (log_of self.now.run) from.now to.now }
     {
         self.boxes
-            .letter(place_of(&self.shape, from), place_of(&self.shape, to))
+            .letter(self.shape.place(from), self.shape.place(to))
             .is_some()
     }
 
@@ -543,16 +543,6 @@ impl World {
         ensures other { IsTrue result → IsActor self.now.shape other.now }
     {
         self.shape.has(*one) && self.shape.has(*other)
-    }
-}
-
-/// The place of an actor of the shape: replicas first, then clients.
-fn place_of(shape: &Shape, actor: &Actor) -> usize
-    ensures { result ≡ place_of shape.now actor.now }
-{
-    match actor {
-        Actor::Replica(replica) => replica.number() as usize,
-        Actor::Client(client) => shape.n() as usize + client.number() as usize,
     }
 }
 
@@ -654,7 +644,7 @@ fn replica_node(
     ensures refusal { IsOkUnless result Refusal.NoMemory }
 {
     let _n = shape.n();
-    let actor = Actor::Replica(replica_of(number));
+    let actor = Actor::Replica(ReplicaId::of(number));
     let Some(key) = keys.take(actor) else {
         unreachable!()
     };
@@ -675,7 +665,7 @@ fn client_node(alloc: Global, shape: &Shape, keys: &mut Keys, number: u8) -> Nod
     ensures plays { Plays shape.now (ClientNumber number) [] result }
 {
     let _m = shape.m();
-    let actor = Actor::Client(client_of(number));
+    let actor = Actor::Client(ClientId::of(number));
     let Some(key) = keys.take(actor) else {
         unreachable!()
     };
@@ -694,26 +684,4 @@ fn keep(keys: &mut Vec<Key>, key: Option<Key>) -> Result<(), Refusal>
         },
         None => Ok(()),
     }
-}
-
-/// The replica of this number, which is below 16.
-fn replica_of(number: u8) -> ReplicaId
-    requires { number < 16 }
-    ensures { result ≡ number }
-{
-    let Ok(replica) = ReplicaId::new(number) else {
-        unreachable!()
-    };
-    replica
-}
-
-/// The client of this number, which is below 32.
-fn client_of(number: u8) -> ClientId
-    requires { number < 32 }
-    ensures { result ≡ number }
-{
-    let Ok(client) = ClientId::new(number) else {
-        unreachable!()
-    };
-    client
 }

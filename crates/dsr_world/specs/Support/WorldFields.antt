@@ -1,6 +1,7 @@
 -- How a world stands in its fields (this project).
 use Rattle.std.specs.Prelude.{◌≡◌, ◌↔◌, ℕ, zero, suc, ◌+◌, ◌++◌, ◌∷◌, ◌<◌, true, [], List, Option, None, Some, Any, if◌then◌else◌, length, reverse, slice_index_or, slice_set}
 use Rattle.dsr_base.specs.Member.{In}
+use Rattle.dsr_names.specs.Places.{place_of}
 use Rattle.dsr_names.specs.Shape.{Shape, is_traitor, IsActor, IsLoyal}
 use Rattle.dsr_names.specs.declared.actor.Actor.{Actor}
 use Rattle.dsr_names.specs.declared.actor.Actor.TheVariants.{Replica, Client}
@@ -22,11 +23,6 @@ use Rattle.dsr_world.specs.World.{World}
 use Rattle.dsr_world.specs.declared.mail_boxes.MailBox.{MailBox}
 use Rattle.dsr_node.specs.declared.node.Node.{Node}
 use Rattle.dsr_world.specs.declared.world.World.TheInside.{Inside}
-
--- the place of an actor: replicas first, then clients
-abbrev pub place_of : Shape → Actor → ℕ
-place_of shape (Replica p) = p
-place_of shape (Client c) = shape.n + c
 
 -- there is a node for each actor of the shape, at its place, which plays it
 pub record ArePlayed (shape : Shape) (logs : Logs) (nodes : List Node) : Type 0 where

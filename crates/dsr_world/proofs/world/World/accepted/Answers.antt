@@ -20,7 +20,7 @@ accepted-requires c =
     let size = c.m.ensures.same in
     let inside : c.args.client < a.shape.m = omega (arith, below, number, size) in
     let plays : Plays a.shape (Client c.args.client) log c.index.result.now =
-    subst (Plays a.shape (Client c.args.client) log) (sym (c.index.ensures ∙ ap (λ k. slice_index_or a.nodes.items k c.index.result.now) c.place_of.ensures))
+    subst (Plays a.shape (Client c.args.client) log) (sym (c.index.ensures ∙ ap (λ k. slice_index_or a.nodes.items k c.index.result.now) c.place.ensures))
     (c.self.invariant.0.played.each (Client c.args.client) inside c.index.result.now) in
     client_plays a.shape c.args.client log c.index.result.now plays
 
@@ -33,7 +33,7 @@ returns-clause-same c =
     let size = c.m.ensures.same in
     let inside : c.args.client < a.shape.m = omega (arith, below, number, size) in
     let plays : Plays a.shape (Client c.args.client) log c.index.result.now =
-    subst (Plays a.shape (Client c.args.client) log) (sym (c.index.ensures ∙ ap (λ k. slice_index_or a.nodes.items k c.index.result.now) c.place_of.ensures))
+    subst (Plays a.shape (Client c.args.client) log) (sym (c.index.ensures ∙ ap (λ k. slice_index_or a.nodes.items k c.index.result.now) c.place.ensures))
     (c.self.invariant.0.played.each (Client c.args.client) inside c.index.result.now) in
     subst (λ (w : World). c.accepted.result.now ≡ reverse (accepted_by w.shape (log_of w.run) c.args.client)) c.self.view_is (c.accepted.ensures a.shape c.args.client log plays)
 
@@ -46,7 +46,7 @@ returns-clause-right c reply =
     let size = c.m.ensures.same in
     let inside : c.args.client < a.shape.m = omega (arith, below, number, size) in
     let plays : Plays a.shape (Client c.args.client) log c.index.result.now =
-    subst (Plays a.shape (Client c.args.client) log) (sym (c.index.ensures ∙ ap (λ k. slice_index_or a.nodes.items k c.index.result.now) c.place_of.ensures))
+    subst (Plays a.shape (Client c.args.client) log) (sym (c.index.ensures ∙ ap (λ k. slice_index_or a.nodes.items k c.index.result.now) c.place.ensures))
     (c.self.invariant.0.played.each (Client c.args.client) inside c.index.result.now) in
     let same = subst (λ (w : World). c.accepted.result.now ≡ reverse (accepted_by w.shape (log_of w.run) c.args.client)) c.self.view_is (c.accepted.ensures a.shape c.args.client log plays) in
     let world = c.args.self.now in
@@ -63,7 +63,7 @@ returns-clause-answered c wanted =
     let size = c.m.ensures.same in
     let inside : c.args.client < a.shape.m = omega (arith, below, number, size) in
     let plays : Plays a.shape (Client c.args.client) log c.index.result.now =
-    subst (Plays a.shape (Client c.args.client) log) (sym (c.index.ensures ∙ ap (λ k. slice_index_or a.nodes.items k c.index.result.now) c.place_of.ensures))
+    subst (Plays a.shape (Client c.args.client) log) (sym (c.index.ensures ∙ ap (λ k. slice_index_or a.nodes.items k c.index.result.now) c.place.ensures))
     (c.self.invariant.0.played.each (Client c.args.client) inside c.index.result.now) in
     let same = subst (λ (w : World). c.accepted.result.now ≡ reverse (accepted_by w.shape (log_of w.run) c.args.client)) c.self.view_is (c.accepted.ensures a.shape c.args.client log plays) in
     let world = c.args.self.now in

@@ -6,10 +6,10 @@ use Rattle.dsr_envelope.specs.declared.step.Pick.TheVariants.{Plain}
 use Rattle.dsr_client.specs.Conduct.{ask_to}
 use Rattle.dsr_run.specs.Step.{log_of}
 use Rattle.dsr_node.specs.Node.{Plays, IsOutstandingAsk}
-use Rattle.dsr_world.specs.Support.WorldFields.{place_of}
+use Rattle.dsr_names.specs.Places.{place_of}
 use Rattle.dsr_world.specs.World.{World}
 use Rattle.dsr_world.proofs.Repeating.{asked_again}
-use Rattle.dsr_world.proofs.Stepping.{place_below}
+use Rattle.dsr_names.proofs.PlaceLemmas.{place_below}
 use Rattle.dsr_world.proofs.world.World.asked_before.Goals as goal
 use Rattle.dsr_node.proofs.Lemmas.{client_plays}
 
@@ -20,7 +20,7 @@ has_outstanding-requires c =
     let log = log_of (reverse a.entries.items) (Client client) in
     let inside = subst (λ (w : World). client < w.shape.m) (sym c.self.view_is) c.requires in
     let plays : Plays a.shape (Client client) log c.index-2.result.now =
-    subst (Plays a.shape (Client client) log) (sym (c.index-2.ensures ∙ ap (λ k. slice_index_or a.nodes.items k c.index-2.result.now) c.place_of-place.ensures))
+    subst (Plays a.shape (Client client) log) (sym (c.index-2.ensures ∙ ap (λ k. slice_index_or a.nodes.items k c.index-2.result.now) c.place-place.ensures))
     (c.self.invariant.0.played.each (Client client) inside c.index-2.result.now) in
     client_plays a.shape client log c.index-2.result.now plays
 
@@ -35,11 +35,11 @@ returns-then-has_outstanding c =
     let below = place_below a.shape (Client client) inside in let count = c.self.invariant.1.count in omega (arith, below, count) in
     let kept : slice_index_or a.letters.items (place_of a.shape (Client client)) None ≡ Some letter =
     sym (get_or_default a.letters.items (place_of a.shape (Client client)) c.index.result.now None long)
-    ∙ (ap (λ k. slice_index_or a.letters.items k c.index.result.now) (sym c.place_of-place.ensures)
+    ∙ (ap (λ k. slice_index_or a.letters.items k c.index.result.now) (sym c.place-place.ensures)
     ∙ (sym c.index.ensures ∙ sym c.in_ok-letter.ensures.value)) in
     let plays : Plays a.shape (Client client) (log_of run (Client client)) c.index-2.result.now =
     subst (Plays a.shape (Client client) (log_of run (Client client)))
-    (sym (c.index-2.ensures ∙ ap (λ k. slice_index_or a.nodes.items k c.index-2.result.now) c.place_of-place.ensures))
+    (sym (c.index-2.ensures ∙ ap (λ k. slice_index_or a.nodes.items k c.index-2.result.now) c.place-place.ensures))
     (c.self.invariant.0.played.each (Client client) inside c.index-2.result.now) in
     let asks = (c.has_outstanding.ensures a.shape client (log_of run (Client client)) plays).0 c.if-has_outstanding.true in
     let again : ask_to a.shape client (log_of run (Client client)) Plain ≡ Some letter =

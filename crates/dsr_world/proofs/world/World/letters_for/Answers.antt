@@ -21,7 +21,7 @@ envelope_for-requires c =
     let none = subst (λ (w : World). refusal_of w.shape (log_of w.run) (Post from to pick) ≡ None) (sym c.self.view_is) c.requires in
     let is = cleared a.shape (log_of run) from to pick none in
     let at_first : Plays a.shape from (log_of run from) c.index.result.now =
-    subst (Plays a.shape from (log_of run from)) (sym (c.index.ensures ∙ ap (λ k. slice_index_or a.nodes.items k c.index.result.now) c.place_of-poster.ensures))
+    subst (Plays a.shape from (log_of run from)) (sym (c.index.ensures ∙ ap (λ k. slice_index_or a.nodes.items k c.index.result.now) c.place-poster.ensures))
     (c.self.invariant.0.played.each from is.actor c.index.result.now) in
     can_post a.shape (log_of run) from to pick c.index.result.now is at_first
 
@@ -36,7 +36,7 @@ returns-clause-given c =
     let is = cleared a.shape (log_of run) from to pick none in
     let conduct = conduct_cleared a.shape (log_of run) from to pick is in
     let at_first : Plays a.shape from (log_of run from) c.index.result.now =
-    subst (Plays a.shape from (log_of run from)) (sym (c.index.ensures ∙ ap (λ k. slice_index_or a.nodes.items k c.index.result.now) c.place_of-poster.ensures))
+    subst (Plays a.shape from (log_of run from)) (sym (c.index.ensures ∙ ap (λ k. slice_index_or a.nodes.items k c.index.result.now) c.place-poster.ensures))
     (c.self.invariant.0.played.each from is.actor c.index.result.now) in
     let given : post_of a.shape (log_of run from) from to pick ≡ Some c.in-Ok.envelope = c.in-Ok.ensures.given a.shape from (log_of run from) at_first conduct in
     let seen = subst (λ (w : World). post_of w.shape (log_of w.run from) from to pick ≡ Some c.in-Ok.envelope) c.self.view_is given in

@@ -11,7 +11,8 @@ use Rattle.dsr_node.specs.Conduct.{post_of}
 use Rattle.dsr_run.specs.Step.{log_of}
 use Rattle.dsr_world.specs.Support.Boxes.{row_of, box_at, with_box, with_post}
 use Rattle.dsr_node.specs.Node.{Plays}
-use Rattle.dsr_world.specs.Support.WorldFields.{place_of, with_letter, AreParts, AreLetters}
+use Rattle.dsr_names.specs.Places.{place_of}
+use Rattle.dsr_world.specs.Support.WorldFields.{with_letter, AreParts, AreLetters}
 use Rattle.dsr_world.specs.World.{World}
 use Rattle.dsr_world.proofs.Worlds.{can_post, cleared, conduct_cleared, row_long, posts_few, parts_after_post, done_post}
 use Rattle.dsr_world.proofs.Repeating.{letters_posted}
@@ -28,7 +29,7 @@ posted-requires c =
     (sym c.post_refusal.ensures ∙ c.in_default.is) in
     let is = cleared a.shape (log_of run) from to pick none in
     let at_last : Plays a.shape from (log_of run from) c.index_mut.result.now =
-    subst (Plays a.shape from (log_of run from)) (sym (c.index_mut.ensures.value ∙ ap (λ k. slice_index_or a.nodes.items k c.index_mut.result.now) c.place_of-poster.ensures))
+    subst (Plays a.shape from (log_of run from)) (sym (c.index_mut.ensures.value ∙ ap (λ k. slice_index_or a.nodes.items k c.index_mut.result.now) c.place-poster.ensures))
     (c.self.invariant.0.played.each from is.actor c.index_mut.result.now) in
     can_post a.shape (log_of run) from to pick c.index_mut.result.now is at_last
 
@@ -38,8 +39,8 @@ put-requires-clause-row c =
     let none = subst (λ (w : World). refusal_of w.shape (log_of w.run) (Post c.args.from.now c.args.to.now c.args.pick.now) ≡ None) (sym c.self.view_is)
     (sym c.post_refusal.ensures ∙ c.in_default.is) in
     let is = cleared a.shape (log_of (reverse a.entries.items)) c.args.from.now c.args.to.now c.args.pick.now none in
-    subst (λ k. k < length (row_of a.boxes c.place_of-poster.result)) (sym c.place_of-taker.ensures)
-    (subst (λ k. place_of a.shape c.args.to.now < length (row_of a.boxes k)) (sym c.place_of-poster.ensures)
+    subst (λ k. k < length (row_of a.boxes c.place-poster.result)) (sym c.place-taker.ensures)
+    (subst (λ k. place_of a.shape c.args.to.now < length (row_of a.boxes k)) (sym c.place-poster.ensures)
     (row_long a.shape (reverse a.entries.items) a.nodes.items a.boxes a.keys.items a.known.signatures c.self.invariant.0 c.args.from.now c.args.to.now is.actor is.other))
 
 pub put-requires-clause-few : goal.put-requires-clause-few
@@ -48,8 +49,8 @@ put-requires-clause-few c =
     let none = subst (λ (w : World). refusal_of w.shape (log_of w.run) (Post c.args.from.now c.args.to.now c.args.pick.now) ≡ None) (sym c.self.view_is)
     (sym c.post_refusal.ensures ∙ c.in_default.is) in
     let is = cleared a.shape (log_of (reverse a.entries.items)) c.args.from.now c.args.to.now c.args.pick.now none in
-    subst (λ k. (box_at a.boxes c.place_of-poster.result k).posts < 2 ^ 40) (sym c.place_of-taker.ensures)
-    (subst (λ k. (box_at a.boxes k (place_of a.shape c.args.to.now)).posts < 2 ^ 40) (sym c.place_of-poster.ensures)
+    subst (λ k. (box_at a.boxes c.place-poster.result k).posts < 2 ^ 40) (sym c.place-taker.ensures)
+    (subst (λ k. (box_at a.boxes k (place_of a.shape c.args.to.now)).posts < 2 ^ 40) (sym c.place-poster.ensures)
     (posts_few a.shape (reverse a.entries.items) a.nodes.items a.boxes a.keys.items a.known.signatures c.self.invariant.0 c.args.from.now c.args.to.now is.actor is.other is.used))
 
 pub invariant_of-self-2 : goal.invariant_of-self-2
@@ -66,7 +67,7 @@ invariant_of-self-2 c =
     let given : post_of a.shape (log_of run from) from to pick ≡ Some c.in-Ok.letters.kept =
     subst (λ (w : World). post_of w.shape (log_of w.run from) from to pick ≡ Some c.in-Ok.letters.kept) (sym c.self.view_is) c.in-Ok.ensures.given in
     let at_last : Plays a.shape from (log_of run from) c.index_mut.result.now =
-    subst (Plays a.shape from (log_of run from)) (sym (c.index_mut.ensures.value ∙ ap (λ k. slice_index_or a.nodes.items k c.index_mut.result.now) c.place_of-poster.ensures))
+    subst (Plays a.shape from (log_of run from)) (sym (c.index_mut.ensures.value ∙ ap (λ k. slice_index_or a.nodes.items k c.index_mut.result.now) c.place-poster.ensures))
     (c.self.invariant.0.played.each from is.actor c.index_mut.result.now) in
     let plays : Plays a.shape from (PostEntry to c.in-Ok.letters.kept ∷ log_of run from) c.posted.new.self =
     c.posted.ensures.plays a.shape from (log_of run from) c.in-Ok.letters.kept at_last conduct given in
@@ -82,16 +83,16 @@ invariant_of-self-2 c =
     let box : c.put.new.self ≡ with_box a.boxes (place_of a.shape from) (place_of a.shape to)
     (with_post (box_at a.boxes (place_of a.shape from) (place_of a.shape to)) c.in-Ok.letters.kept) =
     c.put.ensures
-    ∙ (ap (λ x. with_box a.boxes c.place_of-poster.result c.place_of-taker.result (with_post (box_at a.boxes c.place_of-poster.result c.place_of-taker.result) x)) c.in-Ok.ensures.sent
-    ∙ ap₂ (λ k l. with_box a.boxes k l (with_post (box_at a.boxes k l) c.in-Ok.letters.kept)) c.place_of-poster.ensures c.place_of-taker.ensures) in (
-      subst (λ r. AreParts a.shape r (slice_set a.nodes.items c.place_of-poster.result c.posted.new.self) c.put.new.self a.keys.items c.learn.new.known.signatures) (sym went)
+    ∙ (ap (λ x. with_box a.boxes c.place-poster.result c.place-taker.result (with_post (box_at a.boxes c.place-poster.result c.place-taker.result) x)) c.in-Ok.ensures.sent
+    ∙ ap₂ (λ k l. with_box a.boxes k l (with_post (box_at a.boxes k l) c.in-Ok.letters.kept)) c.place-poster.ensures c.place-taker.ensures) in (
+      subst (λ r. AreParts a.shape r (slice_set a.nodes.items c.place-poster.result c.posted.new.self) c.put.new.self a.keys.items c.learn.new.known.signatures) (sym went)
           (subst (λ k. AreParts a.shape ((from, PostEntry to c.in-Ok.letters.kept) ∷ run) (slice_set a.nodes.items k c.posted.new.self) c.put.new.self a.keys.items c.learn.new.known.signatures)
-          (sym c.place_of-poster.ensures)
+          (sym c.place-poster.ensures)
           (subst (λ rows. AreParts a.shape ((from, PostEntry to c.in-Ok.letters.kept) ∷ run) (slice_set a.nodes.items (place_of a.shape from) c.posted.new.self) rows a.keys.items
           c.learn.new.known.signatures) (sym box) parts)),
       subst (λ r. AreLetters a.shape (log_of r) c.keep_letter.new.letters.items) (sym went)
           (subst (AreLetters a.shape (log_of ((from, PostEntry to c.in-Ok.letters.kept) ∷ run)))
-          (sym (c.keep_letter.ensures ∙ ap₂ (λ k o. with_letter k o a.letters.items) c.place_of-poster.ensures c.in_ok-again.ensures.kept))
+          (sym (c.keep_letter.ensures ∙ ap₂ (λ k o. with_letter k o a.letters.items) c.place-poster.ensures c.in_ok-again.ensures.kept))
           (letters_posted a.shape run a.letters.items c.self.invariant.1 from to c.in-Ok.letters.kept is.actor)),
     )
 

@@ -17,7 +17,7 @@ seen-requires c =
     let size = c.m.ensures.same in
     let inside : c.args.client < a.shape.m = omega (arith, below, number, size) in
     let plays : Plays a.shape (Client c.args.client) log c.index.result.now =
-    subst (Plays a.shape (Client c.args.client) log) (sym (c.index.ensures ∙ ap (λ k. slice_index_or a.nodes.items k c.index.result.now) c.place_of.ensures))
+    subst (Plays a.shape (Client c.args.client) log) (sym (c.index.ensures ∙ ap (λ k. slice_index_or a.nodes.items k c.index.result.now) c.place.ensures))
     (c.self.invariant.0.played.each (Client c.args.client) inside c.index.result.now) in
     client_plays a.shape c.args.client log c.index.result.now plays
 
@@ -30,6 +30,6 @@ returns-clause-same c =
     let size = c.m.ensures.same in
     let inside : c.args.client < a.shape.m = omega (arith, below, number, size) in
     let plays : Plays a.shape (Client c.args.client) log c.index.result.now =
-    subst (Plays a.shape (Client c.args.client) log) (sym (c.index.ensures ∙ ap (λ k. slice_index_or a.nodes.items k c.index.result.now) c.place_of.ensures))
+    subst (Plays a.shape (Client c.args.client) log) (sym (c.index.ensures ∙ ap (λ k. slice_index_or a.nodes.items k c.index.result.now) c.place.ensures))
     (c.self.invariant.0.played.each (Client c.args.client) inside c.index.result.now) in
     subst (λ (w : World). c.seen.result ≡ seen_by w.shape (log_of w.run) c.args.client) c.self.view_is (c.seen.ensures a.shape c.args.client log plays)

@@ -6,11 +6,12 @@ use Rattle.dsr_world.specs.Event.{refusal_of, HasDone}
 use Rattle.dsr_run.specs.Step.{log_of}
 use Rattle.dsr_world.specs.Support.Boxes.{box_at, with_box, without_letter}
 use Rattle.dsr_node.specs.Node.{Plays, CanTake, TakesReply}
-use Rattle.dsr_world.specs.Support.WorldFields.{place_of, AreParts, AreLetters}
+use Rattle.dsr_names.specs.Places.{place_of}
+use Rattle.dsr_world.specs.Support.WorldFields.{AreParts, AreLetters}
 use Rattle.dsr_world.specs.World.{World}
 use Rattle.std.proofs.lemmas.Option.{same_Some}
 use Rattle.std.proofs.lemmas.List.{get_or-set_same}
-use Rattle.dsr_world.proofs.Stepping.{place_below}
+use Rattle.dsr_names.proofs.PlaceLemmas.{place_below}
 use Rattle.dsr_world.proofs.Worlds.{pushed}
 use Rattle.dsr_world.proofs.WorldTakes.{cleared_take, can_take, parts_with_room, parts_after_take, done_take}
 use Rattle.dsr_world.proofs.Repeating.{letters_taken}
@@ -26,12 +27,12 @@ invariant_of-self-in_default-room c =
     (sym c.take_refusal.ensures ∙ c.in_default.is) in
     let is = cleared_take a.shape (log_of run) at from none in
     let before : Plays a.shape at (log_of run at) c.index_mut.result.now =
-    subst (Plays a.shape at (log_of run at)) (sym (c.index_mut.ensures.value ∙ ap (λ k. slice_index_or a.nodes.items k c.index_mut.result.now) c.place_of-taker.ensures))
+    subst (Plays a.shape at (log_of run at)) (sym (c.index_mut.ensures.value ∙ ap (λ k. slice_index_or a.nodes.items k c.index_mut.result.now) c.place-taker.ensures))
     (c.self.invariant.0.played.each at is.actor c.index_mut.result.now) in
     let plays : Plays a.shape at (log_of run at) c.room.new.self = c.room.ensures.plays a.shape at (log_of run at) before in (
-      subst (λ es. AreParts a.shape (reverse es) (slice_set a.nodes.items c.place_of-taker.result c.room.new.self) a.boxes a.keys.items a.known.signatures)
+      subst (λ es. AreParts a.shape (reverse es) (slice_set a.nodes.items c.place-taker.result c.room.new.self) a.boxes a.keys.items a.known.signatures)
           (sym c.make_room.ensures.same)
-          (subst (λ k. AreParts a.shape run (slice_set a.nodes.items k c.room.new.self) a.boxes a.keys.items a.known.signatures) (sym c.place_of-taker.ensures)
+          (subst (λ k. AreParts a.shape run (slice_set a.nodes.items k c.room.new.self) a.boxes a.keys.items a.known.signatures) (sym c.place-taker.ensures)
           (parts_with_room a.shape run a.nodes.items a.boxes a.keys.items a.known.signatures c.self.invariant.0 at c.room.new.self is.actor plays)),
       subst (λ es. AreLetters a.shape (log_of (reverse es)) a.letters.items) (sym c.make_room.ensures.same) c.self.invariant.1,
     )
@@ -46,17 +47,17 @@ taken-reply-requires c =
     (sym c.take_refusal.ensures ∙ c.in_default.is) in
     let is = cleared_take a.shape (log_of run) at from none in
     let before : Plays a.shape at (log_of run at) c.index_mut.result.now =
-    subst (Plays a.shape at (log_of run at)) (sym (c.index_mut.ensures.value ∙ ap (λ k. slice_index_or a.nodes.items k c.index_mut.result.now) c.place_of-taker.ensures))
+    subst (Plays a.shape at (log_of run at)) (sym (c.index_mut.ensures.value ∙ ap (λ k. slice_index_or a.nodes.items k c.index_mut.result.now) c.place-taker.ensures))
     (c.self.invariant.0.played.each at is.actor c.index_mut.result.now) in
     let plays : Plays a.shape at (log_of run at) c.room.new.self = c.room.ensures.plays a.shape at (log_of run at) before in
     let long : place_of a.shape at < length a.nodes.items =
     let below = place_below a.shape at is.actor in let count = c.self.invariant.0.played.count in omega (arith, below, count) in
     let again : c.index_mut-2.result.now ≡ c.room.new.self =
     c.index_mut-2.ensures.value
-    ∙ (ap (λ k. slice_index_or (slice_set a.nodes.items k c.room.new.self) k c.index_mut-2.result.now) c.place_of-taker.ensures
+    ∙ (ap (λ k. slice_index_or (slice_set a.nodes.items k c.room.new.self) k c.index_mut-2.result.now) c.place-taker.ensures
     ∙ get_or-set_same a.nodes.items (place_of a.shape at) c.room.new.self c.index_mut-2.result.now long) in
     let full : (box_at a.boxes (place_of a.shape from) (place_of a.shape at)).letter ≡ Some c.in-Ok.envelope =
-    ap₂ (λ k l. (box_at a.boxes k l).letter) (sym c.place_of-poster.ensures) (sym c.place_of-taker.ensures) ∙ c.in-Ok.ensures.same in
+    ap₂ (λ k l. (box_at a.boxes k l).letter) (sym c.place-poster.ensures) (sym c.place-taker.ensures) ∙ c.in-Ok.ensures.same in
     subst (λ x. CanTake x from c.in-Ok.envelope) (sym again)
     (can_take a.shape run a.nodes.items a.boxes a.keys.items a.known.signatures c.self.invariant.0 at from c.in-Ok.envelope c.room.new.self
     c.n-n.ensures.allowed is full plays c.in-Ok-room.ensures.room)
@@ -71,20 +72,20 @@ invariant_of-self-2 c =
     (sym c.take_refusal.ensures ∙ c.in_default.is) in
     let is = cleared_take a.shape (log_of run) at from none in
     let before : Plays a.shape at (log_of run at) c.index_mut.result.now =
-    subst (Plays a.shape at (log_of run at)) (sym (c.index_mut.ensures.value ∙ ap (λ k. slice_index_or a.nodes.items k c.index_mut.result.now) c.place_of-taker.ensures))
+    subst (Plays a.shape at (log_of run at)) (sym (c.index_mut.ensures.value ∙ ap (λ k. slice_index_or a.nodes.items k c.index_mut.result.now) c.place-taker.ensures))
     (c.self.invariant.0.played.each at is.actor c.index_mut.result.now) in
     let plays : Plays a.shape at (log_of run at) c.room.new.self = c.room.ensures.plays a.shape at (log_of run at) before in
     let long : place_of a.shape at < length a.nodes.items =
     let below = place_below a.shape at is.actor in let count = c.self.invariant.0.played.count in omega (arith, below, count) in
     let again : c.index_mut-2.result.now ≡ c.room.new.self =
     c.index_mut-2.ensures.value
-    ∙ (ap (λ k. slice_index_or (slice_set a.nodes.items k c.room.new.self) k c.index_mut-2.result.now) c.place_of-taker.ensures
+    ∙ (ap (λ k. slice_index_or (slice_set a.nodes.items k c.room.new.self) k c.index_mut-2.result.now) c.place-taker.ensures
     ∙ get_or-set_same a.nodes.items (place_of a.shape at) c.room.new.self c.index_mut-2.result.now long) in
     let full : (box_at a.boxes (place_of a.shape from) (place_of a.shape at)).letter ≡ Some c.in-Ok.envelope =
-    ap₂ (λ k l. (box_at a.boxes k l).letter) (sym c.place_of-poster.ensures) (sym c.place_of-taker.ensures) ∙ c.in-Ok.ensures.same in
+    ap₂ (λ k l. (box_at a.boxes k l).letter) (sym c.place-poster.ensures) (sym c.place-taker.ensures) ∙ c.in-Ok.ensures.same in
     let taken : c.take-letter.result ≡ c.in-Ok.envelope =
     same_Some c.take-letter.result c.in-Ok.envelope
-    (sym c.take-letter.ensures.letter ∙ (ap₂ (λ k l. (box_at a.boxes k l).letter) c.place_of-poster.ensures c.place_of-taker.ensures ∙ full)) in
+    (sym c.take-letter.ensures.letter ∙ (ap₂ (λ k l. (box_at a.boxes k l).letter) c.place-poster.ensures c.place-taker.ensures ∙ full)) in
     let entry : c.push_reserved.new.self.items ≡ a.entries.items ++ (at, TakeEntry from c.in-Ok.envelope) ∷ [] =
     c.push_reserved.ensures.items ∙ ap₂ (λ es x. es ++ (at, TakeEntry from x) ∷ []) c.make_room.ensures.same taken in
     let went : reverse c.push_reserved.new.self.items ≡ (at, TakeEntry from c.in-Ok.envelope) ∷ run =
@@ -95,11 +96,11 @@ invariant_of-self-2 c =
     let parts = parts_after_take a.shape run (slice_set a.nodes.items (place_of a.shape at) c.room.new.self) a.boxes a.keys.items a.known.signatures roomy at from
     c.in-Ok.envelope c.taken-reply.new.self c.n-n.ensures.allowed is full after in
     let box : c.take-letter.new.self ≡ with_box a.boxes (place_of a.shape from) (place_of a.shape at) (without_letter (box_at a.boxes (place_of a.shape from) (place_of a.shape at))) =
-    c.take-letter.ensures.rest ∙ ap₂ (λ k l. with_box a.boxes k l (without_letter (box_at a.boxes k l))) c.place_of-poster.ensures c.place_of-taker.ensures in (
-      subst (λ r. AreParts a.shape r (slice_set (slice_set a.nodes.items c.place_of-taker.result c.room.new.self) c.place_of-taker.result c.taken-reply.new.self)
+    c.take-letter.ensures.rest ∙ ap₂ (λ k l. with_box a.boxes k l (without_letter (box_at a.boxes k l))) c.place-poster.ensures c.place-taker.ensures in (
+      subst (λ r. AreParts a.shape r (slice_set (slice_set a.nodes.items c.place-taker.result c.room.new.self) c.place-taker.result c.taken-reply.new.self)
           c.take-letter.new.self a.keys.items a.known.signatures) (sym went)
           (subst (λ k. AreParts a.shape ((at, TakeEntry from c.in-Ok.envelope) ∷ run) (slice_set (slice_set a.nodes.items k c.room.new.self) k c.taken-reply.new.self)
-          c.take-letter.new.self a.keys.items a.known.signatures) (sym c.place_of-taker.ensures)
+          c.take-letter.new.self a.keys.items a.known.signatures) (sym c.place-taker.ensures)
           (subst (λ rows. AreParts a.shape ((at, TakeEntry from c.in-Ok.envelope) ∷ run)
           (slice_set (slice_set a.nodes.items (place_of a.shape at) c.room.new.self) (place_of a.shape at) c.taken-reply.new.self)
           rows a.keys.items a.known.signatures) (sym box) parts)),
@@ -116,20 +117,20 @@ returns-clause-done c =
     (sym c.take_refusal.ensures ∙ c.in_default.is) in
     let is = cleared_take a.shape (log_of run) at from none in
     let before : Plays a.shape at (log_of run at) c.index_mut.result.now =
-    subst (Plays a.shape at (log_of run at)) (sym (c.index_mut.ensures.value ∙ ap (λ k. slice_index_or a.nodes.items k c.index_mut.result.now) c.place_of-taker.ensures))
+    subst (Plays a.shape at (log_of run at)) (sym (c.index_mut.ensures.value ∙ ap (λ k. slice_index_or a.nodes.items k c.index_mut.result.now) c.place-taker.ensures))
     (c.self.invariant.0.played.each at is.actor c.index_mut.result.now) in
     let plays : Plays a.shape at (log_of run at) c.room.new.self = c.room.ensures.plays a.shape at (log_of run at) before in
     let long : place_of a.shape at < length a.nodes.items =
     let below = place_below a.shape at is.actor in let count = c.self.invariant.0.played.count in omega (arith, below, count) in
     let again : c.index_mut-2.result.now ≡ c.room.new.self =
     c.index_mut-2.ensures.value
-    ∙ (ap (λ k. slice_index_or (slice_set a.nodes.items k c.room.new.self) k c.index_mut-2.result.now) c.place_of-taker.ensures
+    ∙ (ap (λ k. slice_index_or (slice_set a.nodes.items k c.room.new.self) k c.index_mut-2.result.now) c.place-taker.ensures
     ∙ get_or-set_same a.nodes.items (place_of a.shape at) c.room.new.self c.index_mut-2.result.now long) in
     let full : (box_at a.boxes (place_of a.shape from) (place_of a.shape at)).letter ≡ Some c.in-Ok.envelope =
-    ap₂ (λ k l. (box_at a.boxes k l).letter) (sym c.place_of-poster.ensures) (sym c.place_of-taker.ensures) ∙ c.in-Ok.ensures.same in
+    ap₂ (λ k l. (box_at a.boxes k l).letter) (sym c.place-poster.ensures) (sym c.place-taker.ensures) ∙ c.in-Ok.ensures.same in
     let taken : c.take-letter.result ≡ c.in-Ok.envelope =
     same_Some c.take-letter.result c.in-Ok.envelope
-    (sym c.take-letter.ensures.letter ∙ (ap₂ (λ k l. (box_at a.boxes k l).letter) c.place_of-poster.ensures c.place_of-taker.ensures ∙ full)) in
+    (sym c.take-letter.ensures.letter ∙ (ap₂ (λ k l. (box_at a.boxes k l).letter) c.place-poster.ensures c.place-taker.ensures ∙ full)) in
     let entry : c.push_reserved.new.self.items ≡ a.entries.items ++ (at, TakeEntry from c.in-Ok.envelope) ∷ [] =
     c.push_reserved.ensures.items ∙ ap₂ (λ es x. es ++ (at, TakeEntry from x) ∷ []) c.make_room.ensures.same taken in
     let went : reverse c.push_reserved.new.self.items ≡ (at, TakeEntry from c.in-Ok.envelope) ∷ run =

@@ -14,7 +14,8 @@ use Rattle.dsr_world.specs.Event.{refusal_of, is_full, is_used_up, HasDone}
 use Rattle.dsr_run.specs.Step.{log_of}
 use Rattle.dsr_world.specs.Support.Boxes.{box_at, with_box, with_post}
 use Rattle.dsr_node.specs.Node.{Plays}
-use Rattle.dsr_world.specs.Support.WorldFields.{place_of, AreParts, AreLetters}
+use Rattle.dsr_names.specs.Places.{place_of}
+use Rattle.dsr_world.specs.Support.WorldFields.{AreParts, AreLetters}
 use Rattle.dsr_world.specs.World.{World}
 use Rattle.dsr_world.proofs.WorldPosts.{cleared_tell, parts_after_tell, done_tell}
 use Rattle.dsr_world.proofs.Repeating.{letters_told}
@@ -32,7 +33,7 @@ seen-requires c =
     let is = cleared_tell a.shape (log_of run) from to none in
     let at : Plays a.shape (Client is.c) (log_of run (Client is.c)) c.index.result.now =
     subst (λ b. Plays a.shape b (log_of run b) c.index.result.now) is.from_is
-    (subst (Plays a.shape from (log_of run from)) (sym (c.index.ensures ∙ ap (λ k. slice_index_or a.nodes.items k c.index.result.now) c.place_of-poster.ensures))
+    (subst (Plays a.shape from (log_of run from)) (sym (c.index.ensures ∙ ap (λ k. slice_index_or a.nodes.items k c.index.result.now) c.place-poster.ensures))
     (c.self.invariant.0.played.each from is.actor c.index.result.now)) in
     client_plays a.shape is.c (log_of run (Client is.c)) c.index.result.now at
 
@@ -47,7 +48,7 @@ invariant_of-self-2 c =
     let is = cleared_tell a.shape (log_of run) from to none in
     let at : Plays a.shape (Client is.c) (log_of run (Client is.c)) c.index.result.now =
     subst (λ b. Plays a.shape b (log_of run b) c.index.result.now) is.from_is
-    (subst (Plays a.shape from (log_of run from)) (sym (c.index.ensures ∙ ap (λ k. slice_index_or a.nodes.items k c.index.result.now) c.place_of-poster.ensures))
+    (subst (Plays a.shape from (log_of run from)) (sym (c.index.ensures ∙ ap (λ k. slice_index_or a.nodes.items k c.index.result.now) c.place-poster.ensures))
     (c.self.invariant.0.played.each from is.actor c.index.result.now)) in
     let front : c.seen.result ≡ seen a.shape (log_of run (Client is.c)) = c.seen.ensures a.shape is.c (log_of run (Client is.c)) at in
     let x = Seen (seen a.shape (log_of run (Client is.c))) in
@@ -67,9 +68,9 @@ invariant_of-self-2 c =
     let box : c.put.new.self ≡ with_box a.boxes (place_of a.shape (Client is.c)) (place_of a.shape (Client is.d))
     (with_post (box_at a.boxes (place_of a.shape (Client is.c)) (place_of a.shape (Client is.d))) x) =
     c.put.ensures
-    ∙ (ap (λ y. with_box a.boxes c.place_of-poster.result c.place_of-taker.result (with_post (box_at a.boxes c.place_of-poster.result c.place_of-taker.result) y)) sent
-    ∙ ap₂ (λ k l. with_box a.boxes k l (with_post (box_at a.boxes k l) x)) (c.place_of-poster.ensures ∙ ap (place_of a.shape) is.from_is)
-    (c.place_of-taker.ensures ∙ ap (place_of a.shape) is.to_is)) in (
+    ∙ (ap (λ y. with_box a.boxes c.place-poster.result c.place-taker.result (with_post (box_at a.boxes c.place-poster.result c.place-taker.result) y)) sent
+    ∙ ap₂ (λ k l. with_box a.boxes k l (with_post (box_at a.boxes k l) x)) (c.place-poster.ensures ∙ ap (place_of a.shape) is.from_is)
+    (c.place-taker.ensures ∙ ap (place_of a.shape) is.to_is)) in (
       subst (λ r. AreParts a.shape r a.nodes.items c.put.new.self a.keys.items c.learn.new.known.signatures) (sym went)
           (subst (λ rows. AreParts a.shape ((Client is.c, PostEntry (Client is.d) x) ∷ run) a.nodes.items rows a.keys.items c.learn.new.known.signatures) (sym box) parts),
       subst (λ r. AreLetters a.shape (log_of r) a.letters.items) (sym went) (letters_told a.shape run a.letters.items c.self.invariant.1 is.c is.d x),
@@ -86,7 +87,7 @@ returns-clause-done c =
     let is = cleared_tell a.shape (log_of run) from to none in
     let at : Plays a.shape (Client is.c) (log_of run (Client is.c)) c.index.result.now =
     subst (λ b. Plays a.shape b (log_of run b) c.index.result.now) is.from_is
-    (subst (Plays a.shape from (log_of run from)) (sym (c.index.ensures ∙ ap (λ k. slice_index_or a.nodes.items k c.index.result.now) c.place_of-poster.ensures))
+    (subst (Plays a.shape from (log_of run from)) (sym (c.index.ensures ∙ ap (λ k. slice_index_or a.nodes.items k c.index.result.now) c.place-poster.ensures))
     (c.self.invariant.0.played.each from is.actor c.index.result.now)) in
     let front : c.seen.result ≡ seen a.shape (log_of run (Client is.c)) = c.seen.ensures a.shape is.c (log_of run (Client is.c)) at in
     let x = Seen (seen a.shape (log_of run (Client is.c))) in
