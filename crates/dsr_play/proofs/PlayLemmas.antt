@@ -1,5 +1,5 @@
--- One more line of a play, and whole plays.
-use Rattle.std.proofs.Common.{◌≡◌, ◌↔◌, ℕ, ◌<◌, ◌≤◌, Bool, List, ◌∷◌, ◌++◌, codes, length, IsTrue, refl, sym, ◌∙◌, ap, ap₂, subst, arith, lit<}
+-- The lines of plays have no line feed in them, and whole plays.
+use Rattle.std.proofs.Common.{◌≡◌, ℕ, ◌<◌, List, ◌∷◌, ◌++◌, codes, refl, sym, ◌∙◌, ap, ap₂, arith, lit<}
 use Rattle.dsr_base.specs.Joined.{joined}
 use Rattle.dsr_names.specs.Actor.{IsNumbered, actor_text, client_text, replica_text}
 use Rattle.dsr_names.specs.declared.actor.Actor.{Actor}
@@ -16,7 +16,7 @@ use Rattle.dsr_play.specs.declared.event.Event.{Event}
 use Rattle.dsr_play.specs.declared.event.Event.TheVariants.{Post, Plant, Take, Tell}
 use Rattle.dsr_play.specs.declared.play_line.PlayLine.{PlayLine}
 use Rattle.dsr_play.specs.declared.play_line.PlayLine.TheVariants.{One, Posts, PostsAll, Plants, Takes, TakesAll, Asks, Hears, Replies}
-use Rattle.dsr_play.specs.PlayText.{line_text, line_rest, pick_text, ends_text, IsPlayLine, IsSpelledPick, CanFollow, all_events, events_of}
+use Rattle.dsr_play.specs.PlayText.{line_text, line_rest, pick_text, ends_text, IsPlayLine, IsSpelledPick, all_events}
 use Rattle.dsr_play.specs.Play.{Play, Spells}
 
 -- ---- no line feed stands in a line
@@ -70,23 +70,6 @@ line_clean TakesAll is = after_word (codes "takes") TakesAll (word_clean (codes 
 line_clean (Asks by pick) is = after_word (codes "asks") (Asks by pick) (word_clean (codes "asks") refl) is
 line_clean (Hears from) is = after_word (codes "hears") (Hears from) (word_clean (codes "hears") refl) is
 line_clean (Replies to) is = after_word (codes "replies") (Replies to) (word_clean (codes "replies") refl) is
-
--- ---- lines taken in
-
--- what `take` says of a line
-module _ (line : PlayLine) (play : Play) (lines : List PlayLine) (gives : play.events ≡ all_events play.shape lines) where
-  all_same : play.events ++ events_of play.shape line ≡ all_events play.shape (line ∷ lines)
-  all_same = ap (λ events. events ++ events_of play.shape line) gives
-
-  pub gives_more : (later : Play) → later.shape ≡ play.shape → later.events ≡ play.events ++ events_of play.shape line
-      → later.events ≡ all_events later.shape (line ∷ lines)
-  gives_more later same taken = taken ∙ (all_same ∙ ap (λ x. all_events x (line ∷ lines)) (sym same))
-
-  pub can_follow : (can : Bool) → IsTrue can ↔ length (play.events ++ events_of play.shape line) ≤ 1000000 → IsTrue can ↔ CanFollow play.shape lines line
-  can_follow can when = (
-    λ is. subst (λ events. length events ≤ 1000000) all_same (when.0 is),
-    λ few. when.1 (subst (λ events. length events ≤ 1000000) (sym all_same) few),
-  )
 
 -- ---- whole plays
 

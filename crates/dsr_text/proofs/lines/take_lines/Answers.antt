@@ -1,4 +1,4 @@
-use Rattle.std.proofs.Common.{◌≡◌, ◌<◌, List, IsTrue, true, false, length, rules, subst, sym, ◌∙◌, arith}
+use Rattle.std.proofs.Common.{rules, subst, sym, ◌∙◌, arith}
 use Rattle.std.proofs.lemmas.Bool.{false≢true}
 use Rattle.dsr_text.proofs.LinesLemmas.{no_feed, none_read, no_follower, bad_after, one_more, no_lines, only_lines, no_rest, shorter}
 use Rattle.dsr_text.proofs.lines.take_lines.Goals as goal
