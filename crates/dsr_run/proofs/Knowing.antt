@@ -1,17 +1,18 @@
 -- How what is known of loyal actors' posts goes on with each step.
-use Rattle.std.proofs.Common.{◌≡◌, ◌↔◌, List, ◌∷◌, ◌⊎◌, inl, inr, refl, ap, sym, ◌∙◌, subst}
+use Rattle.std.proofs.Common.{◌≡◌, ◌↔◌, Bool, true, false, List, ◌∷◌, ◌⊎◌, inl, inr, refl, ap, sym, ◌∙◌, subst}
 use Rattle.dsr_base.specs.Member.{In, here}
-use Rattle.dsr_names.specs.Shape.{Shape, IsLoyal}
+use Rattle.dsr_names.specs.Shape.{Shape, is_traitor, IsActor, IsLoyal}
 use Rattle.dsr_names.specs.declared.actor.Actor.{Actor}
+use Rattle.dsr_names.specs.declared.actor.Actor.TheVariants.{Replica, Client}
 use Rattle.dsr_desk.specs.Signature.{Signature}
 use Rattle.dsr_envelope.specs.declared.envelope.Envelope.{Envelope}
 use Rattle.dsr_envelope.specs.declared.entry.Entry.TheVariants.{Post, Take}
 use Rattle.dsr_envelope.specs.Envelope.{Carries}
 use Rattle.dsr_run.specs.Known.{KnowsPosts}
-use Rattle.dsr_run.specs.Run.{HasPosted}
+use Rattle.dsr_run.specs.Run.{HasPosted, IsMadeOrPosted, IsTraitor, IsRun}
 use Rattle.dsr_run.specs.Step.{Step, log_of}
-use Rattle.dsr_run.proofs.Boxes.{from_log}
-use Rattle.dsr_run.proofs.Forging.{has_posted_later}
+use Rattle.dsr_run.proofs.Boxes.{from_log, actors_within}
+use Rattle.dsr_run.proofs.Forging.{has_posted_later, posted_made}
 use Rattle.dsr_run.proofs.Logs.{log_cases}
 
 -- after a loyal actor's post, what it carries is known too
@@ -52,3 +53,22 @@ known_still shape older known step knows silent = record {
         → ((step.0 ≡ b) × (step.1 ≡ Post h.to h.envelope)) ⊎ In (Post h.to h.envelope) (log_of older b) → In s known
     by_entry s b honest h (inl now) = absurd (silent h.to h.envelope now.1 (subst (IsLoyal shape) (sym now.0) honest))
     by_entry s b honest h (inr old) = knows.all s b honest (record { to = h.to; envelope = h.envelope; posted = old; carried = h.carried })
+
+-- so whether a signature can be sent is decided by what is known
+module _ (shape : Shape) (run : List Step) (is : IsRun shape run) (known : List Signature) (knows : KnowsPosts shape (log_of run) known) where
+  of_signer : (a : Actor) (s : Signature) → IsActor shape a → HasPosted (log_of run a) s → IsTraitor shape a ⊎ In s known
+  of_signer (Client c) s inside posted = inr (knows.all s (Client c) inside posted)
+  of_signer (Replica p) s inside posted = by_role (is_traitor shape p) refl
+    where
+      by_role : (b : Bool) → is_traitor shape p ≡ b → IsTraitor shape (Replica p) ⊎ In s known
+      by_role true traitor = inl (inside, traitor)
+      by_role false loyal = inr (knows.all s (Replica p) (inside, loyal) posted)
+
+  pub known_where_made : (s : Signature) → IsMadeOrPosted shape (log_of run) s → IsTraitor shape s.signer ⊎ In s known
+  known_where_made s (inl made) = inl made
+  known_where_made s (inr posted) =
+      of_signer s.signer s (actors_within shape run is s.signer (Post posted.to posted.envelope) posted.posted).0 posted
+
+  pub made_where_known : (s : Signature) → IsTraitor shape s.signer ⊎ In s known → IsMadeOrPosted shape (log_of run) s
+  made_where_known s (inl made) = inl made
+  made_where_known s (inr h) = let from = knows.from s h in posted_made shape run is from.0 s from.2

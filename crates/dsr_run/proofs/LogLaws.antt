@@ -40,6 +40,11 @@ posts_below shape ((actor, Post to x) ∷ older) is a b = elim (posted_cases act
   | inr same ↦ subst (λ l. length l < 2 ^ 40) (sym same) (posts_below shape older is.0 a b)
 ]
 
+-- no client has seen more than the history has
+pub seen_within : (shape : Shape) → HasFewTraitors shape → (run : List Step) → IsRun shape run → (c : ℕ)
+    → seen_by shape (log_of run) c ≤ length (history shape (log_of run))
+seen_within shape few run is c = (fronts shape few run is).had c
+
 module _ (shape : Shape) (logs : Logs) (are : AreLogs shape logs) where
   abbrev AgreeOn : ℕ → ℕ → Logs → Type 0
   AgreeOn p q l = Extends (decided_at shape l p) (decided_at shape l q) ⊎ Extends (decided_at shape l q) (decided_at shape l p)
@@ -73,7 +78,7 @@ module _ (shape : Shape) (logs : Logs) (are : AreLogs shape logs) where
   logs_posts a b = subst (λ l. length (posted_to b (l a)) < 2 ^ 40) (run_logs shape logs are) (posts_below shape are.run are.is a b)
 
   pub logs_seen : HasFewTraitors shape → (c : ℕ) → seen_by shape logs c ≤ length (history shape logs)
-  logs_seen few c = subst (λ l. seen_by shape l c ≤ length (history shape l)) (run_logs shape logs are) ((fronts shape few are.run are.is).had c)
+  logs_seen few c = subst (λ l. seen_by shape l c ≤ length (history shape l)) (run_logs shape logs are) (seen_within shape few are.run are.is c)
 
   pub logs_few : length (history shape logs) ≤ 2 ^ 39
   logs_few = subst (λ l. length (history shape l) ≤ 2 ^ 39) (run_logs shape logs are) (history_within shape are.run are.is)

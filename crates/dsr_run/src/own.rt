@@ -22,7 +22,7 @@ ghost use Rattle.dsr_envelope.specs.Envelope.{Carries};
 ghost use Rattle.dsr_run.specs.Known.{KnowsPosts};
 ghost use Rattle.dsr_run.specs.OwnStep.{KeepsOwn, MayPost, HasPostsLeft};
 ghost use Rattle.dsr_run.specs.Right.{IsRightReply};
-ghost use Rattle.dsr_run.specs.Run.{IsNextStep, AreLogs, IsMadeOrPosted};
+ghost use Rattle.dsr_run.specs.Run.{IsRun, IsNextStep, AreLogs, IsMadeOrPosted, IsTraitor, ForgesNothing};
 ghost use Rattle.dsr_run.specs.Step.{Step, Logs, log_of};
 
 /// What an actor may do next is a matter of its own log and of the one box that it uses: a post that its own log allows, into a box
@@ -73,7 +73,8 @@ pub fn counters_are_kept()
 {}
 
 /// What is known of loyal actors' posts grows by what a loyal actor posts, and by nothing else: with each post of a loyal actor what it
-/// carries is known too, and any other step makes nothing known.
+/// carries is known too, and any other step makes nothing known. It decides what is forged: in a run a post forges nothing exactly where
+/// each signature that it carries is by a traitor, or known.
 pub fn posts_are_known()
     ensures posted { (shape : Shape) (older : List Step) (known new : List Signature) (a to : Actor) (envelope : Envelope)
         → KnowsPosts shape (log_of older) known → IsLoyal shape a → ((s : Signature) → In s new ↔ (In s known ⊎ Carries envelope s))
@@ -81,4 +82,7 @@ pub fn posts_are_known()
     ensures still { (shape : Shape) (older : List Step) (known : List Signature) (step : Step) → KnowsPosts shape (log_of older) known
         → ((to : Actor) (envelope : Envelope) → step.1 ≡ Post to envelope → IsLoyal shape step.0 → ⊥)
         → KnowsPosts shape (log_of (step ∷ older)) known }
+    ensures decides { (shape : Shape) (run : List Step) (known : List Signature) (to : Actor) (envelope : Envelope) → IsRun shape run
+        → KnowsPosts shape (log_of run) known → ForgesNothing shape (log_of run) (Post to envelope)
+        ↔ ((s : Signature) → Carries envelope s → IsTraitor shape s.signer ⊎ In s known) }
 {}

@@ -137,9 +137,10 @@ impl World {
         Ok(self.nodes[self.shape.place(&Actor::Client(client))].accepted())
     }
 
-    /// A client's seen front. `NoActor` where it is no client of the shape.
+    /// A client's seen front, which is at most the length of the history. `NoActor` where it is no client of the shape.
     pub fn seen(&self, client: ClientId) -> Result<u64, Refusal>
         ensures same { IfOk result (λ front. front ≡ seen_by self.now.shape (log_of self.now.run) client) }
+        ensures within { IfOk result (λ front. front ≤ length (history self.now.shape (log_of self.now.run))) }
         ensures when { IsOk result ↔ client < self.now.shape.m }
         ensures refusal { IsOkUnless result Refusal.NoActor }
     {
