@@ -1,5 +1,5 @@
-use crate::{Calendar, Slots};
 use dsr_names::Shape;
+use dsr_rotation::{Calendar, Slots};
 use std::test::Fail;
 
 #[test]

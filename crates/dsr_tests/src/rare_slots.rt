@@ -1,8 +1,8 @@
-use crate::SlotState;
 use dsr_chain::{Batch, Chain, SignedRequest, SlotValue};
 use dsr_desk::{Key, Keys};
 use dsr_names::{Actor, ClientId, ReplicaId, Shape};
 use dsr_request::{Name, Op, Request};
+use dsr_slot::SlotState;
 use std::alloc::Global;
 use std::process::Abort;
 use std::test::Fail;

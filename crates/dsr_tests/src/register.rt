@@ -1,4 +1,4 @@
-use crate::{Answer, Directory, Name, Op};
+use dsr_register::{Answer, Directory, Name, Op};
 use std::alloc::Global;
 use std::process::Abort;
 use std::test::Fail;

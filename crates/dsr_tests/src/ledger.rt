@@ -1,4 +1,4 @@
-use crate::{Ledger, Reply};
+use dsr_ledger::{Ledger, Reply};
 use dsr_names::ClientId;
 use dsr_request::Answer;
 use std::test::Fail;

@@ -1,9 +1,40 @@
-use crate::{Few, Token, UpTo, read_decimal, split_once, split_outside};
+use dsr_base::{Few, Token, UpTo, read_decimal, split_once, split_outside};
+use std::fmt;
+use std::marker::Model;
 use std::process::Abort;
 use std::test::Fail;
 
 // Two items with tokens, joined by `+`.
-impl Token for bool {
+#[derive(Clone, Copy, Debug, PartialEq, Eq)]
+struct Flag {
+    is_up: bool,
+}
+
+impl Model for Flag {
+    ghost use Rattle.std.specs.Prelude.{Bool};
+
+    ghost Value = { Bool };
+
+    ghost view = { λ flag. flag.is_up };
+
+    ghost inverse = { λ b. record { is_up = b } };
+}
+
+const UP: Flag = Flag { is_up: true };
+
+const DOWN: Flag = Flag { is_up: false };
+
+impl fmt::Display for Flag {
+    ghost use Rattle.std.specs.Prelude.{codes, true, false, Some};
+
+    ghost output = { elim [ true ↦ Some (codes "true") | false ↦ Some (codes "false") ] };
+
+    fn fmt<W: fmt::Write>(&self, f: &mut fmt::Formatter<W>) -> fmt::Result {
+        f.write_str(if self.is_up { "true" } else { "false" })
+    }
+}
+
+impl Token for Flag {
     ghost use Rattle.std.specs.Prelude.{codes, true, false, refl};
     ghost use Rattle.std.proofs.Common.{rules, arith};
 
@@ -15,12 +46,12 @@ impl Token for bool {
 
     const MARK: u8 = b'+';
 
-    fn read(bytes: &[u8]) -> Option<bool> {
+    fn read(bytes: &[u8]) -> Option<Flag> {
         if bytes == b"true".as_slice() {
-            return Some(true);
+            return Some(UP);
         }
         if bytes == b"false".as_slice() {
-            return Some(false);
+            return Some(DOWN);
         }
         None
     }
@@ -81,30 +112,30 @@ fn decimals_are_read(rt: HostRuntime) {
 
 #[test]
 fn items_are_joined_by_their_mark(rt: HostRuntime) -> Result<(), Fail> {
-    let list = Few::<bool, 3>::of(&[true, false, true]).ok_or("no list")?;
+    let list = Few::<Flag, 3>::of(&[UP, DOWN, UP]).ok_or("no list")?;
     assert!(rt; Few::read(b"true+false+true") == Some(list));
     assert!(rt; list.to_string(rt.alloc())?.as_str() == "true+false+true");
-    assert!(rt; Few::<bool, 3>::read(b"false") == Some(Few::one(false)));
-    assert!(rt; Few::<bool, 2>::read(b"true+false+true").is_none());
-    assert!(rt; Few::<bool, 3>::read(b"true+").is_none());
-    assert!(rt; Few::<bool, 3>::read(b"true,false").is_none());
-    assert!(rt; Few::<bool, 3>::read(b"").is_none());
+    assert!(rt; Few::<Flag, 3>::read(b"false") == Some(Few::one(DOWN)));
+    assert!(rt; Few::<Flag, 2>::read(b"true+false+true").is_none());
+    assert!(rt; Few::<Flag, 3>::read(b"true+").is_none());
+    assert!(rt; Few::<Flag, 3>::read(b"true,false").is_none());
+    assert!(rt; Few::<Flag, 3>::read(b"").is_none());
     Ok(())
 }
 
 #[test]
 fn no_item_is_a_dash(rt: HostRuntime) -> Result<(), Fail> {
-    let mut list = UpTo::<bool, 3>::new();
+    let mut list = UpTo::<Flag, 3>::new();
     assert!(rt; UpTo::read(b"-") == Some(list));
     assert!(rt; list.fits());
     assert!(rt; list.to_string(rt.alloc())?.as_str() == "-");
-    list.push(false);
-    list.push(true);
+    list.push(DOWN);
+    list.push(UP);
     assert!(rt; list.fits());
     assert!(rt; UpTo::read(b"false+true") == Some(list));
     assert!(rt; list.to_string(rt.alloc())?.as_str() == "false+true");
-    assert!(rt; UpTo::<bool, 3>::read(b"").is_none());
-    assert!(rt; UpTo::<bool, 3>::read(b"false+-").is_none());
-    assert!(rt; UpTo::<bool, 1>::read(b"false+true").is_none());
+    assert!(rt; UpTo::<Flag, 3>::read(b"").is_none());
+    assert!(rt; UpTo::<Flag, 3>::read(b"false+-").is_none());
+    assert!(rt; UpTo::<Flag, 1>::read(b"false+true").is_none());
     Ok(())
 }

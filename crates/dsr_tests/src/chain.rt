@@ -1,4 +1,4 @@
-use crate::{Batch, Chain, ChainFault, SignedRequest, SlotValue};
+use dsr_chain::{Batch, Chain, ChainFault, SignedRequest, SlotValue};
 use dsr_desk::{Key, Keys, Signature, Signers, Statement};
 use dsr_names::{Actor, ClientId, Refusal, ReplicaId, Shape};
 use dsr_request::{Name, Op, Request, Requests};

@@ -1,10 +1,10 @@
 ghost use Rattle.dsr_names.specs.Streams.{unknown_output};
 
-use crate::{
+use dsr_base::UpTo;
+use dsr_names::{
     Actor, ClientId, MOST_BYTES, Old, Outside, Refusal, ReplicaId, Shape, Sink, Source, read_input,
     read_num, read_old, tell, tell_refusal, write_output,
 };
-use dsr_base::UpTo;
 use std::alloc::{AllocError, Global};
 use std::fmt::Display;
 use std::io;

@@ -1,6 +1,6 @@
-use crate::{Chains, Clients, Entry, Envelope, Letter};
 use dsr_chain::{Chain, SignedRequest, SlotValue};
 use dsr_desk::{Key, Keys};
+use dsr_envelope::{Chains, Clients, Entry, Envelope, Letter};
 use dsr_ledger::Reply;
 use dsr_names::{Actor, ClientId, ReplicaId, Shape};
 use dsr_request::{Answer, Name, Op, Request};

@@ -1,6 +1,6 @@
 ghost use Rattle.std.specs.Prelude.{◌≡◌, ◌<◌, IfOk};
 
-use crate::{Machine, Request, Requests};
+use dsr_history::{Machine, Request, Requests};
 use dsr_ledger::Reply;
 use dsr_names::{ClientId, Refusal, Shape};
 use dsr_request::{Answer, Name, Op};

@@ -1,4 +1,4 @@
-use crate::{Content, Key, Keys, Signers, Statement, read_content};
+use dsr_desk::{Content, Key, Keys, Signers, Statement, read_content};
 use dsr_names::{Actor, ClientId, Refusal, ReplicaId, Shape};
 use dsr_request::{Name, Op, Request, Requests};
 use std::alloc::Global;

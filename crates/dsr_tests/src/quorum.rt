@@ -1,8 +1,8 @@
 ghost use Rattle.std.specs.Prelude.{◌≡◌, IfOk};
 
-use crate::Tally;
 use dsr_ledger::Reply;
 use dsr_names::ReplicaId;
+use dsr_quorum::Tally;
 use dsr_request::Answer;
 use std::test::Fail;
 

@@ -1,6 +1,6 @@
 ghost use Rattle.std.proofs.Common.{rules};
 
-use crate::{Exact, Few, UpTo};
+use dsr_base::{Exact, Few, UpTo};
 use std::process::Abort;
 use std::test::Fail;
 

@@ -1,4 +1,4 @@
-use crate::{Reading, Task, read_words};
+use dsr_command::{Reading, Task, read_words};
 use std::alloc::AllocError;
 
 /// The text that the reading shows.

@@ -1,5 +1,5 @@
-use crate::{Answer, Joined, Name, Op};
 use dsr_names::Refusal;
+use dsr_request::{Answer, Joined, Name, Op};
 use std::alloc::{AllocError, Global};
 use std::process::Abort;
 use std::test::Fail;

@@ -1,7 +1,7 @@
 ghost use Rattle.std.specs.Prelude.{◌<◌};
 
-use crate::{Name, Op, Request, Requests};
 use dsr_names::{ClientId, Refusal};
+use dsr_request::{Name, Op, Request, Requests};
 use std::alloc::Global;
 use std::process::Abort;
 use std::test::Fail;

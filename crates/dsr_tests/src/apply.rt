@@ -1,4 +1,4 @@
-use crate::apply::run_apply;
+use dsr_history::run_apply;
 use dsr_names::{Outside, Refusal, Sink, Source};
 use std::io;
 use std::test::Fail;
