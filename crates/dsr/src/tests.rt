@@ -1,4 +1,4 @@
-use crate::run;
+use dsr_cli::run;
 use dsr_command::{Reading, read_words};
 use dsr_names::{Outside, Sink, Source};
 use std::alloc::Global;
