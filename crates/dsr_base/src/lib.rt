@@ -7,10 +7,6 @@ mod exact;
 mod few;
 mod few_text;
 mod split;
-#[cfg(test)]
-mod tests;
-#[cfg(test)]
-mod text_tests;
 mod token;
 mod up_to;
 mod up_to_text;

@@ -16,6 +16,3 @@ pub use fault::ChainFault;
 pub use laws::{content_determines_requests, proper_means_no_fault, tests_decide_the_facts};
 pub use signed_request::SignedRequest;
 pub use slot_value::SlotValue;
-
-#[cfg(test)]
-mod tests;

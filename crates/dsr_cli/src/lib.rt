@@ -3,8 +3,6 @@
 
 mod play;
 mod report;
-#[cfg(test)]
-mod tests;
 
 ghost use Rattle.std.specs.Prelude.{◌≡◌, ◌+◌, ◌<◌, ◌≤◌, length, map};
 ghost use Rattle.dsr_names.specs.Limits.{most_calls};

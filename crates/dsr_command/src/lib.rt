@@ -313,6 +313,3 @@ fn play_command<'a>(alloc: Global) -> Command<'a>
         .about(PLAY_ABOUT)
         .after_help(PLAY_EXAMPLE)
 }
-
-#[cfg(test)]
-mod tests;

@@ -15,6 +15,3 @@ pub use content_text::{Content, read_content};
 pub use keys::{Key, Keys, Signature};
 pub use signers::{MOST_SIGNERS, Signers};
 pub use statement::Statement;
-
-#[cfg(test)]
-mod tests;

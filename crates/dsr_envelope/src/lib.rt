@@ -15,6 +15,3 @@ pub use entry::Entry;
 pub use envelope::Envelope;
 pub use letter::Letter;
 pub use step::{Due, Pick};
-
-#[cfg(test)]
-mod envelope_tests;

@@ -2,13 +2,9 @@
 #![tactic(auto)]
 
 mod apply;
-#[cfg(test)]
-mod apply_tests;
 mod laws;
 mod machine;
 mod service;
-#[cfg(test)]
-mod tests;
 
 pub use apply::run_apply;
 pub use dsr_request::{MOST_REQUESTS, Request, Requests};

@@ -3,8 +3,6 @@
 
 mod ledger;
 mod reply;
-#[cfg(test)]
-mod tests;
 
 pub use ledger::Ledger;
 pub use reply::Reply;

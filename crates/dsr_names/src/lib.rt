@@ -13,8 +13,6 @@ mod refusal;
 mod replicas;
 mod shape;
 mod shape_text;
-#[cfg(test)]
-mod tests;
 mod token;
 mod told;
 

@@ -6,6 +6,3 @@ mod tally;
 
 pub use laws::{enough_votes_have_a_loyal_one, loyal_replicas_are_enough};
 pub use tally::Tally;
-
-#[cfg(test)]
-mod tests;

@@ -3,8 +3,6 @@
 
 mod directory;
 mod table;
-#[cfg(test)]
-mod tests;
 
 pub use directory::Directory;
 pub use dsr_request::{Answer, Joined, Name, Op};

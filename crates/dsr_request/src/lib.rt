@@ -5,12 +5,8 @@ mod answer;
 mod name;
 mod op;
 mod request;
-#[cfg(test)]
-mod request_tests;
 mod request_text;
 mod requests;
-#[cfg(test)]
-mod tests;
 
 pub use answer::Answer;
 pub use name::Name;

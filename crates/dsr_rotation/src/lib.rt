@@ -3,8 +3,6 @@
 
 mod calendar;
 mod laws;
-#[cfg(test)]
-mod tests;
 
 pub use calendar::{Calendar, Slots};
 pub use laws::{calendar_is_blind, slots_close_in_turn};

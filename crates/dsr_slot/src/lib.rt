@@ -10,8 +10,3 @@ mod slot_state;
 pub use decision::Decision;
 pub use laws::{agreement_and_validity, first_two_contents_are_kept, rules_are_blind};
 pub use slot_state::SlotState;
-
-#[cfg(test)]
-mod rare_tests;
-#[cfg(test)]
-mod tests;

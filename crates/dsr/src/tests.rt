@@ -1,0 +1,292 @@
+use dsr_cli::run;
+use dsr_command::{Reading, read_words};
+use dsr_names::{Outside, Sink, Source};
+use std::alloc::Global;
+use std::io;
+use std::process::Abort;
+use std::test::Fail;
+
+// Runs the program on these words and this text, and compares its status, its output and the beginning of what it
+// wrote on standard error.
+fn runs<R: Abort>(
+    rt: &R,
+    alloc: Global,
+    words: &[&str],
+    text: &str,
+    status: u8,
+    output: &str,
+    errors: &str,
+) {
+    let mut out = Outside(Vec::new(alloc));
+    let mut err = Vec::new(alloc);
+    let ended = run(alloc, words, &mut text.as_bytes(), &mut out, &mut err);
+    assert_eq!(rt; ended, status, "at {words:?}");
+    assert_eq!(rt; out.0.as_slice(), output.as_bytes(), "at {words:?}");
+    assert!(rt;
+        err.as_slice().starts_with(errors.as_bytes()),
+        "at {words:?}"
+    );
+    assert_eq!(rt; err.is_empty(), errors.is_empty(), "at {words:?}");
+}
+
+#[test]
+fn each_list_of_words_does_its_task(rt: HostRuntime) {
+    let alloc = rt.alloc();
+    let text = "c0 1 write a 5\nc0 2 read a\nc0 3 read b\n";
+    let answers = "0 written\n1 held 5\n2 held none\n";
+    runs(&rt, alloc, &[], text, 0, answers, "");
+    runs(&rt, alloc, &["apply"], text, 0, answers, "");
+    runs(&rt, alloc, &["apply"], "", 0, "", "");
+    runs(
+        &rt,
+        alloc,
+        &["apply"],
+        "c0 1 read a\nc0 01 read a\n",
+        1,
+        "0 held none\n",
+        "dsr: bad text in line 2\n",
+    );
+    runs(
+        &rt,
+        alloc,
+        &[],
+        "c0 1 read a",
+        1,
+        "",
+        "dsr: bad text in line 1\n",
+    );
+    runs(&rt, alloc, &["fly"], text, 2, "", "error: ");
+    runs(
+        &rt,
+        alloc,
+        &["play", "--transcript"],
+        text,
+        2,
+        "",
+        "error: ",
+    );
+    runs(
+        &rt,
+        alloc,
+        &["apply", "--transcript"],
+        text,
+        2,
+        "",
+        "error: ",
+    );
+}
+
+// A play of one replica and one client, and its report.
+const PLAY: &str =
+    "dsr-play 1 1 0 1 -\nasks c0 begin write a 7\nhears c0\nposts r0 from c0\ntakes *\nreplies c0\ntakes c0\n";
+
+const REPORT: &str =
+    "done 6\nrefused 0\naccepted c0 1 0 written\nseen c0 1\ndecided r0 c0#1:write:a:7\nhistory 1\n0 c0#1:write:a:7\n";
+
+#[test]
+fn plays_are_reported(rt: HostRuntime) {
+    let alloc = rt.alloc();
+    runs(&rt, alloc, &["play"], PLAY, 0, REPORT, "");
+    // A slot that is not closed, an event that is refused, and a slot that has a value of two requests.
+    runs(
+        &rt,
+        alloc,
+        &["play"],
+        "dsr-play 1 3 1 2 r2\nposts r0\nposts r1 from c0\ntell c0 c1\n",
+        0,
+        "done 4\nrefused 3\nfirst 3 E5 NotDue\nseen c0 0\nseen c1 0\ndecided r0 -\ndecided r1 -\nhistory 0\n",
+        "",
+    );
+    runs(
+        &rt,
+        alloc,
+        &["play"],
+        "dsr-play 1 1 0 2 -\nasks c0 begin write a 1\nasks c1 begin remove a\nhears c0\nhears c1\nposts r0 from c1+c0\ntakes *\nposts *\ntakes *\n",
+        0,
+        "done 8\nrefused 0\nseen c0 0\nseen c1 0\ndecided r0 c1#1:remove:a,c0#1:write:a:1 idle\nhistory 2\n0 c1#1:remove:a\n1 c0#1:write:a:1\n",
+        "",
+    );
+}
+
+#[test]
+fn refused_plays_are_told(rt: HostRuntime) {
+    let alloc = rt.alloc();
+    let shape = "dsr: the shape is not allowed\n";
+    for text in ["dsr-play 1 2 1 1 -\n", "dsr-play 1 3 0 1 r0\nno line"] {
+        runs(&rt, alloc, &["play"], text, 1, "", shape);
+    }
+    for text in ["", "dsr-play 1 2 1 1 -", "c0 1 read a\n"] {
+        runs(
+            &rt,
+            alloc,
+            &["play"],
+            text,
+            1,
+            "",
+            "dsr: bad text in line 1\n",
+        );
+    }
+    let text = "dsr-play 1 1 0 1 -\ntakes *\n\nposts *\n";
+    runs(
+        &rt,
+        alloc,
+        &["play"],
+        text,
+        1,
+        "",
+        "dsr: bad text in line 3\n",
+    );
+}
+
+#[test]
+fn help_goes_to_the_output(rt: HostRuntime) -> Result<(), Fail> {
+    let alloc = rt.alloc();
+    let words: [&str; 1] = ["--help"];
+    let Reading::Help(help) = read_words(alloc, words.as_slice()) else {
+        return Err("no help")?;
+    };
+    let mut out = Outside(Vec::new(alloc));
+    let mut err = Vec::new(alloc);
+    assert_eq!(rt;
+        run(
+            alloc,
+            words.as_slice(),
+            &mut b"".as_slice(),
+            &mut out,
+            &mut err
+        ),
+        0
+    );
+    assert_eq!(rt; out.0.as_slice(), help.as_bytes());
+    assert!(rt;
+        out.0
+            .as_slice()
+            .starts_with(b"dsr keeps a directory of named registers, ")
+    );
+    assert!(rt; err.is_empty());
+    Ok(())
+}
+
+// A reader and a writer that always fail.
+#[derive(Drop)]
+struct Broken;
+
+impl Source for Broken {
+    fn give(&mut self, _buffer: &mut [u8]) -> io::Result<usize> {
+        Err(io::Error::from(io::ErrorKind::TimedOut))
+    }
+}
+
+impl Sink for Broken {
+    fn take(&mut self, _bytes: &[u8]) -> io::Result<usize> {
+        Err(io::Error::from(io::ErrorKind::TimedOut))
+    }
+}
+
+// A writer that takes so many bytes in all, a few at a time, and then fails.
+#[derive(Drop)]
+struct Narrow {
+    taken: Vec<u8>,
+    room: usize,
+}
+
+impl Sink for Narrow {
+    fn take(&mut self, bytes: &[u8]) -> io::Result<usize> {
+        let most = self.room.min(3);
+        if most == 0 {
+            return Err(io::Error::from(io::ErrorKind::TimedOut));
+        }
+        let count = bytes.len().min(most);
+        self.taken.extend_from_slice(&bytes[..count])?;
+        self.room -= count;
+        Ok(count)
+    }
+}
+
+// However many bytes the writer takes before it fails, they are the report's first ones.
+#[test]
+fn a_play_goes_out_as_far_as_it_can(rt: HostRuntime) {
+    let alloc = rt.alloc();
+    for room in 0..REPORT.len() + 1 {
+        let mut out = Narrow {
+            taken: Vec::new(alloc),
+            room,
+        };
+        let mut err = Vec::new(alloc);
+        let mut input = PLAY.as_bytes();
+        let status = run(alloc, &["play"], &mut input, &mut out, &mut err);
+        assert_eq!(rt; out.taken.as_slice(), &REPORT.as_bytes()[..room]);
+        if room < REPORT.len() {
+            assert_eq!(rt; status, 1);
+            assert_eq!(rt; err.as_slice(), b"dsr: writing failed\n".as_slice());
+        } else {
+            assert_eq!(rt; status, 0);
+            assert!(rt; err.is_empty());
+        }
+    }
+}
+
+// A play is not reported where it cannot be read.
+#[test]
+fn a_play_that_cannot_be_read_is_told(rt: HostRuntime) {
+    let alloc = rt.alloc();
+    let mut out = Outside(Vec::new(alloc));
+    let mut err = Vec::new(alloc);
+    assert_eq!(rt; run(alloc, &["play"], &mut Broken, &mut out, &mut err), 1);
+    assert!(rt; out.0.is_empty());
+    assert_eq!(rt; err.as_slice(), b"dsr: reading failed\n".as_slice());
+}
+
+#[test]
+fn failing_streams_are_told(rt: HostRuntime) -> Result<(), Fail> {
+    let alloc = rt.alloc();
+    let words: [&str; 0] = [];
+    let mut out = Outside(Vec::new(alloc));
+    let mut err = Vec::new(alloc);
+    assert_eq!(rt;
+        run(alloc, words.as_slice(), &mut Broken, &mut out, &mut err),
+        1
+    );
+    assert!(rt; out.0.is_empty());
+    assert_eq!(rt; err.as_slice(), b"dsr: reading failed\n".as_slice());
+    err.clear();
+    assert_eq!(rt;
+        run(
+            alloc,
+            words.as_slice(),
+            &mut b"c0 1 read a\n".as_slice(),
+            &mut Broken,
+            &mut err
+        ),
+        1
+    );
+    assert_eq!(rt; err.as_slice(), b"dsr: writing failed\n".as_slice());
+    err.clear();
+    let words: [&str; 1] = ["--help"];
+    assert_eq!(rt;
+        run(
+            alloc,
+            words.as_slice(),
+            &mut b"".as_slice(),
+            &mut Broken,
+            &mut err
+        ),
+        1
+    );
+    assert_eq!(rt; err.as_slice(), b"dsr: writing failed\n".as_slice());
+    Ok(())
+}
+
+#[test]
+fn where_the_fault_cannot_be_told_the_status_tells(rt: HostRuntime) {
+    let alloc = rt.alloc();
+    for (words, status) in [([].as_slice(), 1), (&["fly"], 2)] {
+        let mut out = Outside(Vec::new(alloc));
+        let mut input = b"c0 1 read a".as_slice();
+        assert_eq!(rt;
+            run(alloc, words, &mut input, &mut out, &mut Broken),
+            status
+        );
+        assert!(rt; out.0.is_empty());
+    }
+}

@@ -1,0 +1,244 @@
+use dsr_command::{Reading, Task, read_words};
+use std::alloc::AllocError;
+
+/// The text that the reading shows.
+fn text_of(reading: &Reading) -> &str {
+    match reading {
+        Reading::Help(text) | Reading::Usage(text) => text.as_str(),
+        Reading::Do(_) | Reading::NoMemory => "",
+    }
+}
+
+#[test]
+fn reads_the_task(rt: HostRuntime) {
+    let lines: [&[&str]; 2] = [&[], &["apply"]];
+    for words in lines {
+        let reading = read_words(rt.alloc(), words);
+        assert!(rt; matches!(&reading, Reading::Do(Task::Apply)));
+    }
+    let reading = read_words(rt.alloc(), &["play"]);
+    assert!(rt; matches!(&reading, Reading::Do(Task::Play)));
+}
+
+#[test]
+fn reads_calls_for_help(rt: HostRuntime) {
+    let lines: [&[&str]; 6] = [
+        &["--help"],
+        &["-h"],
+        &["apply", "--help"],
+        &["--help", "apply"],
+        &["play", "-h"],
+        &["-h", "play", "--transcript"],
+    ];
+    for words in lines {
+        let reading = read_words(rt.alloc(), words);
+        assert!(rt; matches!(&reading, Reading::Help(_)));
+        assert!(rt; text_of(&reading).starts_with("dsr keeps a directory of named registers, "));
+        assert!(rt; text_of(&reading).contains("Usage: dsr"));
+    }
+}
+
+#[test]
+fn refuses_other_words(rt: HostRuntime) {
+    let lines: [&[&str]; 14] = [
+        &["fly"],
+        &["--help=now"],
+        &["apply", "--help=now"],
+        &["help"],
+        &["--version"],
+        &["--"],
+        &[""],
+        &["apply", "--transcript"],
+        &["apply", "apply"],
+        &["apply", "--"],
+        &["play", "--transcript"],
+        &["play", "apply"],
+        &["play", "--"],
+        &["plays"],
+    ];
+    for words in lines {
+        let reading = read_words(rt.alloc(), words);
+        assert!(rt; matches!(&reading, Reading::Usage(_)));
+        assert!(rt; text_of(&reading).starts_with("error: "));
+        assert!(rt; text_of(&reading).contains("Usage: dsr"));
+    }
+}
+
+const HELP: &str = "\
+dsr keeps a directory of named registers, each free or holding a number.
+
+Clients send it numbered requests: read, write, swap (compare-and-set), remove. It answers each of them.
+`dsr apply` is one directory. `dsr play` is one that replicas keep together, though some of them are traitors.
+Without a command it does what `dsr apply` does.
+
+Usage: dsr [COMMAND]
+
+Commands:
+  apply  Read request lines from standard input, and write one line for each
+  play   Read a play of replicas and clients from standard input, and write what came of it
+
+Options:
+  -h, --help  Print help
+
+Example:
+  $ printf 'c0 1 write a 5\\nc1 1 swap a 5 6\\nc0 2 read a\\n' | dsr apply
+  0 written
+  1 swapped
+  2 held 6
+
+`dsr apply --help` says how a request is written, and what its answer means; `dsr play --help` the same of plays
+and reports.
+
+Exit status:
+  0  the answers, the report or the help was written
+  1  the input was refused, or reading or writing failed
+  2  the words of the command line were not understood
+  3  memory ran out
+";
+
+const APPLY_HELP: &str = "\
+dsr keeps a directory of named registers, each free or holding a number.
+
+Read request lines from standard input, and write one line for each
+
+Usage: dsr apply
+
+Options:
+  -h, --help  Print help
+
+A line of the input is a request: CLIENT NUMBER OPERATION, with one space between them.
+Each line ends with a line feed, the last one too.
+
+  CLIENT     c0 to c31
+  NUMBER     1 to 1099511627775; a client numbers its own requests, in rising order
+  OPERATION  read NAME            answers what the register holds
+             write NAME VALUE     lets it hold VALUE
+             swap NAME OLD VALUE  compare-and-set: lets it hold VALUE if it holds OLD
+             remove NAME          lets it hold nothing
+  NAME       1 to 32 of the characters a-z 0-9 . _ -
+  VALUE      0 to 18446744073709551615
+  OLD        a VALUE, or none: the register holds nothing
+
+For each line one line is written: PLACE ANSWER, where PLACE counts the requests before that acted.
+
+  held OLD, removed OLD  what the register held
+  written, swapped       it was done
+  kept OLD               the register held OLD, which is not what the swap asked for
+  full                   1,024 registers hold a value already
+
+A client's latest number again gets its answer again and changes nothing; a lower one gets `old`.
+
+Example:
+  $ printf 'c0 1 write a 5\\nc0 2 swap a none 6\\nc0 2 swap a none 6\\nc0 1 read a\\n' | dsr apply
+  0 written
+  1 kept 5
+  1 kept 5
+  old
+
+Nothing is answered before the end of the input, which has at most 16,777,216 bytes. At the first bad line N
+the lines before it are answered, `dsr: bad text in line N` is printed on standard error, and the exit status
+is 1. Most often the last line feed is missing, the line ends with CRLF, it has a tab or two spaces, a number
+has a leading zero, or the request's number is 0.
+";
+
+const PLAY_HELP: &str = "\
+dsr keeps a directory of named registers, each free or holding a number.
+
+Read a play of replicas and clients from standard input, and write what came of it
+
+Usage: dsr play
+
+Options:
+  -h, --help  Print help
+
+A play begins with the line `dsr-play 1 N F M TRAITORS`: N replicas, 1 to 16; at most F traitors among them, with
+N >= 2F+1; M clients, 1 to 32; and who the traitors are, as r0+r2, or - for none. What follows is played line by
+line. Each line ends with a line feed, the last one too.
+
+  post A B           the actor A posts to B what the protocol has it post
+  post A B from C    the same; the replica A proposes what it holds of the clients C, as c0+c1
+  post A B begin OP  the client A posts a new request to B; OP as in `dsr apply --help`
+  plant A B E        the traitor A posts the envelope E to B
+  take A B           A takes what B posted to it
+  tell A B           the client A tells the client B how far it has seen
+  posts A, posts A from C, posts *   A, or each loyal replica, posts to all replicas
+  plants A E                         A plants for all replicas
+  takes A, takes *                   A, or each replica, takes from all replicas
+  asks A, asks A begin OP            the client A posts to all replicas
+  hears A, replies A                 all replicas take from the client A, or the loyal ones post to it
+
+In a round a replica posts to all replicas, then takes from all. In its own slot's first round it may propose.
+E is empty; round NUMBER and chains; ask REQUEST~c0; reply NUMBER PLACE ANSWER; or seen PLACE. A chain is
+SLOT/VALUE/SIGNERS, as 0/c0#1:write:a:5~c0/r0+r1 or 0/idle/r0.
+
+The report:
+  done N, refused N      events that were done, and that were refused and changed nothing
+  first I E NAME         the first refused event, counted from 0, and why
+  accepted C K PLACE A   the client C accepted the answer A, and its place, for its request K
+  seen C PLACE           how far C has seen: all places before this one
+  decided R VALUES       what the loyal replica R decided, slot by slot; - where no slot is closed
+  history N              how many requests acted; then each of them after its place
+
+Example:
+  $ printf 'dsr-play 1 1 0 1 -\\nasks c0 begin write a 7\\nhears c0\\nposts r0 from c0\\ntakes *\\nreplies c0\\ntakes c0\\n' | dsr play
+  done 6
+  refused 0
+  accepted c0 1 0 written
+  seen c0 1
+  decided r0 c0#1:write:a:7
+  history 1
+  0 c0#1:write:a:7
+
+Nothing is played before the end of the input, which has at most 16,777,216 bytes and stands for at most 1,000,000
+events. Of a play with a bad line N nothing is played: `dsr: bad text in line N` is printed on standard error, and
+the exit status is 1; where N, F, M or TRAITORS are outside their limits, it is `dsr: the shape is not allowed`.
+Refused events are no fault: the status is 0, or 3 where one was refused because memory ran out.
+";
+
+const NO_SUCH_WORD: &str = "\
+error: unrecognized subcommand 'help'
+
+Usage: dsr [COMMAND]
+
+For more information, try '--help'.
+
+  tip: to answer the requests in a file, run `dsr apply < FILE`
+  tip: to play the play in a file, run `dsr play < FILE`
+  tip: to see what they look like, run `dsr apply --help` or `dsr play --help`
+";
+
+// The whole of each help: what the program is for, its tasks, its examples and its statuses.
+#[test]
+fn shows_each_help(rt: HostRuntime) {
+    for (words, help) in [
+        (["--help"].as_slice(), HELP),
+        (&["apply", "-h"], APPLY_HELP),
+        (&["play", "-h"], PLAY_HELP),
+    ] {
+        let reading = read_words(rt.alloc(), words);
+        assert!(rt; text_of(&reading) == help, "{}", text_of(&reading));
+    }
+}
+
+// The whole of a usage fault: the word, the usage, and where to look.
+#[test]
+fn tells_of_an_unknown_word(rt: HostRuntime) {
+    let reading = read_words(rt.alloc(), &["help"]);
+    assert!(rt; text_of(&reading) == NO_SUCH_WORD, "{}", text_of(&reading));
+}
+
+#[test]
+fn a_long_word_is_no_long_text(rt: HostRuntime) -> Result<(), AllocError> {
+    let mut word = String::new(rt.alloc());
+    for _ in 0..5_000 {
+        word.push('x')?;
+    }
+    let reading = read_words(rt.alloc(), &[word.as_str()]);
+    assert!(rt; matches!(&reading, Reading::Usage(_)));
+    assert!(rt;
+        text_of(&reading).starts_with(
+            "error: what is to be said of these words is too long to be shown\n"
+        )
+    );
+    Ok(())
+}

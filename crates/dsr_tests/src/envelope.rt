@@ -1,0 +1,185 @@
+use dsr_chain::{Chain, SignedRequest, SlotValue};
+use dsr_desk::{Key, Keys};
+use dsr_envelope::{Chains, Clients, Entry, Envelope, Letter};
+use dsr_ledger::Reply;
+use dsr_names::{Actor, ClientId, ReplicaId, Shape};
+use dsr_request::{Answer, Name, Op, Request};
+use std::alloc::Global;
+use std::test::Fail;
+
+/// The key of this actor of shape (3,1,2,0).
+fn key_of(alloc: Global, actor: Actor) -> Result<Key, Fail> {
+    let mut keys = Keys::new(alloc, Shape::new(3, 1, 2, 0)?)?;
+    Ok(keys.take(actor).ok_or("no key")?)
+}
+
+/// Client 0's signed request of this number, to read `a`.
+fn ask_of(alloc: Global, number: u64) -> Result<SignedRequest, Fail> {
+    let key = key_of(alloc, Actor::Client(ClientId::FIRST))?;
+    let name = Name::read(b"a")?;
+    let request = Request::new(ClientId::FIRST, number, Op::Read { name })?;
+    Ok(SignedRequest::by(request, &key))
+}
+
+/// The chain that replica 0 starts for this slot, on idle.
+fn chain_of(alloc: Global, slot: u64) -> Result<Chain, Fail> {
+    let key = key_of(alloc, Actor::Replica(ReplicaId::FIRST))?;
+    Ok(Chain::start(alloc, slot, SlotValue::Idle, &key)?)
+}
+
+/// The chains that replica 0 starts for these slots.
+fn chains_of(alloc: Global, slots: &[u64]) -> Result<Chains, Fail> {
+    let mut items = Vec::new(alloc);
+    for slot in slots {
+        items.push(chain_of(alloc, *slot)?)?;
+    }
+    Ok(Chains::of(items))
+}
+
+/// The envelope of this round with the chains for these slots.
+fn round_of(alloc: Global, round: u64, slots: &[u64]) -> Result<Envelope, Fail> {
+    let chains = chains_of(alloc, slots)?;
+    Ok(Envelope::Round { round, chains })
+}
+
+fn reply_of(number: u64, place: u64) -> Envelope {
+    Envelope::Reply(Reply {
+        number,
+        place,
+        answer: Answer::Written,
+    })
+}
+
+/// One envelope of each kind, and a second of each kind that has one.
+fn samples(alloc: Global) -> Result<Vec<Envelope>, Fail> {
+    let mut all = Vec::new(alloc);
+    all.push(Envelope::Empty)?;
+    all.push(round_of(alloc, 4, &[3, 4])?)?;
+    all.push(round_of(alloc, 5, &[3, 4])?)?;
+    all.push(round_of(alloc, 4, &[4, 3])?)?;
+    all.push(round_of(alloc, 4, &[3])?)?;
+    all.push(Envelope::Ask(ask_of(alloc, 1)?))?;
+    all.push(Envelope::Ask(ask_of(alloc, 2)?))?;
+    all.push(reply_of(1, 0))?;
+    all.push(reply_of(1, 1))?;
+    all.push(Envelope::Seen(0))?;
+    all.push(Envelope::Seen(1))?;
+    Ok(all)
+}
+
+#[test]
+fn an_envelope_is_the_same_as_its_copy_alone(rt: HostRuntime) -> Result<(), Fail> {
+    let all = samples(rt.alloc())?;
+    for (place, envelope) in all.iter().enumerate() {
+        let copy = envelope.try_copy(rt.alloc())?;
+        for (other, sample) in all.iter().enumerate() {
+            assert_eq!(rt; copy.same(sample), place == other, "at {place}, {other}");
+        }
+    }
+    Ok(())
+}
+
+#[test]
+fn a_letter_lends_its_envelope_to_every_copy(rt: HostRuntime) -> Result<(), Fail> {
+    for envelope in &samples(rt.alloc())? {
+        let letter = Letter::of(rt.alloc(), envelope.try_copy(rt.alloc())?)?;
+        let copy = letter.try_copy()?;
+        assert!(rt; letter.envelope().same(envelope));
+        drop(letter);
+        assert!(rt; copy.envelope().same(envelope));
+    }
+    Ok(())
+}
+
+#[test]
+fn chains_come_out_as_they_went_in(rt: HostRuntime) -> Result<(), Fail> {
+    let chains = chains_of(rt.alloc(), &[7, 2])?;
+    let copy = chains.try_copy(rt.alloc())?;
+    assert!(rt; copy.same(&chains));
+    let first = copy.as_slice().first().ok_or("no first chain")?;
+    assert_eq!(rt; first.slot(), 7);
+    let items = chains.into_vec();
+    assert_eq!(rt; items.len(), 2);
+    let last = items.last().ok_or("no last chain")?;
+    assert_eq!(rt; last.slot(), 2);
+    Ok(())
+}
+
+#[test]
+fn an_envelope_fits_up_to_each_limit(rt: HostRuntime) -> Result<(), Fail> {
+    let most = 1_099_511_627_775;
+    let thirty_two = [0u64; 32];
+    let thirty_three = [0u64; 33];
+    let rows = [
+        (Envelope::Empty, true),
+        (round_of(rt.alloc(), most, &[most])?, true),
+        (round_of(rt.alloc(), most + 1, &[most])?, false),
+        (round_of(rt.alloc(), most, &[most + 1])?, false),
+        (round_of(rt.alloc(), 0, &thirty_two)?, true),
+        (round_of(rt.alloc(), 0, &thirty_three)?, false),
+        (Envelope::Ask(ask_of(rt.alloc(), most)?), true),
+        (reply_of(most, most), true),
+        (reply_of(0, 0), false),
+        (reply_of(most + 1, 0), false),
+        (reply_of(1, most + 1), false),
+        (Envelope::Seen(most), true),
+        (Envelope::Seen(most + 1), false),
+    ];
+    for (place, (envelope, fits)) in rows.iter().enumerate() {
+        assert_eq!(rt; envelope.fits(), *fits, "at {place}");
+    }
+    Ok(())
+}
+
+/// The clients 0 to 8.
+fn nine_clients() -> Result<[ClientId; 9], Fail> {
+    let mut nine = [ClientId::FIRST; 9];
+    for place in 0..9usize {
+        nine[place] = ClientId::new(place as u8)?;
+    }
+    Ok(nine)
+}
+
+#[test]
+fn eight_clients_are_a_list_and_nine_are_not(rt: HostRuntime) -> Result<(), Fail> {
+    let nine = nine_clients()?;
+    let eight = Clients::of(&nine[..8]).ok_or("eight clients refused")?;
+    assert_eq!(rt; eight.as_slice(), &nine[..8]);
+    assert!(rt; Clients::of(&nine).is_none());
+    assert!(rt; Clients::of(&nine[..0]).is_none());
+    Ok(())
+}
+
+#[test]
+fn no_client_stands_twice(rt: HostRuntime) -> Result<(), Fail> {
+    let one = ClientId::new(1)?;
+    let two = ClientId::new(2)?;
+    assert!(rt; Clients::of(&[one, two, one]).is_none());
+    assert!(rt; Clients::of(&[one, two]).is_some());
+    Ok(())
+}
+
+#[test]
+fn an_entry_takes_16_bytes(rt: HostRuntime) {
+    assert_eq!(rt; size_of::<Entry>(), 16);
+}
+
+/// What one thread makes and another takes may be handed over.
+fn may_send<T: Send>(_: &T) {}
+
+/// What boxes and logs share may be read by both.
+fn may_share<T: Send + Sync>(_: &T) {}
+
+#[test]
+fn may_go_between_threads(rt: HostRuntime) -> Result<(), Fail> {
+    let envelope = round_of(rt.alloc(), 4, &[3, 4])?;
+    may_share(&envelope);
+    let letter = Letter::of(rt.alloc(), envelope)?;
+    may_share(&letter);
+    let to = Actor::Replica(ReplicaId::FIRST);
+    may_send(&Entry::Post {
+        to,
+        envelope: letter,
+    });
+    Ok(())
+}
