@@ -26,7 +26,7 @@ PROGRAM = f"{TOP}/crates/dsr/out/dsr"
 EXAMPLES = [("apply", "first-lines"), ("apply", "swaps"), ("apply", "repeated-numbers"), ("apply", "full-table"),
             ("play", "one-replica"), ("play", "three-loyal")]
 # The crates whose tests end with an error where memory was refused. dsr_tests has those of the lower crates. dsr_client allocates nothing.
-CRATES = ["dsr_tests", "dsr_replica", "dsr_script", "dsr_world"]
+CRATES = ["dsr_tests", "dsr_replica", "dsr_script", "dsr_play", "dsr_world"]
 # Tests that end otherwise: those of dsr_command and dsr_cli, whose calls say it by what they answer. These calls are in the runs of the program.
 ANSWERED = ("command::",)
 MOST_RUNS = 20_000

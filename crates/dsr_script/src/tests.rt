@@ -195,3 +195,13 @@ fn a_draft_is_plain_without_lists_and_removals(rt: HostRuntime) -> Result<(), Fa
     }
     Ok(())
 }
+
+/// What goes into a thread of its own.
+fn may_be_sent<T: Send>(_: &T) {}
+
+#[test]
+fn drafts_and_what_is_known_go_into_threads(rt: HostRuntime) -> Result<(), Fail> {
+    may_be_sent(&Draft::of(rt.alloc(), &Envelope::Seen(1))?);
+    may_be_sent(&Known::new(rt.alloc()));
+    Ok(())
+}

@@ -253,3 +253,13 @@ fn reads_no_other_statement(rt: HostRuntime) {
         assert!(rt; Statement::read(text.as_bytes()).is_none(), "{text}");
     }
 }
+
+/// A key may be handed to another thread.
+fn may_be_sent<T: Send>(_: &T) {}
+
+#[test]
+fn a_key_goes_into_a_thread(rt: HostRuntime) -> Result<(), Fail> {
+    let mut keys = Keys::new(rt.alloc(), Shape::new(1, 0, 1, 0)?)?;
+    may_be_sent(&keys.take(R0).ok_or("no key")?);
+    Ok(())
+}

@@ -659,3 +659,16 @@ fn a_text_is_told_as_far_as_it_goes(rt: HostRuntime) -> Result<(), AllocError> {
     assert!(rt; errors.taken.as_slice() == b"hello".as_slice());
     Ok(())
 }
+
+/// Shape (4,1,2,0): replicas at places 0 to 3, clients at 4 and 5.
+#[test]
+fn each_actor_has_its_place(rt: HostRuntime) -> Result<(), Fail> {
+    let shape = Shape::new(4, 1, 2, 0)?;
+    assert_eq!(rt; shape.size(), 6);
+    assert_eq!(rt; shape.place(&Actor::Replica(ReplicaId::FIRST)), 0);
+    assert_eq!(rt; shape.place(&Actor::Replica(ReplicaId::new(3)?)), 3);
+    assert_eq!(rt; shape.place(&Actor::Client(ClientId::FIRST)), 4);
+    assert_eq!(rt; shape.actor_at(3), Actor::Replica(ReplicaId::of(3)));
+    assert_eq!(rt; shape.actor_at(5), Actor::Client(ClientId::of(1)));
+    Ok(())
+}

@@ -1,10 +1,13 @@
 //! Plays through a world: how many events were done, what clients accepted and saw, what replicas decided, and the history.
 
 use crate::{RunEnd, World};
-use dsr_desk::Content;
-use dsr_envelope::Entry;
-use dsr_names::{Actor, ClientId, Refusal, ReplicaId};
+use dsr_client::Client;
+use dsr_desk::{Content, Keys};
+use dsr_envelope::{Entry, Pick};
+use dsr_names::{Actor, ClientId, Refusal, ReplicaId, Shape};
+use dsr_node::{Customer, Node};
 use dsr_play::{Event, Play};
+use dsr_request::{Name, Op};
 use dsr_script::Draft;
 use std::alloc::Global;
 use std::fmt::Write;
@@ -371,5 +374,22 @@ fn each_refusal_comes_in_its_order(rt: HostRuntime) -> Result<(), Fail> {
     }
     assert_eq!(rt; world.entries().len(), 1);
     assert_eq!(rt; world.shape().n(), 3);
+    Ok(())
+}
+
+/// With a new client nothing is outstanding: it has nothing to ask again, and may begin.
+#[test]
+fn a_new_clients_node_may_only_begin(rt: HostRuntime) -> Result<(), Fail> {
+    let shape = Shape::new(1, 0, 1, 0)?;
+    let mut keys = Keys::new(rt.alloc(), shape)?;
+    let key = keys.take(Actor::Client(ClientId::FIRST)).ok_or("no key")?;
+    let node = Node::Client(Customer::new(rt.alloc(), Client::new(key, &shape)));
+    assert_eq!(rt; node.outstanding(), None);
+    let to = Actor::Replica(ReplicaId::FIRST);
+    let op = Op::Read {
+        name: Name::read(b"a")?,
+    };
+    assert_eq!(rt; node.refusal(to, Pick::Plain), Some(Refusal::NotDue));
+    assert_eq!(rt; node.refusal(to, Pick::Begin(op)), None);
     Ok(())
 }
