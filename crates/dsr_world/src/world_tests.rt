@@ -33,9 +33,6 @@ fn play_out(alloc: Global, text: &[u8]) -> Result<Played, Fail> {
 
 /// Has the event happen, and returns what it is refused with, if it is. Fails where memory runs out.
 fn step(alloc: Global, world: &mut World, event: &Event) -> Result<Option<Refusal>, Fail> {
-    if !event.fits() {
-        return Err("an event past the limits")?;
-    }
     match world.step(alloc, event) {
         Ok(_) => Ok(None),
         Err(Refusal::NoMemory) => Err(Refusal::NoMemory)?,
@@ -105,7 +102,11 @@ fn posts(alloc: Global, world: &World, from: &str, to: &str) -> Result<String, F
     for (actor, entry) in world.entries() {
         if let Entry::Post { to, envelope } = entry {
             if (Some(*actor), Some(*to)) == ends {
-                let draft = Draft::of(alloc, envelope.envelope())?;
+                let envelope = envelope.envelope();
+                if !envelope.fits() {
+                    return Err("an envelope past the limits")?;
+                }
+                let draft = Draft::of(alloc, envelope)?;
                 write!(words, "{draft}; ")?;
             }
         }
