@@ -136,9 +136,9 @@ class Folders(Made):
         self.assertEqual(faults, [])
 
     def test_an_edit_in_the_other_folder_is_a_fault(self):
-        self.write("crates/low/wrong-bodies/two.edit", "file: src/lib.rt\n")
+        self.write("crates/low/must-fail/two.edit", "file: src/lib.rt\n")
         self.assertEqual(len(self.faults()), 1)
-        self.assertIn("crates/low/wrong-bodies/two.edit", self.faults()[0])
+        self.assertIn("crates/low/must-fail/two.edit", self.faults()[0])
 
     def test_an_edit_of_no_crate_is_a_fault(self):
         self.write("crates/gone/wrong-bodies/one.edit", "file: src/lib.rt\n")

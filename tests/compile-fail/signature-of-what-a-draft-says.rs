@@ -6,7 +6,7 @@ use dsr_names::Actor;
 use dsr_script::Draft;
 
 pub fn signed(draft: &Draft, signer: Actor, statement: Statement) -> Option<Signature> {
-    if !draft.fits() {
+    if !draft.is_plain() {
         return None;
     }
     Some(Signature { signer, statement }) //~ private-field
