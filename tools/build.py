@@ -60,7 +60,7 @@ def fault():
 
 def main():
     begun = time.time()
-    say("building the program; the first build proves all that it stands on, and takes some 20 minutes")
+    say("building the program; the first build proves all that it stands on")
     said = fault()
     if said is not None:
         print(said, file=sys.stderr)
