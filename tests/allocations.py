@@ -9,7 +9,7 @@ so, and for each event whether it was done.
 Then it runs the tests of the crates below the command line whose calls can return that memory was refused, one by one and
 in the same way. A test that meets a refusal must pass, or end with that error, or with an assertion that got that error
 (`WriteFailed` where what is written goes to memory). One that ends otherwise got a wrong answer in its place. A test of a
-module `memory_tests` makes each refused call again, and must pass whichever allocation is refused.
+module whose name ends in `_memory` makes each refused call again, and must pass whichever allocation is refused.
 
 Needs a C compiler, `cc`, for the few lines that refuse. The last line is `N passed, M failed`, a count for each example and
 for each of those crates.
@@ -25,8 +25,8 @@ TOP = os.path.dirname(os.path.dirname(os.path.realpath(__file__)))
 PROGRAM = f"{TOP}/crates/dsr/out/dsr"
 EXAMPLES = [("apply", "first-lines"), ("apply", "swaps"), ("apply", "repeated-numbers"), ("apply", "full-table"),
             ("play", "one-replica"), ("play", "three-loyal")]
-# The crates whose tests end with an error where memory was refused. dsr_tests has those of the lower crates. dsr_client allocates nothing.
-CRATES = ["dsr_tests", "dsr_replica", "dsr_script", "dsr_play", "dsr_world"]
+# The crates of tests that end with an error where memory was refused.
+CRATES = ["dsr_tests", "dsr_actor_tests", "dsr_world_tests"]
 # Tests that end otherwise: those of dsr_command and dsr_cli, whose calls say it by what they answer. These calls are in the runs of the program.
 ANSWERED = ("command::",)
 MOST_RUNS = 20_000
@@ -80,7 +80,7 @@ def fault_of_test(program, test, refuser, note):
         run, refused = refused_run([program, test], nth, refuser, note)
         if not refused:
             return (None if run.returncode == 0 else f"{test} fails with ample memory"), nth - 1
-        may_end = not test.startswith("memory_tests::") and WANT_OF_MEMORY.search(run.stdout + run.stderr)
+        may_end = not test.split("::")[0].endswith("_memory") and WANT_OF_MEMORY.search(run.stdout + run.stderr)
         if run.returncode != 0 and not may_end:
             return f"{test} with allocation {nth} refused says {(run.stdout + run.stderr)[:200]!r}", nth
     return f"{test} still meets a refusal after {MOST_RUNS} runs", MOST_RUNS

@@ -10,6 +10,3 @@ pub use laws::{
     calls_keep_a_clients_log, clients_are_blind, issue_fronts_are_of_first_asks,
     loyal_replies_are_accepted, numbers_name_one_request, seen_fronts_only_grow, takes_settle,
 };
-
-#[cfg(test)]
-mod tests;

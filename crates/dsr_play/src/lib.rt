@@ -10,6 +10,3 @@ mod play_line;
 pub use event::Event;
 pub use laws::each_event_has_a_line;
 pub use play::{MOST_EVENTS, Play};
-
-#[cfg(test)]
-mod play_tests;

@@ -9,7 +9,6 @@ mod InFlight
 mod Joining
 mod Later
 pub mod Lemmas
-mod LoyalLogs
 mod Possible
 mod Posting
 mod Posts

@@ -4,5 +4,4 @@ pub mod Decisions
 pub mod DecisionsFields
 pub mod Flights
 pub mod FlightsFields
-pub mod LoyalLogs
 pub mod ReplicaFields

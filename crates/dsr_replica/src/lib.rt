@@ -14,12 +14,3 @@ pub use laws::{
     signatures_are_own_or_taken,
 };
 pub use replica::Replica;
-
-#[cfg(test)]
-mod exchange_tests;
-#[cfg(test)]
-mod logged;
-#[cfg(test)]
-mod memory_tests;
-#[cfg(test)]
-mod replica_tests;

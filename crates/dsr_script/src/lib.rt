@@ -27,12 +27,3 @@ pub use dsr_text::{Header, read_header};
 pub use known::Known;
 pub use laws::{each_draft_has_a_text, nobody_forges, spelled_is_within_limits, texts_tell_drafts};
 pub use script::Script;
-
-#[cfg(test)]
-mod memory_tests;
-#[cfg(test)]
-mod script_tests;
-#[cfg(test)]
-mod tests;
-#[cfg(test)]
-mod text_tests;

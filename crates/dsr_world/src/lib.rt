@@ -18,6 +18,3 @@ pub use dsr_run::{
 };
 pub use run_end::RunEnd;
 pub use world::World;
-
-#[cfg(test)]
-mod world_tests;

@@ -9,7 +9,7 @@ ghost use Rattle.std.specs.Prelude.{◌≡◌, ◌∷◌, [], IfOk, if◌then◌
 ghost use Rattle.dsr_envelope.specs.declared.step.Pick.TheVariants.{Plain, From};
 
 use crate::logged::from_one;
-use crate::{Chains, Due, Envelope, Pick, Replica};
+use dsr_replica::{Chains, Due, Envelope, Pick, Replica};
 use dsr_chain::{Batch, Chain, SignedRequest, SlotValue};
 use dsr_desk::{Key, Keys};
 use dsr_names::{Actor, ClientId, Refusal, ReplicaId, Shape};

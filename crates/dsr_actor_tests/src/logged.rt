@@ -2,9 +2,9 @@
 
 ghost use Rattle.std.specs.Prelude.{◌≡◌, suc, ◌∷◌, [], IfOk};
 ghost use Rattle.dsr_envelope.specs.declared.step.Pick.TheVariants.{From};
-ghost use Rattle.dsr_replica.specs.Support.LoyalLogs.{HasLog};
+ghost use Rattle.dsr_actor_tests.specs.LoyalLogs.{HasLog};
 
-use crate::{Clients, Due, Envelope, Pick, Replica};
+use dsr_replica::{Clients, Due, Envelope, Pick, Replica};
 use dsr_desk::Key;
 use dsr_names::{ClientId, ReplicaId, Shape};
 use std::alloc::Global;
@@ -21,7 +21,7 @@ pub(crate) struct Logged {
 
 impl Model for Logged {
     ghost use Rattle.std.specs.Prelude.{ℕ};
-    ghost use Rattle.dsr_replica.specs.Support.LoyalLogs.{HasLog};
+    ghost use Rattle.dsr_actor_tests.specs.LoyalLogs.{HasLog};
 
     ghost Value = { ℕ };
 

@@ -1,6 +1,6 @@
 //! Plays through a world: how many events were done, what clients accepted and saw, what replicas decided, and the history.
 
-use crate::{RunEnd, World};
+use dsr_world::{RunEnd, World};
 use dsr_client::Client;
 use dsr_desk::{Content, Keys};
 use dsr_envelope::{Entry, Pick};

@@ -1,4 +1,4 @@
-use crate::Draft;
+use dsr_script::Draft;
 use dsr_envelope::{Chains, Envelope};
 use dsr_ledger::Reply;
 use dsr_names::NUMBER_END;

@@ -1,4 +1,4 @@
-use crate::{Draft, Known, build};
+use dsr_script::{Draft, Known, build};
 use dsr_chain::{Batch, Chain, SignedRequest, SlotValue};
 use dsr_desk::{Key, Keys};
 use dsr_envelope::{Chains, Envelope};

@@ -4,7 +4,7 @@
 //! with the round, if it is loyal, proposes that ask.
 
 use crate::logged::Logged;
-use crate::{Chains, Envelope, Replica};
+use dsr_replica::{Chains, Envelope, Replica};
 use dsr_chain::{Batch, Chain, SignedRequest, SlotValue};
 use dsr_desk::{Key, Keys};
 use dsr_names::{Actor, ClientId, ReplicaId, Shape};

@@ -1,4 +1,4 @@
-use crate::{Event, Play};
+use dsr_play::{Event, Play};
 use dsr_envelope::Pick;
 use dsr_names::Refusal;
 use std::alloc::Global;

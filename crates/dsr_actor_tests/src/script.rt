@@ -1,4 +1,4 @@
-use crate::{Script, read_header};
+use dsr_script::{Script, read_header};
 use dsr_names::{Actor, ClientId, Refusal, ReplicaId};
 use dsr_request::{Name, Op};
 use std::alloc::Global;

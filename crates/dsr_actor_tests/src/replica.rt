@@ -1,7 +1,7 @@
 ghost use Rattle.std.specs.Prelude.{◌≡◌, ◌∷◌, [], IfOk};
 ghost use Rattle.dsr_envelope.specs.declared.step.Pick.TheVariants.{From};
 
-use crate::{Clients, Due, Envelope, Pick, Replica};
+use dsr_replica::{Clients, Due, Envelope, Pick, Replica};
 use dsr_chain::SignedRequest;
 use dsr_desk::{Key, Keys};
 use dsr_names::{Actor, ClientId, Refusal, ReplicaId, Shape};

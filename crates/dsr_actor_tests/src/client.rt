@@ -1,6 +1,6 @@
 ghost use Rattle.std.specs.Prelude.{◌≡◌, IfOk};
 
-use crate::Client;
+use dsr_client::Client;
 use dsr_desk::Keys;
 use dsr_envelope::Envelope;
 use dsr_ledger::Reply;
