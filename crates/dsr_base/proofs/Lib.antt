@@ -1,3 +1,4 @@
+pub mod BoxLemmas
 mod FewLemmas
 pub mod JoinedLemmas
 pub mod Marks

@@ -1,4 +1,5 @@
 pub mod Bits
+pub mod Boxes
 pub mod Growth
 pub mod Joined
 pub mod Member

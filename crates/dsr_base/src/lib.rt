@@ -2,6 +2,7 @@
 //! what every text is read and written by, whatever it says: cuts, decimals, and items joined by a mark.
 #![tactic(auto)]
 
+mod boxes;
 mod decimal;
 mod exact;
 mod few;
@@ -11,6 +12,7 @@ mod token;
 mod up_to;
 mod up_to_text;
 
+pub use boxes::{Boxes, MailBox};
 pub use decimal::read_decimal;
 pub use exact::Exact;
 pub use few::Few;

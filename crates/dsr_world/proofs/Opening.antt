@@ -12,11 +12,12 @@ use Rattle.dsr_names.specs.declared.actor.Actor.{Actor}
 use Rattle.dsr_names.specs.declared.actor.Actor.TheVariants.{Replica, Client}
 use Rattle.dsr_desk.specs.Signature.{Signature}
 use Rattle.dsr_run.specs.Run.{IsTraitor}
-use Rattle.dsr_world.specs.Support.Boxes.{AreSquare, empty_box, box_at, held_in}
+use Rattle.dsr_base.specs.Boxes.{AreSquare, empty_box, box_at}
+use Rattle.dsr_world.specs.Support.Boxes.{held_in}
 use Rattle.dsr_node.specs.Node.{Plays}
 use Rattle.dsr_names.specs.Places.{place_of}
 use Rattle.dsr_world.specs.Support.WorldFields.{AreParts, AreOpened, IsTraitorBelow, AreKeysBelow}
-use Rattle.dsr_world.specs.declared.mail_boxes.MailBox.{MailBox}
+use Rattle.dsr_base.specs.declared.boxes.MailBox.{MailBox}
 use Rattle.dsr_node.specs.declared.node.Node.{Node}
 use Rattle.dsr_names.proofs.PlaceLemmas.{same_place, place_below}
 
@@ -112,7 +113,7 @@ more_keys shape k keys (Some key) are is when a = (
 
 -- ---- the world
 
-pub opened : (shape : Shape) (nodes : List Node) (rows : List (List MailBox)) (keys : List Actor) (known : List Signature)
+pub opened : (shape : Shape) (nodes : List Node) (rows : List (List (MailBox Envelope))) (keys : List Actor) (known : List Signature)
     → AreOpened shape (shape.n + shape.m) nodes → AreKeysBelow shape shape.n keys → AreSquare (shape.n + shape.m) rows
     → ((from to : ℕ) → box_at rows from to ≡ empty_box) → known ≡ [] → AreParts shape [] nodes rows keys known
 opened shape nodes rows keys known are held square empty none = record {
@@ -121,7 +122,7 @@ opened shape nodes rows keys known are held square empty none = record {
   boxes = record {
     square = square;
     each = λ from to actor other.
-        let is = empty (place_of shape from) (place_of shape to) in record { count = ap (λ box. box.posts) is; holds = ap (λ box. held_in box.letter) (sym is) };
+        let is = empty (place_of shape from) (place_of shape to) in record { count = ap (λ box. box.posts) is; holds = ap (λ box. held_in box.item) (sym is) };
   };
   held = traitors;
   knows = λ p traitor. record { from = λ s h. elim (subst (In s) none h) [ ]; all = λ s a loyal h. elim h.posted [ ] };

@@ -4,6 +4,7 @@ use Rattle.std.specs.Prelude.{slice_set, slice_index_or}
 use Rattle.std.proofs.lemmas.List.{get_or-set_same, get_or-set_other, length-set}
 use Rattle.std.proofs.lemmas.Bool.Decides.{Decides-eqb}
 use Rattle.dsr_base.specs.Member.{In, here}
+use Rattle.dsr_base.proofs.BoxLemmas.{box_same, box_other, still_square}
 use Rattle.dsr_names.proofs.PlaceLemmas.{place_below, same_place}
 use Rattle.dsr_names.specs.Shape.{Shape, IsActor, IsLoyal}
 use Rattle.dsr_names.specs.declared.actor.Actor.{Actor}
@@ -17,11 +18,12 @@ use Rattle.dsr_envelope.specs.Envelope.{Carries}
 use Rattle.dsr_envelope.specs.Log.{posted_to, taken_from}
 use Rattle.dsr_run.specs.Run.{HasPosted}
 use Rattle.dsr_run.specs.Step.{Step, Logs, log_of}
-use Rattle.dsr_world.specs.Support.Boxes.{empty_box, box_in, row_of, box_at, with_box, with_post, without_letter, held_in, AreSquare, IsBoxOf}
+use Rattle.dsr_base.specs.Boxes.{empty_box, box_in, row_of, box_at, with_box, with_item, without_item, AreSquare}
+use Rattle.dsr_world.specs.Support.Boxes.{held_in, IsBoxOf}
 use Rattle.dsr_node.specs.Node.{Plays}
 use Rattle.dsr_names.specs.Places.{place_of}
 use Rattle.dsr_world.specs.Support.WorldFields.{ArePlayed, AreBoxes}
-use Rattle.dsr_world.specs.declared.mail_boxes.MailBox.{MailBox}
+use Rattle.dsr_base.specs.declared.boxes.MailBox.{MailBox}
 use Rattle.dsr_node.specs.declared.node.Node.{Node}
 use Rattle.dsr_run.proofs.Lemmas.{from_log, posted_cases, posted_still, taken_cases, taken_still}
 use Rattle.dsr_run.proofs.Lemmas.{has_posted_later}
@@ -91,39 +93,6 @@ played_same shape logs nodes who x are actor plays = record {
 
 -- ---- boxes
 
--- the box of a pair of actors in rows with another box
-box_same : (n from to : ℕ) (rows : List (List MailBox)) (x : MailBox) → AreSquare n rows → from < n → to < n → box_at (with_box rows from to x) from to ≡ x
-box_same n from to rows x square below inside =
-    let rows_long : from < length rows = let count = square.count in omega (arith, below, count) in
-    let row_long : to < length (row_of rows from) = let count = square.each from below in omega (arith, inside, count) in
-    ap (λ row. box_in row to) (get_or-set_same rows from (slice_set (row_of rows from) to x) [] rows_long)
-    ∙ get_or-set_same (row_of rows from) to x empty_box row_long
-
-box_other : (n from to a b : ℕ) (rows : List (List MailBox)) (x : MailBox) → AreSquare n rows → from < n → (a ≡ from → b ≢ to)
-    → box_at (with_box rows from to x) a b ≡ box_at rows a b
-box_other n from to a b rows x square below apart = elim (holds_or_not (a == from) (Decides-eqb a from)) [
-  | inr other ↦ ap (λ row. box_in row b) (get_or-set_other rows from a (slice_set (row_of rows from) to x) [] other)
-  | inl same ↦
-      let rows_long : from < length rows = let count = square.count in omega (arith, below, count) in
-      ap (λ k. box_in (row_of (with_box rows from to x) k) b) same
-      ∙ (ap (λ row. box_in row b) (get_or-set_same rows from (slice_set (row_of rows from) to x) [] rows_long)
-      ∙ (get_or-set_other (row_of rows from) to b x empty_box (apart same)
-      ∙ ap (λ k. box_in (row_of rows k) b) (sym same)))
-]
-
-still_square : (n from to : ℕ) (rows : List (List MailBox)) (x : MailBox) → AreSquare n rows → from < n → AreSquare n (with_box rows from to x)
-still_square n from to rows x square below = record {
-  count = length-set rows from (slice_set (row_of rows from) to x) ∙ square.count;
-  each = λ a inside. elim (holds_or_not (a == from) (Decides-eqb a from)) [
-    | inr other ↦ ap length (get_or-set_other rows from a (slice_set (row_of rows from) to x) [] other) ∙ square.each a inside
-    | inl same ↦
-        let rows_long : from < length rows = let count = square.count in omega (arith, below, count) in
-        ap (λ k. length (row_of (with_box rows from to x) k)) same
-        ∙ (ap length (get_or-set_same rows from (slice_set (row_of rows from) to x) [] rows_long)
-        ∙ (length-set (row_of rows from) to x ∙ square.each from below))
-  ];
-}
-
 -- what is one pair of actors or another
 same_pair : (shape : Shape) (from to a b : Actor) → IsActor shape from → IsActor shape to → IsActor shape a → IsActor shape b
     → ((from ≡ a) × (to ≡ b)) ⊎ (place_of shape a ≡ place_of shape from → place_of shape b ≢ place_of shape to)
@@ -156,32 +125,32 @@ taken_now at from x older = elim (log_cases (at, Take from x) older at) [
 ]
 
 -- a full box after a post
-box_full : (box : MailBox) (x : Envelope) (posted taken : List Envelope) → box.letter ≡ None → IsBoxOf box posted taken
-    → IsBoxOf (with_post box x) (posted ++ x ∷ []) taken
+box_full : (box : MailBox Envelope) (x : Envelope) (posted taken : List Envelope) → box.item ≡ None → IsBoxOf box posted taken
+    → IsBoxOf (with_item box x) (posted ++ x ∷ []) taken
 box_full box x posted taken empty is =
     let same : posted ≡ taken = is.holds ∙ (ap (λ o. taken ++ held_in o) empty ∙ append-nil taken) in
     record { count = let count = is.count in omega (arith, count, length-append posted (x ∷ [])); holds = ap (λ l. l ++ x ∷ []) same }
 
 -- an empty box after a take
-box_emptied : (box : MailBox) (x : Envelope) (posted taken : List Envelope) → box.letter ≡ Some x → IsBoxOf box posted taken
-    → IsBoxOf (without_letter box) posted (taken ++ x ∷ [])
+box_emptied : (box : MailBox Envelope) (x : Envelope) (posted taken : List Envelope) → box.item ≡ Some x → IsBoxOf box posted taken
+    → IsBoxOf (without_item box) posted (taken ++ x ∷ [])
 box_emptied box x posted taken full is = record {
   count = is.count;
   holds = is.holds ∙ (ap (λ o. taken ++ held_in o) full ∙ sym (append-nil (taken ++ x ∷ [])));
 }
 
-box_for : (box : MailBox) (posted taken later_posted later_taken : List Envelope) → later_posted ≡ posted → later_taken ≡ taken → IsBoxOf box posted taken
+box_for : (box : MailBox Envelope) (posted taken later_posted later_taken : List Envelope) → later_posted ≡ posted → later_taken ≡ taken → IsBoxOf box posted taken
     → IsBoxOf box later_posted later_taken
-box_for box posted taken later_posted later_taken e f is = record { count = is.count ∙ ap length (sym e); holds = e ∙ (is.holds ∙ ap (λ l. l ++ held_in box.letter) (sym f)) }
+box_for box posted taken later_posted later_taken e f is = record { count = is.count ∙ ap length (sym e); holds = e ∙ (is.holds ∙ ap (λ l. l ++ held_in box.item) (sym f)) }
 
 -- the boxes after a post
-pub boxes_posted : (shape : Shape) (older : List Step) (rows : List (List MailBox)) (from to : Actor) (x : Envelope)
+pub boxes_posted : (shape : Shape) (older : List Step) (rows : List (List (MailBox Envelope))) (from to : Actor) (x : Envelope)
     → AreBoxes shape (log_of older) rows → IsActor shape from → IsActor shape to
-    → (box_at rows (place_of shape from) (place_of shape to)).letter ≡ None
+    → (box_at rows (place_of shape from) (place_of shape to)).item ≡ None
     → AreBoxes shape (log_of ((from, Post to x) ∷ older))
-    (with_box rows (place_of shape from) (place_of shape to) (with_post (box_at rows (place_of shape from) (place_of shape to)) x))
+    (with_box rows (place_of shape from) (place_of shape to) (with_item (box_at rows (place_of shape from) (place_of shape to)) x))
 boxes_posted shape older rows from to x are actor other empty = record {
-  square = still_square (shape.n + shape.m) (place_of shape from) (place_of shape to) rows (with_post (box_at rows (place_of shape from) (place_of shape to)) x)
+  square = still_square (shape.n + shape.m) (place_of shape from) (place_of shape to) rows (with_item (box_at rows (place_of shape from) (place_of shape to)) x)
       are.square (place_below shape from actor);
   each = λ a b inside too. elim (same_pair shape from to a b actor other inside too) [
     | inl same ↦
@@ -190,7 +159,7 @@ boxes_posted shape older rows from to x are actor other empty = record {
     | inr apart ↦
         subst (λ box. IsBoxOf box (posted_to b (log_of step a)) (taken_from a (log_of step b)))
         (sym (box_other (shape.n + shape.m) (place_of shape from) (place_of shape to) (place_of shape a) (place_of shape b) rows
-        (with_post (box_at rows (place_of shape from) (place_of shape to)) x) are.square (place_below shape from actor) apart))
+        (with_item (box_at rows (place_of shape from) (place_of shape to)) x) are.square (place_below shape from actor) apart))
         (box_for (box_at rows (place_of shape a) (place_of shape b)) (posted_to b (log_of older a)) (taken_from a (log_of older b))
         (posted_to b (log_of step a)) (taken_from a (log_of step b)) (posted_else a b apart) (taken_still from to x older a b) (are.each a b inside too))
   ];
@@ -199,15 +168,15 @@ boxes_posted shape older rows from to x are actor other empty = record {
     step : List Step
     step = (from, Post to x) ∷ older
 
-    after : List (List MailBox)
-    after = with_box rows (place_of shape from) (place_of shape to) (with_post (box_at rows (place_of shape from) (place_of shape to)) x)
+    after : List (List (MailBox Envelope))
+    after = with_box rows (place_of shape from) (place_of shape to) (with_item (box_at rows (place_of shape from) (place_of shape to)) x)
 
     own : IsBoxOf (box_at after (place_of shape from) (place_of shape to)) (posted_to to (log_of step from)) (taken_from from (log_of step to))
     own =
         subst (λ box. IsBoxOf box (posted_to to (log_of step from)) (taken_from from (log_of step to)))
-        (sym (box_same (shape.n + shape.m) (place_of shape from) (place_of shape to) rows (with_post (box_at rows (place_of shape from) (place_of shape to)) x)
+        (sym (box_same (shape.n + shape.m) (place_of shape from) (place_of shape to) rows (with_item (box_at rows (place_of shape from) (place_of shape to)) x)
         are.square (place_below shape from actor) (place_below shape to other)))
-        (box_for (with_post (box_at rows (place_of shape from) (place_of shape to)) x) (posted_to to (log_of older from) ++ x ∷ []) (taken_from from (log_of older to))
+        (box_for (with_item (box_at rows (place_of shape from) (place_of shape to)) x) (posted_to to (log_of older from) ++ x ∷ []) (taken_from from (log_of older to))
         (posted_to to (log_of step from)) (taken_from from (log_of step to)) (posted_now from to x older) (taken_still from to x older from to)
         (box_full (box_at rows (place_of shape from) (place_of shape to)) x (posted_to to (log_of older from)) (taken_from from (log_of older to)) empty
         (are.each from to actor other)))
@@ -220,13 +189,13 @@ boxes_posted shape older rows from to x are actor other empty = record {
     ]
 
 -- the boxes after a take
-pub boxes_taken : (shape : Shape) (older : List Step) (rows : List (List MailBox)) (at from : Actor) (x : Envelope)
+pub boxes_taken : (shape : Shape) (older : List Step) (rows : List (List (MailBox Envelope))) (at from : Actor) (x : Envelope)
     → AreBoxes shape (log_of older) rows → IsActor shape at → IsActor shape from
-    → (box_at rows (place_of shape from) (place_of shape at)).letter ≡ Some x
+    → (box_at rows (place_of shape from) (place_of shape at)).item ≡ Some x
     → AreBoxes shape (log_of ((at, Take from x) ∷ older))
-    (with_box rows (place_of shape from) (place_of shape at) (without_letter (box_at rows (place_of shape from) (place_of shape at))))
+    (with_box rows (place_of shape from) (place_of shape at) (without_item (box_at rows (place_of shape from) (place_of shape at))))
 boxes_taken shape older rows at from x are actor other full = record {
-  square = still_square (shape.n + shape.m) (place_of shape from) (place_of shape at) rows (without_letter (box_at rows (place_of shape from) (place_of shape at)))
+  square = still_square (shape.n + shape.m) (place_of shape from) (place_of shape at) rows (without_item (box_at rows (place_of shape from) (place_of shape at)))
       are.square (place_below shape from other);
   each = λ a b inside too. elim (same_pair shape from at a b other actor inside too) [
     | inl same ↦
@@ -235,7 +204,7 @@ boxes_taken shape older rows at from x are actor other full = record {
     | inr apart ↦
         subst (λ box. IsBoxOf box (posted_to b (log_of step a)) (taken_from a (log_of step b)))
         (sym (box_other (shape.n + shape.m) (place_of shape from) (place_of shape at) (place_of shape a) (place_of shape b) rows
-        (without_letter (box_at rows (place_of shape from) (place_of shape at))) are.square (place_below shape from other) apart))
+        (without_item (box_at rows (place_of shape from) (place_of shape at))) are.square (place_below shape from other) apart))
         (box_for (box_at rows (place_of shape a) (place_of shape b)) (posted_to b (log_of older a)) (taken_from a (log_of older b))
         (posted_to b (log_of step a)) (taken_from a (log_of step b)) (posted_still at from x older a b) (taken_else a b apart) (are.each a b inside too))
   ];
@@ -244,15 +213,15 @@ boxes_taken shape older rows at from x are actor other full = record {
     step : List Step
     step = (at, Take from x) ∷ older
 
-    after : List (List MailBox)
-    after = with_box rows (place_of shape from) (place_of shape at) (without_letter (box_at rows (place_of shape from) (place_of shape at)))
+    after : List (List (MailBox Envelope))
+    after = with_box rows (place_of shape from) (place_of shape at) (without_item (box_at rows (place_of shape from) (place_of shape at)))
 
     own : IsBoxOf (box_at after (place_of shape from) (place_of shape at)) (posted_to at (log_of step from)) (taken_from from (log_of step at))
     own =
         subst (λ box. IsBoxOf box (posted_to at (log_of step from)) (taken_from from (log_of step at)))
-        (sym (box_same (shape.n + shape.m) (place_of shape from) (place_of shape at) rows (without_letter (box_at rows (place_of shape from) (place_of shape at)))
+        (sym (box_same (shape.n + shape.m) (place_of shape from) (place_of shape at) rows (without_item (box_at rows (place_of shape from) (place_of shape at)))
         are.square (place_below shape from other) (place_below shape at actor)))
-        (box_for (without_letter (box_at rows (place_of shape from) (place_of shape at))) (posted_to at (log_of older from)) (taken_from from (log_of older at) ++ x ∷ [])
+        (box_for (without_item (box_at rows (place_of shape from) (place_of shape at))) (posted_to at (log_of older from)) (taken_from from (log_of older at) ++ x ∷ [])
         (posted_to at (log_of step from)) (taken_from from (log_of step at)) (posted_still at from x older from at) (taken_now at from x older)
         (box_emptied (box_at rows (place_of shape from) (place_of shape at)) x (posted_to at (log_of older from)) (taken_from from (log_of older at)) full
         (are.each from at other actor)))

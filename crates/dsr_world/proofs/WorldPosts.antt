@@ -21,12 +21,12 @@ use Rattle.dsr_node.specs.Conduct.{is_actor, is_traitor_of}
 use Rattle.dsr_world.specs.Event.{is_full, is_used_up, refusal_of, first_of, HasDone}
 use Rattle.dsr_run.specs.Run.{IsNextStep, IsTraitor}
 use Rattle.dsr_run.specs.Step.{Step, Logs, log_of}
-use Rattle.dsr_world.specs.Support.Boxes.{box_at, with_box, with_post}
+use Rattle.dsr_base.specs.Boxes.{box_at, with_box, with_item}
 use Rattle.dsr_node.specs.Node.{Plays}
 use Rattle.dsr_names.specs.Places.{place_of}
 use Rattle.dsr_world.specs.Support.WorldFields.{AreParts}
 use Rattle.dsr_run.specs.Known.{KnowsAll}
-use Rattle.dsr_world.specs.declared.mail_boxes.MailBox.{MailBox}
+use Rattle.dsr_base.specs.declared.boxes.MailBox.{MailBox}
 use Rattle.dsr_node.specs.declared.node.Node.{Node}
 use Rattle.dsr_run.proofs.Lemmas.{known_posted, known_still}
 use Rattle.dsr_world.proofs.Stepping.{boxes_posted}
@@ -136,20 +136,20 @@ planted_plays shape p log entry (ClientNode y) traitor plays = elim plays [ ]
 
 -- ---- posts that leave their actor's node as it is
 
-module _ (shape : Shape) (run : List Step) (nodes : List Node) (rows : List (List MailBox)) (keys : List Actor) (known : List Signature)
+module _ (shape : Shape) (run : List Step) (nodes : List Node) (rows : List (List (MailBox Envelope))) (keys : List Actor) (known : List Signature)
     (are : AreParts shape run nodes rows keys known) where
   box_open : (from to : Actor) → IsActor shape from → IsActor shape to → is_full (log_of run) from to ≡ false
-      → (box_at rows (place_of shape from) (place_of shape to)).letter ≡ None
+      → (box_at rows (place_of shape from) (place_of shape to)).item ≡ None
   box_open from to actor other room =
-      box_is_empty (box_at rows (place_of shape from) (place_of shape to)).letter (box_at rows (place_of shape from) (place_of shape to))
+      box_is_empty (box_at rows (place_of shape from) (place_of shape to)).item (box_at rows (place_of shape from) (place_of shape to))
       (posted_to to (log_of run from)) (taken_from from (log_of run to)) refl (are.boxes.each from to actor other) room
 
   parts_still : (from to : Actor) (x : Envelope) (new : List Signature) → IsActor shape from → IsActor shape to
       → IsNextStep shape (log_of run) (from, PostEntry to x)
       → ((y : Node) → Plays shape from (log_of run from) y → Plays shape from (PostEntry to x ∷ log_of run from) y)
-      → (box_at rows (place_of shape from) (place_of shape to)).letter ≡ None → KnowsAll shape (log_of ((from, PostEntry to x) ∷ run)) new
+      → (box_at rows (place_of shape from) (place_of shape to)).item ≡ None → KnowsAll shape (log_of ((from, PostEntry to x) ∷ run)) new
       → AreParts shape ((from, PostEntry to x) ∷ run) nodes
-      (with_box rows (place_of shape from) (place_of shape to) (with_post (box_at rows (place_of shape from) (place_of shape to)) x)) keys new
+      (with_box rows (place_of shape from) (place_of shape to) (with_item (box_at rows (place_of shape from) (place_of shape to)) x)) keys new
   parts_still from to x new actor other next plays empty knows = record {
     is_run = (are.is_run, next);
     played = played_on shape run nodes (from, PostEntry to x) are.played plays;
@@ -164,7 +164,7 @@ module _ (shape : Shape) (run : List Step) (nodes : List Node) (rows : List (Lis
       → In s new ↔ (In s known ⊎ Carries (Seen (seen shape (log_of run (Client c)))) s))
       → AreParts shape ((Client c, PostEntry (Client d) (Seen (seen shape (log_of run (Client c))))) ∷ run) nodes
       (with_box rows (place_of shape (Client c)) (place_of shape (Client d))
-      (with_post (box_at rows (place_of shape (Client c)) (place_of shape (Client d))) (Seen (seen shape (log_of run (Client c)))))) keys new
+      (with_item (box_at rows (place_of shape (Client c)) (place_of shape (Client d))) (Seen (seen shape (log_of run (Client c)))))) keys new
   parts_after_tell c d new allowed actor other apart used room learned =
       let x = Seen (seen shape (log_of run (Client c))) in
       let empty = box_open (Client c) (Client d) actor other room in
@@ -212,7 +212,7 @@ module _ (shape : Shape) (run : List Step) (nodes : List Node) (rows : List (Lis
   pub parts_after_plant : (p : ℕ) (to : Actor) (x : Envelope) → IsAllowed shape → p < shape.n → IsActor shape to → is_traitor shape p ≡ true → IsEnvelope x
       → is_used_up (log_of run) (Replica p) to ≡ false → is_full (log_of run) (Replica p) to ≡ false → ForgesNothing shape (log_of run) (PostEntry to x)
       → AreParts shape ((Replica p, PostEntry to x) ∷ run) nodes
-      (with_box rows (place_of shape (Replica p)) (place_of shape to) (with_post (box_at rows (place_of shape (Replica p)) (place_of shape to)) x)) keys known
+      (with_box rows (place_of shape (Replica p)) (place_of shape to) (with_item (box_at rows (place_of shape (Replica p)) (place_of shape to)) x)) keys known
   parts_after_plant p to x allowed inside other traitor fits used room forges =
       let empty = box_open (Replica p) to inside other room in
       let same = empty_same (box_at rows (place_of shape (Replica p)) (place_of shape to)) (posted_to to (log_of run (Replica p)))

@@ -18,11 +18,12 @@ use Rattle.dsr_play.specs.declared.event.Event.TheVariants.{Take}
 use Rattle.dsr_node.specs.Conduct.{is_actor}
 use Rattle.dsr_world.specs.Event.{is_full, refusal_of, Answers, HasDone}
 use Rattle.dsr_run.specs.Step.{Step, Logs, log_of}
-use Rattle.dsr_world.specs.Support.Boxes.{box_at, with_box, held_in}
+use Rattle.dsr_base.specs.Boxes.{box_at, with_box}
+use Rattle.dsr_world.specs.Support.Boxes.{held_in}
 use Rattle.dsr_node.specs.Node.{Plays}
 use Rattle.dsr_names.specs.Places.{place_of}
 use Rattle.dsr_world.specs.Support.WorldFields.{AreParts}
-use Rattle.dsr_world.specs.declared.mail_boxes.MailBox.{MailBox}
+use Rattle.dsr_base.specs.declared.boxes.MailBox.{MailBox}
 use Rattle.dsr_node.specs.declared.node.Node.{Node}
 use Rattle.dsr_run.proofs.Lemmas.{known_still}
 use Rattle.dsr_world.proofs.Stepping.{played_step}
@@ -31,7 +32,7 @@ use Rattle.std.proofs.lemmas.Bool.Decides.{Decides-eqb}
 use Rattle.dsr_envelope.specs.Limits.{IsEnvelope}
 use Rattle.dsr_envelope.specs.Log.{due}
 use Rattle.dsr_node.specs.Conduct.{is_own_client, is_undue, AcceptsBy}
-use Rattle.dsr_world.specs.Support.Boxes.{without_letter}
+use Rattle.dsr_base.specs.Boxes.{without_item}
 use Rattle.dsr_node.specs.Node.{CanTake, HasRoomToTake, TakesReply}
 use Rattle.dsr_node.specs.declared.node.Node.TheVariants.{Loyal, Traitor, Client as ClientNode}
 use Rattle.dsr_ledger.specs.declared.reply.Reply.{Reply as AReply}
@@ -81,15 +82,15 @@ last_of : (xs : List Envelope) (x : Envelope) → slice_get (xs ++ x ∷ []) (le
 last_of [] x = refl
 last_of (y ∷ xs) x = last_of xs x
 
-module _ (shape : Shape) (run : List Step) (nodes : List Node) (rows : List (List MailBox)) (keys : List Actor) (known : List Signature)
+module _ (shape : Shape) (run : List Step) (nodes : List Node) (rows : List (List (MailBox Envelope))) (keys : List Actor) (known : List Signature)
     (are : AreParts shape run nodes rows keys known) where
   -- what is in the box was posted and not taken
-  box_holds : (at from : Actor) (x : Envelope) → IsActor shape at → IsActor shape from → (box_at rows (place_of shape from) (place_of shape at)).letter ≡ Some x
+  box_holds : (at from : Actor) (x : Envelope) → IsActor shape at → IsActor shape from → (box_at rows (place_of shape from) (place_of shape at)).item ≡ Some x
       → posted_to at (log_of run from) ≡ taken_from from (log_of run at) ++ x ∷ []
   box_holds at from x actor other full =
       (are.boxes.each from at other actor).holds ∙ ap (λ o. taken_from from (log_of run at) ++ held_in o) full
 
-  box_within : (at from : Actor) (x : Envelope) → IsActor shape at → IsActor shape from → (box_at rows (place_of shape from) (place_of shape at)).letter ≡ Some x
+  box_within : (at from : Actor) (x : Envelope) → IsActor shape at → IsActor shape from → (box_at rows (place_of shape from) (place_of shape at)).item ≡ Some x
       → IsEnvelope x
   box_within at from x actor other full =
       posted_within shape run are.is_run from at x
@@ -98,7 +99,7 @@ module _ (shape : Shape) (run : List Step) (nodes : List Node) (rows : List (Lis
 
   -- a node with room can take it
   pub can_take : (at from : Actor) (x : Envelope) (node : Node) → IsAllowed shape → IsTaken shape (log_of run) at from
-      → (box_at rows (place_of shape from) (place_of shape at)).letter ≡ Some x → Plays shape at (log_of run at) node → HasRoomToTake node
+      → (box_at rows (place_of shape from) (place_of shape at)).item ≡ Some x → Plays shape at (log_of run at) node → HasRoomToTake node
       → CanTake node from x
   can_take (Replica p) (Replica q) x (Loyal r) allowed is full plays room = (
     plays.stands.due_is ∙ (ap (λ s. due s (log_of run (Replica p))) plays.shape_is ∙ take_due shape (log_of run (Replica p)) p q plays.honest is.timely),
@@ -128,9 +129,9 @@ module _ (shape : Shape) (run : List Step) (nodes : List Node) (rows : List (Lis
 
   -- the parts after the take
   pub parts_after_take : (at from : Actor) (x : Envelope) (node : Node) → IsAllowed shape → IsTaken shape (log_of run) at from
-      → (box_at rows (place_of shape from) (place_of shape at)).letter ≡ Some x → Plays shape at (TakeEntry from x ∷ log_of run at) node
+      → (box_at rows (place_of shape from) (place_of shape at)).item ≡ Some x → Plays shape at (TakeEntry from x ∷ log_of run at) node
       → AreParts shape ((at, TakeEntry from x) ∷ run) (slice_set nodes (place_of shape at) node)
-      (with_box rows (place_of shape from) (place_of shape at) (without_letter (box_at rows (place_of shape from) (place_of shape at)))) keys known
+      (with_box rows (place_of shape from) (place_of shape at) (without_item (box_at rows (place_of shape from) (place_of shape at)))) keys known
   parts_after_take at from x node allowed is full plays = record {
     is_run = (
       are.is_run,
@@ -147,7 +148,7 @@ module _ (shape : Shape) (run : List Step) (nodes : List Node) (rows : List (Lis
 
   -- the take is the event
   pub done_take : (at from : Actor) (x : Envelope) (reply : Option AReply) → IsActor shape at → IsActor shape from
-      → (box_at rows (place_of shape from) (place_of shape at)).letter ≡ Some x
+      → (box_at rows (place_of shape from) (place_of shape at)).item ≡ Some x
       → TakesReply shape at (log_of run at) from x reply → HasDone shape ((at, TakeEntry from x) ∷ run) run (Take at from) reply
   done_take at from x reply actor other full takes = record {
     step = (at, TakeEntry from x);

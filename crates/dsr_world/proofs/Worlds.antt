@@ -28,14 +28,15 @@ use Rattle.dsr_node.specs.Conduct.{is_actor, is_traitor_of, are_clients, is_exha
 use Rattle.dsr_world.specs.Event.{is_full, is_used_up, refusal_of, first_of, Answers, HasDone}
 use Rattle.dsr_run.specs.Run.{IsNextStep}
 use Rattle.dsr_run.specs.Step.{Step, Logs, log_of}
-use Rattle.dsr_world.specs.Support.Boxes.{box_at, row_of, with_box, with_post, held_in, IsBoxOf}
+use Rattle.dsr_base.specs.Boxes.{box_at, row_of, with_box, with_item}
+use Rattle.dsr_world.specs.Support.Boxes.{held_in, IsBoxOf}
 use Rattle.dsr_node.proofs.Lemmas.{honest_plays}
 use Rattle.dsr_node.specs.Node.{CanPost, Plays, post_refusal}
 use Rattle.dsr_names.specs.Places.{place_of}
 use Rattle.dsr_world.specs.Support.WorldFields.{AreParts}
 use Rattle.dsr_run.specs.Known.{KnowsAll}
 use Rattle.dsr_node.specs.Conduct.{HasSpelledOp}
-use Rattle.dsr_world.specs.declared.mail_boxes.MailBox.{MailBox}
+use Rattle.dsr_base.specs.declared.boxes.MailBox.{MailBox}
 use Rattle.dsr_node.specs.declared.node.Node.{Node}
 use Rattle.dsr_world.proofs.NextSteps.{posts_next}
 use Rattle.dsr_run.proofs.Lemmas.{known_posted}
@@ -128,7 +129,7 @@ can_post shape logs from to pick node is plays = record {
 -- ---- boxes
 
 -- a box that is not full holds nothing
-pub box_is_empty : (o : Option Envelope) (box : MailBox) (posted taken : List Envelope) → box.letter ≡ o → IsBoxOf box posted taken
+pub box_is_empty : (o : Option Envelope) (box : MailBox Envelope) (posted taken : List Envelope) → box.item ≡ o → IsBoxOf box posted taken
     → nat_lt (length taken) (length posted) ≡ false → o ≡ None
 box_is_empty None box posted taken is h full = refl
 box_is_empty (Some x) box posted taken is h full =
@@ -138,7 +139,7 @@ box_is_empty (Some x) box posted taken is h full =
     no_more : (a b : ℕ) → nat_lt a b ≡ false → a < b → ⊥
     no_more a b e less = grind (arith, nat_tests)
 
-pub empty_same : (box : MailBox) (posted taken : List Envelope) → box.letter ≡ None → IsBoxOf box posted taken → posted ≡ taken
+pub empty_same : (box : MailBox Envelope) (posted taken : List Envelope) → box.item ≡ None → IsBoxOf box posted taken → posted ≡ taken
 empty_same box posted taken empty h = h.holds ∙ (ap (λ o. taken ++ held_in o) empty ∙ append-nil taken)
 
 -- ---- runs
@@ -149,21 +150,21 @@ pushed entries more step e = ap reverse e ∙ reverse-append entries (step ∷ [
 
 -- ---- posts
 
-module _ (shape : Shape) (run : List Step) (nodes : List Node) (rows : List (List MailBox)) (keys : List Actor) (known : List Signature)
+module _ (shape : Shape) (run : List Step) (nodes : List Node) (rows : List (List (MailBox Envelope))) (keys : List Actor) (known : List Signature)
     (are : AreParts shape run nodes rows keys known) where
   -- the box of a post that nothing refuses is empty
   pub room_for : (from to : Actor) (pick : Pick) → IsCleared shape (log_of run) from to pick
-      → (box_at rows (place_of shape from) (place_of shape to)).letter ≡ None
+      → (box_at rows (place_of shape from) (place_of shape to)).item ≡ None
   room_for from to pick is =
-      box_is_empty (box_at rows (place_of shape from) (place_of shape to)).letter (box_at rows (place_of shape from) (place_of shape to))
+      box_is_empty (box_at rows (place_of shape from) (place_of shape to)).item (box_at rows (place_of shape from) (place_of shape to))
       (posted_to to (log_of run from)) (taken_from from (log_of run to)) refl (are.boxes.each from to is.actor is.other) is.room
 
   -- after a step of an actor whose node plays on, with its envelope in an empty box
   pub parts_posted : (from to : Actor) (x : Envelope) (node : Node) (new : List Signature) → IsActor shape from → IsActor shape to
       → IsNextStep shape (log_of run) (from, PostEntry to x) → Plays shape from (PostEntry to x ∷ log_of run from) node
-      → (box_at rows (place_of shape from) (place_of shape to)).letter ≡ None → KnowsAll shape (log_of ((from, PostEntry to x) ∷ run)) new
+      → (box_at rows (place_of shape from) (place_of shape to)).item ≡ None → KnowsAll shape (log_of ((from, PostEntry to x) ∷ run)) new
       → AreParts shape ((from, PostEntry to x) ∷ run) (slice_set nodes (place_of shape from) node)
-      (with_box rows (place_of shape from) (place_of shape to) (with_post (box_at rows (place_of shape from) (place_of shape to)) x)) keys new
+      (with_box rows (place_of shape from) (place_of shape to) (with_item (box_at rows (place_of shape from) (place_of shape to)) x)) keys new
   parts_posted from to x node new actor other next plays empty knows = record {
     is_run = (are.is_run, next);
     played = played_step shape run nodes (from, PostEntry to x) node are.played actor plays;
@@ -206,7 +207,7 @@ module _ (shape : Shape) (run : List Step) (nodes : List Node) (rows : List (Lis
       → Plays shape from (PostEntry to x ∷ log_of run from) node
       → ((holder : Actor) → Any (λ h. h ≡ holder) keys → (s : Signature) → In s new ↔ (In s known ⊎ Carries x s))
       → AreParts shape ((from, PostEntry to x) ∷ run) (slice_set nodes (place_of shape from) node)
-      (with_box rows (place_of shape from) (place_of shape to) (with_post (box_at rows (place_of shape from) (place_of shape to)) x)) keys new
+      (with_box rows (place_of shape from) (place_of shape to) (with_item (box_at rows (place_of shape from) (place_of shape to)) x)) keys new
   parts_after_post from to pick x node new allowed good spelled is e plays learned =
       let empty = room_for from to pick is in
       let same = empty_same (box_at rows (place_of shape from) (place_of shape to)) (posted_to to (log_of run from)) (taken_from from (log_of run to)) empty

@@ -1,6 +1,8 @@
-ghost use Rattle.std.specs.Prelude.{◌≡◌, ℕ, ◌<◌, None, IfOk, IsOkUnless, length, slice_index_or};
+ghost use Rattle.std.specs.Prelude.{◌≡◌, ℕ, ◌<◌, None, Some, IfOk, IsOkUnless, IsSome, length, slice_index_or};
+ghost use Rattle.dsr_base.specs.Boxes.{box_at, row_of};
 ghost use Rattle.dsr_world.specs.Support.WorldFields.{kept_of, with_letter};
 
+use dsr_base::Boxes;
 use dsr_envelope::{Envelope, Letter};
 use dsr_names::{Actor, Refusal};
 use std::alloc::Global;
@@ -69,5 +71,25 @@ pub(crate) fn keep_letter(letters: &mut Vec<Option<Letter>>, place: usize, lette
 {
     if let Some(letter) = letter {
         letters[place] = Some(letter);
+    }
+}
+
+/// A copy of the envelope in the box from one actor to another. Requires that it holds one. `NoMemory` where memory runs out or one handle
+/// more is refused.
+pub(crate) fn copy_of(
+    alloc: Global,
+    boxes: &Boxes<Letter>,
+    from: usize,
+    to: usize,
+) -> Result<Envelope, Refusal>
+    requires inside { from < length boxes.now }
+    requires row { to < length (row_of boxes.now from) }
+    requires full { IsSome (box_at boxes.now from to).item }
+    ensures same { IfOk result (λ envelope. (box_at boxes.now from to).item ≡ Some envelope) }
+    ensures refusal { IsOkUnless result Refusal.NoMemory }
+{
+    match boxes.item(from, to) {
+        Some(letter) => letter.envelope().try_copy(alloc),
+        None => unreachable!(),
     }
 }

@@ -3,7 +3,6 @@
 
 mod blind;
 mod letters;
-mod mail_boxes;
 mod replies;
 mod run_end;
 mod world;

@@ -31,10 +31,10 @@ ghost use Rattle.dsr_run.specs.Step.{Step, log_of};
 ghost use Rattle.dsr_world.specs.Support.WorldFields.{box_refusal};
 ghost use Rattle.dsr_node.specs.Conduct.{HasSpelledOp};
 
-use crate::letters::{Letters, keep_letter, kept_of, no_letters};
-use crate::mail_boxes::MailBoxes;
+use crate::letters::{Letters, copy_of, keep_letter, kept_of, no_letters};
 use crate::replies::Replies;
 use crate::run_end::RunEnd;
+use dsr_base::Boxes;
 use dsr_client::Client;
 use dsr_desk::{Key, Keys};
 use dsr_envelope::{Entry, Envelope, Letter, Pick};
@@ -55,7 +55,7 @@ use std::marker::Model;
 pub struct World {
     shape: Shape,
     nodes: Vec<Node>,
-    boxes: MailBoxes,
+    boxes: Boxes<Letter>,
     keys: Vec<Key>,
     known: Known,
     /// The letter that each loyal actor last posted to replica 0, at the actor's place, if it is kept.
@@ -97,7 +97,7 @@ impl World {
         Ok(World {
             shape,
             nodes,
-            boxes: MailBoxes::new(alloc, count)?,
+            boxes: Boxes::new(alloc, count)?,
             keys: traitors,
             known: Known::new(alloc),
             letters: no_letters(alloc, count)?,
@@ -340,7 +340,7 @@ impl World {
         }
         let _n = self.shape.n();
         let (poster, taker) = (self.shape.place(from), self.shape.place(at));
-        let Ok(envelope) = self.boxes.copy(alloc, poster, taker) else {
+        let Ok(envelope) = copy_of(alloc, &self.boxes, poster, taker) else {
             return Err(Refusal::NoMemory);
         };
         make_room(&mut self.entries)?;
@@ -533,7 +533,7 @@ impl World {
         ensures { result ≡ is_full (log_of self.now.run) from.now to.now }
     {
         self.boxes
-            .letter(self.shape.place(from), self.shape.place(to))
+            .item(self.shape.place(from), self.shape.place(to))
             .is_some()
     }
 

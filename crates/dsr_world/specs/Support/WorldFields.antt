@@ -17,10 +17,11 @@ use Rattle.dsr_world.specs.Event.{is_full, is_used_up}
 use Rattle.dsr_run.specs.Known.{AreKeys, KnowsAll}
 use Rattle.dsr_run.specs.Run.{IsRun}
 use Rattle.dsr_run.specs.Step.{Step, Logs, log_of}
-use Rattle.dsr_world.specs.Support.Boxes.{AreSquare, box_at, IsBoxOf}
+use Rattle.dsr_base.specs.Boxes.{AreSquare, box_at}
+use Rattle.dsr_world.specs.Support.Boxes.{IsBoxOf}
 use Rattle.dsr_node.specs.Node.{Plays}
 use Rattle.dsr_world.specs.World.{World}
-use Rattle.dsr_world.specs.declared.mail_boxes.MailBox.{MailBox}
+use Rattle.dsr_base.specs.declared.boxes.MailBox.{MailBox}
 use Rattle.dsr_node.specs.declared.node.Node.{Node}
 use Rattle.dsr_world.specs.declared.world.World.TheInside.{Inside}
 
@@ -30,13 +31,13 @@ pub record ArePlayed (shape : Shape) (logs : Logs) (nodes : List Node) : Type 0 
   pub each : (who : Actor) → IsActor shape who → (d : Node) → Plays shape who (logs who) (slice_index_or nodes (place_of shape who) d)
 
 -- the boxes are as the logs have left them
-pub record AreBoxes (shape : Shape) (logs : Logs) (rows : List (List MailBox)) : Type 0 where
+pub record AreBoxes (shape : Shape) (logs : Logs) (rows : List (List (MailBox Envelope))) : Type 0 where
   pub square : AreSquare (shape.n + shape.m) rows
   pub each : (from to : Actor) → IsActor shape from → IsActor shape to
       → IsBoxOf (box_at rows (place_of shape from) (place_of shape to)) (posted_to to (logs from)) (taken_from from (logs to))
 
 -- the parts of a world stand for a run: the nodes, the boxes, the traitors' keys, and what is known
-pub record AreParts (shape : Shape) (run : List Step) (nodes : List Node) (rows : List (List MailBox)) (keys : List Actor) (known : List Signature) : Type 0 where
+pub record AreParts (shape : Shape) (run : List Step) (nodes : List Node) (rows : List (List (MailBox Envelope))) (keys : List Actor) (known : List Signature) : Type 0 where
   pub is_run : IsRun shape run
   pub played : ArePlayed shape (log_of run) nodes
   pub boxes : AreBoxes shape (log_of run) rows

@@ -1,6 +1,6 @@
 use Rattle.std.proofs.Common.{◌≡◌, ◌+◌, ◌<◌, ◌∙◌, suc, reverse, refl, ap₂, sym, subst, arith}
 use Rattle.dsr_names.specs.declared.actor.Actor.TheVariants.{Replica, Client}
-use Rattle.dsr_world.specs.Support.Boxes.{AreSquare}
+use Rattle.dsr_base.specs.Boxes.{AreSquare}
 use Rattle.dsr_run.specs.Step.{log_of}
 use Rattle.dsr_world.specs.Support.WorldFields.{AreParts, AreLetters, AreOpened, AreKeysBelow}
 use Rattle.dsr_world.proofs.Opening.{later_replicas, all_clients, later_clients, none_opened, one_opened, no_keys, more_keys, opened}
@@ -72,7 +72,7 @@ invariant_of-result c =
           (sym c.new-4.ensures.items)
           (opened c.args.shape c.loop-number-2.nodes.items c.in_ok-new.field-0 c.loop-number.traitors.items c.new-3.result.signatures
           (subst (λ k. AreOpened c.args.shape k c.loop-number-2.nodes.items) all c.loop-number-2.invariant.0) c.loop-number-2.invariant.1
-          (subst (λ k. AreSquare k c.in_ok-new.field-0) size c.in_ok-new.ensures.count) c.in_ok-new.ensures.empty c.new-3.ensures.none),
+          (subst (λ k. AreSquare k c.in_ok-new.field-0) size c.in_ok-new.ensures.square) c.in_ok-new.ensures.empty c.new-3.ensures.none),
       subst (λ es. AreLetters c.args.shape (log_of (reverse es)) c.in_ok-no_letters.field-0.items) (sym c.new-4.ensures.items)
           (no_letters_kept c.args.shape c.in_ok-no_letters.field-0.items (c.in_ok-no_letters.ensures.count ∙ size) c.in_ok-no_letters.ensures.none),
     )

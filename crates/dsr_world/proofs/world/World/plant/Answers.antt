@@ -6,7 +6,7 @@ use Rattle.dsr_play.specs.declared.event.Event.TheVariants.{Plant}
 use Rattle.dsr_world.specs.Event.{refusal_of, is_full, is_used_up}
 use Rattle.dsr_run.specs.Run.{ForgesNothing}
 use Rattle.dsr_run.specs.Step.{log_of}
-use Rattle.dsr_world.specs.Support.Boxes.{box_at, with_box, with_post}
+use Rattle.dsr_base.specs.Boxes.{box_at, with_box, with_item}
 use Rattle.dsr_names.specs.Places.{place_of}
 use Rattle.dsr_world.specs.Support.WorldFields.{AreParts, AreLetters}
 use Rattle.dsr_world.specs.World.{World}
@@ -34,10 +34,10 @@ invariant_of-self-2 c =
     c.log_post.ensures
     ∙ (ap₂ (λ es y. (from, PostEntry to y) ∷ reverse es) c.make_room.ensures.same kept ∙ ap (λ b. (b, PostEntry to x) ∷ run) is.from_is) in
     let box : c.put.new.self ≡ with_box a.boxes (place_of a.shape (Replica is.p)) (place_of a.shape to)
-    (with_post (box_at a.boxes (place_of a.shape (Replica is.p)) (place_of a.shape to)) x) =
+    (with_item (box_at a.boxes (place_of a.shape (Replica is.p)) (place_of a.shape to)) x) =
     c.put.ensures
-    ∙ (ap (λ y. with_box a.boxes c.place-poster.result c.place-taker.result (with_post (box_at a.boxes c.place-poster.result c.place-taker.result) y)) sent
-    ∙ ap₂ (λ k l. with_box a.boxes k l (with_post (box_at a.boxes k l) x)) (c.place-poster.ensures ∙ ap (place_of a.shape) is.from_is) c.place-taker.ensures) in (
+    ∙ (ap (λ y. with_box a.boxes c.place-poster.result c.place-taker.result (with_item (box_at a.boxes c.place-poster.result c.place-taker.result) y)) sent
+    ∙ ap₂ (λ k l. with_box a.boxes k l (with_item (box_at a.boxes k l) x)) (c.place-poster.ensures ∙ ap (place_of a.shape) is.from_is) c.place-taker.ensures) in (
       subst (λ r. AreParts a.shape r a.nodes.items c.put.new.self a.keys.items a.known.signatures) (sym went)
           (subst (λ rows. AreParts a.shape ((Replica is.p, PostEntry to x) ∷ run) a.nodes.items rows a.keys.items a.known.signatures) (sym box) parts),
       subst (λ r. AreLetters a.shape (log_of r) a.letters.items) (sym went) (letters_of_traitor a.shape run a.letters.items c.self.invariant.1 is.p (PostEntry to x) is.traitor),

@@ -9,7 +9,7 @@ use Rattle.dsr_play.specs.declared.event.Event.TheVariants.{Post}
 use Rattle.dsr_world.specs.Event.{refusal_of, HasDone}
 use Rattle.dsr_node.specs.Conduct.{post_of}
 use Rattle.dsr_run.specs.Step.{log_of}
-use Rattle.dsr_world.specs.Support.Boxes.{row_of, box_at, with_box, with_post}
+use Rattle.dsr_base.specs.Boxes.{row_of, box_at, with_box, with_item}
 use Rattle.dsr_node.specs.Node.{Plays}
 use Rattle.dsr_names.specs.Places.{place_of}
 use Rattle.dsr_world.specs.Support.WorldFields.{with_letter, AreParts, AreLetters}
@@ -81,10 +81,10 @@ invariant_of-self-2 c =
     let went : reverse c.log_post.new.entries.items ≡ (from, PostEntry to c.in-Ok.letters.kept) ∷ run =
     c.log_post.ensures ∙ ap (λ es. (from, PostEntry to c.in-Ok.letters.kept) ∷ reverse es) c.make_room.ensures.same in
     let box : c.put.new.self ≡ with_box a.boxes (place_of a.shape from) (place_of a.shape to)
-    (with_post (box_at a.boxes (place_of a.shape from) (place_of a.shape to)) c.in-Ok.letters.kept) =
+    (with_item (box_at a.boxes (place_of a.shape from) (place_of a.shape to)) c.in-Ok.letters.kept) =
     c.put.ensures
-    ∙ (ap (λ x. with_box a.boxes c.place-poster.result c.place-taker.result (with_post (box_at a.boxes c.place-poster.result c.place-taker.result) x)) c.in-Ok.ensures.sent
-    ∙ ap₂ (λ k l. with_box a.boxes k l (with_post (box_at a.boxes k l) c.in-Ok.letters.kept)) c.place-poster.ensures c.place-taker.ensures) in (
+    ∙ (ap (λ x. with_box a.boxes c.place-poster.result c.place-taker.result (with_item (box_at a.boxes c.place-poster.result c.place-taker.result) x)) c.in-Ok.ensures.sent
+    ∙ ap₂ (λ k l. with_box a.boxes k l (with_item (box_at a.boxes k l) c.in-Ok.letters.kept)) c.place-poster.ensures c.place-taker.ensures) in (
       subst (λ r. AreParts a.shape r (slice_set a.nodes.items c.place-poster.result c.posted.new.self) c.put.new.self a.keys.items c.learn.new.known.signatures) (sym went)
           (subst (λ k. AreParts a.shape ((from, PostEntry to c.in-Ok.letters.kept) ∷ run) (slice_set a.nodes.items k c.posted.new.self) c.put.new.self a.keys.items c.learn.new.known.signatures)
           (sym c.place-poster.ensures)

@@ -4,7 +4,7 @@ use Rattle.dsr_envelope.specs.declared.entry.Entry.TheVariants.{Take as TakeEntr
 use Rattle.dsr_play.specs.declared.event.Event.TheVariants.{Take}
 use Rattle.dsr_world.specs.Event.{refusal_of, HasDone}
 use Rattle.dsr_run.specs.Step.{log_of}
-use Rattle.dsr_world.specs.Support.Boxes.{box_at, with_box, without_letter}
+use Rattle.dsr_base.specs.Boxes.{box_at, with_box, without_item}
 use Rattle.dsr_node.specs.Node.{Plays, CanTake, TakesReply}
 use Rattle.dsr_names.specs.Places.{place_of}
 use Rattle.dsr_world.specs.Support.WorldFields.{AreParts, AreLetters}
@@ -56,8 +56,8 @@ taken-reply-requires c =
     c.index_mut-2.ensures.value
     ∙ (ap (λ k. slice_index_or (slice_set a.nodes.items k c.room.new.self) k c.index_mut-2.result.now) c.place-taker.ensures
     ∙ get_or-set_same a.nodes.items (place_of a.shape at) c.room.new.self c.index_mut-2.result.now long) in
-    let full : (box_at a.boxes (place_of a.shape from) (place_of a.shape at)).letter ≡ Some c.in-Ok.envelope =
-    ap₂ (λ k l. (box_at a.boxes k l).letter) (sym c.place-poster.ensures) (sym c.place-taker.ensures) ∙ c.in-Ok.ensures.same in
+    let full : (box_at a.boxes (place_of a.shape from) (place_of a.shape at)).item ≡ Some c.in-Ok.envelope =
+    ap₂ (λ k l. (box_at a.boxes k l).item) (sym c.place-poster.ensures) (sym c.place-taker.ensures) ∙ c.in-Ok.ensures.same in
     subst (λ x. CanTake x from c.in-Ok.envelope) (sym again)
     (can_take a.shape run a.nodes.items a.boxes a.keys.items a.known.signatures c.self.invariant.0 at from c.in-Ok.envelope c.room.new.self
     c.n-n.ensures.allowed is full plays c.in-Ok-room.ensures.room)
@@ -81,11 +81,11 @@ invariant_of-self-2 c =
     c.index_mut-2.ensures.value
     ∙ (ap (λ k. slice_index_or (slice_set a.nodes.items k c.room.new.self) k c.index_mut-2.result.now) c.place-taker.ensures
     ∙ get_or-set_same a.nodes.items (place_of a.shape at) c.room.new.self c.index_mut-2.result.now long) in
-    let full : (box_at a.boxes (place_of a.shape from) (place_of a.shape at)).letter ≡ Some c.in-Ok.envelope =
-    ap₂ (λ k l. (box_at a.boxes k l).letter) (sym c.place-poster.ensures) (sym c.place-taker.ensures) ∙ c.in-Ok.ensures.same in
+    let full : (box_at a.boxes (place_of a.shape from) (place_of a.shape at)).item ≡ Some c.in-Ok.envelope =
+    ap₂ (λ k l. (box_at a.boxes k l).item) (sym c.place-poster.ensures) (sym c.place-taker.ensures) ∙ c.in-Ok.ensures.same in
     let taken : c.take-letter.result ≡ c.in-Ok.envelope =
     same_Some c.take-letter.result c.in-Ok.envelope
-    (sym c.take-letter.ensures.letter ∙ (ap₂ (λ k l. (box_at a.boxes k l).letter) c.place-poster.ensures c.place-taker.ensures ∙ full)) in
+    (sym c.take-letter.ensures.item ∙ (ap₂ (λ k l. (box_at a.boxes k l).item) c.place-poster.ensures c.place-taker.ensures ∙ full)) in
     let entry : c.push_reserved.new.self.items ≡ a.entries.items ++ (at, TakeEntry from c.in-Ok.envelope) ∷ [] =
     c.push_reserved.ensures.items ∙ ap₂ (λ es x. es ++ (at, TakeEntry from x) ∷ []) c.make_room.ensures.same taken in
     let went : reverse c.push_reserved.new.self.items ≡ (at, TakeEntry from c.in-Ok.envelope) ∷ run =
@@ -95,8 +95,8 @@ invariant_of-self-2 c =
     let roomy = parts_with_room a.shape run a.nodes.items a.boxes a.keys.items a.known.signatures c.self.invariant.0 at c.room.new.self is.actor plays in
     let parts = parts_after_take a.shape run (slice_set a.nodes.items (place_of a.shape at) c.room.new.self) a.boxes a.keys.items a.known.signatures roomy at from
     c.in-Ok.envelope c.taken-reply.new.self c.n-n.ensures.allowed is full after in
-    let box : c.take-letter.new.self ≡ with_box a.boxes (place_of a.shape from) (place_of a.shape at) (without_letter (box_at a.boxes (place_of a.shape from) (place_of a.shape at))) =
-    c.take-letter.ensures.rest ∙ ap₂ (λ k l. with_box a.boxes k l (without_letter (box_at a.boxes k l))) c.place-poster.ensures c.place-taker.ensures in (
+    let box : c.take-letter.new.self ≡ with_box a.boxes (place_of a.shape from) (place_of a.shape at) (without_item (box_at a.boxes (place_of a.shape from) (place_of a.shape at))) =
+    c.take-letter.ensures.rest ∙ ap₂ (λ k l. with_box a.boxes k l (without_item (box_at a.boxes k l))) c.place-poster.ensures c.place-taker.ensures in (
       subst (λ r. AreParts a.shape r (slice_set (slice_set a.nodes.items c.place-taker.result c.room.new.self) c.place-taker.result c.taken-reply.new.self)
           c.take-letter.new.self a.keys.items a.known.signatures) (sym went)
           (subst (λ k. AreParts a.shape ((at, TakeEntry from c.in-Ok.envelope) ∷ run) (slice_set (slice_set a.nodes.items k c.room.new.self) k c.taken-reply.new.self)
@@ -126,11 +126,11 @@ returns-clause-done c =
     c.index_mut-2.ensures.value
     ∙ (ap (λ k. slice_index_or (slice_set a.nodes.items k c.room.new.self) k c.index_mut-2.result.now) c.place-taker.ensures
     ∙ get_or-set_same a.nodes.items (place_of a.shape at) c.room.new.self c.index_mut-2.result.now long) in
-    let full : (box_at a.boxes (place_of a.shape from) (place_of a.shape at)).letter ≡ Some c.in-Ok.envelope =
-    ap₂ (λ k l. (box_at a.boxes k l).letter) (sym c.place-poster.ensures) (sym c.place-taker.ensures) ∙ c.in-Ok.ensures.same in
+    let full : (box_at a.boxes (place_of a.shape from) (place_of a.shape at)).item ≡ Some c.in-Ok.envelope =
+    ap₂ (λ k l. (box_at a.boxes k l).item) (sym c.place-poster.ensures) (sym c.place-taker.ensures) ∙ c.in-Ok.ensures.same in
     let taken : c.take-letter.result ≡ c.in-Ok.envelope =
     same_Some c.take-letter.result c.in-Ok.envelope
-    (sym c.take-letter.ensures.letter ∙ (ap₂ (λ k l. (box_at a.boxes k l).letter) c.place-poster.ensures c.place-taker.ensures ∙ full)) in
+    (sym c.take-letter.ensures.item ∙ (ap₂ (λ k l. (box_at a.boxes k l).item) c.place-poster.ensures c.place-taker.ensures ∙ full)) in
     let entry : c.push_reserved.new.self.items ≡ a.entries.items ++ (at, TakeEntry from c.in-Ok.envelope) ∷ [] =
     c.push_reserved.ensures.items ∙ ap₂ (λ es x. es ++ (at, TakeEntry from x) ∷ []) c.make_room.ensures.same taken in
     let went : reverse c.push_reserved.new.self.items ≡ (at, TakeEntry from c.in-Ok.envelope) ∷ run =

@@ -12,7 +12,7 @@ use Rattle.dsr_envelope.specs.declared.entry.Entry.TheVariants.{Post as PostEntr
 use Rattle.dsr_play.specs.declared.event.Event.TheVariants.{Tell}
 use Rattle.dsr_world.specs.Event.{refusal_of, is_full, is_used_up, HasDone}
 use Rattle.dsr_run.specs.Step.{log_of}
-use Rattle.dsr_world.specs.Support.Boxes.{box_at, with_box, with_post}
+use Rattle.dsr_base.specs.Boxes.{box_at, with_box, with_item}
 use Rattle.dsr_node.specs.Node.{Plays}
 use Rattle.dsr_names.specs.Places.{place_of}
 use Rattle.dsr_world.specs.Support.WorldFields.{AreParts, AreLetters}
@@ -66,10 +66,10 @@ invariant_of-self-2 c =
     c.log_post.ensures
     ∙ (ap₂ (λ es y. (from, PostEntry to y) ∷ reverse es) c.make_room.ensures.same kept ∙ ap₂ (λ b d. (b, PostEntry d x) ∷ run) is.from_is is.to_is) in
     let box : c.put.new.self ≡ with_box a.boxes (place_of a.shape (Client is.c)) (place_of a.shape (Client is.d))
-    (with_post (box_at a.boxes (place_of a.shape (Client is.c)) (place_of a.shape (Client is.d))) x) =
+    (with_item (box_at a.boxes (place_of a.shape (Client is.c)) (place_of a.shape (Client is.d))) x) =
     c.put.ensures
-    ∙ (ap (λ y. with_box a.boxes c.place-poster.result c.place-taker.result (with_post (box_at a.boxes c.place-poster.result c.place-taker.result) y)) sent
-    ∙ ap₂ (λ k l. with_box a.boxes k l (with_post (box_at a.boxes k l) x)) (c.place-poster.ensures ∙ ap (place_of a.shape) is.from_is)
+    ∙ (ap (λ y. with_box a.boxes c.place-poster.result c.place-taker.result (with_item (box_at a.boxes c.place-poster.result c.place-taker.result) y)) sent
+    ∙ ap₂ (λ k l. with_box a.boxes k l (with_item (box_at a.boxes k l) x)) (c.place-poster.ensures ∙ ap (place_of a.shape) is.from_is)
     (c.place-taker.ensures ∙ ap (place_of a.shape) is.to_is)) in (
       subst (λ r. AreParts a.shape r a.nodes.items c.put.new.self a.keys.items c.learn.new.known.signatures) (sym went)
           (subst (λ rows. AreParts a.shape ((Client is.c, PostEntry (Client is.d) x) ∷ run) a.nodes.items rows a.keys.items c.learn.new.known.signatures) (sym box) parts),
