@@ -1,3 +1,4 @@
+ghost use Rattle.std.proofs.Common.{rules};
 ghost use Rattle.dsr_chain.specs.Support.SignedRequestEquality.{signed_request_eq-Decides};
 
 use crate::signed_request::SignedRequest;
@@ -9,4 +10,6 @@ pub type Batch = Few<SignedRequest, MOST_REQUESTS>;
 
 impl Exact for SignedRequest {
     ghost decides = { signed_request_eq-Decides };
+
+    ghost clones = { λ a b. Prim.search rules };
 }

@@ -84,6 +84,8 @@ impl fmt::Display for ReplicaId {
 
 impl Exact for ReplicaId {
     ghost decides = { λ a b. Prim.search rules };
+
+    ghost clones = { λ a b. Prim.search rules };
 }
 
 /// A client by its number, from 0 to 31.
@@ -159,6 +161,8 @@ impl fmt::Display for ClientId {
 
 impl Exact for ClientId {
     ghost decides = { λ a b. Prim.search rules };
+
+    ghost clones = { λ a b. Prim.search rules };
 }
 
 /// Whoever takes a step: a replica or a client.
@@ -191,6 +195,8 @@ impl Exact for Actor {
     ghost use Rattle.dsr_names.specs.Support.ActorEquality.{actor_eq-Decides};
 
     ghost decides = { actor_eq-Decides };
+
+    ghost clones = { λ a b. Prim.search rules };
 }
 
 impl fmt::Display for Actor {

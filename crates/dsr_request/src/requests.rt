@@ -1,5 +1,5 @@
 ghost use Rattle.std.specs.Prelude.{refl};
-ghost use Rattle.std.proofs.Common.{lit<};
+ghost use Rattle.std.proofs.Common.{lit<, rules};
 ghost use Rattle.dsr_request.specs.Support.RequestEquality.{request_eq-Decides};
 ghost use Rattle.dsr_request.specs.RequestText.{request_token, IsRequest};
 ghost use Rattle.dsr_request.specs.Support.RequestToken.{request_part, request_begun};
@@ -16,6 +16,8 @@ pub type Requests = Few<Request, MOST_REQUESTS>;
 
 impl Exact for Request {
     ghost decides = { request_eq-Decides };
+
+    ghost clones = { λ a b. Prim.search rules };
 }
 
 /// Requests are joined by commas.
