@@ -1,8 +1,10 @@
 ghost use Rattle.std.specs.Prelude.{◌≡◌, ◌++◌, ◌≤◌, length};
+ghost use Rattle.std.proofs.Common.{rules};
 ghost use Rattle.dsr_names.specs.Refusal.{code_of, refusal_text, word_of};
 ghost use Rattle.dsr_names.specs.Support.RefusalText.{line_text};
 ghost use Rattle.dsr_names.specs.declared.refusal.Refusal.TheVariants.{NoMemory};
 
+use dsr_base::Exact;
 use std::alloc::{AllocError, AllocFailed};
 use std::fmt;
 
@@ -165,4 +167,10 @@ impl fmt::Display for Refusal {
             Some(line) => write!(f, "{words}{line}"),
         }
     }
+}
+
+impl Exact for Refusal {
+    ghost decides = { λ a b. Prim.search rules };
+
+    ghost clones = { λ a b. Prim.search rules };
 }

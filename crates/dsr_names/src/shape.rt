@@ -1,8 +1,10 @@
 ghost use Rattle.std.specs.Prelude.{◌≡◌, ◌<◌, ◌↔◌, IsOk, IfOk, IsTrue, IsOkUnless};
+ghost use Rattle.std.proofs.Common.{rules};
 
 use crate::actor::{Actor, ReplicaId};
 use crate::bits::count_bits;
 use crate::refusal::Refusal;
+use dsr_base::Exact;
 use std::marker::Model;
 
 /// How many replicas there are, how many of them may be traitors, how many clients there are, and
@@ -112,4 +114,10 @@ impl Shape {
         let number = (slot % self.n as u64) as u8;
         ReplicaId::of(number)
     }
+}
+
+impl Exact for Shape {
+    ghost decides = { λ a b. Prim.search rules };
+
+    ghost clones = { λ a b. Prim.search rules };
 }

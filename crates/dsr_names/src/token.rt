@@ -1,9 +1,10 @@
 ghost use Rattle.std.specs.Prelude.{◌<◌, ◌^◌, Some};
 ghost use Rattle.std.specs.Fmt.{decimal};
+ghost use Rattle.std.proofs.Common.{rules};
 ghost use Rattle.dsr_base.specs.Reads.{Reads};
 ghost use Rattle.dsr_names.specs.Token.{old_text, IsOld};
 
-use dsr_base::read_decimal;
+use dsr_base::{Exact, read_decimal};
 use std::fmt;
 
 /// 2^40: one more than the greatest number of a request, or of any text but for a register's value.
@@ -40,4 +41,10 @@ impl fmt::Display for Old {
             Some(number) => write!(f, "{number}"),
         }
     }
+}
+
+impl Exact for Old {
+    ghost decides = { λ a b. Prim.search rules };
+
+    ghost clones = { λ a b. Prim.search rules };
 }
