@@ -2,7 +2,9 @@ ghost use Rattle.std.specs.Prelude.{◌++◌, Some};
 ghost use Rattle.dsr_base.specs.Reads.{Reads};
 ghost use Rattle.dsr_names.specs.Token.{IsOld, old_text};
 ghost use Rattle.dsr_request.specs.AnswerText.{IsAnswer, answer_text};
+ghost use Rattle.std.proofs.Common.{rules};
 
+use dsr_base::Exact;
 use dsr_names::{Old, read_old};
 use std::fmt;
 
@@ -78,4 +80,10 @@ fn old_after(bytes: &[u8], word: &[u8]) -> Option<Option<u64>>
 {
     let rest = bytes.strip_prefix(word)?;
     read_old(rest)
+}
+
+impl Exact for Answer {
+    ghost decides = { λ a b. Prim.search rules };
+
+    ghost clones = { λ a b. Prim.search rules };
 }

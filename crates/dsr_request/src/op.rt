@@ -4,9 +4,10 @@ ghost use Rattle.dsr_request.specs.declared.op.Op.{Op};
 ghost use Rattle.dsr_request.specs.NameText.{IsName};
 ghost use Rattle.dsr_request.specs.OpText.{IsOp, op_text, verb_of, operands_text};
 ghost use Rattle.dsr_request.specs.Register.{register_of};
+ghost use Rattle.std.proofs.Common.{rules};
 
 use crate::name::Name;
-use dsr_base::{read_decimal, split_once};
+use dsr_base::{Exact, read_decimal, split_once};
 use dsr_names::{Old, read_old};
 use std::fmt;
 
@@ -158,4 +159,16 @@ fn read_name(bytes: &[u8]) -> Option<Name>
     ensures { Reads IsName (λ name. name) bytes.now result }
 {
     Name::read(bytes).ok()
+}
+
+impl Exact for Op {
+    ghost decides = { λ a b. Prim.search rules };
+
+    ghost clones = { λ a b. Prim.search rules };
+}
+
+impl Exact for Joined {
+    ghost decides = { λ a b. Prim.search rules };
+
+    ghost clones = { λ a b. Prim.search rules };
 }
