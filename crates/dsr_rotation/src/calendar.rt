@@ -1,7 +1,9 @@
 ghost use Rattle.std.specs.Prelude.{◌≡◌, ℕ, suc, ◌+◌, ◌<◌, ◌≤◌, ◌↔◌, Some, IsSome, IsNone, IfSome};
 ghost use Rattle.dsr_names.specs.Shape.{sender};
 ghost use Rattle.dsr_rotation.specs.Calendar.{first_round, last_round, IsInFlight, IsRoundOf, ClosesWith, closed_slots};
+ghost use Rattle.std.proofs.Common.{rules};
 
+use dsr_base::Exact;
 use dsr_names::{ReplicaId, Shape};
 use std::marker::Model;
 
@@ -99,4 +101,16 @@ impl Calendar {
     {
         self.shape.sender(slot)
     }
+}
+
+impl Exact for Slots {
+    ghost decides = { λ a b. Prim.search rules };
+
+    ghost clones = { λ a b. Prim.search rules };
+}
+
+impl Exact for Calendar {
+    ghost decides = { λ a b. Prim.search rules };
+
+    ghost clones = { λ a b. Prim.search rules };
 }
