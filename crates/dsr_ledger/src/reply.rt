@@ -1,3 +1,6 @@
+ghost use Rattle.std.proofs.Common.{rules};
+
+use dsr_base::Exact;
 use dsr_request::Answer;
 
 /// What a replica tells a client of its request: the request's number, its place in the history, counted
@@ -10,4 +13,10 @@ pub struct Reply {
     pub place: u64,
     /// What the directory answered there.
     pub answer: Answer,
+}
+
+impl Exact for Reply {
+    ghost decides = { λ a b. Prim.search rules };
+
+    ghost clones = { λ a b. Prim.search rules };
 }
