@@ -1,4 +1,5 @@
--- What `==` of signers, statements and signatures decides. These serve `==`, and tests that definitions branch on.
+-- What `==` of contents, signers, statements and signatures decides. These serve `==`, and tests that definitions branch on.
+pub mod ContentEquality
 pub mod SignatureEquality
 pub mod SignersEquality
 pub mod StatementEquality

@@ -1,7 +1,9 @@
 ghost use Rattle.std.specs.Prelude.{◌↔◌, Some, IsTrue};
 ghost use Rattle.dsr_base.specs.Reads.{Reads};
 ghost use Rattle.dsr_desk.specs.ContentText.{content_text, IsContent};
+ghost use Rattle.std.proofs.Common.{rules};
 
+use dsr_base::Exact;
 use dsr_request::Requests;
 use std::fmt;
 
@@ -39,4 +41,12 @@ impl fmt::Display for Content {
             Some(requests) => write!(f, "{requests}"),
         }
     }
+}
+
+impl Exact for Content {
+    ghost use Rattle.dsr_desk.specs.Support.ContentEquality.{content_eq-Decides};
+
+    ghost decides = { content_eq-Decides };
+
+    ghost clones = { λ a b. Prim.search rules };
 }
