@@ -1,3 +1,6 @@
+ghost use Rattle.std.proofs.Common.{rules};
+
+use dsr_base::Exact;
 use thiserror::Error;
 
 /// Why a chain is not proper. Where several of these hold, a check tells the first.
@@ -25,4 +28,10 @@ pub enum ChainFault {
     /// on that request.
     #[error("a request is not signed by its client, a client of the shape")]
     BadRequest,
+}
+
+impl Exact for ChainFault {
+    ghost decides = { λ a b. Prim.search rules };
+
+    ghost clones = { λ a b. Prim.search rules };
 }
