@@ -4,7 +4,7 @@ use Rattle.dsr_names.specs.declared.actor.Actor.TheVariants.{Replica as ReplicaN
 use Rattle.dsr_envelope.specs.declared.envelope.Envelope.{Envelope}
 use Rattle.dsr_envelope.specs.declared.entry.Entry.{Entry}
 use Rattle.dsr_envelope.specs.declared.entry.Entry.TheVariants.{Post}
-use Rattle.dsr_envelope.specs.declared.step.Pick.{Pick}
+use Rattle.dsr_envelope.specs.declared.pick.Pick.{Pick}
 use Rattle.dsr_replica.specs.Conduct.{IsLoyalLog, IsNext, envelope_to, reply_to}
 use Rattle.dsr_envelope.specs.Pick.{IsPick}
 use Rattle.dsr_replica.specs.Replica.{Replica, StandsFor}

@@ -1,7 +1,7 @@
 //! A real replica, and how long the log is that it stands for. Tests alone use it.
 
 ghost use Rattle.std.specs.Prelude.{◌≡◌, suc, ◌∷◌, [], IfOk};
-ghost use Rattle.dsr_envelope.specs.declared.step.Pick.TheVariants.{From};
+ghost use Rattle.dsr_envelope.specs.declared.pick.Pick.TheVariants.{From};
 ghost use Rattle.dsr_actor_tests.specs.LoyalLogs.{HasLog};
 
 use dsr_replica::{Clients, Due, Envelope, Pick, Replica};

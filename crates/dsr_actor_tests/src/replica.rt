@@ -1,5 +1,5 @@
 ghost use Rattle.std.specs.Prelude.{◌≡◌, ◌∷◌, [], IfOk};
-ghost use Rattle.dsr_envelope.specs.declared.step.Pick.TheVariants.{From};
+ghost use Rattle.dsr_envelope.specs.declared.pick.Pick.TheVariants.{From};
 
 use dsr_replica::{Clients, Due, Envelope, Pick, Replica};
 use dsr_chain::SignedRequest;

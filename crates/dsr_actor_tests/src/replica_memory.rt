@@ -6,7 +6,7 @@
 //! holds request 1 of client 0. So in round 1 it relays the chain of slot 0, and starts slot 1 on the request that it holds.
 
 ghost use Rattle.std.specs.Prelude.{◌≡◌, ◌∷◌, [], IfOk, if◌then◌else◌};
-ghost use Rattle.dsr_envelope.specs.declared.step.Pick.TheVariants.{Plain, From};
+ghost use Rattle.dsr_envelope.specs.declared.pick.Pick.TheVariants.{Plain, From};
 
 use crate::logged::from_one;
 use dsr_replica::{Chains, Due, Envelope, Pick, Replica};

@@ -11,7 +11,7 @@ use Rattle.dsr_envelope.specs.declared.envelope.Envelope.{Envelope}
 use Rattle.dsr_envelope.specs.declared.envelope.Envelope.TheVariants.{Empty, Round, Ask, Reply, Seen}
 use Rattle.dsr_envelope.specs.declared.entry.Entry.{Entry}
 use Rattle.dsr_envelope.specs.declared.entry.Entry.TheVariants.{Post, Take}
-use Rattle.dsr_envelope.specs.declared.step.Pick.{Pick}
+use Rattle.dsr_envelope.specs.declared.pick.Pick.{Pick}
 use Rattle.dsr_client.specs.Conduct.{chosen_beside, ask_to, IsNext, IsClientLog}
 use Rattle.dsr_client.specs.State.{State, settled, with_note, replied_beside, with_post, with_take, state_after, front_of, told, seen}
 

@@ -14,8 +14,8 @@ use Rattle.dsr_envelope.specs.declared.envelope.Envelope.{Envelope}
 use Rattle.dsr_envelope.specs.declared.envelope.Envelope.TheVariants.{Empty, Round, Ask, Reply, Seen}
 use Rattle.dsr_envelope.specs.declared.entry.Entry.{Entry}
 use Rattle.dsr_envelope.specs.declared.entry.Entry.TheVariants.{Post, Take}
-use Rattle.dsr_envelope.specs.declared.step.Pick.{Pick}
-use Rattle.dsr_envelope.specs.declared.step.Pick.TheVariants.{Plain, From, Begin}
+use Rattle.dsr_envelope.specs.declared.pick.Pick.{Pick}
+use Rattle.dsr_envelope.specs.declared.pick.Pick.TheVariants.{Plain, From, Begin}
 use Rattle.dsr_client.specs.Conduct.{ask_of, next_number, chosen_beside, ask_to, IsClientLog}
 use Rattle.dsr_client.specs.State.{State, asked_beside, settled, with_note, replied_beside, state_after, outstanding}
 

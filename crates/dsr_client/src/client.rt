@@ -8,7 +8,7 @@ ghost use Rattle.dsr_envelope.specs.declared.envelope.Envelope.{Envelope};
 ghost use Rattle.dsr_envelope.specs.declared.envelope.Envelope.TheVariants.{Ask, Reply as AReply, Seen};
 ghost use Rattle.dsr_envelope.specs.declared.entry.Entry.{Entry};
 ghost use Rattle.dsr_envelope.specs.declared.entry.Entry.TheVariants.{Post, Take};
-ghost use Rattle.dsr_envelope.specs.declared.step.Pick.TheVariants.{Begin};
+ghost use Rattle.dsr_envelope.specs.declared.pick.Pick.TheVariants.{Begin};
 ghost use Rattle.dsr_client.specs.Client.{StandsFor, MayBegin, IsClientOf};
 ghost use Rattle.dsr_client.specs.Conduct.{ask_of, ask_to};
 ghost use Rattle.dsr_client.specs.State.{outstanding, accepted, seen};

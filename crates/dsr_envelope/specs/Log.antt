@@ -8,8 +8,8 @@ use Rattle.dsr_names.specs.Support.ActorEquality.{actor_eq}
 use Rattle.dsr_envelope.specs.declared.envelope.Envelope.{Envelope}
 use Rattle.dsr_envelope.specs.declared.entry.Entry.{Entry}
 use Rattle.dsr_envelope.specs.declared.entry.Entry.TheVariants.{Post, Take}
-use Rattle.dsr_envelope.specs.declared.step.Due.{Due}
-use Rattle.dsr_envelope.specs.declared.step.Due.TheVariants.{Post as PostTo, Take as TakeFrom}
+use Rattle.dsr_envelope.specs.declared.due.Due.{Due}
+use Rattle.dsr_envelope.specs.declared.due.Due.TheVariants.{Post as PostTo, Take as TakeFrom}
 
 -- what was posted to this actor, the oldest first
 abbrev pub posted_to : Actor → List Entry → List Envelope

@@ -1,7 +1,7 @@
 -- What a loyal actor chooses where its conduct leaves it a choice (this project).
 use Rattle.std.specs.Prelude.{◌≢◌, ℕ, ◌<◌, ◌≤◌, List, AllPairs, length}
-use Rattle.dsr_envelope.specs.declared.step.Pick.{Pick}
-use Rattle.dsr_envelope.specs.declared.step.Pick.TheVariants.{Plain, From, Begin}
+use Rattle.dsr_envelope.specs.declared.pick.Pick.{Pick}
+use Rattle.dsr_envelope.specs.declared.pick.Pick.TheVariants.{Plain, From, Begin}
 
 -- 1 to 8 clients, no two of them the same
 pub record IsClients (clients : List ℕ) : Type 0 where

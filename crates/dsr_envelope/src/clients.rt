@@ -1,6 +1,7 @@
 ghost use Rattle.std.specs.Prelude.{◌≡◌, ◌≢◌, ◌↔◌, ℕ, All, AllPairs, IsSome, IfSome, IsTrue};
+ghost use Rattle.std.proofs.Common.{rules};
 
-use dsr_base::Few;
+use dsr_base::{Exact, Few};
 use dsr_names::ClientId;
 use std::marker::Model;
 
@@ -62,4 +63,10 @@ fn differs_from(client: ClientId, others: &[ClientId]) -> bool
     ensures { IsTrue result ↔ All (λ (other : ℕ). client ≢ other) others.now }
 {
     others.iter().all(|other| *other != client)
+}
+
+impl Exact for Clients {
+    ghost decides = { λ a b. Prim.search rules };
+
+    ghost clones = { λ a b. Prim.search rules };
 }

@@ -3,15 +3,17 @@
 
 mod chains;
 mod clients;
+mod due;
 mod entry;
 mod envelope;
 mod letter;
 mod limits;
-mod step;
+mod pick;
 
 pub use chains::Chains;
 pub use clients::Clients;
+pub use due::Due;
 pub use entry::Entry;
 pub use envelope::Envelope;
 pub use letter::Letter;
-pub use step::{Due, Pick};
+pub use pick::Pick;

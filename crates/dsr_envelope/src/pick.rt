@@ -1,5 +1,7 @@
+ghost use Rattle.std.proofs.Common.{rules};
+
 use crate::clients::Clients;
-use dsr_names::ReplicaId;
+use dsr_base::Exact;
 use dsr_request::Op;
 
 /// What a loyal actor chooses to post, where its conduct leaves a choice.
@@ -13,11 +15,10 @@ pub enum Pick {
     Begin(Op),
 }
 
-/// What a loyal replica does next with the other replicas.
-#[derive(Clone, Copy, Debug, PartialEq, Eq)]
-pub enum Due {
-    /// It posts to this replica.
-    Post(ReplicaId),
-    /// It takes from this replica.
-    Take(ReplicaId),
+impl Exact for Pick {
+    ghost use Rattle.dsr_envelope.specs.Support.PickEquality.{pick_eq-Decides};
+
+    ghost decides = { pick_eq-Decides };
+
+    ghost clones = { λ a b. Prim.search rules };
 }

@@ -4,8 +4,8 @@ use Rattle.dsr_names.specs.Shape.{Shape, AgreeButForTraitors}
 use Rattle.dsr_names.specs.declared.actor.Actor.{Actor}
 use Rattle.dsr_names.specs.declared.actor.Actor.TheVariants.{Replica, Client}
 use Rattle.dsr_envelope.specs.declared.entry.Entry.{Entry}
-use Rattle.dsr_envelope.specs.declared.step.Pick.{Pick}
-use Rattle.dsr_envelope.specs.declared.step.Pick.TheVariants.{Plain, From, Begin}
+use Rattle.dsr_envelope.specs.declared.pick.Pick.{Pick}
+use Rattle.dsr_envelope.specs.declared.pick.Pick.TheVariants.{Plain, From, Begin}
 use Rattle.dsr_replica.proofs.Lemmas.{due_blind, rounds_blind, envelope_to_blind, reply_to_blind}
 use Rattle.dsr_client.proofs.Lemmas.{state_blind, ask_blind}
 use Rattle.dsr_node.specs.Conduct.{post_of, is_exhausted, takes_from, is_undue, is_actor, is_traitor_of}

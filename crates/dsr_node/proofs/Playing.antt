@@ -16,8 +16,8 @@ use Rattle.dsr_envelope.specs.declared.envelope.Envelope.{Envelope}
 use Rattle.dsr_envelope.specs.declared.envelope.Envelope.TheVariants.{Ask}
 use Rattle.dsr_envelope.specs.declared.entry.Entry.{Entry}
 use Rattle.dsr_envelope.specs.declared.entry.Entry.TheVariants.{Post}
-use Rattle.dsr_envelope.specs.declared.step.Pick.{Pick}
-use Rattle.dsr_envelope.specs.declared.step.Pick.TheVariants.{Begin}
+use Rattle.dsr_envelope.specs.declared.pick.Pick.{Pick}
+use Rattle.dsr_envelope.specs.declared.pick.Pick.TheVariants.{Begin}
 use Rattle.dsr_client.specs.Client.{MayBegin, StandsFor as StandsForClient}
 use Rattle.dsr_client.specs.Conduct.{ask_of, next_number, chosen_beside}
 use Rattle.dsr_client.specs.State.{State, asked_beside, state_after, outstanding, accepted}

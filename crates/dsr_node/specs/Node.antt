@@ -12,8 +12,8 @@ use Rattle.dsr_envelope.specs.declared.envelope.Envelope.{Envelope}
 use Rattle.dsr_envelope.specs.declared.envelope.Envelope.TheVariants.{Ask}
 use Rattle.dsr_envelope.specs.declared.entry.Entry.{Entry}
 use Rattle.dsr_envelope.specs.declared.entry.Entry.TheVariants.{Take}
-use Rattle.dsr_envelope.specs.declared.step.Due.TheVariants.{Take as TakeFrom}
-use Rattle.dsr_envelope.specs.declared.step.Pick.{Pick}
+use Rattle.dsr_envelope.specs.declared.due.Due.TheVariants.{Take as TakeFrom}
+use Rattle.dsr_envelope.specs.declared.pick.Pick.{Pick}
 use Rattle.dsr_envelope.specs.Limits.{IsEnvelope}
 use Rattle.dsr_replica.specs.Replica.{Replica, HasRoom, StandsFor}
 use Rattle.dsr_client.specs.Client.{StandsFor as StandsForClient}

@@ -7,7 +7,7 @@ ghost use Rattle.dsr_names.specs.declared.actor.Actor.TheVariants.{Replica, Clie
 ghost use Rattle.dsr_envelope.specs.declared.envelope.Envelope.{Envelope};
 ghost use Rattle.dsr_envelope.specs.declared.entry.Entry.{Entry};
 ghost use Rattle.dsr_envelope.specs.declared.entry.Entry.TheVariants.{Post, Take};
-ghost use Rattle.dsr_envelope.specs.declared.step.Pick.{Pick};
+ghost use Rattle.dsr_envelope.specs.declared.pick.Pick.{Pick};
 ghost use Rattle.dsr_envelope.specs.Limits.{IsEnvelope};
 ghost use Rattle.dsr_envelope.specs.Log.{rounds};
 ghost use Rattle.dsr_envelope.specs.Pick.{IsPick};

@@ -5,7 +5,7 @@ ghost use Rattle.dsr_names.specs.declared.actor.Actor.TheVariants.{Replica as Re
 ghost use Rattle.dsr_envelope.specs.declared.envelope.Envelope.{Envelope};
 ghost use Rattle.dsr_envelope.specs.declared.entry.Entry.{Entry};
 ghost use Rattle.dsr_envelope.specs.declared.entry.Entry.TheVariants.{Post, Take};
-ghost use Rattle.dsr_envelope.specs.declared.step.Pick.TheVariants.{Begin};
+ghost use Rattle.dsr_envelope.specs.declared.pick.Pick.TheVariants.{Begin};
 ghost use Rattle.dsr_replica.specs.Conduct.{envelope_to};
 ghost use Rattle.dsr_replica.specs.Replica.{StandsFor};
 ghost use Rattle.dsr_client.specs.Client.{StandsFor as StandsForClient};

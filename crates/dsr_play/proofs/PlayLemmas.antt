@@ -7,8 +7,8 @@ use Rattle.dsr_names.specs.declared.actor.Actor.TheVariants.{Client}
 use Rattle.dsr_names.specs.Shape.{Shape}
 use Rattle.dsr_request.specs.OpText.{op_text}
 use Rattle.dsr_request.specs.Support.Texts.{op_without}
-use Rattle.dsr_envelope.specs.declared.step.Pick.{Pick}
-use Rattle.dsr_envelope.specs.declared.step.Pick.TheVariants.{Plain, From, Begin}
+use Rattle.dsr_envelope.specs.declared.pick.Pick.{Pick}
+use Rattle.dsr_envelope.specs.declared.pick.Pick.TheVariants.{Plain, From, Begin}
 use Rattle.dsr_script.specs.EnvelopeText.{envelope_text}
 use Rattle.dsr_text.proofs.Clean.{IsClean, clean_nil, clean_append, field_clean, word_clean, joined_clean, replica_clean, actor_clean}
 use Rattle.dsr_script.proofs.FeedLemmas.{envelope_clean}

@@ -17,8 +17,8 @@ use Rattle.dsr_names.specs.declared.actor.Actor.TheVariants.{Replica, Client}
 use Rattle.dsr_request.specs.OpText.{op_text, IsOp}
 use Rattle.dsr_request.specs.declared.op.Op.{Op}
 use Rattle.dsr_envelope.specs.Pick.{IsClients}
-use Rattle.dsr_envelope.specs.declared.step.Pick.{Pick}
-use Rattle.dsr_envelope.specs.declared.step.Pick.TheVariants.{Plain, From, Begin}
+use Rattle.dsr_envelope.specs.declared.pick.Pick.{Pick}
+use Rattle.dsr_envelope.specs.declared.pick.Pick.TheVariants.{Plain, From, Begin}
 use Rattle.dsr_play.specs.Support.PlayParts.{AreSpelledClients, clients_text, IsSaidPick, said_pick, IsChoice, choice_text}
 
 -- ---- two readings with a space between them are the reading of the pair

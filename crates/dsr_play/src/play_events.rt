@@ -1,6 +1,6 @@
 ghost use Rattle.std.specs.Prelude.{◌≡◌, ◌<◌, ◌∷◌, ◌++◌, [], OnOk, IsOkUnless};
 ghost use Rattle.dsr_names.specs.declared.actor.Actor.TheVariants.{Replica};
-ghost use Rattle.dsr_envelope.specs.declared.step.Pick.TheVariants.{Plain};
+ghost use Rattle.dsr_envelope.specs.declared.pick.Pick.TheVariants.{Plain};
 ghost use Rattle.dsr_play.specs.declared.event.Event.TheVariants.{Post, Plant, Take};
 ghost use Rattle.dsr_play.specs.PlayText.{events_of, pick_for, posts_by, takes_at, with_each, with_each_loyal};
 

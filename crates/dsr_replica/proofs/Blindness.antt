@@ -26,9 +26,9 @@ use Rattle.dsr_envelope.specs.declared.envelope.Envelope.{Envelope}
 use Rattle.dsr_envelope.specs.declared.envelope.Envelope.TheVariants.{Empty, Round, Ask, Reply, Seen}
 use Rattle.dsr_envelope.specs.declared.entry.Entry.{Entry}
 use Rattle.dsr_envelope.specs.declared.entry.Entry.TheVariants.{Post, Take}
-use Rattle.dsr_envelope.specs.declared.step.Due.TheVariants.{Post as PostTo, Take as TakeFrom}
-use Rattle.dsr_envelope.specs.declared.step.Pick.{Pick}
-use Rattle.dsr_envelope.specs.declared.step.Pick.TheVariants.{Plain, From, Begin}
+use Rattle.dsr_envelope.specs.declared.due.Due.TheVariants.{Post as PostTo, Take as TakeFrom}
+use Rattle.dsr_envelope.specs.declared.pick.Pick.{Pick}
+use Rattle.dsr_envelope.specs.declared.pick.Pick.TheVariants.{Plain, From, Begin}
 use Rattle.dsr_replica.specs.Conduct.{slot_part, chains_posted, proposed, envelope_with, chosen, is_due, envelope_to, reply_to, IsNext, IsLoyalLog}
 use Rattle.dsr_replica.specs.Decided.{sent, slot_read, slot_kept, slot_decided, values, decided_values}
 use Rattle.dsr_envelope.specs.Envelope.{round_envelope}

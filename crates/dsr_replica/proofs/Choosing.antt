@@ -15,10 +15,10 @@ use Rattle.dsr_chain.specs.declared.slot_value.SlotValue.TheVariants.{Act}
 use Rattle.dsr_envelope.specs.declared.envelope.Envelope.{Envelope}
 use Rattle.dsr_envelope.specs.declared.entry.Entry.{Entry}
 use Rattle.dsr_envelope.specs.declared.entry.Entry.TheVariants.{Post}
-use Rattle.dsr_envelope.specs.declared.step.Pick.{Pick}
-use Rattle.dsr_envelope.specs.declared.step.Pick.TheVariants.{Plain, From, Begin}
-use Rattle.dsr_envelope.specs.declared.step.Due.{Due}
-use Rattle.dsr_envelope.specs.declared.step.Due.TheVariants.{Post as PostTo, Take as TakeFrom}
+use Rattle.dsr_envelope.specs.declared.pick.Pick.{Pick}
+use Rattle.dsr_envelope.specs.declared.pick.Pick.TheVariants.{Plain, From, Begin}
+use Rattle.dsr_envelope.specs.declared.due.Due.{Due}
+use Rattle.dsr_envelope.specs.declared.due.Due.TheVariants.{Post as PostTo, Take as TakeFrom}
 use Rattle.dsr_replica.specs.Conduct.{envelope_with, chosen, is_due, envelope_to}
 use Rattle.dsr_replica.specs.Counts.{posts_at}
 use Rattle.dsr_replica.specs.Held.{put_before, all_held}

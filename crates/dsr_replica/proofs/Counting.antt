@@ -8,9 +8,9 @@ use Rattle.dsr_names.specs.declared.actor.Actor.TheVariants.{Replica, Client}
 use Rattle.dsr_envelope.specs.declared.envelope.Envelope.{Envelope}
 use Rattle.dsr_envelope.specs.declared.entry.Entry.{Entry}
 use Rattle.dsr_envelope.specs.declared.entry.Entry.TheVariants.{Post, Take}
-use Rattle.dsr_envelope.specs.declared.step.Due.{Due}
-use Rattle.dsr_envelope.specs.declared.step.Due.TheVariants.{Post as PostTo, Take as TakeFrom}
-use Rattle.dsr_envelope.specs.declared.step.Pick.{Pick}
+use Rattle.dsr_envelope.specs.declared.due.Due.{Due}
+use Rattle.dsr_envelope.specs.declared.due.Due.TheVariants.{Post as PostTo, Take as TakeFrom}
+use Rattle.dsr_envelope.specs.declared.pick.Pick.{Pick}
 use Rattle.dsr_replica.specs.Conduct.{is_due, chosen, envelope_to, IsLoyalLog}
 use Rattle.dsr_replica.specs.Counts.{IsInside, posts_at, takes_at, HasCounts}
 use Rattle.dsr_envelope.specs.Log.{posted_to, taken_from, due, rounds}

@@ -9,8 +9,8 @@ use Rattle.dsr_names.specs.declared.actor.Actor.TheVariants.{Replica}
 use Rattle.dsr_chain.specs.declared.slot_value.SlotValue.TheVariants.{Idle}
 use Rattle.dsr_envelope.specs.declared.envelope.Envelope.{Envelope}
 use Rattle.dsr_envelope.specs.declared.entry.Entry.{Entry}
-use Rattle.dsr_envelope.specs.declared.step.Due.TheVariants.{Post as PostTo}
-use Rattle.dsr_envelope.specs.declared.step.Pick.TheVariants.{Plain}
+use Rattle.dsr_envelope.specs.declared.due.Due.TheVariants.{Post as PostTo}
+use Rattle.dsr_envelope.specs.declared.pick.Pick.TheVariants.{Plain}
 use Rattle.dsr_envelope.specs.Log.{posted_to, due, rounds}
 use Rattle.dsr_replica.specs.Conduct.{envelope_with, chosen, is_due, envelope_to, IsLoyalLog}
 use Rattle.dsr_replica.specs.Counts.{posts_at}

@@ -16,7 +16,7 @@ use Rattle.dsr_slot.specs.Conduct.{posted}
 use Rattle.dsr_slot.specs.Keeping.{keep}
 use Rattle.dsr_slot.specs.SlotState.{SlotState, HasRead}
 use Rattle.dsr_envelope.specs.declared.entry.Entry.{Entry}
-use Rattle.dsr_envelope.specs.declared.step.Due.TheVariants.{Post as PostTo}
+use Rattle.dsr_envelope.specs.declared.due.Due.TheVariants.{Post as PostTo}
 use Rattle.dsr_replica.specs.Conduct.{slot_part, chains_posted, envelope_with}
 use Rattle.dsr_replica.specs.Counts.{takes_at}
 use Rattle.dsr_replica.specs.Decided.{read_in, slot_read, slot_kept}

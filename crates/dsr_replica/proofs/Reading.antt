@@ -17,8 +17,8 @@ use Rattle.dsr_slot.specs.SlotState.{SlotState, HasRead, opened, with_closed}
 use Rattle.dsr_envelope.specs.declared.envelope.Envelope.{Envelope}
 use Rattle.dsr_envelope.specs.declared.entry.Entry.{Entry}
 use Rattle.dsr_envelope.specs.declared.entry.Entry.TheVariants.{Take}
-use Rattle.dsr_envelope.specs.declared.step.Due.{Due}
-use Rattle.dsr_envelope.specs.declared.step.Due.TheVariants.{Post as PostTo, Take as TakeFrom}
+use Rattle.dsr_envelope.specs.declared.due.Due.{Due}
+use Rattle.dsr_envelope.specs.declared.due.Due.TheVariants.{Post as PostTo, Take as TakeFrom}
 use Rattle.dsr_replica.specs.Counts.{takes_at, HasCounts}
 use Rattle.dsr_replica.specs.Decided.{chains_of, sent, read_in, slot_read, slot_kept}
 use Rattle.dsr_envelope.specs.Envelope.{chains_for}

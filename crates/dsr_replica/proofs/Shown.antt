@@ -24,8 +24,8 @@ use Rattle.dsr_envelope.specs.Pick.{IsClients, IsPick}
 use Rattle.dsr_envelope.specs.declared.envelope.Envelope.{Envelope}
 use Rattle.dsr_envelope.specs.declared.envelope.Envelope.TheVariants.{Round}
 use Rattle.dsr_envelope.specs.declared.entry.Entry.{Entry}
-use Rattle.dsr_envelope.specs.declared.step.Pick.{Pick}
-use Rattle.dsr_envelope.specs.declared.step.Pick.TheVariants.{Plain, From, Begin}
+use Rattle.dsr_envelope.specs.declared.pick.Pick.{Pick}
+use Rattle.dsr_envelope.specs.declared.pick.Pick.TheVariants.{Plain, From, Begin}
 use Rattle.dsr_replica.specs.Conduct.{slot_part, chains_posted, proposed, envelope_with, envelope_to}
 use Rattle.dsr_replica.specs.Decided.{slot_kept}
 use Rattle.dsr_replica.specs.Held.{all_held}

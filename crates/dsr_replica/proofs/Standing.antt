@@ -29,8 +29,8 @@ use Rattle.dsr_envelope.specs.declared.envelope.Envelope.{Envelope}
 use Rattle.dsr_envelope.specs.declared.envelope.Envelope.TheVariants.{Empty, Round, Ask, Reply, Seen}
 use Rattle.dsr_envelope.specs.declared.entry.Entry.{Entry}
 use Rattle.dsr_envelope.specs.declared.entry.Entry.TheVariants.{Post, Take}
-use Rattle.dsr_envelope.specs.declared.step.Due.{Due}
-use Rattle.dsr_envelope.specs.declared.step.Due.TheVariants.{Post as PostTo, Take as TakeFrom}
+use Rattle.dsr_envelope.specs.declared.due.Due.{Due}
+use Rattle.dsr_envelope.specs.declared.due.Due.TheVariants.{Post as PostTo, Take as TakeFrom}
 use Rattle.dsr_replica.specs.Counts.{IsInside, takes_at, HasCounts}
 use Rattle.dsr_replica.specs.Decided.{slot_read, slot_kept, slot_decided, values, chains_of, sent, decided_values}
 use Rattle.dsr_envelope.specs.Envelope.{chains_for, round_envelope}

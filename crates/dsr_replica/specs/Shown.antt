@@ -11,8 +11,8 @@ use Rattle.dsr_chain.specs.declared.slot_value.SlotValue.{SlotValue}
 use Rattle.dsr_chain.specs.declared.slot_value.SlotValue.TheVariants.{Idle}
 use Rattle.dsr_envelope.specs.declared.envelope.Envelope.{Envelope}
 use Rattle.dsr_envelope.specs.declared.envelope.Envelope.TheVariants.{Empty, Round, Ask, Reply, Seen}
-use Rattle.dsr_envelope.specs.declared.step.Pick.{Pick}
-use Rattle.dsr_envelope.specs.declared.step.Pick.TheVariants.{Plain, From}
+use Rattle.dsr_envelope.specs.declared.pick.Pick.{Pick}
+use Rattle.dsr_envelope.specs.declared.pick.Pick.TheVariants.{Plain, From}
 
 -- the value of the last of these chains; the first argument where there is none
 abbrev pub last_value : SlotValue → List Chain → SlotValue

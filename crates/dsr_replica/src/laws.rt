@@ -18,9 +18,9 @@ ghost use Rattle.dsr_chain.specs.declared.slot_value.SlotValue.TheVariants.{Idle
 ghost use Rattle.dsr_envelope.specs.declared.envelope.Envelope.{Envelope};
 ghost use Rattle.dsr_envelope.specs.declared.entry.Entry.{Entry};
 ghost use Rattle.dsr_envelope.specs.declared.entry.Entry.TheVariants.{Post, Take};
-ghost use Rattle.dsr_envelope.specs.declared.step.Due.TheVariants.{Post as PostTo, Take as TakeFrom};
-ghost use Rattle.dsr_envelope.specs.declared.step.Pick.{Pick};
-ghost use Rattle.dsr_envelope.specs.declared.step.Pick.TheVariants.{Plain, From};
+ghost use Rattle.dsr_envelope.specs.declared.due.Due.TheVariants.{Post as PostTo, Take as TakeFrom};
+ghost use Rattle.dsr_envelope.specs.declared.pick.Pick.{Pick};
+ghost use Rattle.dsr_envelope.specs.declared.pick.Pick.TheVariants.{Plain, From};
 ghost use Rattle.dsr_replica.specs.Conduct.{proposed, envelope_to, reply_to, IsNext, IsLoyalLog};
 ghost use Rattle.dsr_replica.specs.Counts.{HasCounts};
 ghost use Rattle.dsr_replica.specs.Decided.{read_in, slot_kept, decided_values, decided_requests};

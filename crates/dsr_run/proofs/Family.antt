@@ -13,8 +13,8 @@ use Rattle.dsr_slot.specs.Conduct.{posted}
 use Rattle.dsr_slot.specs.Keeping.{kept_after}
 use Rattle.dsr_envelope.specs.declared.envelope.Envelope.{Envelope}
 use Rattle.dsr_envelope.specs.declared.entry.Entry.{Entry}
-use Rattle.dsr_envelope.specs.declared.step.Due.{Due}
-use Rattle.dsr_envelope.specs.declared.step.Due.TheVariants.{Post as PostTo, Take as TakeFrom}
+use Rattle.dsr_envelope.specs.declared.due.Due.{Due}
+use Rattle.dsr_envelope.specs.declared.due.Due.TheVariants.{Post as PostTo, Take as TakeFrom}
 use Rattle.dsr_replica.specs.Conduct.{slot_part, chains_posted, IsLoyalLog}
 use Rattle.dsr_replica.specs.Counts.{posts_at}
 use Rattle.dsr_replica.specs.Decided.{chains_of, sent, slot_read, slot_kept}

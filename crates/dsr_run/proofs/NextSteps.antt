@@ -13,8 +13,8 @@ use Rattle.dsr_desk.specs.Signature.{Signature}
 use Rattle.dsr_envelope.specs.declared.envelope.Envelope.{Envelope}
 use Rattle.dsr_envelope.specs.declared.envelope.Envelope.TheVariants.{Ask, Seen}
 use Rattle.dsr_envelope.specs.declared.entry.Entry.TheVariants.{Post, Take}
-use Rattle.dsr_envelope.specs.declared.step.Pick.{Pick}
-use Rattle.dsr_envelope.specs.declared.step.Pick.TheVariants.{Plain, From, Begin}
+use Rattle.dsr_envelope.specs.declared.pick.Pick.{Pick}
+use Rattle.dsr_envelope.specs.declared.pick.Pick.TheVariants.{Plain, From, Begin}
 use Rattle.dsr_envelope.specs.Envelope.{Carries}
 use Rattle.dsr_envelope.specs.Limits.{IsEnvelope}
 use Rattle.dsr_envelope.specs.Log.{posted_to, taken_from}

@@ -15,7 +15,7 @@ use Rattle.dsr_names.specs.declared.refusal.Refusal.TheVariants.{NoActor, WrongR
 use Rattle.dsr_desk.specs.Signature.{Signature}
 use Rattle.dsr_envelope.specs.declared.envelope.Envelope.{Envelope}
 use Rattle.dsr_envelope.specs.declared.entry.Entry.TheVariants.{Post as PostEntry}
-use Rattle.dsr_envelope.specs.declared.step.Pick.{Pick}
+use Rattle.dsr_envelope.specs.declared.pick.Pick.{Pick}
 use Rattle.dsr_envelope.specs.Envelope.{Carries}
 use Rattle.dsr_envelope.specs.Log.{posted_to, taken_from}
 use Rattle.dsr_envelope.specs.Pick.{IsPick}

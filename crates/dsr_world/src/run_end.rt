@@ -1,7 +1,9 @@
 ghost use Rattle.std.specs.Prelude.{◌≡◌, ◌<◌, ◌≤◌, ◌+◌, ◌++◌, ◌∷◌, [], List, Option};
 ghost use Rattle.dsr_names.specs.declared.refusal.Refusal.{Refusal};
 ghost use Rattle.dsr_world.specs.Outcome.{Counts, starved_by};
+ghost use Rattle.std.proofs.Common.{rules};
 
+use dsr_base::Exact;
 use dsr_names::Refusal;
 
 /// How a list of events ended.
@@ -63,4 +65,10 @@ fn starved_by(refusal: Refusal) -> u64
         Refusal::NoMemory => 1,
         _ => 0,
     }
+}
+
+impl Exact for RunEnd {
+    ghost decides = { λ a b. Prim.search rules };
+
+    ghost clones = { λ a b. Prim.search rules };
 }

@@ -19,7 +19,7 @@ ghost use Rattle.dsr_names.specs.declared.refusal.Refusal.{Refusal};
 ghost use Rattle.dsr_world.specs.Event.{HasDone, IsRefusedBy, IsForgedAtLast, is_full, is_used_up, refusal_of, first_of};
 ghost use Rattle.dsr_node.specs.Conduct.{is_actor, is_traitor_of, are_clients, is_own_client, are_two_clients, post_of};
 ghost use Rattle.dsr_envelope.specs.declared.entry.Entry.TheVariants.{Post as PostEntry};
-ghost use Rattle.dsr_envelope.specs.declared.step.Pick.TheVariants.{Plain};
+ghost use Rattle.dsr_envelope.specs.declared.pick.Pick.TheVariants.{Plain};
 ghost use Rattle.dsr_client.specs.Conduct.{ask_to};
 ghost use Rattle.dsr_run.specs.History.{accepted_by, decided_at, history, seen_by};
 ghost use Rattle.dsr_world.specs.Outcome.{HasEnded};

@@ -5,8 +5,8 @@ use Rattle.dsr_chain.specs.declared.slot_value.SlotValue.{SlotValue}
 use Rattle.dsr_slot.specs.SlotState.{opened, with_closed}
 use Rattle.dsr_envelope.specs.declared.envelope.Envelope.{Envelope}
 use Rattle.dsr_replica.specs.declared.replica.Replica.TheInside.{Inside}
-use Rattle.dsr_envelope.specs.declared.step.Due.{Due}
-use Rattle.dsr_envelope.specs.declared.step.Due.TheVariants.{Post as PostTo, Take as TakeFrom}
+use Rattle.dsr_envelope.specs.declared.due.Due.{Due}
+use Rattle.dsr_envelope.specs.declared.due.Due.TheVariants.{Post as PostTo, Take as TakeFrom}
 use Rattle.dsr_replica.specs.Counts.{IsInside}
 use Rattle.dsr_envelope.specs.Envelope.{chains_for}
 use Rattle.dsr_replica.specs.Replica.{Replica}

@@ -1,7 +1,7 @@
 use Rattle.std.proofs.Common.{ap, ◌∙◌, refl}
 use Rattle.std.specs.Option.{option_map}
 use Rattle.dsr_envelope.specs.declared.envelope.Envelope.TheVariants.{Ask}
-use Rattle.dsr_envelope.specs.declared.step.Pick.TheVariants.{Plain, Begin}
+use Rattle.dsr_envelope.specs.declared.pick.Pick.TheVariants.{Plain, Begin}
 use Rattle.dsr_client.proofs.Choosing.{plain_ask, new_ask}
 use Rattle.dsr_client.proofs.laws.calls_keep_a_clients_log.Goals as goal
 

@@ -2,7 +2,7 @@ use Rattle.std.proofs.Common.{◌≡◌, [], ◌∷◌, ◌++◌}
 use Rattle.std.specs.Prelude.{if◌then◌else◌}
 use Rattle.dsr_names.specs.Shape.{is_traitor}
 use Rattle.dsr_names.specs.declared.actor.Actor.TheVariants.{Replica}
-use Rattle.dsr_envelope.specs.declared.step.Pick.TheVariants.{Plain}
+use Rattle.dsr_envelope.specs.declared.pick.Pick.TheVariants.{Plain}
 use Rattle.dsr_play.specs.declared.event.Event.TheVariants.{Post}
 use Rattle.dsr_play.specs.PlayText.{with_each}
 use Rattle.dsr_play.proofs.play_events.add_replies.Given as goal

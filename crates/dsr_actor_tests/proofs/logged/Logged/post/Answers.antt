@@ -1,5 +1,5 @@
 use Rattle.std.proofs.Common.{refl, sym, subst}
-use Rattle.dsr_envelope.specs.declared.step.Pick.TheVariants.{Plain}
+use Rattle.dsr_envelope.specs.declared.pick.Pick.TheVariants.{Plain}
 use Rattle.dsr_actor_tests.specs.LoyalLogs.{HasLog}
 use Rattle.dsr_actor_tests.proofs.LoyalLogLemmas.{one_post}
 use Rattle.dsr_actor_tests.proofs.logged.Logged.post.Goals as goal

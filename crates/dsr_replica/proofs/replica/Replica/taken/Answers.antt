@@ -2,7 +2,7 @@ use Rattle.std.proofs.Common.{◌≡◌, ◌+◌, ◌∷◌, suc, false, ◌==�
 use Rattle.dsr_names.specs.Shape.{Shape}
 use Rattle.dsr_names.specs.declared.actor.Actor.TheVariants.{Replica as ReplicaNumber}
 use Rattle.dsr_envelope.specs.declared.entry.Entry.TheVariants.{Take}
-use Rattle.dsr_envelope.specs.declared.step.Due.TheVariants.{Take as TakeFrom}
+use Rattle.dsr_envelope.specs.declared.due.Due.TheVariants.{Take as TakeFrom}
 use Rattle.dsr_replica.specs.Replica.{Replica, StandsFor}
 use Rattle.dsr_replica.specs.Support.ReplicaFields.{with_envelope, next_round}
 use Rattle.dsr_replica.proofs.Standing.{stands_mid, stands_last, stands_with_room, is_more, is_last}

@@ -2,7 +2,7 @@ use Rattle.std.proofs.Common.{◌≡◌, ◌<◌, ◌∙◌, None, Some, length,
 use Rattle.std.specs.Prelude.{slice_index_or}
 use Rattle.std.proofs.lemmas.List.{get_or_default}
 use Rattle.dsr_names.specs.declared.actor.Actor.TheVariants.{Client}
-use Rattle.dsr_envelope.specs.declared.step.Pick.TheVariants.{Plain}
+use Rattle.dsr_envelope.specs.declared.pick.Pick.TheVariants.{Plain}
 use Rattle.dsr_client.specs.Conduct.{ask_to}
 use Rattle.dsr_run.specs.Step.{log_of}
 use Rattle.dsr_node.specs.Node.{Plays, IsOutstandingAsk}

@@ -5,8 +5,8 @@ use Rattle.std.proofs.lemmas.List.{get_or_default}
 use Rattle.dsr_names.specs.declared.actor.Actor.{Actor}
 use Rattle.dsr_names.specs.declared.actor.Actor.TheVariants.{Replica}
 use Rattle.dsr_envelope.specs.declared.envelope.Envelope.{Envelope}
-use Rattle.dsr_envelope.specs.declared.step.Pick.{Pick}
-use Rattle.dsr_envelope.specs.declared.step.Pick.TheVariants.{Plain}
+use Rattle.dsr_envelope.specs.declared.pick.Pick.{Pick}
+use Rattle.dsr_envelope.specs.declared.pick.Pick.TheVariants.{Plain}
 use Rattle.dsr_play.specs.declared.event.Event.TheVariants.{Post}
 use Rattle.dsr_world.specs.Event.{refusal_of}
 use Rattle.dsr_node.specs.Conduct.{post_of}

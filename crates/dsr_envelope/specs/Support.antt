@@ -1,0 +1,2 @@
+-- What `==` of picks decides.
+pub mod PickEquality
