@@ -1,6 +1,7 @@
 ghost use Rattle.std.specs.Prelude.{◌≡◌, ◌↔◌, IsOk, IfOk, IsTrue, IsOkUnless};
 ghost use Rattle.dsr_request.specs.NameText.{IsName, is_name_byte};
 
+use dsr_base::Exact;
 use dsr_names::Refusal;
 use std::hash::{Hash, Hasher};
 use std::marker::Model;
@@ -115,6 +116,14 @@ impl Eq for Name {
     ghost use Rattle.std.specs.Cmp.Rules.{comparing};
 
     ghost laws = { Prim.search (comparing, rules) };
+}
+
+impl Exact for Name {
+    ghost use Rattle.std.proofs.Common.{rules};
+
+    ghost decides = { λ a b. Prim.search rules };
+
+    ghost clones = { λ a b. Prim.search rules };
 }
 
 // What is hashed is the bytes of the name.
