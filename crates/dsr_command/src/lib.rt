@@ -1,7 +1,7 @@
 //! The command line of the program `dsr`, read by `clap`.
 #![tactic(auto)]
 
-ghost use Rattle.std.specs.Prelude.{◌≡◌, ◌≢◌, ◌++◌, ◌≤◌, IfOk, codes, false, length, map};
+ghost use Rattle.std.specs.Prelude.{◌≡◌, ◌≢◌, ◌++◌, ◌≤◌, ◌↔◌, IfOk, IsTrue, codes, false, length, map};
 ghost use Rattle.clap.specs.Words.{FailsBy, app_of, fault_of, kind_of, new_app, subcommand_of, subcommand_rows_of};
 ghost use Rattle.clap.specs.declared.builder.command.Command.TheViews.{out-Command as fields_of};
 ghost use Rattle.clap.specs.declared.error.kind.ErrorKind.TheVariants.{DisplayHelp, OutOfMemory, UnknownArgument};
@@ -131,6 +131,25 @@ pub enum Task {
     Apply,
     /// Play the play of standard input, and report what came of it.
     Play,
+}
+
+impl Task {
+    /// The same task once more. It goes through `clone`, so that a clone is the same task too.
+    pub fn copy(&self) -> Task
+        ensures { result ≡ self.now }
+    {
+        match self.clone() {
+            Ok(task) => task,
+            Err(_) => *self,
+        }
+    }
+
+    /// Whether two tasks are the same task.
+    pub fn same(&self, other: &Task) -> bool
+        ensures { IsTrue result ↔ (self.now ≡ other.now) }
+    {
+        self == other
+    }
 }
 
 /// What a command line says.

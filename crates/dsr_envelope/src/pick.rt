@@ -18,7 +18,7 @@ pub enum Pick {
 impl Exact for Pick {
     ghost use Rattle.dsr_envelope.specs.Support.PickEquality.{pick_eq-Decides};
 
-    ghost decides = { pick_eq-Decides };
+    ghost decides = { pick_eq-Decides (λ xs ys. Prim.search rules) };
 
     ghost clones = { λ a b. Prim.search rules };
 }

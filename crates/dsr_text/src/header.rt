@@ -15,6 +15,22 @@ pub struct Header<'a> {
     pub rest: &'a [u8],
 }
 
+impl<'a> Header<'a> {
+    /// The same header once more. It goes through `clone`, so that a clone is the same header too.
+    pub fn copy(&self) -> Header<'a>
+        ensures { result ≡ self.now }
+    {
+        // by the type's name, since the borrow checker does not take `self.clone()` of a struct with a reference
+        match Header::clone(self) {
+            Ok(header) => header,
+            Err(_) => Header {
+                shape: self.shape,
+                rest: self.rest,
+            },
+        }
+    }
+}
+
 /// The header of this title, as `dsr-serve 1`, at the beginning of the text. Requires a title without a line feed.
 ///
 /// `BadShape` where the text begins with such a header, but of a shape outside the limits, whatever follows it; else `BadText`

@@ -14,22 +14,20 @@ use Rattle.dsr_envelope.specs.contracts.pick.PickPartialEq.TheImpl.{ghosts}
 abbrev pub pick_eq : Pick → Pick → Bool
 pick_eq = ghosts.eq
 
--- of two lists of clients exactly where they are equal
-one_list : (xs ys : List ℕ) → Decides (of_clients.eq xs ys) (xs ≡ ys)
-one_list xs ys = search rules
-
 -- of two operations exactly where they are equal
 one_op : (a b : Op) → Decides (of_ops.eq a b) (a ≡ b)
 one_op a b = search rules
 
--- it holds exactly of equal ones
-pub pick_eq-Decides : (a b : Pick) → Decides (pick_eq a b) (a ≡ b)
-pick_eq-Decides Plain Plain = (λ e. cc, λ e. cc)
-pick_eq-Decides Plain (From ys) = (λ e. cc, λ e. cc)
-pick_eq-Decides Plain (Begin b) = (λ e. cc, λ e. cc)
-pick_eq-Decides (From xs) Plain = (λ e. cc, λ e. cc)
-pick_eq-Decides (From xs) (From ys) = Decides-like (of_clients.eq xs ys) (λ e. cc) (λ e. cc) (one_list xs ys)
-pick_eq-Decides (From xs) (Begin b) = (λ e. cc, λ e. cc)
-pick_eq-Decides (Begin a) Plain = (λ e. cc, λ e. cc)
-pick_eq-Decides (Begin a) (From ys) = (λ e. cc, λ e. cc)
-pick_eq-Decides (Begin a) (Begin b) = Decides-like (of_ops.eq a b) (λ e. cc) (λ e. cc) (one_op a b)
+-- where it holds of two lists of clients exactly where they are equal, which `Clients` shows
+module _ (same_lists : (xs ys : List ℕ) → Decides (of_clients.eq xs ys) (xs ≡ ys)) where
+  -- it holds exactly of equal ones
+  pub pick_eq-Decides : (a b : Pick) → Decides (pick_eq a b) (a ≡ b)
+  pick_eq-Decides Plain Plain = (λ e. cc, λ e. cc)
+  pick_eq-Decides Plain (From ys) = (λ e. cc, λ e. cc)
+  pick_eq-Decides Plain (Begin b) = (λ e. cc, λ e. cc)
+  pick_eq-Decides (From xs) Plain = (λ e. cc, λ e. cc)
+  pick_eq-Decides (From xs) (From ys) = Decides-like (of_clients.eq xs ys) (λ e. cc) (λ e. cc) (same_lists xs ys)
+  pick_eq-Decides (From xs) (Begin b) = (λ e. cc, λ e. cc)
+  pick_eq-Decides (Begin a) Plain = (λ e. cc, λ e. cc)
+  pick_eq-Decides (Begin a) (From ys) = (λ e. cc, λ e. cc)
+  pick_eq-Decides (Begin a) (Begin b) = Decides-like (of_ops.eq a b) (λ e. cc) (λ e. cc) (one_op a b)
