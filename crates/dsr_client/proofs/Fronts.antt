@@ -1,6 +1,6 @@
 -- The seen front never falls, and is above the place of each accepted reply; only an accepted reply and what another client tells
 -- raise it.
-use Rattle.std.proofs.Common.{ℕ, refl, ◌<◌, ◌≤◌, List, [], ◌∷◌, ◌++◌, ap, sym, subst, arith}
+use Rattle.std.proofs.Common.{◌≡◌, ℕ, suc, max, refl, ◌<◌, ◌≤◌, List, [], ◌∷◌, ◌++◌, ◌⊎◌, inl, inr, ap, ap₂, sym, subst, arith}
 use Rattle.dsr_base.specs.Growth.{Extends}
 use Rattle.dsr_base.specs.Member.{In, here, there}
 use Rattle.dsr_names.specs.Shape.{Shape}
@@ -9,8 +9,10 @@ use Rattle.dsr_ledger.specs.declared.reply.Reply.{Reply as AReply}
 use Rattle.dsr_envelope.specs.declared.envelope.Envelope.TheVariants.{Empty, Round, Ask, Reply, Seen}
 use Rattle.dsr_envelope.specs.declared.entry.Entry.{Entry}
 use Rattle.dsr_envelope.specs.declared.entry.Entry.TheVariants.{Post, Take}
+use Rattle.dsr_client.specs.Accepted.{AcceptsNone, Accepts}
 use Rattle.dsr_client.specs.State.{accepted, front_of, told, seen}
 use Rattle.dsr_client.proofs.Answering.{accepted_grow}
+use Rattle.dsr_client.proofs.Counted.{accept_cases}
 
 front_above : (w : AReply) (replies : List AReply) → In w replies → w.place < front_of replies
 front_above w [] inside = elim inside [ ]
@@ -24,10 +26,28 @@ front_grows (x ∷ newer) older = let before = front_grows newer older in omega 
 front_extends : (later earlier : List AReply) → Extends later earlier → front_of earlier ≤ front_of later
 front_extends later earlier grown = subst (λ l. front_of earlier ≤ front_of l) (sym grown.1) (front_grows grown.0 earlier)
 
+-- a take of a front that a client tells, which moves what was told
+record Tells (entry : Entry) (older : List Entry) : Type 0 where
+  pub client : ℕ
+  pub front : ℕ
+  pub is : entry ≡ Take (Client client) (Seen front)
+  pub more : told (entry ∷ older) ≡ max (told older) front
+
+-- nothing else moves it
+told_moves : (entry : Entry) (older : List Entry) → Tells entry older ⊎ (told (entry ∷ older) ≡ told older)
+told_moves (Post to envelope) older = inr refl
+told_moves (Take (Replica p) envelope) older = inr refl
+told_moves (Take (Client c) Empty) older = inr (omega arith)
+told_moves (Take (Client c) (Round round chains)) older = inr (omega arith)
+told_moves (Take (Client c) (Ask ask)) older = inr (omega arith)
+told_moves (Take (Client c) (Reply reply)) older = inr (omega arith)
+told_moves (Take (Client c) (Seen front)) older = inl (record { client = c; front = front; is = refl; more = omega arith })
+
 told_grows : (entry : Entry) (log : List Entry) → told log ≤ told (entry ∷ log)
-told_grows (Post to envelope) log = omega arith
-told_grows (Take (Replica p) envelope) log = omega arith
-told_grows (Take (Client c) envelope) log = omega arith
+told_grows entry log = elim (told_moves entry log) [
+  | inl tells ↦ let more = tells.more in omega (arith, more)
+  | inr same ↦ omega (arith, same)
+]
 
 -- an accepted reply's place is below the front
 pub seen_above : (shape : Shape) (log : List Entry) (w : AReply) → In w (accepted shape log) → w.place < seen shape log
@@ -52,20 +72,15 @@ TellsAtMost log most = (c front : ℕ) → In (Take (Client c) (Seen front)) log
 
 told_below : (log : List Entry) (most : ℕ) → TellsAtMost log most → told log ≤ most
 told_below [] most below = omega arith
-told_below (Post to envelope ∷ older) most below = told_below older most (λ c front h. below c front (there h))
-told_below (Take (Replica p) envelope ∷ older) most below = told_below older most (λ c front h. below c front (there h))
-told_below (Take (Client c) Empty ∷ older) most below =
-    let rest = told_below older most (λ c front h. below c front (there h)) in omega (arith, rest)
-told_below (Take (Client c) (Round round chains) ∷ older) most below =
-    let rest = told_below older most (λ c front h. below c front (there h)) in omega (arith, rest)
-told_below (Take (Client c) (Ask ask) ∷ older) most below =
-    let rest = told_below older most (λ c front h. below c front (there h)) in omega (arith, rest)
-told_below (Take (Client c) (Reply reply) ∷ older) most below =
-    let rest = told_below older most (λ c front h. below c front (there h)) in omega (arith, rest)
-told_below (Take (Client c) (Seen front) ∷ older) most below =
-    let first = below c front (here refl) in
+told_below (entry ∷ older) most below =
     let rest = told_below older most (λ c front h. below c front (there h)) in
-    omega (arith, first, rest)
+    elim (told_moves entry older) [
+      | inl tells ↦
+          let more = tells.more in
+          let first = below tells.client tells.front (here tells.is) in
+          omega (arith, rest, more, first)
+      | inr same ↦ omega (arith, rest, same)
+    ]
 
 -- the front is no more than what is above all accepted places, and not below what clients told
 pub seen_below : (shape : Shape) (log : List Entry) (most : ℕ) → ((w : AReply) → In w (accepted shape log) → w.place < most)
@@ -74,3 +89,29 @@ seen_below shape log most replies fronts =
     let own = front_below (accepted shape log) most replies in
     let others = told_below log most fronts in
     omega (arith, own, others)
+
+-- ---- what moves the front
+
+-- a front that a client tells
+pub seen_told : (c front : ℕ) (shape : Shape) (log : List Entry) → seen shape (Take (Client c) (Seen front) ∷ log) ≡ max (seen shape log) front
+seen_told c front shape log = omega arith
+
+-- an accepted reply
+pub seen_accepted : (shape : Shape) (entry : Entry) (log : List Entry) (reply : AReply) → Accepts shape entry log reply
+    → seen shape (entry ∷ log) ≡ max (seen shape log) (suc reply.place)
+seen_accepted shape entry log reply h =
+    let own = ap front_of h.more in
+    let others = ap (λ e. told (e ∷ log)) h.taken in
+    omega (arith, own, others)
+
+-- nothing else
+pub seen_moves : (shape : Shape) (entry : Entry) (log : List Entry)
+    → ((c : ℕ) × (front : ℕ) × (entry ≡ Take (Client c) (Seen front))) ⊎ ((reply : AReply) × Accepts shape entry log reply)
+    ⊎ (seen shape (entry ∷ log) ≡ seen shape log)
+seen_moves shape entry log = elim (accept_cases shape entry log) [
+  | inl none ↦ elim (told_moves entry log) [
+    | inl tells ↦ inl (tells.client, tells.front, tells.is)
+    | inr same ↦ inr (inr (ap₂ (λ replies most. max (front_of replies) most) none.same same))
+  ]
+  | inr some ↦ inr (inl some)
+]

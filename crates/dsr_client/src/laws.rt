@@ -1,6 +1,6 @@
 //! The laws of a client's log, as the contracts of functions that do nothing.
 
-ghost use Rattle.std.specs.Prelude.{◌≡◌, ◌≢◌, ◌⊎◌, ◌↔◌, ℕ, suc, ◌*◌, ◌<◌, ◌≤◌, List, [], ◌∷◌, ◌++◌, None, Some, length};
+ghost use Rattle.std.specs.Prelude.{◌≡◌, ◌≢◌, ◌⊎◌, ◌↔◌, ℕ, suc, ◌*◌, max, ◌<◌, ◌≤◌, List, [], ◌∷◌, ◌++◌, None, Some, length};
 ghost use Rattle.std.specs.Option.{option_map};
 ghost use Rattle.dsr_base.specs.Growth.{Extends};
 ghost use Rattle.dsr_base.specs.Member.{In};
@@ -146,14 +146,23 @@ pub fn issue_fronts_are_of_first_asks()
         → front ≤ seen shape log }
 {}
 
-/// The seen front never falls, and is above the place of each accepted reply. A `Seen` from a replica counts for nothing, nor does
-/// a reply from a client.
+/// The seen front is 0 at first and never falls, and it is above the place of each accepted reply. What moves it is a `Seen` taken from
+/// a client, to the front that is told, or an entry that accepts a reply, to just past the reply's place, in each case where that is
+/// greater; every other entry leaves it. So a `Seen` from a replica counts for nothing, nor does a reply from a client.
 pub fn seen_fronts_only_grow()
+    ensures start { (shape : Shape) → seen shape [] ≡ 0 }
     ensures grows { (shape : Shape) (entry : Entry) (log : List Entry) → seen shape log ≤ seen shape (entry ∷ log) }
     ensures above { (shape : Shape) (log : List Entry) (reply : AReply) → In reply (accepted shape log) → reply.place < seen shape log }
     ensures replicas { (p front : ℕ) (shape : Shape) (log : List Entry) → seen shape (Take (Replica p) (Seen front) ∷ log) ≡ seen shape log }
     ensures clients { (c : ℕ) (envelope : Envelope) (shape : Shape) (log : List Entry)
         → state_after shape (Take (Client c) envelope ∷ log) ≡ state_after shape log }
+    ensures told { (c front : ℕ) (shape : Shape) (log : List Entry)
+        → seen shape (Take (Client c) (Seen front) ∷ log) ≡ max (seen shape log) front }
+    ensures accepted { (shape : Shape) (entry : Entry) (log : List Entry) (reply : AReply) → Accepts shape entry log reply
+        → seen shape (entry ∷ log) ≡ max (seen shape log) (suc reply.place) }
+    ensures moves { (shape : Shape) (entry : Entry) (log : List Entry)
+        → ((c : ℕ) × (front : ℕ) × (entry ≡ Take (Client c) (Seen front))) ⊎ ((reply : AReply) × Accepts shape entry log reply)
+        ⊎ (seen shape (entry ∷ log) ≡ seen shape log) }
 {}
 
 /// A client never looks at who is a traitor. Under two shapes that agree in all but that, it accepts and sees the same, and

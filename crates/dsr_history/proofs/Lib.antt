@@ -1,4 +1,5 @@
 mod HistoryLaws
+mod LastReplies
 pub mod Lemmas
 mod LineLemmas
 mod MachineLemmas

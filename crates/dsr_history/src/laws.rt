@@ -1,6 +1,6 @@
 //! Laws over the definitions, as contracts of functions that do nothing.
 
-ghost use Rattle.std.specs.Prelude.{◌≡◌, ℕ, ◌<◌, Some, List, ◌++◌, length};
+ghost use Rattle.std.specs.Prelude.{◌≡◌, ◌≢◌, ℕ, ◌<◌, ◌≤◌, None, Some, List, ◌++◌, length};
 ghost use Rattle.dsr_base.specs.Growth.{Extends};
 ghost use Rattle.dsr_base.specs.Member.{In};
 ghost use Rattle.dsr_request.specs.Request.{Request};
@@ -22,8 +22,9 @@ pub fn history_is_legal()
 {}
 
 /// What stands in a history: requests of the values alone. What stands at a place stays there as the history
-/// grows, and stood there before if the place did. A client's number stands at one place. And a
-/// client's last reply is the answer to a request of that client, at the place where it stands.
+/// grows, and stood there before if the place did. A client's number stands at one place. A
+/// client's last reply is the answer to a request of that client, at the place where it stands: to the last one, which always has a
+/// reply. Only a client of whose requests none stands there has none.
 pub fn requests_keep_their_places()
     ensures from_values { (values : List (List Request)) (request : Request) → In request (acted values)
         → (requests : List Request) × In requests values × In request requests }
@@ -42,4 +43,12 @@ pub fn requests_keep_their_places()
         → (request ≡ again) × (place ≡ other) × (answer ≡ told) }
     ensures replies { (history : List Request) (client : ℕ) (reply : Reply)
         → reply_in history client ≡ Some reply → IsReplyTo history client reply }
+    ensures last { (history : List Request) (place : ℕ) (request : Request) (answer : Answer)
+        → (stands : StandsAt history place request answer)
+        → ((newer : Request) → In newer stands.newer → newer.client ≢ request.client)
+        → reply_in history request.client ≡ Some (record { number = request.number; place = place; answer = answer }) }
+    ensures replied { (history : List Request) (request : Request) → IsLegal history → In request history
+        → (reply : Reply) × (reply_in history request.client ≡ Some reply) × (request.number ≤ reply.number) }
+    ensures unreplied { (history : List Request) (client : ℕ)
+        → ((request : Request) → In request history → request.client ≢ client) → reply_in history client ≡ None }
 {}

@@ -50,16 +50,19 @@ impl Machine {
     }
 
     /// Makes room for the next value: `accept_value` then allocates nothing. `NoMemory` where it is refused: then
-    /// nothing changed, but that there may be more room.
+    /// nothing changed, but that there may be more room. It is not refused where there is room already.
     pub fn room(&mut self) -> Result<(), Refusal>
         ensures ok { OnOk result (8 ≤ self.new.room) }
+        ensures has { 8 ≤ self.old.room → IsOk result }
         ensures no_less { self.old.room ≤ self.new.room }
         ensures refusal { IsOkUnless result Refusal.NoMemory }
         ensures history { self.new.history ≡ self.old.history }
         ensures clients { self.new.clients ≡ self.old.clients }
     {
-        self.history.reserve(MOST_REQUESTS)?;
-        self.answers.reserve(MOST_REQUESTS)?;
+        if self.spare() < MOST_REQUESTS {
+            self.history.reserve(MOST_REQUESTS)?;
+            self.answers.reserve(MOST_REQUESTS)?;
+        }
         Ok(())
     }
 
@@ -91,9 +94,7 @@ impl Machine {
         ensures in_room { 8 ≤ self.old.room → IsOk result }
         ensures left { self.old.room ≤ self.new.room + length requests.now }
     {
-        if self.spare() < MOST_REQUESTS {
-            self.room()?;
-        }
+        self.room()?;
         let mut count = 0;
         for request in requests {
             if self.process(request) {

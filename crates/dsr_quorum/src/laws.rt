@@ -1,14 +1,17 @@
 //! The laws of voting, as the contracts of functions that do nothing.
 
-ghost use Rattle.std.specs.Prelude.{◌≡◌, ℕ, ◌+◌, ◌*◌, ◌<◌, ◌≤◌, List, None, Some};
+ghost use Rattle.std.specs.Prelude.{◌≡◌, ℕ, ◌+◌, ◌*◌, ◌<◌, ◌≤◌, Bool, true, List, None, Some};
+ghost use Rattle.dsr_base.specs.Bits.{count_below};
 ghost use Rattle.dsr_names.specs.Shape.{Shape, IsLoyal, HasFewTraitors};
 ghost use Rattle.dsr_names.specs.declared.actor.Actor.TheVariants.{Replica};
 ghost use Rattle.dsr_ledger.specs.declared.reply.Reply.{Reply};
 ghost use Rattle.dsr_quorum.specs.Votes.{Note, first_of, votes, winner};
 
-/// Where at most f replicas are traitors, a reply with more than f votes was given by a loyal replica: it is the first reply
-/// of one. The winner has more than f votes, and where there is none, no reply has.
+/// Where at most f replicas are traitors, one of more than f different replicas is loyal, whatever they have in common. So a reply with
+/// more than f votes was given by a loyal replica: it is the first reply of one. The winner has more than f votes, and where there is none, no reply has.
 pub fn enough_votes_have_a_loyal_one()
+    ensures one { (shape : Shape) (gave : ℕ → Bool) → HasFewTraitors shape → shape.f < count_below gave shape.n
+        → (p : ℕ) × IsLoyal shape (Replica p) × (gave p ≡ true) }
     ensures loyal { (shape : Shape) (notes : List Note) (reply : Reply) → HasFewTraitors shape
         → shape.f < votes shape.n notes reply
         → (p : ℕ) × IsLoyal shape (Replica p) × (first_of p notes ≡ Some reply) }

@@ -31,13 +31,15 @@ use Rattle.dsr_envelope.specs.declared.envelope.Envelope.TheVariants.{Empty, Rou
 use Rattle.dsr_envelope.specs.declared.entry.Entry.{Entry}
 use Rattle.dsr_envelope.specs.declared.entry.Entry.TheVariants.{Post, Take}
 use Rattle.dsr_replica.specs.Held.{is_own_ask, gives_way, held_with, held, put_before, all_held}
+use Rattle.dsr_replica.proofs.Saying.{from_parts}
 
 -- an ask that a client signed as its own request
 pub record IsOwnAsk (shape : Shape) (client : ℕ) (s : SignedRequest) : Type 0 where
   pub client_is : s.request.client ≡ client
   pub asked : IsAsked shape s
 
-own_parts : (shape : Shape) (client : ℕ) (s : SignedRequest) → is_own_ask shape client s ≡ true → IsOwnAsk shape client s
+-- what the test says
+pub own_parts : (shape : Shape) (client : ℕ) (s : SignedRequest) → is_own_ask shape client s ≡ true → IsOwnAsk shape client s
 own_parts shape client s e =
     let parts = (Decides-and (s.request.client == client) (is_asked shape s) (Decides-eqb s.request.client client) (asked-Decides shape s)).0 e in
     record { client_is = parts.0; asked = parts.1 }
@@ -165,19 +167,13 @@ held_may shape log clients asks list are =
       taken = are.taken;
     }
 
-pub from_parts : (b : Bool) (o : Option (List SignedRequest)) (value : SlotValue) → (if b then option_map Act o else None) ≡ Some value
-    → (asks : List SignedRequest) × (o ≡ Some asks) × (Act asks ≡ value)
-from_parts true None value e = absurd (none-some value e)
-from_parts true (Some asks) value e = (asks, refl, same_Some (Act asks) value e)
-from_parts false o value e = absurd (none-some value e)
-
 -- what a choice proposes may be proposed
 pub proposed_may : (shape : Shape) (me : Actor) (log : List Entry) (pick : Pick) (value : SlotValue) → IsPick pick
     → proposed shape me log pick ≡ Some value → MayPropose shape log value
 proposed_may shape me log Plain value good e = subst (MayPropose shape log) (same_Some Idle value e) (idle_may shape log)
 proposed_may shape me log (From clients) value good e =
-    let parts = from_parts (actor_eq me (sender_of shape (rounds shape log))) (all_held shape log clients) value e in
-    subst (MayPropose shape log) parts.2 (held_may shape log clients parts.0 good (all_held_from shape log clients parts.0 parts.1))
+    let parts = from_parts shape me (rounds shape log) (all_held shape log clients) value e in
+    subst (MayPropose shape log) parts.is (held_may shape log clients parts.list good (all_held_from shape log clients parts.list parts.are))
 proposed_may shape me log (Begin op) value good e = absurd (none-some value e)
 
 -- what may be proposed may be later

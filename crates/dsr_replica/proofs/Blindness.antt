@@ -1,5 +1,5 @@
 -- Nothing that a loyal replica keeps, holds, decides or posts depends on who is a traitor.
-use Rattle.std.proofs.Common.{◌≡◌, ◌<◌, ℕ, zero, suc, ◌+◌, ◌-◌, ◌==◌, ◌&&◌, not, nat_lt, List, [], ◌∷◌, length, Option, None, Some, if◌then◌else◌, refl, ap, ap₂, sym, ◌∙◌, subst}
+use Rattle.std.proofs.Common.{◌≡◌, ◌<◌, ℕ, zero, suc, ◌+◌, ◌-◌, ◌==◌, ◌&&◌, not, nat_lt, Bool, true, false, List, [], ◌∷◌, length, Option, None, Some, if◌then◌else◌, refl, ap, ap₂, sym, ◌∙◌, subst}
 use Rattle.std.specs.Prelude.{map, slice_get}
 use Rattle.std.specs.Option.{option_map}
 use Rattle.dsr_names.specs.Shape.{Shape, AgreeButForTraitors}
@@ -16,7 +16,6 @@ use Rattle.dsr_chain.specs.Content.{requests_in}
 use Rattle.dsr_chain.specs.Proper.{sender_of}
 use Rattle.dsr_chain.specs.declared.signed_request.SignedRequest.{SignedRequest}
 use Rattle.dsr_chain.specs.declared.slot_value.SlotValue.{SlotValue}
-use Rattle.dsr_chain.specs.declared.slot_value.SlotValue.TheVariants.{Act}
 use Rattle.dsr_chain.proofs.Lemmas.{sender_blind}
 use Rattle.dsr_slot.specs.Broadcast.{from_each}
 use Rattle.dsr_slot.specs.Conduct.{posted}
@@ -29,11 +28,12 @@ use Rattle.dsr_envelope.specs.declared.entry.Entry.TheVariants.{Post, Take}
 use Rattle.dsr_envelope.specs.declared.due.Due.TheVariants.{Post as PostTo, Take as TakeFrom}
 use Rattle.dsr_envelope.specs.declared.pick.Pick.{Pick}
 use Rattle.dsr_envelope.specs.declared.pick.Pick.TheVariants.{Plain, From, Begin}
-use Rattle.dsr_replica.specs.Conduct.{slot_part, chains_posted, proposed, envelope_with, chosen, is_due, envelope_to, reply_to, IsNext, IsLoyalLog}
+use Rattle.dsr_replica.specs.Conduct.{slot_part, chains_posted, from_held, proposed, envelope_with, chosen, is_due, envelope_to, reply_to, IsNext, IsLoyalLog}
 use Rattle.dsr_replica.specs.Decided.{sent, slot_read, slot_kept, slot_decided, values, decided_values}
 use Rattle.dsr_envelope.specs.Envelope.{round_envelope}
 use Rattle.dsr_replica.specs.Held.{is_own_ask, gives_way, held_with, held, put_before, all_held}
 use Rattle.dsr_envelope.specs.Log.{posted_to, taken_from, due, rounds}
+use Rattle.dsr_replica.proofs.Saying.{reply_made, from_sender, from_another}
 
 module _ (shape other : Shape) (agree : AgreeButForTraitors shape other) where
   -- ---- what is due
@@ -122,11 +122,20 @@ module _ (shape other : Shape) (agree : AgreeButForTraitors shape other) where
       ap (λ t. round_envelope t (chains_posted shape me log t value)) (rounds_blind log)
       ∙ ap (round_envelope (rounds other log)) (chains_blind me log (rounds other log) value)
 
+  from_blind : (me : Actor) (round : ℕ) (asks : Option (List SignedRequest)) → from_held shape me round asks ≡ from_held other me round asks
+  from_blind me round asks = by_sender (actor_eq me (sender_of shape round)) refl
+    where
+      same : actor_eq me (sender_of shape round) ≡ actor_eq me (sender_of other round)
+      same = ap (actor_eq me) (sender_blind shape other agree round)
+
+      by_sender : (b : Bool) → actor_eq me (sender_of shape round) ≡ b → from_held shape me round asks ≡ from_held other me round asks
+      by_sender true own = from_sender shape me round asks own ∙ sym (from_sender other me round asks (sym same ∙ own))
+      by_sender false another = from_another shape me round asks another ∙ sym (from_another other me round asks (sym same ∙ another))
+
   proposed_blind : (me : Actor) (log : List Entry) (pick : Pick) → proposed shape me log pick ≡ proposed other me log pick
   proposed_blind me log Plain = refl
   proposed_blind me log (From clients) =
-      ap₂ (λ sender asks. if actor_eq me sender then option_map Act asks else None)
-      (ap (sender_of shape) (rounds_blind log) ∙ sender_blind shape other agree (rounds other log)) (all_held_blind log clients)
+      ap₂ (from_held shape me) (rounds_blind log) (all_held_blind log clients) ∙ from_blind me (rounds other log) (all_held other log clients)
   proposed_blind me log (Begin op) = refl
 
   chosen_blind : (me : Actor) (log : List Entry) (q : ℕ) (pick : Pick) → chosen shape me log q pick ≡ chosen other me log q pick
@@ -142,7 +151,8 @@ module _ (shape other : Shape) (agree : AgreeButForTraitors shape other) where
       ap₂ (λ d o. if is_due d q then o else None) (due_blind log) (chosen_blind me log q pick)
 
   pub reply_to_blind : (log : List Entry) (client : ℕ) → reply_to shape log client ≡ reply_to other log client
-  reply_to_blind log client = ap (λ vs. option_map Reply (reply (map requests_in vs) client)) (decided_values_blind log)
+  reply_to_blind log client =
+      reply_made shape log client ∙ (ap (λ vs. option_map Reply (reply (map requests_in vs) client)) (decided_values_blind log) ∙ sym (reply_made other log client))
 
   pub next_blind : (me : Actor) (log : List Entry) (entry : Entry) → IsNext shape me log entry → IsNext other me log entry
   next_blind me log (Post (Replica q) envelope) next = (next.0, next.1, sym (envelope_to_blind me log q next.0) ∙ next.2)

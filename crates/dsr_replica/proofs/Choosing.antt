@@ -6,12 +6,9 @@ use Rattle.std.proofs.lemmas.Bool.{cases_lt, false_from_ne_true, false≢true}
 use Rattle.std.proofs.lemmas.Bool.Decides.{nat_tests, Decides-eqb}
 use Rattle.std.proofs.lemmas.List.{take_all}
 use Rattle.std.proofs.lemmas.Option.{none-some, same_Some}
-use Rattle.dsr_names.specs.Support.ActorEquality.{actor_eq}
 use Rattle.dsr_names.specs.declared.actor.Actor.TheVariants.{Replica as ReplicaNumber}
-use Rattle.dsr_chain.specs.Proper.{sender_of}
 use Rattle.dsr_chain.specs.declared.signed_request.SignedRequest.{SignedRequest}
 use Rattle.dsr_chain.specs.declared.slot_value.SlotValue.{SlotValue}
-use Rattle.dsr_chain.specs.declared.slot_value.SlotValue.TheVariants.{Act}
 use Rattle.dsr_envelope.specs.declared.envelope.Envelope.{Envelope}
 use Rattle.dsr_envelope.specs.declared.entry.Entry.{Entry}
 use Rattle.dsr_envelope.specs.declared.entry.Entry.TheVariants.{Post}
@@ -19,7 +16,7 @@ use Rattle.dsr_envelope.specs.declared.pick.Pick.{Pick}
 use Rattle.dsr_envelope.specs.declared.pick.Pick.TheVariants.{Plain, From, Begin}
 use Rattle.dsr_envelope.specs.declared.due.Due.{Due}
 use Rattle.dsr_envelope.specs.declared.due.Due.TheVariants.{Post as PostTo, Take as TakeFrom}
-use Rattle.dsr_replica.specs.Conduct.{envelope_with, chosen, is_due, envelope_to}
+use Rattle.dsr_replica.specs.Conduct.{from_held, envelope_with, chosen, is_due, envelope_to}
 use Rattle.dsr_replica.specs.Counts.{posts_at}
 use Rattle.dsr_replica.specs.Held.{put_before, all_held}
 use Rattle.dsr_envelope.specs.Log.{posted_to, taken_from, due, rounds}
@@ -88,7 +85,7 @@ chosen_is : (r : Replica) (log : List Entry) (to : ℕ) (pick : Pick) → Stands
 chosen_is r log zero Plain stands next = refl
 chosen_is r log zero (From clients) stands next =
     ap (option_map (envelope_with r.shape r.me log))
-    (ap₂ (λ t o. if actor_eq r.me (sender_of r.shape t) then option_map Act o else None) (rounds_are r.shape log r.round stands.counts) (sym (asks_same r log stands clients)))
+    (ap₂ (from_held r.shape r.me) (rounds_are r.shape log r.round stands.counts) (sym (asks_same r log stands clients)))
 chosen_is r log zero (Begin op) stands next = refl
 chosen_is r log (suc q) Plain stands next =
     ap (slice_get (posted_to (ReplicaNumber 0) log)) (rounds_are r.shape log r.round stands.counts)

@@ -31,6 +31,7 @@ use Rattle.dsr_replica.proofs.Counting.{post_due, counts, all_taken}
 use Rattle.dsr_replica.proofs.Growing.{read_same, kept_same, decided_grow, rounds_grow}
 use Rattle.dsr_replica.proofs.Joining.{get_last}
 use Rattle.dsr_replica.proofs.Posting.{equal_posts, lawful_posts}
+use Rattle.dsr_replica.proofs.Saying.{reply_made}
 use Rattle.dsr_replica.proofs.Sources.{chain_posted, round_source}
 
 module _ (shape : Shape) (me : Actor) (some : 0 < shape.n) where
@@ -130,7 +131,7 @@ module _ (shape : Shape) (me : Actor) (some : 0 < shape.n) where
 
   reply_parts : (shape : Shape) (log : List Entry) (client : ℕ) (envelope : Envelope) → reply_to shape log client ≡ Some envelope
       → (r : AReply) × (Reply r ≡ envelope)
-  reply_parts shape log client envelope e = found (reply (decided_requests shape log) client) e
+  reply_parts shape log client envelope e = found (reply (decided_requests shape log) client) (sym (reply_made shape log client) ∙ e)
     where
       found : (o : Option AReply) → option_map Reply o ≡ Some envelope → (r : AReply) × (Reply r ≡ envelope)
       found None e = absurd (none-some envelope e)

@@ -5,16 +5,21 @@ mod Choosing
 mod Counting
 mod Fitting
 mod Growing
+mod Holding
 mod InFlight
 mod Joining
+mod LastReplies
 mod Later
 pub mod Lemmas
 mod Possible
 mod Posting
 mod Posts
+mod Proposing
 mod Reading
 mod Replied
 mod Replying
+mod Saying
 mod Shown
+mod Silence
 mod Sources
 mod Standing

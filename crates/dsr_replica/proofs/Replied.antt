@@ -1,5 +1,5 @@
 -- What a loyal replica replies stands in its history.
-use Rattle.std.proofs.Common.{◌≡◌, ℕ, ◌<◌, List, [], ◌∷◌, Option, None, Some, refl, ap, subst}
+use Rattle.std.proofs.Common.{◌≡◌, ℕ, ◌<◌, List, [], ◌∷◌, Option, None, Some, refl, ap, sym, ◌∙◌, subst}
 use Rattle.std.specs.Option.{option_map}
 use Rattle.std.proofs.lemmas.Option.{none-some, same_Some}
 use Rattle.dsr_base.specs.Growth.{Extends}
@@ -17,6 +17,7 @@ use Rattle.dsr_envelope.specs.declared.entry.Entry.TheVariants.{Post}
 use Rattle.dsr_replica.specs.Conduct.{IsNext, IsLoyalLog}
 use Rattle.dsr_replica.specs.Decided.{decided_requests}
 use Rattle.dsr_replica.proofs.Later.{history_later}
+use Rattle.dsr_replica.proofs.Saying.{reply_made}
 
 -- a reply to a request of a history is one to a request of each history that grew from it
 pub reply_later : (later earlier : List Request) (client : ℕ) (r : AReply) → Extends later earlier → IsReplyTo earlier client r → IsReplyTo later client r
@@ -40,7 +41,7 @@ module _ (shape : Shape) (me : Actor) (some : 0 < shape.n) where
       → IsReplyTo (acted (decided_requests shape older)) client r
   just_replied entry older next client r e =
       let posted : IsNext shape me older (Post (Client client) (Reply r)) = subst (IsNext shape me older) e next in
-      reply_stands (acted (decided_requests shape older)) client r (reply_is (reply (decided_requests shape older) client) r posted.1)
+      reply_stands (acted (decided_requests shape older)) client r (reply_is (reply (decided_requests shape older) client) r (sym (reply_made shape older client) ∙ posted.1))
 
   still_replied : (entry : Entry) (older : List Entry) → IsLoyalLog shape me (entry ∷ older) → (client : ℕ) (r : AReply)
       → IsReplyTo (acted (decided_requests shape older)) client r → IsReplyTo (acted (decided_requests shape (entry ∷ older))) client r

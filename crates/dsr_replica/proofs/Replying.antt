@@ -1,6 +1,6 @@
 -- The history of a loyal log whose takes are within the limits: at most 8 requests for each closed round, each within the limits; so
 -- are the replies.
-use Rattle.std.proofs.Common.{◌≡◌, ℕ, zero, suc, ◌*◌, ◌^◌, ◌<◌, ◌≤◌, true, false, List, [], ◌∷◌, length, Option, None, Some, if◌then◌else◌, inl, inr, refl, ap, sym, subst, arith}
+use Rattle.std.proofs.Common.{◌≡◌, ℕ, zero, suc, ◌*◌, ◌^◌, ◌<◌, ◌≤◌, true, false, List, [], ◌∷◌, length, Option, None, Some, if◌then◌else◌, inl, inr, refl, ap, sym, ◌∙◌, subst, arith}
 use Rattle.std.specs.Prelude.{All, map, reverse}
 use Rattle.std.specs.Option.{option_map}
 use Rattle.std.proofs.lemmas.List.{length-map, length-append, length-reverse}
@@ -32,6 +32,7 @@ use Rattle.dsr_envelope.specs.Limits.{IsSigned, IsEnvelope, IsReply}
 use Rattle.dsr_envelope.specs.Log.{rounds}
 use Rattle.dsr_replica.proofs.Fitting.{read_fits, of_round_fits}
 use Rattle.dsr_replica.proofs.Posting.{next_of_round}
+use Rattle.dsr_replica.proofs.Saying.{reply_made}
 
 -- ---- counting
 
@@ -96,7 +97,7 @@ module _ (shape : Shape) (log : List Entry) (took : (from : Actor) (x : Envelope
 
   -- so is each reply, in rounds up to 2^36
   pub reply_fits : rounds shape log ≤ 2 ^ 36 → (client : ℕ) (x : Envelope) → reply_to shape log client ≡ Some x → IsEnvelope x
-  reply_fits low client x e = found (reply (decided_requests shape log) client) refl e
+  reply_fits low client x e = found (reply (decided_requests shape log) client) refl (sym (reply_made shape log client) ∙ e)
     where
       is_reply : (r : AReply) → reply (decided_requests shape log) client ≡ Some r → IsReply r
       is_reply r is =

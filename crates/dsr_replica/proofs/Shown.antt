@@ -30,8 +30,9 @@ use Rattle.dsr_replica.specs.Conduct.{slot_part, chains_posted, proposed, envelo
 use Rattle.dsr_replica.specs.Decided.{slot_kept}
 use Rattle.dsr_replica.specs.Held.{all_held}
 use Rattle.dsr_replica.specs.Shown.{last_value, shown_value, shown_clients, choice_of, choice_in, shown_choice, IsOwnLast}
-use Rattle.dsr_replica.proofs.Asks.{all_held_from, from_parts}
+use Rattle.dsr_replica.proofs.Asks.{all_held_from}
 use Rattle.dsr_replica.proofs.Posting.{chosen_then}
+use Rattle.dsr_replica.proofs.Saying.{from_parts}
 
 -- the value of a chain that stands last
 last_of : (value : SlotValue) (chains : List Chain) (chain : Chain) → last_value value (chains ++ chain ∷ []) ≡ chain.value
@@ -67,7 +68,7 @@ module _ (shape : Shape) (me : Actor) (log : List Entry) where
     pub own_last : chains_posted shape me log t value ≡ from_each t (slot_part shape me log t value) ++ started t value me ∷ []
     own_last = ap (λ chains. from_each t (slot_part shape me log t value) ++ chains) own_part
 
-    envelope_last : IsOwnLast shape me t value (round_envelope t (chains_posted shape me log t value))
+    pub envelope_last : IsOwnLast shape me t value (round_envelope t (chains_posted shape me log t value))
     envelope_last = record {
       relayed = from_each t (slot_part shape me log t value);
       is = ap (round_envelope t) own_last ∙ with_last t (from_each t (slot_part shape me log t value)) (started t value me);
@@ -103,33 +104,29 @@ module _ (shape : Shape) (me : Actor) (log : List Entry) where
       (h.value, h.proposes, subst (IsOwnLast shape me (rounds shape log) h.value) h.is (envelope_last (rounds shape log) h.value own))
 
   -- the clients of the requests that are proposed
-  only_sender : (b : Bool) (o : Option (List SignedRequest)) (value : SlotValue) → (if b then option_map Act o else None) ≡ Some value → b ≡ true
-  only_sender true o value e = refl
-  only_sender false o value e = absurd (none-some value e)
-
-  from_sender : (clients : List ℕ) (value : SlotValue) → proposed shape me log (From clients) ≡ Some value
+  own_asks : (clients : List ℕ) (value : SlotValue) → proposed shape me log (From clients) ≡ Some value
       → actor_eq me (sender_of shape (rounds shape log)) ≡ true
-  from_sender clients value e = only_sender (actor_eq me (sender_of shape (rounds shape log))) (all_held shape log clients) value e
+  own_asks clients value e = let parts = from_parts shape me (rounds shape log) (all_held shape log clients) value e in parts.own
 
   -- only a sender proposes requests
   pub only_sender_proposes : (clients : List ℕ) (envelope : Envelope) → envelope_to shape me log 0 (From clients) ≡ Some envelope
       → actor_eq me (sender_of shape (rounds shape log)) ≡ true
-  only_sender_proposes clients envelope e = let h = given (From clients) envelope e in from_sender clients h.value h.proposes
+  only_sender_proposes clients envelope e = let h = given (From clients) envelope e in own_asks clients h.value h.proposes
 
   clients_proposed : (clients : List ℕ) (value : SlotValue) (envelope : Envelope) → proposed shape me log (From clients) ≡ Some value
       → shown_value envelope ≡ value → shown_clients envelope ≡ clients
   clients_proposed clients value envelope e shows =
-      let parts = from_parts (actor_eq me (sender_of shape (rounds shape log))) (all_held shape log clients) value e in
-      let are = all_held_from shape log clients parts.0 parts.1 in
-      ap (λ v. map (λ r. r.client) (requests_in v)) (shows ∙ sym parts.2)
-      ∙ (map-map (λ r. r.client) (λ (s : SignedRequest). s.request) parts.0 ∙ are.clients_are)
+      let parts = from_parts shape me (rounds shape log) (all_held shape log clients) value e in
+      let are = all_held_from shape log clients parts.list parts.are in
+      ap (λ v. map (λ r. r.client) (requests_in v)) (shows ∙ sym parts.is)
+      ∙ (map-map (λ r. r.client) (λ (s : SignedRequest). s.request) parts.list ∙ are.clients_are)
 
   -- an envelope from some clients shows them
   pub sender_shows : (clients : List ℕ) (envelope : Envelope) → envelope_to shape me log 0 (From clients) ≡ Some envelope
       → shown_clients envelope ≡ clients
   sender_shows clients envelope e =
       let h = given (From clients) envelope e in
-      let last = sender_last (from_sender clients h.value h.proposes) (From clients) envelope e in
+      let last = sender_last (own_asks clients h.value h.proposes) (From clients) envelope e in
       clients_proposed clients last.0 envelope last.1 (shown_last (rounds shape log) last.0 envelope last.2)
 
   -- a sender's envelope for nothing in particular shows idle
@@ -168,7 +165,7 @@ module _ (shape : Shape) (me : Actor) (log : List Entry) where
       let h = given (From clients) envelope e in
       some_clients clients good
       ∙ (ap choice_of (sym (sender_shows clients envelope e))
-      ∙ ap (λ b. if b then choice_of (shown_clients envelope) else Plain) (sym (from_sender clients h.value h.proposes)))
+      ∙ ap (λ b. if b then choice_of (shown_clients envelope) else Plain) (sym (own_asks clients h.value h.proposes)))
   choice_beside (Begin op) envelope good e = let h = given (Begin op) envelope e in absurd (none-some h.value h.proposes)
 
   -- the envelope shows the choice

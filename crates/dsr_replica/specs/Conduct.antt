@@ -10,6 +10,7 @@ use Rattle.dsr_history.specs.History.{reply}
 use Rattle.dsr_rotation.specs.Calendar.{first_round, last_round}
 use Rattle.dsr_chain.specs.Chain.{Chain}
 use Rattle.dsr_chain.specs.Proper.{sender_of}
+use Rattle.dsr_chain.specs.declared.signed_request.SignedRequest.{SignedRequest}
 use Rattle.dsr_chain.specs.declared.slot_value.SlotValue.{SlotValue}
 use Rattle.dsr_chain.specs.declared.slot_value.SlotValue.TheVariants.{Idle, Act}
 use Rattle.dsr_slot.specs.Broadcast.{from_each}
@@ -40,12 +41,16 @@ slot_part shape me log t value slot =
 abbrev pub chains_posted : Shape → Actor → List Entry → ℕ → SlotValue → List Chain
 chains_posted shape me log t value = from_each (suc t) (slot_part shape me log t value)
 
--- the value that a choice proposes at the post to replica 0: idle, or the held asks of some clients where the slot that begins
--- with this round, the one of its number, is the replica's own. The list is meant to be 1 to 8 different clients (IsPick)
+-- the value of these held asks, if there are such, where the slot that begins with this round, the one of its number, is the
+-- replica's own; none where it is not
+abbrev pub from_held : Shape → Actor → ℕ → Option (List SignedRequest) → Option SlotValue
+from_held shape me round asks = if actor_eq me (sender_of shape round) then option_map Act asks else None
+
+-- the value that a choice proposes at the post to replica 0: idle, or the held asks of some clients where it is the sender. The
+-- list is meant to be 1 to 8 different clients (IsPick)
 abbrev pub proposed : Shape → Actor → List Entry → Pick → Option SlotValue
 proposed shape me log Plain = Some Idle
-proposed shape me log (From clients) =
-    if actor_eq me (sender_of shape (rounds shape log)) then option_map Act (all_held shape log clients) else None
+proposed shape me log (From clients) = from_held shape me (rounds shape log) (all_held shape log clients)
 proposed shape me log (Begin op) = None
 
 -- the envelope of the round in progress, where this value is proposed

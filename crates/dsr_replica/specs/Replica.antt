@@ -1,24 +1,21 @@
 -- A replica as contracts see it, and when it stands for a log (this project).
 use Rattle.std.specs.Prelude.{◌≡◌, ◌⊎◌, ℕ, zero, suc, ◌<◌, ◌≤◌, ◌^◌, List, [], ◌∷◌, Option, None, Some, IsSome, slice_get, slice_index_or, if◌then◌else◌}
-use Rattle.std.specs.Option.{option_map}
 use Rattle.dsr_base.specs.Member.{In}
 use Rattle.dsr_names.specs.Shape.{Shape}
 use Rattle.dsr_names.specs.declared.actor.Actor.{Actor}
 use Rattle.dsr_names.specs.declared.refusal.Refusal.{Refusal}
 use Rattle.dsr_names.specs.declared.refusal.Refusal.TheVariants.{NotDue, Exhausted, NoMemory}
 use Rattle.dsr_names.specs.declared.actor.Actor.TheVariants.{Replica as ReplicaNumber}
-use Rattle.dsr_names.specs.Support.ActorEquality.{actor_eq}
-use Rattle.dsr_chain.specs.Proper.{sender_of}
 use Rattle.dsr_chain.specs.declared.signed_request.SignedRequest.{SignedRequest}
 use Rattle.dsr_chain.specs.declared.slot_value.SlotValue.{SlotValue}
-use Rattle.dsr_chain.specs.declared.slot_value.SlotValue.TheVariants.{Idle, Act}
+use Rattle.dsr_chain.specs.declared.slot_value.SlotValue.TheVariants.{Idle}
 use Rattle.dsr_slot.specs.SlotState.{SlotState, HasRead}
 use Rattle.dsr_envelope.specs.declared.entry.Entry.{Entry}
 use Rattle.dsr_envelope.specs.declared.pick.Pick.{Pick}
 use Rattle.dsr_envelope.specs.declared.pick.Pick.TheVariants.{Plain, From, Begin}
 use Rattle.dsr_envelope.specs.declared.due.Due.{Due}
 use Rattle.dsr_envelope.specs.declared.due.Due.TheVariants.{Post as PostTo, Take as TakeFrom}
-use Rattle.dsr_replica.specs.Conduct.{envelope_with, is_due}
+use Rattle.dsr_replica.specs.Conduct.{from_held, envelope_with, is_due}
 use Rattle.dsr_replica.specs.Counts.{HasCounts}
 use Rattle.dsr_replica.specs.Decided.{slot_read, decided_values}
 use Rattle.dsr_replica.specs.Held.{held, put_before}
@@ -56,7 +53,7 @@ asks_of asks (client ∷ more) = put_before (ask_of asks client) (asks_of asks m
 -- the value that a choice proposes at the post to replica 0
 abbrev pub value_of : Replica → Pick → Option SlotValue
 value_of r Plain = Some Idle
-value_of r (From clients) = if actor_eq r.me (sender_of r.shape r.round) then option_map Act (asks_of r.asks clients) else None
+value_of r (From clients) = from_held r.shape r.me r.round (asks_of r.asks clients)
 value_of r (Begin op) = None
 
 -- the value with which the envelope to a replica is made: at the posts after the one to replica 0 what was proposed there

@@ -1,4 +1,4 @@
-ghost use Rattle.std.specs.Prelude.{◌≡◌, ℕ, ◌+◌, ◌<◌, ◌≤◌, ◌^◌, ◌↔◌, ◌∷◌, [], List, All, length, reverse, OnOk, IfOk, IsTrue, IsOkUnless};
+ghost use Rattle.std.specs.Prelude.{◌≡◌, ℕ, ◌+◌, ◌<◌, ◌≤◌, ◌^◌, ◌↔◌, ◌∷◌, [], List, All, length, reverse, OnOk, IsOk, IfOk, IsTrue, IsOkUnless};
 ghost use Rattle.dsr_chain.specs.Content.{requests_in};
 ghost use Rattle.dsr_request.specs.Request.{Request};
 ghost use Rattle.dsr_history.specs.History.{acted, reply};
@@ -45,15 +45,20 @@ impl Decisions {
         })
     }
 
-    /// Makes room for one more. `NoMemory` where it is refused: then nothing changed, but that there may be more room.
+    /// Makes room for one more. `NoMemory` where it is refused: then nothing changed, but that there may be more room. It is not refused
+    /// where there is room already.
     pub(crate) fn room(&mut self) -> Result<(), Refusal>
         ensures ok { OnOk result (HasRoom self.new) }
+        ensures has { HasRoom self.old → IsOk result }
         ensures refusal { IsOkUnless result Refusal.NoMemory }
         ensures values { self.new.values ≡ self.old.values }
         ensures clients { self.new.clients ≡ self.old.clients }
         ensures no_less { HasRoom self.old → HasRoom self.new }
     {
         self.machine.room()?;
+        if self.list.len() < self.list.capacity() {
+            return Ok(());
+        }
         self.list.reserve(1)?;
         Ok(())
     }

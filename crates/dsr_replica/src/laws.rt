@@ -1,6 +1,6 @@
 //! The laws of one loyal replica's log, as the contracts of functions that do nothing.
 
-ghost use Rattle.std.specs.Prelude.{◌≡◌, ◌⊎◌, ℕ, ◌+◌, ◌*◌, ◌^◌, ◌<◌, ◌≤◌, List, [], ◌∷◌, length, Some, IsSome, slice_get};
+ghost use Rattle.std.specs.Prelude.{◌≡◌, ◌≢◌, ◌⊎◌, ◌↔◌, ℕ, ◌+◌, ◌*◌, ◌^◌, ◌<◌, ◌≤◌, List, [], ◌∷◌, length, map, None, Some, IsSome, slice_get};
 ghost use Rattle.dsr_base.specs.Growth.{Extends};
 ghost use Rattle.dsr_base.specs.Member.{In};
 ghost use Rattle.dsr_names.specs.Shape.{Shape, IsAllowed, AgreeButForTraitors};
@@ -8,14 +8,18 @@ ghost use Rattle.dsr_names.specs.declared.actor.Actor.{Actor};
 ghost use Rattle.dsr_names.specs.declared.actor.Actor.TheVariants.{Replica, Client};
 ghost use Rattle.dsr_request.specs.Request.{Request};
 ghost use Rattle.dsr_request.specs.RequestText.{IsRequest};
-ghost use Rattle.dsr_history.specs.History.{acted};
+ghost use Rattle.dsr_request.specs.declared.answer.Answer.{Answer};
+ghost use Rattle.dsr_ledger.specs.declared.reply.Reply.{Reply as AReply};
+ghost use Rattle.dsr_history.specs.History.{acted, StandsAt, IsReplyTo};
 ghost use Rattle.dsr_rotation.specs.Calendar.{first_round};
 ghost use Rattle.dsr_desk.specs.Signature.{Signature};
 ghost use Rattle.dsr_chain.specs.Chain.{Chain};
-ghost use Rattle.dsr_chain.specs.Proper.{IsReplica, sender_of};
+ghost use Rattle.dsr_chain.specs.Proper.{IsReplica, IsAsked, sender_of};
+ghost use Rattle.dsr_chain.specs.declared.signed_request.SignedRequest.{SignedRequest};
 ghost use Rattle.dsr_chain.specs.declared.slot_value.SlotValue.{SlotValue};
-ghost use Rattle.dsr_chain.specs.declared.slot_value.SlotValue.TheVariants.{Idle};
+ghost use Rattle.dsr_chain.specs.declared.slot_value.SlotValue.TheVariants.{Idle, Act};
 ghost use Rattle.dsr_envelope.specs.declared.envelope.Envelope.{Envelope};
+ghost use Rattle.dsr_envelope.specs.declared.envelope.Envelope.TheVariants.{Empty, Round, Ask, Reply, Seen};
 ghost use Rattle.dsr_envelope.specs.declared.entry.Entry.{Entry};
 ghost use Rattle.dsr_envelope.specs.declared.entry.Entry.TheVariants.{Post, Take};
 ghost use Rattle.dsr_envelope.specs.declared.due.Due.TheVariants.{Post as PostTo, Take as TakeFrom};
@@ -25,7 +29,7 @@ ghost use Rattle.dsr_replica.specs.Conduct.{proposed, envelope_to, reply_to, IsN
 ghost use Rattle.dsr_replica.specs.Counts.{HasCounts};
 ghost use Rattle.dsr_replica.specs.Decided.{read_in, slot_kept, decided_values, decided_requests};
 ghost use Rattle.dsr_envelope.specs.Envelope.{chains_for, Carries};
-ghost use Rattle.dsr_replica.specs.Held.{held};
+ghost use Rattle.dsr_replica.specs.Held.{held, all_held};
 ghost use Rattle.dsr_envelope.specs.Limits.{IsEnvelope};
 ghost use Rattle.dsr_envelope.specs.Log.{posted_to, due, rounds};
 ghost use Rattle.dsr_envelope.specs.Pick.{IsPick};
@@ -141,4 +145,67 @@ pub fn envelopes_tell_choices()
     ensures last { (shape : Shape) (me : Actor) (log : List Entry) (pick : Pick) (envelope : Envelope) → me ≡ sender_of shape (rounds shape log)
         → envelope_to shape me log 0 pick ≡ Some envelope
         → (value : SlotValue) × (proposed shape me log pick ≡ Some value) × IsOwnLast shape me (rounds shape log) value envelope }
+{}
+
+/// What a replica holds of a client is moved by the client's own asks alone: an ask of the client, with its signature, whose number is
+/// not below that of what is held, is held from its take on, and one of a smaller number is not. Nothing else that is taken or posted
+/// changes what is held. At first nothing is.
+pub fn own_asks_are_held()
+    ensures start { (shape : Shape) (c : ℕ) → held shape c [] ≡ None }
+    ensures newer { (shape : Shape) (c : ℕ) (log : List Entry) (ask : SignedRequest) → ask.request.client ≡ c → IsAsked shape ask
+        → ((before : SignedRequest) → held shape c log ≡ Some before → before.request.number ≤ ask.request.number)
+        → held shape c (Take (Client c) (Ask ask) ∷ log) ≡ Some ask }
+    ensures older { (shape : Shape) (c : ℕ) (log : List Entry) (ask before : SignedRequest) → held shape c log ≡ Some before
+        → ask.request.number < before.request.number → held shape c (Take (Client c) (Ask ask) ∷ log) ≡ held shape c log }
+    ensures foreign { (shape : Shape) (c : ℕ) (log : List Entry) (ask : SignedRequest) → (ask.request.client ≡ c → IsAsked shape ask → ⊥)
+        → held shape c (Take (Client c) (Ask ask) ∷ log) ≡ held shape c log }
+    ensures no_ask { (shape : Shape) (c : ℕ) (log : List Entry) (envelope : Envelope) → ((ask : SignedRequest) → envelope ≢ Ask ask)
+        → held shape c (Take (Client c) envelope ∷ log) ≡ held shape c log }
+    ensures others { (shape : Shape) (c other : ℕ) (log : List Entry) (envelope : Envelope) → other ≢ c
+        → held shape c (Take (Client other) envelope ∷ log) ≡ held shape c log }
+    ensures replicas { (shape : Shape) (c p : ℕ) (log : List Entry) (envelope : Envelope)
+        → held shape c (Take (Replica p) envelope ∷ log) ≡ held shape c log }
+    ensures posts { (shape : Shape) (c : ℕ) (to : Actor) (log : List Entry) (envelope : Envelope)
+        → held shape c (Post to envelope ∷ log) ≡ held shape c log }
+{}
+
+/// Held asks can be proposed, in each round in which the replica is the sender, and in no other: where the post to replica 0 is due, there
+/// is an envelope with the asks held of the chosen clients, and its own chain on them stands last. They are there exactly where an ask
+/// of each of the clients is held, and are those in the clients' order.
+pub fn held_asks_can_be_proposed()
+    ensures sender { (shape : Shape) (me : Actor) (log : List Entry) (clients : List ℕ) (asks : List SignedRequest) → due shape log ≡ PostTo 0
+        → me ≡ sender_of shape (rounds shape log) → all_held shape log clients ≡ Some asks
+        → (envelope : Envelope) × (envelope_to shape me log 0 (From clients) ≡ Some envelope) × IsOwnLast shape me (rounds shape log) (Act asks) envelope }
+    ensures others { (shape : Shape) (me : Actor) (log : List Entry) (clients : List ℕ) → me ≢ sender_of shape (rounds shape log)
+        → envelope_to shape me log 0 (From clients) ≡ None }
+    ensures held { (shape : Shape) (log : List Entry) (clients : List ℕ)
+        → IsSome (all_held shape log clients) ↔ ((c : ℕ) → In c clients → IsSome (held shape c log)) }
+    ensures order { (shape : Shape) (log : List Entry) (clients : List ℕ) (asks : List SignedRequest) → all_held shape log clients ≡ Some asks
+        → map (λ c. held shape c log) clients ≡ map Some asks }
+{}
+
+/// Each client's last request that acted has a reply, whichever client that is: with the request's number, and with its place and its
+/// answer there. So for each request that acted its client has a reply, to that request or to a later one. A client of whose
+/// requests none acted has none.
+pub fn last_requests_are_replied()
+    ensures some { (shape : Shape) (log : List Entry) (request : Request) → In request (acted (decided_requests shape log))
+        → (reply : AReply) × (reply_to shape log request.client ≡ Some (Reply reply))
+        × IsReplyTo (acted (decided_requests shape log)) request.client reply × (request.number ≤ reply.number) }
+    ensures last { (shape : Shape) (log : List Entry) (place : ℕ) (request : Request) (answer : Answer)
+        → (stands : StandsAt (acted (decided_requests shape log)) place request answer)
+        → ((newer : Request) → In newer stands.newer → newer.client ≢ request.client)
+        → reply_to shape log request.client ≡ Some (Reply (record { number = request.number; place = place; answer = answer })) }
+    ensures none { (shape : Shape) (log : List Entry) (c : ℕ)
+        → ((request : Request) → In request (acted (decided_requests shape log)) → request.client ≢ c) → reply_to shape log c ≡ None }
+{}
+
+/// The chains that a replica reads of an envelope are all those of the round in which it is taken. An envelope of another round or kind is
+/// an empty list of chains.
+pub fn other_envelopes_are_silent()
+    ensures own { (t : ℕ) (chains : List Chain) → chains_for t (Round t chains) ≡ chains }
+    ensures others { (t round : ℕ) (chains : List Chain) → round ≢ t → chains_for t (Round round chains) ≡ [] }
+    ensures empty { (t : ℕ) → chains_for t Empty ≡ [] }
+    ensures asks { (t : ℕ) (ask : SignedRequest) → chains_for t (Ask ask) ≡ [] }
+    ensures replies { (t : ℕ) (reply : AReply) → chains_for t (Reply reply) ≡ [] }
+    ensures fronts { (t front : ℕ) → chains_for t (Seen front) ≡ [] }
 {}

@@ -1,4 +1,4 @@
-ghost use Rattle.std.specs.Prelude.{◌≡◌, ℕ, suc, ◌+◌, ◌<◌, ◌≤◌, ◌^◌, ◌↔◌, ◌∷◌, [], List, Some, All, length, map, reverse, OnOk, IfOk, IsSome, IsTrue, IsOkUnless, None, Err, IfErr, IfSome, IsNone, ◌⊎◌};
+ghost use Rattle.std.specs.Prelude.{◌≡◌, ℕ, suc, ◌+◌, ◌<◌, ◌≤◌, ◌^◌, ◌↔◌, ◌∷◌, [], List, Some, All, length, map, reverse, OnOk, IsOk, IfOk, IsSome, IsTrue, IsOkUnless, None, Err, IfErr, IfSome, IsNone, ◌⊎◌};
 ghost use Rattle.std.specs.Option.{option_map};
 ghost use Rattle.dsr_names.specs.Shape.{Shape, IsActor};
 ghost use Rattle.dsr_names.specs.Support.ActorEquality.{actor_eq};
@@ -176,9 +176,10 @@ impl Replica {
     }
 
     /// Makes room for what the next take may decide. `NoMemory` where it is refused: then nothing changed, but that there may
-    /// be more room.
+    /// be more room. It is not refused where there is room already.
     pub fn room(&mut self) -> Result<(), Refusal>
         ensures ok { OnOk result (HasRoom self.new) }
+        ensures has { HasRoom self.old → IsOk result }
         ensures refusal { IsOkUnless result Refusal.NoMemory }
         ensures same { self.new ≡ record self.old { requests = self.new.requests; places = self.new.places } }
         ensures stands { (log : List Entry) → StandsFor self.old log → StandsFor self.new log }
