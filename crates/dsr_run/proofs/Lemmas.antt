@@ -9,7 +9,7 @@ pub use Rattle.dsr_run.proofs.Proposing.{as_proposed, decided_was_proposed}
 pub use Rattle.dsr_run.proofs.Links.{two_links, one_link}
 pub use Rattle.dsr_run.proofs.Histories.{extends_on, IsFrom, most_from, most_long, most_extends, history_extends, history_is, history_grows, history_legal}
 pub use Rattle.dsr_run.proofs.Within.{rounds_within, posted_within, taken_within, loyal_next_within, history_within}
-pub use Rattle.dsr_run.proofs.Asking.{WasAsked, was_asked, outstanding_within}
+pub use Rattle.dsr_run.proofs.Asking.{outstanding_within}
 pub use Rattle.dsr_run.proofs.Agreements.{all_agree}
 pub use Rattle.dsr_run.proofs.Deciding.{IsBest, as_best, best_kept, best_more, best_past}
 pub use Rattle.dsr_run.proofs.Righting.{all_right, lent_answered, lent_right}

@@ -61,8 +61,9 @@ pub fn logs_are_right()
     ensures legal { (shape : Shape) (logs : Logs) → IsLegal (history shape logs) }
 {}
 
-/// The counters of logs of a run stay within the limits: fewer than 2^40 envelopes are posted in a box, and accepted replies have
-/// numbers below 2^40; and, where at most f replicas are traitors, no client has seen more than the history has.
+/// The counters of logs of a run stay within the limits: fewer than 2^40 envelopes are posted in a box, and the history has at most 2^39
+/// requests. Where at most f replicas are traitors, no client has seen more than the history has, and accepted replies have numbers below
+/// 2^40.
 pub fn counters_are_kept()
     ensures posts { (shape : Shape) (logs : Logs) → AreLogs shape logs → (a b : Actor) → length (posted_to b (logs a)) < 2 ^ 40 }
     ensures seen { (shape : Shape) (logs : Logs) → HasFewTraitors shape → AreLogs shape logs → (c : ℕ)
