@@ -31,7 +31,7 @@ use Rattle.dsr_run.specs.Step.{Step, log_of}
 use Rattle.dsr_node.specs.Node.{IsOutstandingAsk}
 use Rattle.dsr_names.specs.Places.{place_of}
 use Rattle.dsr_world.specs.Support.WorldFields.{AreLetters, kept_of, with_letter}
-use Rattle.dsr_run.proofs.Lemmas.{was_asked}
+use Rattle.dsr_client.proofs.Lemmas.{was_posted}
 use Rattle.dsr_run.proofs.Lemmas.{posted_entry}
 use Rattle.dsr_names.proofs.PlaceLemmas.{place_below, same_place}
 use Rattle.dsr_run.proofs.Lemmas.{log_cases, log_loyal, log_client}
@@ -190,6 +190,6 @@ module _ (shape : Shape) (run : List Step) (letters : List (Option Envelope)) (a
           → option_map Ask (chosen_beside o c (next_number shape log) Plain) ≡ Some (Ask ask)
       by_current None current e = absurd (none-some ask.request.number e)
       by_current (Some other) current e =
-          let asked = was_asked shape log other current in
+          let asked = was_posted shape log other current in
           let once = (numbered shape c log (log_client shape c run is)).once in
           ap (λ a. Some (Ask a)) (once asked.replica 0 other ask asked.posted posted (same_Some other.request.number ask.request.number e))
