@@ -12,6 +12,8 @@ mod desk;
 #[cfg(test)]
 mod envelope;
 #[cfg(test)]
+mod exact;
+#[cfg(test)]
 mod history;
 #[cfg(test)]
 mod ledger;

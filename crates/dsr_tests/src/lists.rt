@@ -11,6 +11,8 @@ struct Letter {
 
 impl Exact for Letter {
     ghost decides = { λ a b. Prim.search rules };
+
+    ghost clones = { λ a b. Prim.search rules };
 }
 
 const A: Letter = Letter { code: 65 };
