@@ -1,4 +1,4 @@
-ghost use Rattle.std.specs.Prelude.{◌≡◌, ◌≢◌, ℕ, suc, ◌<◌, ◌≤◌, ◌∷◌, [], ◌++◌, List, None, Some, IfSome, IfNone, OnOk, IsOkUnless};
+ghost use Rattle.std.specs.Prelude.{◌≡◌, ◌≢◌, ℕ, suc, ◌<◌, ◌≤◌, ◌∷◌, [], ◌++◌, List, None, Some, IfSome, IfNone, IsOk, OnOk, IsOkUnless};
 ghost use Rattle.dsr_names.specs.Shape.{IsActor};
 ghost use Rattle.dsr_names.specs.declared.actor.Actor.TheVariants.{Replica, Client as ClientNumber};
 ghost use Rattle.dsr_envelope.specs.Limits.{IsEnvelope};
@@ -73,12 +73,17 @@ impl Customer {
         };
     }
 
-    /// Makes room for one more accepted reply. `NoMemory` where it is refused: then nothing changed but the room.
+    /// Makes room for one more accepted reply. `NoMemory` where it is refused: then nothing changed but the room. It is not refused where
+    /// there is room already.
     pub fn room(&mut self) -> Result<(), Refusal>
         ensures same { self.new ≡ record self.old { room = self.new.room } }
         ensures room { OnOk result (0 < self.new.room) }
+        ensures has { 0 < self.old.room → IsOk result }
         ensures refusal { IsOkUnless result Refusal.NoMemory }
     {
+        if self.accepted.len() < self.accepted.capacity() {
+            return Ok(());
+        }
         match self.accepted.reserve(1) {
             Ok(()) => Ok(()),
             Err(_) => Err(Refusal::NoMemory),

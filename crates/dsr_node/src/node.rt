@@ -85,10 +85,12 @@ impl Node {
         }
     }
 
-    /// Makes room for what it may take. `NoMemory` where it is refused: then nothing changed, but that there may be more room.
+    /// Makes room for what it may take. `NoMemory` where it is refused: then nothing changed, but that there may be more room. It is not
+    /// refused where there is room already.
     pub fn room(&mut self) -> Result<(), Refusal>
         ensures plays { (shape : Shape) (me : Actor) (log : List Entry) → Plays shape me log self.old → Plays shape me log self.new }
         ensures room { OnOk result (HasRoomToTake self.new) }
+        ensures has { HasRoomToTake self.old → IsOk result }
         ensures refusal { IsOkUnless result Refusal.NoMemory }
     {
         match self {
