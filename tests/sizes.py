@@ -156,7 +156,7 @@ class Broadcasts:
     the sender of the slot that begins. In five of the slots of loyal senders eight clients' requests are proposed."""
 
     GROUPS = {0: range(0, 8), 1: range(8, 16), 2: range(16, 24), 3: range(24, 32), 8: range(0, 8)}
-    # in so many cycles a traitor's chains are filled up to 32 by chains with 16 signatures, each of which takes some 10,000 bytes
+    # in so many cycles traitors' envelopes are filled up to 32 chains by chains with 16 signatures, which take much memory
     FULL = 4
 
     def __init__(self, cycles):
@@ -165,14 +165,14 @@ class Broadcasts:
         self.plants = {}
         for _ in range(16 * cycles):
             self.round(len(self.play.slots))
-        play = self.play
-        play.tell(0, 31)
+        self.play.tell(0, 31)
 
     def round(self, t):
         play, sender = self.play, t % 16
-        # the requests that were proposed seven rounds ago and more are decided
-        for client in self.GROUPS.get((t - 8) % 16, []) if t >= 8 else []:
-            play.reply(client)
+        # what was proposed eight rounds ago is decided
+        for client in self.GROUPS.get((t - 8) % 16, []):
+            if t >= 8:
+                play.reply(client)
         group = self.GROUPS.get(sender, [])
         for client in group:
             play.ask(client)
@@ -351,7 +351,8 @@ def allocations(tally):
         # rounds of six events
         fault, grown, said = growth(count, [one_replica(6 * rounds, 1, 1) for rounds in (1_000, 2_000)])
         if grown > MOST_GROWN:
-            fault = f"{fault}; {grown} reallocations more for twice the rounds, and not at most {MOST_GROWN}"
+            more = f"for twice the rounds there are {grown} reallocations more, and not at most {MOST_GROWN}"
+            fault = f"{fault}; {more}" if fault else more
         tally.judge("1,000 and 2,000 rounds of one replica, allocations", fault, said)
         # 2,000 rounds would be more events than a play may have
         fault, _, said = growth(count, [broadcasts(cycles) for cycles in (16, 32)])
