@@ -156,7 +156,7 @@ class Broadcasts:
     the sender of the slot that begins. In five of the slots of loyal senders eight clients' requests are proposed."""
 
     GROUPS = {0: range(0, 8), 1: range(8, 16), 2: range(16, 24), 3: range(24, 32), 8: range(0, 8)}
-    # in so many cycles a traitor's chains are filled up to 32 by chains with 16 signatures, each of which takes some 10,000 bytes
+    # in so many cycles traitors' envelopes are filled up to 32 chains by chains with 16 signatures, which take much memory
     FULL = 4
 
     def __init__(self, cycles):
@@ -165,14 +165,14 @@ class Broadcasts:
         self.plants = {}
         for _ in range(16 * cycles):
             self.round(len(self.play.slots))
-        play = self.play
-        play.tell(0, 31)
+        self.play.tell(0, 31)
 
     def round(self, t):
         play, sender = self.play, t % 16
-        # the requests that were proposed seven rounds ago and more are decided
-        for client in self.GROUPS.get((t - 8) % 16, []) if t >= 8 else []:
-            play.reply(client)
+        # what was proposed eight rounds ago is decided
+        for client in self.GROUPS.get((t - 8) % 16, []):
+            if t >= 8:
+                play.reply(client)
         group = self.GROUPS.get(sender, [])
         for client in group:
             play.ask(client)
@@ -243,6 +243,10 @@ def broadcasts(cycles):
 
 # ---- runs of the program
 
+class WrongRun(Exception):
+    """A run that is only counted or timed did not do each event."""
+
+
 class Tally:
     def __init__(self):
         self.passed = self.failed = 0
@@ -250,6 +254,12 @@ class Tally:
     def judge(self, what, fault, said=""):
         self.passed, self.failed = self.passed + (not fault), self.failed + bool(fault)
         print(f"{what}: {f'FAILED: {fault}' if fault else f'ok{said}'}", flush=True)
+
+
+def ensure_done(play, status, said):
+    """Raises an error unless a run of this play ended so, with a report that begins so, as one does in which each event was done."""
+    if status != 0 or not said.startswith(f"done {play.events}\nrefused 0\n".encode()):
+        raise WrongRun(f"it ended with {status}, and reported {said[:80]!r}")
 
 
 def first_difference(written, wanted):
@@ -266,8 +276,11 @@ def fault_within(play, limit):
     text, wanted = play.text(), play.report()
     if len(text) > MOST_BYTES or play.events > MOST_EVENTS:
         return f"the play has {len(text)} bytes and {play.events} events"
-    run = subprocess.run([PROGRAM, "play"], input=text, capture_output=True, timeout=120, env=ENVIRONMENT,
-                         preexec_fn=lambda: resource.setrlimit(resource.RLIMIT_AS, (limit, limit)))
+    try:
+        run = subprocess.run([PROGRAM, "play"], input=text, capture_output=True, timeout=120, env=ENVIRONMENT,
+                             preexec_fn=lambda: resource.setrlimit(resource.RLIMIT_AS, (limit, limit)))
+    except subprocess.TimeoutExpired as late:
+        return str(late)
     if (run.returncode, run.stdout, run.stderr) == (0, wanted, b""):
         return None
     said = f"status {run.returncode}, {run.stderr[:120]!r}"
@@ -310,33 +323,40 @@ def counts_of(play, counter, note):
     """How often the program asked for memory with this play, how often it asked for more room, and how many bytes that had."""
     env = {**ENVIRONMENT, "LD_PRELOAD": counter, "COUNT_NOTE": note}
     run = subprocess.run([PROGRAM, "play"], input=play.text(), capture_output=True, timeout=120, env=env)
-    if run.returncode != 0 or not run.stdout.startswith(f"done {play.events}\nrefused 0\n".encode()):
-        sys.exit(f"ended with {run.returncode}: {run.stdout[:120]!r}")
+    ensure_done(play, run.returncode, run.stdout)
     with open(note) as file:
         return [int(count) for count in file.read().split()]
 
 
-def fault_of_growth(whats, first, second):
-    """Which of these counts is more than 2.2 times as great for twice the rounds, if one is. Of a linear program it is twice as great, and less
-    as far as the start takes some."""
+def growth(count, events):
+    """How these counts, of a play and of one with twice the rounds, grew: what is wrong with it, or None; and what they are."""
+    whats = ["allocations", "reallocations", "bytes that reallocations had"]
+    try:
+        first, second = (count(play) for play in events)
+    except (WrongRun, subprocess.TimeoutExpired) as fault:
+        return str(fault), 0, ""
+    # Of a linear program each is twice as great, and less as far as the start takes some.
     faults = [f"{what} are {before} and {after}" for what, before, after in zip(whats, first, second) if 10 * after > 22 * before]
-    return "; ".join(faults)
+    return "; ".join(faults), second[1] - first[1], f", {first} and {second}"
 
 
 def allocations(tally):
-    whats = ["allocations", "reallocations", "bytes that reallocations had"]
     with tempfile.TemporaryDirectory(prefix="dsr-sizes-") as room:
         counter, note = f"{room}/count.so", f"{room}/counts"
         subprocess.run(["cc", "-shared", "-fPIC", "-O1", "-o", counter, f"{TOP}/tests/count.c", "-ldl"], check=True)
-        # 1,000 and 2,000 rounds of six events
-        first, second = (counts_of(one_replica(events, 1, 1), counter, note) for events in (6_000, 12_000))
-        grown = second[1] - first[1]
-        more = "" if grown <= MOST_GROWN else f"{grown} reallocations more for twice the rounds, and not at most {MOST_GROWN}"
-        tally.judge("1,000 and 2,000 rounds of one replica, allocations", "; ".join(filter(None, [fault_of_growth(whats, first, second), more])),
-                    f", {first} and {second}")
-        # 256 and 512 rounds, as 2,000 would be more events than a play may have
-        first, second = (counts_of(broadcasts(cycles), counter, note) for cycles in (16, 32))
-        tally.judge("256 and 512 rounds of sixteen replicas, allocations", fault_of_growth(whats, first, second), f", {first} and {second}")
+
+        def count(play):
+            return counts_of(play, counter, note)
+
+        # rounds of six events
+        fault, grown, said = growth(count, [one_replica(6 * rounds, 1, 1) for rounds in (1_000, 2_000)])
+        if grown > MOST_GROWN:
+            more = f"for twice the rounds there are {grown} reallocations more, and not at most {MOST_GROWN}"
+            fault = f"{fault}; {more}" if fault else more
+        tally.judge("1,000 and 2,000 rounds of one replica, allocations", fault, said)
+        # 2,000 rounds would be more events than a play may have
+        fault, _, said = growth(count, [broadcasts(cycles) for cycles in (16, 32)])
+        tally.judge("256 and 512 rounds of sixteen replicas, allocations", fault, said)
 
 
 # ---- time
@@ -349,27 +369,36 @@ def least_time(play, runs):
     """The least processor time in seconds of so many runs."""
     text, times = play.text(), []
     for _ in range(runs):
-        with tempfile.TemporaryFile() as file:
+        with tempfile.TemporaryFile() as file, tempfile.TemporaryFile() as report:
             file.write(text)
             file.seek(0)
-            child = subprocess.Popen([PROGRAM, "play"], stdin=file, stdout=subprocess.DEVNULL, env=ENVIRONMENT)
+            child = subprocess.Popen([PROGRAM, "play"], stdin=file, stdout=report, env=ENVIRONMENT)
             _, status, used = os.wait4(child.pid, 0)
             child.returncode = os.waitstatus_to_exitcode(status)
+            report.seek(0)
+            ensure_done(play, child.returncode, report.read(80))
             times.append(used.ru_utime + used.ru_stime)
     return min(times)
 
 
+def fault_of_time(idle, few, many):
+    """What is wrong with the time of a play and of one with ten times the events, or None; and how many times as long that took."""
+    try:
+        start = least_time(idle, 30)
+        first, second = least_time(few, 30) - start, least_time(many, 5) - start
+    except WrongRun as fault:
+        return str(fault), ""
+    # so small a time is not measured well
+    ratio = second / max(first, 0.0005)
+    return f"it took {first:.4f} and {second:.4f} seconds" if ratio > MOST_TIMES else None, f", {ratio:.1f} times as long"
+
+
 def times(tally):
-    for what, idle, few, many in [
+    for what, *plays in [
         ("one replica", one_replica(0, 1, 1), one_replica(10_000, 1, 1), one_replica(100_000, 1, 1)),
         ("sixteen replicas", broadcasts(0), broadcasts(1), broadcasts(10)),
     ]:
-        start = least_time(idle, 30)
-        first, second = least_time(few, 30) - start, least_time(many, 5) - start
-        # the clock tells no less than this
-        ratio = second / max(first, 0.0005)
-        fault = f"it took {first:.4f} and {second:.4f} seconds" if ratio > MOST_TIMES else ""
-        tally.judge(f"10,000 and 100,000 events of {what}, time", fault, f", {ratio:.1f} times as long")
+        tally.judge(f"10,000 and 100,000 events of {what}, time", *fault_of_time(*plays))
 
 
 def main():
