@@ -1,5 +1,5 @@
 -- The lines of plays have no line feed in them, and whole plays.
-use Rattle.std.proofs.Common.{◌≡◌, ℕ, ◌<◌, List, ◌∷◌, ◌++◌, codes, refl, sym, ◌∙◌, ap, ap₂, arith, lit<}
+use Rattle.std.proofs.Common.{◌≡◌, ℕ, ◌<◌, ◌≤◌, List, [], ◌∷◌, ◌++◌, length, codes, refl, sym, ◌∙◌, ap, ap₂, arith, lit<}
 use Rattle.dsr_base.specs.Joined.{joined}
 use Rattle.dsr_names.specs.Actor.{IsNumbered, actor_text, client_text, replica_text}
 use Rattle.dsr_names.specs.declared.actor.Actor.{Actor}
@@ -12,11 +12,12 @@ use Rattle.dsr_envelope.specs.declared.pick.Pick.TheVariants.{Plain, From, Begin
 use Rattle.dsr_script.specs.EnvelopeText.{envelope_text}
 use Rattle.dsr_text.proofs.Clean.{IsClean, clean_nil, clean_append, field_clean, word_clean, joined_clean, replica_clean, actor_clean}
 use Rattle.dsr_script.proofs.FeedLemmas.{envelope_clean}
+use Rattle.dsr_text.specs.Lines.{AreLines}
 use Rattle.dsr_play.specs.declared.event.Event.{Event}
 use Rattle.dsr_play.specs.declared.event.Event.TheVariants.{Post, Plant, Take, Tell}
 use Rattle.dsr_play.specs.declared.play_line.PlayLine.{PlayLine}
 use Rattle.dsr_play.specs.declared.play_line.PlayLine.TheVariants.{One, Posts, PostsAll, Plants, Takes, TakesAll, Asks, Hears, Replies}
-use Rattle.dsr_play.specs.PlayText.{line_text, line_rest, pick_text, ends_text, IsPlayLine, IsSpelledPick, all_events}
+use Rattle.dsr_play.specs.PlayText.{plays, line_text, line_rest, pick_text, ends_text, IsPlayLine, IsSpelledPick, all_events}
 use Rattle.dsr_play.specs.Play.{Play, Spells}
 
 -- ---- no line feed stands in a line
@@ -80,3 +81,8 @@ make_play shape events = record { shape = shape; events = events }
 pub same_play : (text : List ℕ) (play : Play) (s : Spells text play) (shape : Shape) → shape ≡ play.shape → (events : List Event)
     → events ≡ all_events shape s.lines → make_play shape events ≡ play
 same_play text play s shape same events given = ap₂ make_play same (given ∙ (ap (λ x. all_events x s.lines) same ∙ sym s.events))
+
+-- the events of lines of a play are at most 1,000,000
+pub few_events : (shape : Shape) (lines : List PlayLine) → AreLines plays shape lines → length (all_events shape lines) ≤ 1000000
+few_events shape [] each = omega arith
+few_events shape (line ∷ earlier) each = let next = each.0 in next.follows

@@ -23,9 +23,13 @@ pub struct Play {
 impl Model for Play {
     ghost use Rattle.dsr_play.specs.Play.{Play};
 
+    ghost use Rattle.std.specs.Prelude.{◌≤◌, length};
+
     ghost Value = { Play };
 
     ghost view = { λ p. record { shape = p.shape; events = p.events.items } };
+
+    ghost invariant = { λ p. length p.events.items ≤ 1000000 };
 }
 
 impl Play {
@@ -44,13 +48,12 @@ impl Play {
             Ok(header) => header,
             Err(refusal) => return Err(refusal),
         };
-        let play = Play {
+        let mut reading = Reading {
             shape: header.shape,
             events: Vec::new(alloc),
         };
-        let mut reading = Reading { play };
         match take_lines(&mut reading, alloc, header.rest) {
-            Ok(()) => Ok(reading.play),
+            Ok(()) => Ok(reading.into_play()),
             Err(refusal) => Err(refusal),
         }
     }
@@ -64,14 +67,43 @@ impl Play {
 
     /// The events, in their order, at most 1,000,000 of them.
     pub fn events(&self) -> &[Event]
-        ensures { result.now ≡ self.now.events }
+        ensures same { result.now ≡ self.now.events }
+        ensures few { length result.now ≤ 1000000 }
     {
         self.events.as_slice()
     }
+}
+
+/// A play while its lines are read: its shape, and the events of the lines so far.
+#[derive(Drop)]
+struct Reading {
+    shape: Shape,
+    events: Vec<Event>,
+}
+
+impl Model for Reading {
+    ghost use Rattle.dsr_play.specs.Play.{Play};
+
+    ghost Value = { Play };
+
+    ghost view = { λ r. record { shape = r.shape; events = r.events.items } };
+}
+
+impl Reading {
+    /// The play. Requires that its events are at most 1,000,000.
+    fn into_play(self) -> Play
+        requires { length self.events ≤ 1000000 }
+        ensures { result ≡ self }
+    {
+        Play {
+            shape: self.shape,
+            events: self.events,
+        }
+    }
 
     /// Takes in the events that the line stands for, and says whether the events are then at most 1,000,000. Where they are more,
-    /// the play is of no use.
-    fn take(&mut self, alloc: Global, line: PlayLine) -> Result<bool, Refusal>
+    /// what was read is of no use.
+    fn add(&mut self, alloc: Global, line: PlayLine) -> Result<bool, Refusal>
         ensures taken { OnOk result (self.new.events ≡ self.old.events ++ events_of self.old.shape line) }
         ensures when { IfOk result (λ can. IsTrue can ↔ length (self.old.events ++ events_of self.old.shape line) ≤ 1000000) }
         ensures shape { self.new.shape ≡ self.old.shape }
@@ -80,20 +112,6 @@ impl Play {
         add_events(alloc, &self.shape, line, &mut self.events)?;
         Ok(self.events.len() <= MOST_EVENTS)
     }
-}
-
-/// A play while its lines are read.
-#[derive(Drop)]
-struct Reading {
-    play: Play,
-}
-
-impl Model for Reading {
-    ghost use Rattle.dsr_play.specs.Play.{Play};
-
-    ghost Value = { Play };
-
-    ghost view = { λ r. r.play };
 }
 
 impl TakesLines for Reading {
@@ -113,6 +131,6 @@ impl TakesLines for Reading {
     }
 
     fn take(&mut self, alloc: Global, line: PlayLine) -> Result<bool, Refusal> {
-        self.play.take(alloc, line)
+        self.add(alloc, line)
     }
 }

@@ -591,12 +591,16 @@ fn look_at(pick: &Pick)
     }
 }
 
-/// Makes room for one more entry. `NoMemory` where it is refused.
+/// Makes room for one more entry. `NoMemory` where it is refused, which it is not where there is room already.
 fn make_room(entries: &mut Vec<(Actor, Entry)>) -> Result<(), Refusal>
     ensures same { entries.new.items ≡ entries.old.items }
     ensures room { OnOk result (vec_len entries.new < vec_capacity entries.new) }
+    ensures has { vec_len entries.old < vec_capacity entries.old → IsOk result }
     ensures refusal { IsOkUnless result Refusal.NoMemory }
 {
+    if entries.len() < entries.capacity() {
+        return Ok(());
+    }
     match entries.reserve(1) {
         Ok(()) => Ok(()),
         Err(_) => Err(Refusal::NoMemory),

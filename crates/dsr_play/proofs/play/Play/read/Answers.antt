@@ -1,8 +1,8 @@
-use Rattle.std.proofs.Common.{refl, sym, ◌∙◌, subst}
+use Rattle.std.proofs.Common.{◌≤◌, length, refl, ap, sym, ◌∙◌, subst}
 use Rattle.dsr_text.specs.Header.{BeginsWithHeader}
 use Rattle.dsr_text.proofs.LinesLemmas.{header_refused, its_header, its_lines}
-use Rattle.dsr_play.specs.PlayText.{plays}
-use Rattle.dsr_play.proofs.PlayLemmas.{line_clean, same_play}
+use Rattle.dsr_play.specs.PlayText.{all_events, plays}
+use Rattle.dsr_play.proofs.PlayLemmas.{line_clean, same_play, few_events}
 use Rattle.dsr_play.proofs.play.Play.read.Goals as goal
 
 -- no line of a play has a line feed in it
@@ -38,5 +38,12 @@ returns-in-Ok-take_lines-clause-only c other s =
     other.shape s.after s.header s.lines s.begins shape refl in
     let header =
     its_header plays c.as_slice.result.now c.args.text.now c.in-Ok.header.rest.now shape c.as_slice.ensures c.in-Ok.ensures.only other.shape s.after s.header in
-    c.reading.view_is
+    c.into_play.ensures
     ∙ same_play c.args.text.now other s read.shape (c.in-Ok-take_lines.ensures.shape ∙ header.0) read.events (c.in-Ok-take_lines.ensures.only s.lines lines.0 lines.1)
+
+-- the events that were taken in are those of the text's lines, so they are few
+pub into_play-requires : goal.into_play-requires
+into_play-requires c =
+    let taken = c.in-Ok-take_lines.ensures.taken in
+    let given = taken.gives ∙ ap (λ shape. all_events shape taken.lines) c.in-Ok-take_lines.ensures.shape in
+    subst (λ events. length events ≤ 1000000) (sym given) (few_events c.in-Ok.header.shape taken.lines taken.begins.each)
