@@ -1,10 +1,10 @@
-use dsr_script::{Draft, Known, build};
 use dsr_chain::{Batch, Chain, SignedRequest, SlotValue};
 use dsr_desk::{Key, Keys};
 use dsr_envelope::{Chains, Envelope};
 use dsr_ledger::Reply;
 use dsr_names::{Actor, ClientId, Refusal, ReplicaId, Shape};
 use dsr_request::{Answer, Name, Op, Request};
+use dsr_script::{Draft, Known, build};
 use std::alloc::Global;
 use std::test::Fail;
 

@@ -1,8 +1,8 @@
 //! Drafts read again where memory was refused. `tests/allocations.py` refuses each allocation of this test in turn, one in each
 //! run, and every run must pass: the call made again returns what it returns where nothing is refused.
 
-use dsr_script::Draft;
 use dsr_names::Refusal;
+use dsr_script::Draft;
 use std::alloc::Global;
 use std::test::Fail;
 

@@ -1,8 +1,8 @@
-use dsr_script::Draft;
 use dsr_envelope::{Chains, Envelope};
 use dsr_ledger::Reply;
 use dsr_names::NUMBER_END;
 use dsr_request::Answer;
+use dsr_script::Draft;
 use std::alloc::Global;
 use std::fmt::Write;
 use std::process::Abort;

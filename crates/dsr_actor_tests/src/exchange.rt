@@ -4,10 +4,10 @@
 //! with the round, if it is loyal, proposes that ask.
 
 use crate::logged::Logged;
-use dsr_replica::{Chains, Envelope, Replica};
 use dsr_chain::{Batch, Chain, SignedRequest, SlotValue};
 use dsr_desk::{Key, Keys};
 use dsr_names::{Actor, ClientId, ReplicaId, Shape};
+use dsr_replica::{Chains, Envelope, Replica};
 use dsr_request::{Answer, Name, Op, Request};
 use std::alloc::Global;
 use std::process::Abort;

@@ -4,9 +4,9 @@ ghost use Rattle.std.specs.Prelude.{◌≡◌, suc, ◌∷◌, [], IfOk};
 ghost use Rattle.dsr_envelope.specs.declared.pick.Pick.TheVariants.{From};
 ghost use Rattle.dsr_actor_tests.specs.LoyalLogs.{HasLog};
 
-use dsr_replica::{Clients, Due, Envelope, Pick, Replica};
 use dsr_desk::Key;
 use dsr_names::{ClientId, ReplicaId, Shape};
+use dsr_replica::{Clients, Due, Envelope, Pick, Replica};
 use std::alloc::Global;
 use std::marker::Model;
 use std::test::Fail;

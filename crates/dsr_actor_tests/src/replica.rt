@@ -1,10 +1,10 @@
 ghost use Rattle.std.specs.Prelude.{◌≡◌, ◌∷◌, [], IfOk};
 ghost use Rattle.dsr_envelope.specs.declared.pick.Pick.TheVariants.{From};
 
-use dsr_replica::{Clients, Due, Envelope, Pick, Replica};
 use dsr_chain::SignedRequest;
 use dsr_desk::{Key, Keys};
 use dsr_names::{Actor, ClientId, Refusal, ReplicaId, Shape};
+use dsr_replica::{Clients, Due, Envelope, Pick, Replica};
 use dsr_request::{Answer, Name, Op, Request};
 use std::alloc::Global;
 use std::process::Abort;

@@ -9,10 +9,10 @@ ghost use Rattle.std.specs.Prelude.{◌≡◌, ◌∷◌, [], IfOk, if◌then◌
 ghost use Rattle.dsr_envelope.specs.declared.pick.Pick.TheVariants.{Plain, From};
 
 use crate::logged::from_one;
-use dsr_replica::{Chains, Due, Envelope, Pick, Replica};
 use dsr_chain::{Batch, Chain, SignedRequest, SlotValue};
 use dsr_desk::{Key, Keys};
 use dsr_names::{Actor, ClientId, Refusal, ReplicaId, Shape};
+use dsr_replica::{Chains, Due, Envelope, Pick, Replica};
 use dsr_request::{Name, Op, Request};
 use std::alloc::Global;
 use std::process::Abort;

@@ -1,6 +1,6 @@
-use dsr_script::{Script, read_header};
 use dsr_names::{Actor, ClientId, Refusal, ReplicaId};
 use dsr_request::{Name, Op};
+use dsr_script::{Script, read_header};
 use std::alloc::Global;
 use std::process::Abort;
 use std::test::Fail;

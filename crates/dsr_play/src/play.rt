@@ -22,7 +22,6 @@ pub struct Play {
 
 impl Model for Play {
     ghost use Rattle.dsr_play.specs.Play.{Play};
-
     ghost use Rattle.std.specs.Prelude.{◌≤◌, length};
 
     ghost Value = { Play };

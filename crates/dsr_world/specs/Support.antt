@@ -1,3 +1,4 @@
--- How a world stands in its parts. No public contract cites this: it serves `impl Model` and private contracts.
+-- How a world stands in its parts, and what `==` of two ends of events decides. No public contract cites this: it serves `impl Model` and private contracts.
 pub mod Boxes
+pub mod RunEndEquality
 pub mod WorldFields

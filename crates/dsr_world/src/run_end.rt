@@ -68,7 +68,9 @@ fn starved_by(refusal: Refusal) -> u64
 }
 
 impl Exact for RunEnd {
-    ghost decides = { λ a b. Prim.search rules };
+    ghost use Rattle.dsr_world.specs.Support.RunEndEquality.{run_end_eq-Decides};
+
+    ghost decides = { run_end_eq-Decides };
 
     ghost clones = { λ a b. Prim.search rules };
 }

@@ -1,6 +1,6 @@
-use dsr_play::{Event, Play};
 use dsr_envelope::Pick;
 use dsr_names::Refusal;
+use dsr_play::{Event, Play};
 use std::alloc::Global;
 use std::fmt::Write;
 use std::process::Abort;

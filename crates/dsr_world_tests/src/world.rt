@@ -1,6 +1,5 @@
 //! Plays through a world: how many events were done, what clients accepted and saw, what replicas decided, and the history.
 
-use dsr_world::{RunEnd, World};
 use dsr_client::Client;
 use dsr_desk::{Content, Keys};
 use dsr_envelope::{Entry, Pick};
@@ -9,6 +8,7 @@ use dsr_node::{Customer, Node};
 use dsr_play::{Event, Play};
 use dsr_request::{Name, Op};
 use dsr_script::Draft;
+use dsr_world::{RunEnd, World};
 use std::alloc::Global;
 use std::fmt::Write;
 use std::test::Fail;
