@@ -12,6 +12,7 @@ use Rattle.dsr_names.specs.declared.actor.Actor.{Actor}
 use Rattle.dsr_names.specs.declared.actor.Actor.TheVariants.{Replica, Client}
 use Rattle.dsr_desk.specs.Signature.{Signature}
 use Rattle.dsr_run.specs.Run.{IsTraitor}
+use Rattle.dsr_envelope.specs.declared.envelope.Envelope.{Envelope}
 use Rattle.dsr_base.specs.Boxes.{AreSquare, empty_box, box_at}
 use Rattle.dsr_world.specs.Support.Boxes.{held_in}
 use Rattle.dsr_node.specs.Node.{Plays}
