@@ -1,9 +1,10 @@
 #!/usr/bin/env python3
 """Proves and builds the program, for ./dsr: tools/build.py, with no arguments.
 
-First the libraries that it stands on, side by side on all processors (tools/libraries.py), then by `rt run` the program itself. That
-run takes each library that is proved as it stands, and proves what is not. So where the toolchain is of another make, and the
-libraries cannot be built side by side, it does all, one after the other.
+The libraries that it stands on are proved side by side on all processors (tools/libraries.py), each from nothing, and then the program
+itself. Where a check kept work of a library, as in the folder of somebody who changes it, all is done over that work instead, and the
+program is built by `rt run`. That run takes each library that is proved as it stands, and proves what is not. So where the
+toolchain is of another make, and the libraries cannot be built side by side, it does all, one after the other.
 
 It writes on standard error alone. The exit status is 0 where crates/dsr/out/dsr is the program of these sources.
 """
@@ -31,16 +32,7 @@ def progress(proved, total, names):
         say(f"{proved} of {total + 1} proved; now {', '.join(names)}")
 
 
-def build_libraries():
-    """Builds the libraries side by side, where that can be had."""
-    try:
-        proved = libraries.build(TOP, [NAME], progress)
-        progress(proved, proved, [NAME])
-    except libraries.OtherToolchain as other:
-        say(f"one crate after the other, since this toolchain is not the one that was reckoned with ({other})")
-
-
-def build_program():
+def build_by_rt():
     """Builds the program, and gives what the toolchain said where that fails, else None.
     rt has no command that builds a program and does not run it. This run only shows the help, and leaves the
     standard input to the run that is wanted."""
@@ -52,10 +44,16 @@ def build_program():
 def fault():
     """Builds all, and gives what the toolchain said where something is not proved, else None."""
     try:
-        build_libraries()
+        if not libraries.has_kept_work(TOP, NAME):
+            libraries.build_program(TOP, NAME, progress)
+            return None
+        proved = libraries.build(TOP, [NAME], progress)
+        progress(proved, proved, [NAME])
     except libraries.NotBuilt as failed:
         return f"{failed.said}dsr: {failed.name} is not proved"
-    return build_program()
+    except libraries.OtherToolchain as other:
+        say(f"one crate after the other, since this toolchain is not the one that was reckoned with ({other})")
+    return build_by_rt()
 
 
 def main():

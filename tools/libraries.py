@@ -1,15 +1,20 @@
-"""Proves and builds libraries of this repository side by side.
+"""Proves and builds libraries of this repository side by side, in one of two ways.
 
 `rt run` builds the libraries below a program one after the other, and no word of rt's builds them side by side: `rt all check`
 gives each crate one processor, and a second `rt lib` waits for the first, as both stand on the same libraries. So this loads
-the module in which rt keeps its commands and makes the same call for each library as `rt run` does, over the work
-that earlier checks kept, with the stamp that tells what was proved. Nothing here decides what is proved: whoever uses
-a library, `rt run` or `rt must-fail`, goes by its stamp, and builds it once more where that does not fit.
+the module in which rt keeps its commands, and makes the calls that those commands make.
 
-A toolchain of another make may lack that module, or have other calls in it. Then there is OtherToolchain, and the caller goes
-by rt's own words.
+- `build` leaves each library as `rt run` does: with its proofs, over the work that earlier checks kept, and with the stamp that tells
+  what was proved. Whoever uses it, `rt run` or `rt must-fail`, goes by its stamp, and builds it once more where that does not fit.
+- `build_program` proves each library from nothing, as `rt ci` does, and leaves only what those above it can cite: its statements
+  and its code. That takes less time, since the crates above load no proof of those below; but it keeps nothing for a next
+  check of the same library. These libraries lie in folders of their own, and no command of rt's takes them.
+
+Nothing here decides what is proved. A toolchain of another make may lack that module, or have other calls in it. Then there is
+OtherToolchain, and the caller goes by rt's own words.
 """
 
+import contextlib
 import importlib.machinery
 import importlib.util
 import os
@@ -21,8 +26,10 @@ import tempfile
 from concurrent.futures import FIRST_COMPLETED, ThreadPoolExecutor, wait
 
 # What is called of the module, and of each of its crates.
-CALLS = ("crates_below", "files_of", "guarded", "lock", "stop_on_links")
-CRATE_CALLS = ("below", "build_rlib", "is_built", "makes_rlib", "stamp")
+CALLS = ("KIT", "RATTLE", "crates_below", "files_of", "guarded", "lock", "stop_on_links", "sum_of", "text_of")
+CRATE_CALLS = ("below", "build_rlib", "call", "has_kept", "is_built", "makes_rlib", "stamp", "words")
+# Where build_program leaves a library, in its crate's folder.
+STATEMENTS = "out/statements"
 # A check takes at most 3 GB, and each further job of it less.
 MEMORY_OF_A_JOB = 3_000_000_000
 MOST_JOBS = 4
@@ -92,11 +99,61 @@ def waiting_for(module, crates):
     return behind
 
 
-def built(crate, jobs):
-    """Proves one library with so many jobs, and gives its status and what the toolchain said."""
+class WithProofs:
+    """How `build` makes libraries: as `rt run` does."""
+
+    def is_built(self, crate):
+        return crate.is_built()
+
+    def make(self, crate, jobs):
+        return crate.build_rlib(["--jobs", str(jobs)], anew=False)
+
+
+class WithStatements:
+    """How `build_program` makes libraries: each from nothing, and without its proofs, for these crates."""
+
+    def __init__(self, module, crates):
+        self.module = module
+        for crate in crates:
+            crate.rlib = f"{crate.folder}/{STATEMENTS}/{crate.name}.rlib"
+
+    def stamp(self, crate):
+        """A sum of all that the library is made from. Statements fit only the very libraries that they were built over."""
+        return "\n".join([crate.stamp(), *(self.module.sum_of(f"{it.rlib}/format") for it in crate.below())])
+
+    def is_built(self, crate):
+        return os.path.isdir(crate.rlib) and self.module.text_of(f"{os.path.dirname(crate.rlib)}/stamp") == self.stamp(crate)
+
+    def make(self, crate, jobs):
+        folder, stamp = os.path.dirname(crate.rlib), self.stamp(crate)
+        shutil.rmtree(folder, ignore_errors=True)
+        os.makedirs(folder)
+        words = crate.words(["--jobs", str(jobs)], keeps=False)
+        status = crate.call(self.module.RATTLE, "build", *words, "--statements", "-o", crate.rlib)
+        # What changed while it was built is not what was built.
+        if status == 0 and stamp == self.stamp(crate):
+            with open(f"{folder}/stamp", "w", encoding="utf-8") as file:
+                file.write(stamp)
+        return status
+
+    def make_program(self, crate, jobs):
+        """The program's own crate, over these libraries: proved, compiled and linked as `rt run` does it."""
+        os.makedirs(f"{crate.folder}/out", exist_ok=True)
+        program, kit = f"out/{crate.name}", self.module.KIT
+        native = ["--toolchain", f"{kit}/toolchain"]
+        words = [*crate.words(["--jobs", str(jobs)], keeps=False), *native, "--backend", "llvm"]
+        status = crate.call(self.module.RATTLE, "build", *words, "-o", f"{program}.o")
+        if status:
+            return status
+        words = ["--target", "x86_64-unknown-linux-gnu", *native, "-o", program, f"{program}.o"]
+        return crate.call(f"{kit}/bin/rattle-link", *words, f"{kit}/c/libos_c.a", f"{kit}/c/liblibc_c.a")
+
+
+def made(make, crate, jobs):
+    """Makes one crate with so many jobs, and gives its status and what the toolchain said."""
     with tempfile.TemporaryFile("w+", encoding="utf-8", errors="replace") as crate.out:
         try:
-            status = crate.build_rlib(["--jobs", str(jobs)], anew=False)
+            status = make(crate, jobs)
         except SystemExit as stopped:
             status = stopped.code or 2
         crate.out.flush()
@@ -107,9 +164,9 @@ def built(crate, jobs):
 class Lanes:
     """Libraries that are built side by side: each once those below it are, and first those for which most waits."""
 
-    def __init__(self, module, crates, progress):
-        self.left = [crate for crate in crates if not crate.is_built()]
-        self.progress, self.jobs = progress, {}
+    def __init__(self, module, crates, way, progress):
+        self.left = [crate for crate in crates if not way.is_built(crate)]
+        self.way, self.progress, self.jobs = way, progress, {}
         behind = waiting_for(module, crates)
         self.left.sort(key=lambda crate: -behind[crate.name])
         self.total = len(self.left)
@@ -130,7 +187,7 @@ class Lanes:
                 return
             self.jobs[crate.name] = max(1, min(MOST_JOBS, free - (len(ready) - at - 1)))
             self.left.remove(crate)
-            self.running[pool.submit(built, crate, self.jobs[crate.name])] = crate
+            self.running[pool.submit(made, self.way.make, crate, self.jobs[crate.name])] = crate
 
     def end_some(self):
         """Waits until a library is built or fails."""
@@ -156,27 +213,59 @@ def needed_by(crates, wanted):
     return [crate for crate in crates.values() if crate.name in names]
 
 
-def build_with(module, top, wanted, progress):
+@contextlib.contextmanager
+def alone_with(module, crates):
+    """Keeps other commands of rt's out of these crates' folders."""
     # The first call sets a signal's handler, which only the main thread may.
     module.guarded()
-    crates = needed_by(crates_of(module, top), wanted)
     held = module.lock(crates)
     # An interrupt ends all at once, as under rt. Python would first wait for the checks that are under way.
     before = signal.signal(signal.SIGINT, signal.SIG_DFL)
     try:
         for crate in crates:
             module.stop_on_links(crate.folder)
-        return Lanes(module, crates, progress).run()
+        yield
     finally:
         signal.signal(signal.SIGINT, before)
         for it in held:
             os.close(it)
 
 
+@contextlib.contextmanager
+def other_toolchain():
+    """What a toolchain of another make may raise where its calls are other ones."""
+    try:
+        yield
+    except (AttributeError, KeyError, TypeError, ValueError) as error:
+        raise OtherToolchain(f"{type(error).__name__}: {error}") from error
+
+
 def build(top, wanted, progress):
     """Proves and builds the libraries of this repository that have these names, and all below them, as far as they are not,
     and gives how many that were. `progress` is called as checks begin and end: how many are proved, of how many, and the names of those that are at it."""
-    try:
-        return build_with(toolchain(), top, wanted, progress)
-    except (AttributeError, KeyError, TypeError, ValueError) as error:
-        raise OtherToolchain(f"{type(error).__name__}: {error}") from error
+    with other_toolchain():
+        module = toolchain()
+        crates = needed_by(crates_of(module, top), wanted)
+        with alone_with(module, crates):
+            return Lanes(module, crates, WithProofs(), progress).run()
+
+
+def has_kept_work(top, name):
+    """Whether a check kept work of a library below this crate."""
+    with other_toolchain():
+        return any(crate.has_kept() for crate in crates_of(toolchain(), top)[name].below())
+
+
+def build_program(top, name, progress):
+    """Proves the program of this name and all libraries below it, as far as they are not, and leaves the program in its crate's out/."""
+    with other_toolchain():
+        module = toolchain()
+        program = crates_of(module, top)[name]
+        below = program.below()
+        with alone_with(module, [*below, program]):
+            way = WithStatements(module, below)
+            proved = Lanes(module, below, way, progress).run()
+            progress(proved, proved, [name])
+            status, said = made(way.make_program, program, processors())
+            if status:
+                raise NotBuilt(name, said)
