@@ -1,7 +1,5 @@
-//! The tests of plays and worlds. They stand apart from the code, since a crate with tests is proved twice.
+//! The tests of worlds. They stand apart from the code, since a crate with tests is proved twice.
 #![tactic(auto)]
 
-#[cfg(test)]
-mod play;
 #[cfg(test)]
 mod world;

@@ -2,7 +2,7 @@
 
 ghost use Rattle.std.specs.Prelude.{◌≡◌, suc, ◌∷◌, [], IfOk};
 ghost use Rattle.dsr_envelope.specs.declared.pick.Pick.TheVariants.{From};
-ghost use Rattle.dsr_actor_tests.specs.LoyalLogs.{HasLog};
+ghost use Rattle.dsr_replica_tests.specs.LoyalLogs.{HasLog};
 
 use dsr_desk::Key;
 use dsr_names::{ClientId, ReplicaId, Shape};
@@ -21,7 +21,7 @@ pub(crate) struct Logged {
 
 impl Model for Logged {
     ghost use Rattle.std.specs.Prelude.{ℕ};
-    ghost use Rattle.dsr_actor_tests.specs.LoyalLogs.{HasLog};
+    ghost use Rattle.dsr_replica_tests.specs.LoyalLogs.{HasLog};
 
     ghost Value = { ℕ };
 

@@ -1,8 +1,8 @@
 use Rattle.std.proofs.Common.{refl, sym, subst}
 use Rattle.dsr_envelope.specs.declared.pick.Pick.TheVariants.{Plain}
-use Rattle.dsr_actor_tests.specs.LoyalLogs.{HasLog}
-use Rattle.dsr_actor_tests.proofs.LoyalLogLemmas.{one_post}
-use Rattle.dsr_actor_tests.proofs.logged.Logged.post.Goals as goal
+use Rattle.dsr_replica_tests.specs.LoyalLogs.{HasLog}
+use Rattle.dsr_replica_tests.proofs.LoyalLogLemmas.{one_post}
+use Rattle.dsr_replica_tests.proofs.logged.Logged.post.Goals as goal
 
 pub invariant_of-self : goal.invariant_of-self
 invariant_of-self c =

@@ -1,8 +1,8 @@
 use Rattle.std.proofs.Common.{◌∙◌, sym, subst}
 use Rattle.dsr_envelope.specs.Pick.{IsPick}
-use Rattle.dsr_actor_tests.specs.LoyalLogs.{HasLog}
-use Rattle.dsr_actor_tests.proofs.LoyalLogLemmas.{one_post}
-use Rattle.dsr_actor_tests.proofs.logged.Logged.propose.Goals as goal
+use Rattle.dsr_replica_tests.specs.LoyalLogs.{HasLog}
+use Rattle.dsr_replica_tests.proofs.LoyalLogLemmas.{one_post}
+use Rattle.dsr_replica_tests.proofs.logged.Logged.propose.Goals as goal
 
 pub invariant_of-self-2 : goal.invariant_of-self-2
 invariant_of-self-2 c =
