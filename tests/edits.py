@@ -94,7 +94,9 @@ def tried(room, number, batch, repository):
     """Tries a batch, and gives what came of each of its edits, and how many seconds that took."""
     begun = time.monotonic()
     top = room.copy_for(number, batch, repository)
-    run = subprocess.run(["rt", "must-fail", batch.crate], cwd=top, stdin=subprocess.DEVNULL, stdout=subprocess.PIPE,
+    # It would take all processors and all memory for itself, and there are as many copies as there are processors.
+    one_job = {**os.environ, "RT_JOBS": "1"}
+    run = subprocess.run(["rt", "must-fail", batch.crate], cwd=top, env=one_job, stdin=subprocess.DEVNULL, stdout=subprocess.PIPE,
                          stderr=subprocess.STDOUT, encoding="utf-8", errors="replace")
     shutil.rmtree(top)
     found = outcomes(run.stdout)

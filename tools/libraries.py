@@ -31,7 +31,8 @@ CRATE_CALLS = ("below", "build_rlib", "call", "has_kept", "is_built", "makes_rli
 # Where build_program leaves a library, in its crate's folder.
 STATEMENTS = "out/statements"
 # A check takes at most 3 GB, and each further job of it less.
-MEMORY_OF_A_JOB = 3_000_000_000
+MEMORY_OF_A_CHECK = 3_000_000_000
+MEMORY_OF_A_JOB = 1_800_000_000
 MOST_JOBS = 4
 
 
@@ -73,12 +74,15 @@ def crates_of(module, top):
     return {crate.name: crate for crate in module.crates_below(top)}
 
 
+def free_memory():
+    """How many bytes of memory are free."""
+    with open("/proc/meminfo", encoding="utf-8") as file:
+        return 1024 * int(re.search(r"MemAvailable:\s+(\d+)", file.read())[1])
+
+
 def processors():
     """How many checks may run at a time: one a processor, as far as there is memory."""
-    free = 0
-    with open("/proc/meminfo", encoding="utf-8") as file:
-        free = 1024 * int(re.search(r"MemAvailable:\s+(\d+)", file.read())[1])
-    return max(1, min(len(os.sched_getaffinity(0)), free // MEMORY_OF_A_JOB))
+    return max(1, min(len(os.sched_getaffinity(0)), free_memory() // MEMORY_OF_A_CHECK))
 
 
 def lines_of(module, crate):
@@ -170,8 +174,8 @@ class Lanes:
         behind = waiting_for(module, crates)
         self.left.sort(key=lambda crate: -behind[crate.name])
         self.total = len(self.left)
-        # A check does not keep all its jobs busy all the time, so half as many again may run.
-        self.lanes = max(1, processors() * 3 // 2)
+        # A check does not keep all its jobs busy all the time, and keeps the jobs that it begins with. So three times as many may run.
+        self.lanes = max(1, min(3 * processors(), free_memory() // MEMORY_OF_A_JOB))
         self.running = {}
 
     def ready(self):

@@ -55,10 +55,10 @@ impl Decisions {
         ensures clients { self.new.clients ≡ self.old.clients }
         ensures no_less { HasRoom self.old → HasRoom self.new }
     {
-        self.machine.room()?;
-        if self.list.len() < self.list.capacity() {
+        if self.has_room() {
             return Ok(());
         }
+        self.machine.room()?;
         self.list.reserve(1)?;
         Ok(())
     }
