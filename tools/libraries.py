@@ -140,17 +140,28 @@ class WithStatements:
                 file.write(stamp)
         return status
 
+    def program_stamp(self, crate):
+        """A sum of all that the program is made from, and of the program itself, which other commands may replace."""
+        return f"{self.stamp(crate)}\n{self.module.sum_of(f'{crate.folder}/out/{crate.name}')}"
+
     def make_program(self, crate, jobs):
-        """The program's own crate, over these libraries: proved, compiled and linked as `rt run` does it."""
-        os.makedirs(f"{crate.folder}/out", exist_ok=True)
+        """The program's own crate, over these libraries: proved, compiled and linked as `rt run` does it, where it is not."""
+        folder, stamp = f"{crate.folder}/{STATEMENTS}", self.stamp(crate)
+        if self.module.text_of(f"{folder}/stamp") == self.program_stamp(crate):
+            return 0
+        shutil.rmtree(folder, ignore_errors=True)
+        os.makedirs(folder)
         program, kit = f"out/{crate.name}", self.module.KIT
         native = ["--toolchain", f"{kit}/toolchain"]
         words = [*crate.words(["--jobs", str(jobs)], keeps=False), *native, "--backend", "llvm"]
         status = crate.call(self.module.RATTLE, "build", *words, "-o", f"{program}.o")
-        if status:
-            return status
-        words = ["--target", "x86_64-unknown-linux-gnu", *native, "-o", program, f"{program}.o"]
-        return crate.call(f"{kit}/bin/rattle-link", *words, f"{kit}/c/libos_c.a", f"{kit}/c/liblibc_c.a")
+        if status == 0:
+            words = ["--target", "x86_64-unknown-linux-gnu", *native, "-o", program, f"{program}.o"]
+            status = crate.call(f"{kit}/bin/rattle-link", *words, f"{kit}/c/libos_c.a", f"{kit}/c/liblibc_c.a")
+        if status == 0 and stamp == self.stamp(crate):
+            with open(f"{folder}/stamp", "w", encoding="utf-8") as file:
+                file.write(self.program_stamp(crate))
+        return status
 
 
 def made(make, crate, jobs):
