@@ -1,6 +1,5 @@
 -- What reads the parts of a line of a transcript reads the line.
 use Rattle.std.proofs.Common.{◌≡◌, ◌≢◌, ◌<◌, ℕ, Bool, true, false, List, [], ◌∷◌, ◌++◌, codes, Option, None, Some, refl, sym, ◌∙◌, ap, subst, arith, lit<}
-use Rattle.std.specs.Option.{option_map}
 use Rattle.std.specs.Str.{bytes_eq}
 use Rattle.std.specs.Fmt.{decimal}
 use Rattle.std.proofs.lemmas.Bool.{false≢true}
@@ -17,7 +16,6 @@ use Rattle.dsr_names.specs.declared.actor.Actor.TheVariants.{Replica, Client}
 use Rattle.dsr_envelope.specs.declared.entry.Entry.{Entry}
 use Rattle.dsr_envelope.specs.declared.entry.Entry.TheVariants as entry
 use Rattle.dsr_envelope.specs.declared.envelope.Envelope.{Envelope}
-use Rattle.dsr_script.specs.EnvelopeText.{envelope_text, IsSpelledEnvelope}
 use Rattle.dsr_script.proofs.FeedLemmas.{envelope_clean}
 use Rattle.dsr_text.proofs.Clean.{IsClean, field_clean, word_clean, actor_clean}
 use Rattle.dsr_run.specs.Step.{Step}

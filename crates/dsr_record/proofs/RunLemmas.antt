@@ -1,8 +1,8 @@
 -- What a run posts and takes is within the limits of envelopes.
-use Rattle.std.proofs.Common.{◌≡◌, List, [], ◌∷◌, inl, inr, refl, sym, subst}
-use Rattle.std.specs.Prelude.{All, reverse}
+use Rattle.std.proofs.Common.{List, [], ◌∷◌, inl, inr, refl, sym, subst}
+use Rattle.std.specs.Prelude.{All}
 use Rattle.std.proofs.lemmas.List.Elements.{All-nil, All-cons}
-use Rattle.dsr_base.specs.Member.{In, here, there}
+use Rattle.dsr_base.specs.Member.{In, here}
 use Rattle.dsr_names.specs.Shape.{Shape}
 use Rattle.dsr_names.specs.declared.actor.Actor.{Actor}
 use Rattle.dsr_envelope.specs.Limits.{IsEnvelope}

@@ -1,5 +1,5 @@
 -- A transcript spells its record.
-use Rattle.std.proofs.Common.{◌≡◌, ◌<◌, ◌≤◌, ◌^◌, ℕ, List, [], ◌++◌, refl, sym, arith}
+use Rattle.std.proofs.Common.{◌≤◌, ◌^◌, refl, sym, arith}
 use Rattle.std.proofs.Math.Pow.{pow_mono}
 use Rattle.std.proofs.lemmas.List.{append-nil}
 use Rattle.dsr_names.specs.Shape.{Shape, IsAllowed}

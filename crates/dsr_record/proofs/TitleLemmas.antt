@@ -1,6 +1,6 @@
 -- A text begins with a header of one version at most, and what was read in one version is what there is.
-use Rattle.std.proofs.Common.{◌≡◌, ◌≢◌, ◌⊎◌, ℕ, List, [], ◌∷◌, ◌++◌, codes, inl, inr, refl, sym, ◌∙◌, ap, subst, arith}
-use Rattle.std.specs.Prelude.{Result, Ok, Err, IfOk, IfErr, IsOkUnless}
+use Rattle.std.proofs.Common.{◌≡◌, ◌≢◌, ◌⊎◌, ℕ, List, ◌∷◌, inl, inr, refl, sym, ◌∙◌, ap, subst, arith}
+use Rattle.std.specs.Prelude.{Result, Ok, Err, IfErr, IsOkUnless}
 use Rattle.dsr_names.specs.Shape.{Shape}
 use Rattle.dsr_names.specs.declared.refusal.Refusal.{Refusal}
 use Rattle.dsr_names.specs.declared.refusal.Refusal.TheVariants as refusal
@@ -9,7 +9,7 @@ use Rattle.dsr_text.specs.Lines.{IsTextRefusal}
 use Rattle.dsr_record.specs.declared.version.Version.{Version}
 use Rattle.dsr_record.specs.declared.version.Version.TheVariants.{One, Two}
 use Rattle.dsr_record.specs.Record.{Record}
-use Rattle.dsr_record.specs.RecordText.{version_title, transcripts, Spells, IsRecordRefusal}
+use Rattle.dsr_record.specs.RecordText.{version_title, transcripts, Spells}
 
 -- the last byte of the title
 abbrev numeral : List ℕ → ℕ

@@ -2,7 +2,7 @@
 -- step, as `c0 post r0 ask c0#1:write:a:7~c0` or `r0 take c0 ask c0#1:write:a:7~c0`.
 use Rattle.std.specs.Prelude.{◌≡◌, ◌⊎◌, ℕ, List, [], ◌∷◌, ◌++◌, codes}
 use Rattle.dsr_names.specs.Actor.{IsNumbered, actor_text}
-use Rattle.dsr_names.specs.Shape.{Shape, IsAllowed}
+use Rattle.dsr_names.specs.Shape.{IsAllowed}
 use Rattle.dsr_names.specs.declared.refusal.Refusal.{Refusal}
 use Rattle.dsr_names.specs.declared.refusal.Refusal.TheVariants.{BadShape, BadText, NoMemory}
 use Rattle.dsr_envelope.specs.declared.entry.Entry.{Entry}

@@ -1,4 +1,4 @@
-use Rattle.std.proofs.Common.{Err, sym, ◌∙◌}
+use Rattle.std.proofs.Common.{sym, ◌∙◌}
 use Rattle.std.proofs.lemmas.Bool.{false≢true}
 use Rattle.dsr_record.proofs.TitleLemmas.{no_header, second_when, kept_when}
 use Rattle.dsr_record.proofs.transcript.read_record.Goals as goal

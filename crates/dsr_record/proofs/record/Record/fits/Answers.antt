@@ -1,5 +1,5 @@
-use Rattle.std.proofs.Common.{sym, subst, ◌↔◌}
-use Rattle.std.specs.Prelude.{All, reverse, IsTrue}
+use Rattle.std.proofs.Common.{subst, ◌↔◌}
+use Rattle.std.specs.Prelude.{All, IsTrue}
 use Rattle.dsr_record.specs.RecordText.{Fits, IsStepOf}
 use Rattle.dsr_record.proofs.FitLemmas.{fits}
 use Rattle.dsr_record.proofs.record.Record.fits.Goals as goal

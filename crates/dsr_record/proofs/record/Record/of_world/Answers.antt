@@ -19,8 +19,7 @@ noted-requires c =
 
 pub returns-clause-version : goal.returns-clause-version
 returns-clause-version c =
-    let items = c.loop-actor.steps.items in
-    (
+    let items = c.loop-actor.steps.items in (
       λ e.
           let each = c.least_version-version.ensures.least.0 (sym c.of.ensures.version ∙ e) in
           subst (All (IsStepOf One)) (sym c.of.ensures.entries) (all_reverse (IsStepOf One) items (subst (All (IsStepOf One)) c.as_slice.ensures.value each)),
