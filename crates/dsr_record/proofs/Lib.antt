@@ -1,0 +1,5 @@
+mod FitLemmas
+mod LineLemmas
+mod RunLemmas
+mod SpellLemmas
+mod TitleLemmas

@@ -1,0 +1,2 @@
+-- How noted entries are seen.
+pub mod Noted

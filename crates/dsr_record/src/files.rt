@@ -1,0 +1,75 @@
+//! Reading records from a source, and writing them to a sink.
+
+ghost use Rattle.std.specs.Prelude.{◌≡◌, ◌⊎◌, ◌+◌, ◌≤◌, Some, Err, IfSome, IfOk, IfErr, OnOk, OnErr, IsOkUnless, length, string_bytes};
+ghost use Rattle.dsr_names.specs.Limits.{most_calls};
+ghost use Rattle.dsr_names.specs.Streams.{CanFailToGive, CanFailToTake, SentAll, SentPrefix};
+ghost use Rattle.dsr_record.specs.RecordText.{Fits, Spells, IsRecordRefusal, record_text, step_text};
+
+use crate::noted::{NotedEntry, NotedStep};
+use crate::record::Record;
+use crate::version::Version;
+use dsr_names::{Refusal, Sink, Source, read_input, write_output};
+use std::alloc::Global;
+use std::fmt;
+use std::fmt::Write;
+
+/// The record whose transcript the source gives. `ReadFailed` where reading fails, as in `read_input`; else what is refused is as in
+/// `Record::of_text`. What was read is gone.
+pub fn read<S: Source>(alloc: Global, source: &mut S) -> Result<Record, Refusal>
+    ensures spelled { IfOk result (λ recorded. IfSome (S.input source.old).left (λ text. Spells text recorded)) }
+    ensures refused { IfErr result (λ e. ((e ≡ Refusal.ReadFailed) × CanFailToGive (S.input source.old))
+        ⊎ IfSome (S.input source.old).left (λ text. IsRecordRefusal text e)) }
+    ensures calls { (S.input source.new).calls ≤ (S.input source.old).calls + most_calls }
+{
+    let text = read_input(alloc, source)?;
+    match Record::of_text(alloc, text.as_slice()) {
+        Ok(recorded) => Ok(recorded),
+        Err(refusal) => Err(refusal),
+    }
+}
+
+/// Writes the transcript of the record. Requires that its steps can stand in a transcript of its version.
+///
+/// `NoMemory` where memory runs out: then nothing was written. `WriteFailed` where the sink fails, as in `write_output`: then a prefix of
+/// the transcript went out.
+pub fn write<S: Sink>(alloc: Global, recorded: &Record, sink: &mut S) -> Result<(), Refusal>
+    requires { Fits recorded.now }
+    ensures done { OnOk result (SentAll (record_text recorded.now) (S.output sink.old) (S.output sink.new)) }
+    ensures starved { result ≡ Err Refusal.NoMemory → (S.output sink.new).contents ≡ (S.output sink.old).contents }
+    ensures failed { result ≡ Err Refusal.WriteFailed → CanFailToTake (length (record_text recorded.now)) (S.output sink.old)
+        × SentPrefix (record_text recorded.now) (S.output sink.old) (S.output sink.new) }
+    ensures refusals { OnErr result ((result ≡ Err Refusal.NoMemory) ⊎ (result ≡ Err Refusal.WriteFailed)) }
+    ensures calls { (S.output sink.new).calls ≤ (S.output sink.old).calls + most_calls }
+{
+    let text = text_of(alloc, recorded)?;
+    write_output(sink, text.as_bytes())
+}
+
+/// The transcript of the record.
+fn text_of(alloc: Global, recorded: &Record) -> Result<String, Refusal>
+    ensures text { IfOk result (λ text. string_bytes text ≡ record_text recorded.now) }
+    ensures refusal { IsOkUnless result Refusal.NoMemory }
+{
+    let mut text = String::new(alloc);
+    let shape = recorded.shape();
+    match recorded.version() {
+        Version::One => writeln!(text, "dsr-transcript 1 {shape}")?,
+        Version::Two => writeln!(text, "dsr-transcript 2 {shape}")?,
+    }
+    for step in recorded.entries() {
+        writeln!(text, "{step}")?;
+    }
+    Ok(text)
+}
+
+impl fmt::Display for NotedStep {
+    ghost output = { λ step. Some (step_text step) };
+
+    fn fmt<W: fmt::Write>(&self, f: &mut fmt::Formatter<W>) -> fmt::Result {
+        let actor = self.actor();
+        match self.entry() {
+            NotedEntry::Post { to, envelope } => write!(f, "{actor} post {to} {envelope}"),
+            NotedEntry::Take { from, envelope } => write!(f, "{actor} take {from} {envelope}"),
+        }
+    }
+}

@@ -1,0 +1,16 @@
+//! Recorded runs: a shape and the steps of all actors in one order, as data, and the texts that spell them.
+#![tactic(auto)]
+
+mod files;
+mod laws;
+mod noted;
+mod record;
+mod recording;
+mod transcript;
+mod version;
+
+pub use files::{read, write};
+pub use laws::{each_step_has_a_line, transcripts_spell_their_records};
+pub use noted::{NotedEntry, NotedStep};
+pub use record::Record;
+pub use version::Version;

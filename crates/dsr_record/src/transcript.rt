@@ -1,0 +1,223 @@
+//! Reading the texts of records.
+
+ghost use Rattle.std.specs.Prelude.{◌≡◌, ◌↔◌, Err, IfOk, IfErr, IsOkUnless, IsTrue};
+ghost use Rattle.dsr_base.specs.Reads.{Reads};
+ghost use Rattle.dsr_text.specs.Lines.{IsTextRefusal};
+ghost use Rattle.dsr_record.specs.Record.{Record as ARecord};
+ghost use Rattle.dsr_record.specs.RecordText.{IsSpelledStep, step_text, version_title, transcripts, Spells, IsRecordRefusal};
+ghost use Rattle.dsr_record.specs.Support.Noted.{IsNoted, noted_text, IsEnd, end_text, posted, taken};
+
+use crate::noted::{NotedEntry, NotedStep};
+use crate::record::{Record, is_step_of};
+use crate::version::Version;
+use dsr_base::split_once;
+use dsr_names::{Actor, Refusal, Shape};
+use dsr_script::Draft;
+use dsr_text::{TakesLines, read_header, take_lines};
+use std::alloc::Global;
+use std::marker::PhantomData;
+
+/// The record whose transcript the text is, as `Record::of_text` says it.
+pub(crate) fn read_record(alloc: Global, text: &[u8]) -> Result<Record, Refusal>
+    ensures spelled { IfOk result (Spells text.now) }
+    ensures refused { IfErr result (IsRecordRefusal text.now) }
+    ensures when { (other : ARecord) → Spells text.now other → IsOkUnless result Refusal.NoMemory }
+    ensures only { (other : ARecord) → Spells text.now other → IfOk result (λ recorded. recorded ≡ other) }
+{
+    let read = read_as::<First>(alloc, text);
+    if has_no_header(&read) {
+        return read_as::<Second>(alloc, text);
+    }
+    read
+}
+
+/// Whether line 1 was bad.
+fn has_no_header(read: &Result<Record, Refusal>) -> bool
+    ensures { IsTrue result ↔ (read.now ≡ Err (Refusal.BadText 1)) }
+{
+    match read {
+        Err(Refusal::BadText { line: 1 }) => true,
+        _ => false,
+    }
+}
+
+/// A version, as a type.
+trait Format {
+    ghost use Rattle.dsr_record.specs.declared.version.Version.{Version};
+
+    // the version
+    ghost version: { Version };
+
+    /// The version.
+    fn version() -> Version
+        ensures { result ≡ version };
+
+    /// The title of its header.
+    fn title() -> &'static [u8]
+        ensures { result.now ≡ version_title version };
+}
+
+/// Version 1.
+struct First;
+
+/// Version 2.
+struct Second;
+
+impl Format for First {
+    ghost use Rattle.dsr_record.specs.declared.version.Version.TheVariants.{One};
+
+    ghost version = { One };
+
+    fn version() -> Version {
+        Version::One
+    }
+
+    fn title() -> &'static [u8] {
+        b"dsr-transcript 1"
+    }
+}
+
+impl Format for Second {
+    ghost use Rattle.dsr_record.specs.declared.version.Version.TheVariants.{Two};
+
+    ghost version = { Two };
+
+    fn version() -> Version {
+        Version::Two
+    }
+
+    fn title() -> &'static [u8] {
+        b"dsr-transcript 2"
+    }
+}
+
+impl NotedStep {
+    /// The step that the line spells, without its line feed. The inner `None` comes exactly where the bytes spell none. `NoMemory` where
+    /// memory runs out.
+    pub fn read(alloc: Global, bytes: &[u8]) -> Result<Option<NotedStep>, Refusal>
+        ensures read { IfOk result (λ step. Reads IsSpelledStep step_text bytes.now step) }
+        ensures refusal { IsOkUnless result Refusal.NoMemory }
+    {
+        let Some((actor, rest)) = split_once(bytes, b' ') else {
+            return Ok(None);
+        };
+        let Some(actor) = Actor::read(actor) else {
+            return Ok(None);
+        };
+        match read_entry(alloc, rest)? {
+            Some(entry) => Ok(Some(NotedStep::new(actor, entry))),
+            None => Ok(None),
+        }
+    }
+}
+
+/// The entry that the bytes spell.
+fn read_entry(alloc: Global, bytes: &[u8]) -> Result<Option<NotedEntry>, Refusal>
+    ensures read { IfOk result (λ entry. Reads IsNoted noted_text bytes.now entry) }
+    ensures refusal { IsOkUnless result Refusal.NoMemory }
+{
+    let Some((word, rest)) = split_once(bytes, b' ') else {
+        return Ok(None);
+    };
+    if word == b"post".as_slice() {
+        let end = read_end(alloc, rest)?;
+        Ok(posted(end))
+    } else if word == b"take".as_slice() {
+        let end = read_end(alloc, rest)?;
+        Ok(taken(end))
+    } else {
+        Ok(None)
+    }
+}
+
+/// The post of these, where there are both.
+fn posted(end: Option<(Actor, Draft)>) -> Option<NotedEntry>
+    ensures { result ≡ posted end }
+{
+    match end {
+        None => None,
+        Some((to, envelope)) => Some(NotedEntry::Post { to, envelope }),
+    }
+}
+
+/// The take of these, where there are both.
+fn taken(end: Option<(Actor, Draft)>) -> Option<NotedEntry>
+    ensures { result ≡ taken end }
+{
+    match end {
+        None => None,
+        Some((from, envelope)) => Some(NotedEntry::Take { from, envelope }),
+    }
+}
+
+/// The other end and the envelope that the bytes spell.
+fn read_end(alloc: Global, bytes: &[u8]) -> Result<Option<(Actor, Draft)>, Refusal>
+    ensures read { IfOk result (λ end. Reads IsEnd end_text bytes.now end) }
+    ensures refusal { IsOkUnless result Refusal.NoMemory }
+{
+    let Some((other, envelope)) = split_once(bytes, b' ') else {
+        return Ok(None);
+    };
+    let Some(other) = Actor::read(other) else {
+        return Ok(None);
+    };
+    match Draft::read(alloc, envelope)? {
+        Some(envelope) => Ok(Some((other, envelope))),
+        None => Ok(None),
+    }
+}
+
+/// The record whose transcript of this version the text is.
+fn read_as<F: Format>(alloc: Global, text: &[u8]) -> Result<Record, Refusal>
+    ensures spelled { IfOk result (λ recorded. (recorded.version ≡ F.version) × Spells text.now recorded) }
+    ensures refused { IfErr result (IsTextRefusal (transcripts F.version) text.now) }
+    ensures when { (other : ARecord) → other.version ≡ F.version → Spells text.now other → IsOkUnless result Refusal.NoMemory }
+    ensures only { (other : ARecord) → other.version ≡ F.version → Spells text.now other → IfOk result (λ recorded. recorded ≡ other) }
+{
+    let header = match read_header(F::title(), text) {
+        Ok(header) => header,
+        Err(refusal) => return Err(refusal),
+    };
+    let mut reading: Reading<F> = Reading {
+        shape: header.shape,
+        steps: Vec::new(alloc),
+        format: PhantomData,
+    };
+    match take_lines(&mut reading, alloc, header.rest) {
+        Ok(()) => Ok(Record::of(F::version(), reading.shape, reading.steps)),
+        Err(refusal) => Err(refusal),
+    }
+}
+
+/// The steps of the lines so far.
+#[derive(Drop)]
+struct Reading<F> {
+    shape: Shape,
+    steps: Vec<NotedStep>,
+    format: PhantomData<F>,
+}
+
+impl<F: Format> TakesLines for Reading<F> {
+    type Line = NotedStep;
+
+    ghost use Rattle.std.specs.Prelude.{◌≡◌, reverse};
+    ghost use Rattle.dsr_record.specs.RecordText.{transcripts};
+
+    ghost kind = { transcripts F.version };
+
+    ghost shape = { λ reading. reading.shape };
+
+    ghost gives = { λ reading lines. reverse reading.steps.items ≡ lines };
+
+    fn read_line(alloc: Global, bytes: &[u8]) -> Result<Option<NotedStep>, Refusal> {
+        match NotedStep::read(alloc, bytes)? {
+            Some(step) if is_step_of(F::version(), &step) => Ok(Some(step)),
+            _ => Ok(None),
+        }
+    }
+
+    fn take(&mut self, alloc: Global, line: NotedStep) -> Result<bool, Refusal> {
+        self.steps.push(line)?;
+        Ok(true)
+    }
+}
