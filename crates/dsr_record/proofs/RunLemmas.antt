@@ -8,10 +8,9 @@ use Rattle.dsr_names.specs.declared.actor.Actor.{Actor}
 use Rattle.dsr_envelope.specs.Limits.{IsEnvelope}
 use Rattle.dsr_envelope.specs.declared.entry.Entry.{Entry}
 use Rattle.dsr_envelope.specs.declared.entry.Entry.TheVariants.{Post, Take}
-use Rattle.dsr_run.specs.Run.{IsRun}
+use Rattle.dsr_run.specs.Run.{IsRun, envelope_of}
 use Rattle.dsr_run.specs.Step.{Step, log_of}
 use Rattle.dsr_run.proofs.Lemmas.{log_cases, posted_within, taken_within}
-use Rattle.dsr_record.specs.RecordText.{envelope_of}
 
 abbrev pub IsWithin : Step → Type 0
 IsWithin step = IsEnvelope (envelope_of step.1)

@@ -7,21 +7,15 @@ use Rattle.dsr_names.specs.declared.refusal.Refusal.{Refusal}
 use Rattle.dsr_names.specs.declared.refusal.Refusal.TheVariants.{BadShape, BadText, NoMemory}
 use Rattle.dsr_envelope.specs.declared.entry.Entry.{Entry}
 use Rattle.dsr_envelope.specs.declared.entry.Entry.TheVariants.{Post, Take}
-use Rattle.dsr_envelope.specs.declared.envelope.Envelope.{Envelope}
 use Rattle.dsr_script.specs.EnvelopeText.{envelope_text, IsSpelledEnvelope}
 use Rattle.dsr_script.specs.Plain.{IsPlain}
 use Rattle.dsr_text.specs.Header.{header_line, BeginsWithHeader, HasNoHeader, HasBadShape}
 use Rattle.dsr_text.specs.Lines.{TextKind, AreLines, BeginsWithLines, IsBadLater, lines_text}
-use Rattle.dsr_run.specs.Run.{other_of}
+use Rattle.dsr_run.specs.Run.{envelope_of, other_of}
 use Rattle.dsr_run.specs.Step.{Step}
 use Rattle.dsr_record.specs.declared.version.Version.{Version}
 use Rattle.dsr_record.specs.declared.version.Version.TheVariants.{One, Two}
 use Rattle.dsr_record.specs.Record.{Record}
-
--- the envelope that the entry posts or takes
-abbrev pub envelope_of : Entry → Envelope
-envelope_of (Post to envelope) = envelope
-envelope_of (Take from envelope) = envelope
 
 -- the word of an entry
 abbrev pub entry_word : Entry → List ℕ

@@ -1,5 +1,5 @@
 ghost use Rattle.std.specs.Prelude.{◌≡◌};
-ghost use Rattle.dsr_record.specs.RecordText.{envelope_of};
+ghost use Rattle.dsr_run.specs.Run.{envelope_of};
 ghost use Rattle.dsr_record.specs.Support.Noted.{entry_of};
 
 use dsr_names::Actor;

@@ -2,8 +2,8 @@
 
 ghost use Rattle.std.specs.Prelude.{◌≡◌, ◌↔◌, All, IfOk, OnOk, IsOkUnless};
 ghost use Rattle.dsr_envelope.specs.Limits.{IsEnvelope};
-ghost use Rattle.dsr_run.specs.Run.{IsRun};
-ghost use Rattle.dsr_record.specs.RecordText.{Fits, IsSpelledStep, IsStepOf, envelope_of};
+ghost use Rattle.dsr_run.specs.Run.{IsRun, envelope_of};
+ghost use Rattle.dsr_record.specs.RecordText.{Fits, IsSpelledStep, IsStepOf};
 ghost use Rattle.dsr_record.specs.Support.Noted.{entry_of};
 ghost use Rattle.dsr_record.specs.declared.version.Version.TheVariants.{One};
 
