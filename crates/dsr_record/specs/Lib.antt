@@ -1,3 +1,4 @@
 pub mod Record
+pub mod RecordFile
 pub mod RecordText
 pub mod Support

@@ -60,7 +60,8 @@ Fits r = AreLines (transcripts r.version) r.shape r.run
 abbrev pub record_text : Record → List ℕ
 record_text r = header_line (version_title r.version) r.shape ++ lines_text (transcripts r.version) r.run
 
--- the text spells a record: it is a header of the record's version and shape, which is allowed, and a line for each of its steps
+-- the text spells a record: it is a header of the record's version and shape, which is allowed, then a line of its version for each of its
+-- steps, and nothing more
 pub record Spells (text : List ℕ) (r : Record) : Type 0 where
   pub after : List ℕ
   pub header : BeginsWithHeader (version_title r.version) text r.shape after

@@ -1,9 +1,10 @@
 //! Reading records from a source, and writing them to a sink.
 
-ghost use Rattle.std.specs.Prelude.{◌≡◌, ◌⊎◌, ◌+◌, ◌≤◌, Some, Err, IfSome, IfOk, IfErr, OnOk, OnErr, IsOkUnless, length, string_bytes};
+ghost use Rattle.std.specs.Prelude.{◌≡◌, ◌⊎◌, ◌+◌, ◌≤◌, Some, Err, IfOk, IfErr, OnOk, OnErr, IsOkUnless, length, string_bytes};
 ghost use Rattle.dsr_names.specs.Limits.{most_calls};
-ghost use Rattle.dsr_names.specs.Streams.{CanFailToGive, CanFailToTake, SentAll, SentPrefix};
-ghost use Rattle.dsr_record.specs.RecordText.{Fits, Spells, IsRecordRefusal, record_text, step_text};
+ghost use Rattle.dsr_names.specs.Streams.{CanFailToTake, SentAll, SentPrefix};
+ghost use Rattle.dsr_record.specs.RecordFile.{GivesRecord, IsReadRefusal};
+ghost use Rattle.dsr_record.specs.RecordText.{Fits, record_text, step_text};
 
 use crate::noted::{NotedEntry, NotedStep};
 use crate::record::Record;
@@ -13,12 +14,11 @@ use std::alloc::Global;
 use std::fmt;
 use std::fmt::Write;
 
-/// The record whose transcript the source gives. `ReadFailed` where reading fails, as in `read_input`; else what is refused is as in
-/// `Record::of_text`. What was read is gone.
+/// The record whose transcript the source gives. `ReadFailed` where reading fails, as in `read_input`, also for more than 16,777,216 bytes;
+/// else what is refused is as in `Record::of_text`. After a refusal what was read is gone.
 pub fn read<S: Source>(alloc: Global, source: &mut S) -> Result<Record, Refusal>
-    ensures spelled { IfOk result (λ recorded. IfSome (S.input source.old).left (λ text. Spells text recorded)) }
-    ensures refused { IfErr result (λ e. ((e ≡ Refusal.ReadFailed) × CanFailToGive (S.input source.old))
-        ⊎ IfSome (S.input source.old).left (λ text. IsRecordRefusal text e)) }
+    ensures given { IfOk result (GivesRecord (S.input source.old)) }
+    ensures refused { IfErr result (IsReadRefusal (S.input source.old)) }
     ensures calls { (S.input source.new).calls ≤ (S.input source.old).calls + most_calls }
 {
     let text = read_input(alloc, source)?;

@@ -2,11 +2,10 @@
 //! nothing.
 
 ghost use Rattle.dsr_names.specs.Actor.{IsNumbered};
-ghost use Rattle.dsr_names.specs.Shape.{IsAllowed};
-ghost use Rattle.dsr_record.specs.Record.{Record};
 ghost use Rattle.dsr_record.specs.RecordText.{IsSpelledStep, Fits, Spells, record_text};
 
 use crate::noted::{NotedEntry, NotedStep};
+use crate::record::Record;
 use dsr_names::Actor;
 use dsr_script::each_draft_has_a_text;
 
@@ -27,10 +26,13 @@ pub fn each_step_has_a_line(step: &NotedStep)
     }
 }
 
-/// The transcript of a record spells that record, so what is written of it is read as that record again.
-pub fn transcripts_spell_their_records()
-    ensures { (r : Record) → IsAllowed r.shape → Fits r → Spells (record_text r) r }
-{}
+/// The transcript of a record spells that record, where its entries can stand in its version. So what is written of it is read as that record
+/// again.
+pub fn transcripts_spell_their_records(recorded: &Record)
+    ensures { Fits recorded.now → Spells (record_text recorded.now) recorded.now }
+{
+    let _n = recorded.shape().n();
+}
 
 /// That the actor has a number that texts can name, as each has.
 fn number_actor(actor: &Actor)

@@ -25,7 +25,7 @@ pub enum NotedEntry {
     },
 }
 
-/// A step of a run as data: who took it, and the entry that its log got. Contracts see it as that step.
+/// A step as data: an actor, and the entry that its log got. Contracts see it as that step.
 #[derive(Drop)]
 pub struct NotedStep {
     actor: Actor,

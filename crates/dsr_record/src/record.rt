@@ -10,7 +10,7 @@ use dsr_names::{Refusal, Shape};
 use std::alloc::Global;
 use std::marker::Model;
 
-/// What was recorded: a shape, and steps of actors in the order in which they were taken, as data. Nothing says that they are a run.
+/// What was recorded: a shape, and steps of actors in one order, as data. Nothing says that they are a run.
 #[derive(Drop)]
 pub struct Record {
     version: Version,
@@ -44,7 +44,8 @@ impl Record {
     /// The record whose transcript the text is: a header `dsr-transcript 1 SHAPE` or `dsr-transcript 2 SHAPE`, then a line for each step.
     ///
     /// `BadShape` where the header's shape is outside the limits, whatever follows it. `BadText` names the first bad line, counted
-    /// from 1: one that is not so spelled, that has no line feed, or that version 1 does not have. `NoMemory` where memory runs out.
+    /// from 1: line 1 where it is no header of either version, else one that is not so spelled, that has no line feed, or, in version 1,
+    /// that only version 2 has. `NoMemory` where memory runs out.
     pub fn of_text(alloc: Global, text: &[u8]) -> Result<Record, Refusal>
         ensures spelled { IfOk result (Spells text.now) }
         ensures refused { IfErr result (IsRecordRefusal text.now) }

@@ -40,7 +40,7 @@ impl Record {
     }
 }
 
-/// The first version of which a transcript can have all of these steps, which texts can spell, as they can each step.
+/// The first version whose transcripts can have all of these steps. Requires that texts can spell each.
 fn least_version(steps: &[NotedStep]) -> Version
     requires { All IsSpelledStep steps.now }
     ensures least { (result ≡ One) ↔ All (IsStepOf One) steps.now }

@@ -5,7 +5,7 @@ use dsr_base::Exact;
 /// A version of transcripts.
 #[derive(Clone, Copy, Debug, PartialEq, Eq)]
 pub enum Version {
-    /// Its lines are plain: no value in them has more than one request, and nothing is removed.
+    /// Its lines are plain: no value in them has more than one request, and nothing is removed or tells of a removal.
     One,
     /// Its lines may have lists of requests and removals.
     Two,

@@ -16,23 +16,26 @@ abbrev pub entry_of : NotedEntry → Entry
 entry_of (Post to envelope) = entry.Post to envelope
 entry_of (Take from envelope) = entry.Take from envelope
 
--- a noted entry that a text can spell, and that text
+-- a noted entry that a text can spell
 abbrev pub IsNoted : NotedEntry → Type 0
 IsNoted e = IsSpelledEntry (entry_of e)
 
+-- that text
 abbrev pub noted_text : NotedEntry → List ℕ
 noted_text e = entry_text (entry_of e)
 
--- the other end and the envelope
+-- the other end and the envelope, where a text can spell them
 abbrev pub IsEnd : Actor × Envelope → Type 0
 IsEnd p = IsNumbered p.0 × IsSpelledEnvelope p.1
 
+-- their text
 abbrev pub end_text : Actor × Envelope → List ℕ
 end_text p = actor_text p.0 ++ 32 ∷ envelope_text p.1
 
--- the post or the take of them, where there are both
+-- the post to that end, where there is one
 abbrev pub posted : Option (Actor × Envelope) → Option NotedEntry
 posted end = option_map (λ p. Post p.0 p.1) end
 
+-- the take from that end, where there is one
 abbrev pub taken : Option (Actor × Envelope) → Option NotedEntry
 taken end = option_map (λ p. Take p.0 p.1) end
