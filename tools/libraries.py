@@ -15,6 +15,7 @@ OtherToolchain, and the caller goes by rt's own words.
 """
 
 import contextlib
+import hashlib
 import importlib.machinery
 import importlib.util
 import os
@@ -121,9 +122,19 @@ class WithStatements:
         for crate in crates:
             crate.rlib = f"{crate.folder}/{STATEMENTS}/{crate.name}.rlib"
 
+    def own_sum(self, crate):
+        """A sum of the toolchain, of what crates.txt says of the crate, and of the crate's files."""
+        found = hashlib.sha256(repr(crate.said).encode())
+        for path in [f"{self.module.KIT}/WHAT", *self.module.files_of(crate.folder)]:
+            with open(path, "rb") as file:
+                found.update(repr((path.removeprefix(crate.folder), file.read())).encode())
+        return found.hexdigest()
+
     def stamp(self, crate):
-        """A sum of all that the library is made from. Statements fit only the very libraries that they were built over."""
-        return "\n".join([crate.stamp(), *(self.module.sum_of(f"{it.rlib}/format") for it in crate.below())])
+        """Sums of all that the library is made from, and of the libraries below: statements fit only the very ones that they were built
+        over. (rt's own stamp goes through the crates below once for each way to them, which takes seconds.)"""
+        below = crate.below()
+        return "\n".join([*(self.own_sum(it) for it in [*below, crate]), *(self.module.sum_of(f"{it.rlib}/format") for it in below)])
 
     def is_built(self, crate):
         return os.path.isdir(crate.rlib) and self.module.text_of(f"{os.path.dirname(crate.rlib)}/stamp") == self.stamp(crate)
