@@ -1,5 +1,5 @@
 -- What is promised where a record is read from a source (this project).
-use Rattle.std.specs.Prelude.{ℕ, ◌≤◌, List, Option, length}
+use Rattle.std.specs.Prelude.{ℕ, ◌≤◌, List, length}
 use Rattle.dsr_names.specs.Limits.{most_bytes}
 use Rattle.dsr_names.specs.Streams.{Input, CanFailToGive}
 use Rattle.dsr_names.specs.declared.refusal.Refusal.{Refusal}

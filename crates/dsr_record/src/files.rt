@@ -8,7 +8,6 @@ ghost use Rattle.dsr_record.specs.RecordText.{Fits, record_text, step_text};
 
 use crate::noted::{NotedEntry, NotedStep};
 use crate::record::Record;
-use crate::version::Version;
 use dsr_names::{Refusal, Sink, Source, read_input, write_output};
 use std::alloc::Global;
 use std::fmt;
@@ -51,11 +50,8 @@ fn text_of(alloc: Global, recorded: &Record) -> Result<String, Refusal>
     ensures refusal { IsOkUnless result Refusal.NoMemory }
 {
     let mut text = String::new(alloc);
-    let shape = recorded.shape();
-    match recorded.version() {
-        Version::One => writeln!(text, "dsr-transcript 1 {shape}")?,
-        Version::Two => writeln!(text, "dsr-transcript 2 {shape}")?,
-    }
+    let (title, shape) = (recorded.version().title(), recorded.shape());
+    writeln!(text, "{title} {shape}")?;
     for step in recorded.entries() {
         writeln!(text, "{step}")?;
     }

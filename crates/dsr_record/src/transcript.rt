@@ -4,7 +4,7 @@ ghost use Rattle.std.specs.Prelude.{◌≡◌, ◌↔◌, Err, IfOk, IfErr, IsOk
 ghost use Rattle.dsr_base.specs.Reads.{Reads};
 ghost use Rattle.dsr_text.specs.Lines.{IsTextRefusal};
 ghost use Rattle.dsr_record.specs.Record.{Record as ARecord};
-ghost use Rattle.dsr_record.specs.RecordText.{IsSpelledStep, step_text, version_title, transcripts, Spells, IsRecordRefusal};
+ghost use Rattle.dsr_record.specs.RecordText.{IsSpelledStep, step_text, transcripts, Spells, IsRecordRefusal};
 ghost use Rattle.dsr_record.specs.Support.Noted.{IsNoted, noted_text, IsEnd, end_text, posted, taken};
 
 use crate::noted::{NotedEntry, NotedStep};
@@ -51,10 +51,6 @@ trait Format {
     /// The version.
     fn version() -> Version
         ensures { result ≡ version };
-
-    /// The title of its header.
-    fn title() -> &'static [u8]
-        ensures { result.now ≡ version_title version };
 }
 
 /// Version 1.
@@ -71,10 +67,6 @@ impl Format for First {
     fn version() -> Version {
         Version::One
     }
-
-    fn title() -> &'static [u8] {
-        b"dsr-transcript 1"
-    }
 }
 
 impl Format for Second {
@@ -84,10 +76,6 @@ impl Format for Second {
 
     fn version() -> Version {
         Version::Two
-    }
-
-    fn title() -> &'static [u8] {
-        b"dsr-transcript 2"
     }
 }
 
@@ -174,7 +162,8 @@ fn read_as<F: Format>(alloc: Global, text: &[u8]) -> Result<Record, Refusal>
     ensures when { (other : ARecord) → other.version ≡ F.version → Spells text.now other → IsOkUnless result Refusal.NoMemory }
     ensures only { (other : ARecord) → other.version ≡ F.version → Spells text.now other → IfOk result (λ recorded. recorded ≡ other) }
 {
-    let header = match read_header(F::title(), text) {
+    let title = F::version().title();
+    let header = match read_header(title.as_bytes(), text) {
         Ok(header) => header,
         Err(refusal) => return Err(refusal),
     };

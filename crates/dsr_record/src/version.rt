@@ -1,4 +1,6 @@
+ghost use Rattle.std.specs.Prelude.{◌≡◌};
 ghost use Rattle.std.proofs.Common.{rules};
+ghost use Rattle.dsr_record.specs.RecordText.{version_title};
 
 use dsr_base::Exact;
 
@@ -15,4 +17,16 @@ impl Exact for Version {
     ghost decides = { λ a b. Prim.search rules };
 
     ghost clones = { λ a b. Prim.search rules };
+}
+
+impl Version {
+    /// The title of its header.
+    pub(crate) fn title(&self) -> &'static str
+        ensures { result.now ≡ version_title self.now }
+    {
+        match self {
+            Version::One => "dsr-transcript 1",
+            Version::Two => "dsr-transcript 2",
+        }
+    }
 }

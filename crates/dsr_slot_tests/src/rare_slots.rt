@@ -1,3 +1,4 @@
+use crate::slot::extended;
 use dsr_chain::{Batch, Chain, SignedRequest, SlotValue};
 use dsr_desk::{Key, Keys};
 use dsr_names::{Actor, ClientId, ReplicaId, Shape};
@@ -31,17 +32,6 @@ fn value_of(keys: &mut Keys) -> Result<SlotValue, Fail> {
     let request = Request::new(ClientId::FIRST, 1, op)?;
     let batch = Batch::of(&[SignedRequest::by(request, &key)]).ok_or("no list")?;
     Ok(SlotValue::Act(batch))
-}
-
-/// The chain that the key's holder signs next.
-fn extended(alloc: Global, chain: Chain, key: &Key) -> Result<Chain, Fail> {
-    if chain.signatures().len() == 16 {
-        return Err("a long chain")?;
-    }
-    match chain.extend(alloc, key) {
-        Ok(chain) => Ok(chain),
-        Err((_, refusal)) => Err(refusal)?,
-    }
 }
 
 /// The chain of the late slot that the first replicas sign in turn, so many of them.
