@@ -1,0 +1,14 @@
+mod Applying
+mod Asking
+mod Auditing
+mod FirstBad
+mod HeadLemmas
+mod Legality
+mod Opening
+mod Playing
+mod RegisterCounts
+mod Showing
+mod Stepping
+mod TableLemmas
+mod VerdictLemmas
+mod Walking

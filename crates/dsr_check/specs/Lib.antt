@@ -1,0 +1,4 @@
+pub mod Check
+pub mod Judged
+pub mod Support
+pub mod Verdict

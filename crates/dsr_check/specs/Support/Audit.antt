@@ -1,0 +1,96 @@
+-- How an audit stands for the run that it has followed (this project).
+use Rattle.std.specs.Prelude.{◌≡◌, ◌↔◌, ℕ, suc, ◌+◌, ◌++◌, ◌∷◌, ◌<◌, ◌^◌, true, [], List, Option, None, Some, Any, length, slice_index_or}
+use Rattle.dsr_base.specs.Boxes.{AreSquare, box_at}
+use Rattle.dsr_base.specs.declared.boxes.MailBox.{MailBox}
+use Rattle.dsr_names.specs.Places.{place_of}
+use Rattle.dsr_names.specs.Shape.{Shape, is_traitor, IsActor}
+use Rattle.dsr_names.specs.declared.actor.Actor.{Actor}
+use Rattle.dsr_names.specs.declared.actor.Actor.TheVariants.{Replica, Client}
+use Rattle.dsr_desk.specs.Signature.{Signature}
+use Rattle.dsr_envelope.specs.declared.envelope.Envelope.{Envelope}
+use Rattle.dsr_envelope.specs.Envelope.{Carries}
+use Rattle.dsr_envelope.specs.Log.{posted_to, taken_from}
+use Rattle.dsr_run.specs.Known.{AreKeys, KnowsAll}
+use Rattle.dsr_run.specs.Run.{IsMadeOrPosted, IsRun, IsTraitor}
+use Rattle.dsr_run.specs.Step.{Step, Logs, log_of}
+use Rattle.dsr_check.specs.Support.Party.{Plays}
+use Rattle.dsr_check.specs.declared.audit.Audit.{Audit}
+use Rattle.dsr_check.specs.declared.held.Held.{Held}
+use Rattle.dsr_check.specs.declared.party.Party.{Party}
+
+-- there is a party for each actor of the shape, at its place, which plays it
+pub record ArePlayed (shape : Shape) (logs : Logs) (parties : List Party) : Type 0 where
+  pub count : length parties ≡ shape.n + shape.m
+  pub each : (who : Actor) → IsActor shape who → (d : Party) → Plays shape who (logs who) (slice_index_or parties (place_of shape who) d)
+
+-- what a box holds, as a list
+abbrev pub held_in : Option Held → List Envelope
+held_in None = []
+held_in (Some held) = held.envelope ∷ []
+
+-- the box is as these posts and takes have left it, and what it holds is as it was recorded
+pub record IsBoxOf (box : MailBox Held) (posted taken : List Envelope) : Type 0 where
+  pub count : box.posts ≡ length posted
+  pub holds : posted ≡ taken ++ held_in box.item
+  pub recorded : (held : Held) → box.item ≡ Some held → held.draft.now ≡ held.envelope
+
+-- the box can get one envelope more: it is empty, and fewer than 2^40 posts will stand in it
+abbrev pub IsOpen : MailBox Held → Type 0
+IsOpen box = (box.item ≡ None) × (suc box.posts < 2 ^ 40)
+
+-- the box holds an envelope that was recorded so
+abbrev pub Holds : MailBox Held → Envelope → Type 0
+Holds box envelope = (held : Held) × (box.item ≡ Some held) × (held.draft.now ≡ envelope)
+
+-- the boxes are as the logs have left them
+pub record AreBoxes (shape : Shape) (logs : Logs) (rows : List (List (MailBox Held))) : Type 0 where
+  pub square : AreSquare (shape.n + shape.m) rows
+  pub each : (from to : Actor) → IsActor shape from → IsActor shape to
+      → IsBoxOf (box_at rows (place_of shape from) (place_of shape to)) (posted_to to (logs from)) (taken_from from (logs to))
+
+-- the box from one actor to another
+abbrev pub box_of : Audit → Actor → Actor → MailBox Held
+box_of a from to = box_at a.boxes (place_of a.shape from) (place_of a.shape to)
+
+-- a traitor posts this envelope, and forges nothing; of a loyal actor nothing is said
+abbrev pub ForgesNone : Shape → Logs → Actor → Envelope → Type 0
+ForgesNone shape logs from envelope = IsTraitor shape from → (s : Signature) → Carries envelope s → IsMadeOrPosted shape logs s
+
+-- each actor of the shape has a key among these
+abbrev pub HasAllKeys : Shape → List Actor → Type 0
+HasAllKeys shape keys = (a : Actor) → IsActor shape a → Any (λ holder. holder ≡ a) keys
+
+-- the parts of an audit stand for a run: the parties, the boxes, the notary's keys, the traitors' keys, and what is known
+pub record AreParts (shape : Shape) (run : List Step) (parties : List Party) (rows : List (List (MailBox Held))) (notary keys : List Actor) (known : List Signature) : Type 0 where
+  pub is_run : IsRun shape run
+  pub played : ArePlayed shape (log_of run) parties
+  pub boxes : AreBoxes shape (log_of run) rows
+  pub signs : HasAllKeys shape notary
+  pub held : AreKeys shape keys
+  pub knows : KnowsAll shape (log_of run) known
+
+-- the audit has followed this run
+abbrev pub StandsFor : Audit → List Step → Type 0
+StandsFor a run = AreParts a.shape run a.parties.items a.boxes a.notary.items a.keys.items a.known.signatures
+
+-- the audit has followed some run
+abbrev pub Stands : Audit → Type 0
+Stands a = (run : List Step) × StandsFor a run
+
+-- while the parties are cast: there are parties for the actors at the first places, none of which has taken a step
+pub record AreCast (shape : Shape) (k : ℕ) (parties : List Party) : Type 0 where
+  pub count : length parties ≡ k
+  pub each : (who : Actor) → IsActor shape who → place_of shape who < k → (d : Party) → Plays shape who [] (slice_index_or parties (place_of shape who) d)
+
+-- a traitor among the first replicas
+abbrev pub IsTraitorBelow : Shape → ℕ → Actor → Type 0
+IsTraitorBelow shape k (Replica p) = (p < k) × (is_traitor shape p ≡ true)
+IsTraitorBelow shape k (Client c) = ⊥
+
+-- the keys are those of the traitors among the first replicas
+abbrev pub AreKeysBelow : Shape → ℕ → List Actor → Type 0
+AreKeysBelow shape k keys = (a : Actor) → Any (λ holder. holder ≡ a) keys ↔ IsTraitorBelow shape k a
+
+-- each actor at one of the first places has a key among these
+abbrev pub HasKeysBelow : Shape → ℕ → List Actor → Type 0
+HasKeysBelow shape k keys = (a : Actor) → IsActor shape a → place_of shape a < k → Any (λ holder. holder ≡ a) keys

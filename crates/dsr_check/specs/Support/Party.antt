@@ -1,0 +1,52 @@
+-- How a party stands for the log of its actor (this project).
+use Rattle.std.specs.Prelude.{◌≡◌, ℕ, true, false, List, Option, None, Some, reverse}
+use Rattle.dsr_names.specs.Shape.{Shape, is_traitor, IsActor}
+use Rattle.dsr_names.specs.declared.actor.Actor.{Actor}
+use Rattle.dsr_names.specs.declared.actor.Actor.TheVariants.{Replica as ReplicaNumber, Client as ClientNumber}
+use Rattle.dsr_envelope.specs.declared.entry.Entry.{Entry}
+use Rattle.dsr_envelope.specs.declared.envelope.Envelope.{Envelope}
+use Rattle.dsr_envelope.specs.declared.pick.Pick.{Pick}
+use Rattle.dsr_envelope.specs.declared.pick.Pick.TheVariants.{Plain, From}
+use Rattle.dsr_envelope.specs.Limits.{IsEnvelope}
+use Rattle.dsr_replica.specs.Replica.{Replica, StandsFor}
+use Rattle.dsr_client.specs.Client.{StandsFor as StandsForClient}
+use Rattle.dsr_client.specs.State.{accepted}
+use Rattle.dsr_check.specs.declared.customer.Customer.{Customer}
+use Rattle.dsr_check.specs.declared.party.Party.{Party}
+use Rattle.dsr_check.specs.declared.party.Party.TheVariants.{Loyal, Traitor, Client}
+
+-- the choice of these clients; nothing in particular where there are none
+abbrev pub choice_by : Option (List ℕ) → Pick
+choice_by None = Plain
+choice_by (Some clients) = From clients
+
+-- the replica is this loyal one, and stands for the log
+pub record PlaysReplica (shape : Shape) (p : ℕ) (log : List Entry) (r : Replica) : Type 0 where
+  pub honest : is_traitor shape p ≡ false
+  pub me : r.me ≡ ReplicaNumber p
+  pub shape_is : r.shape ≡ shape
+  pub stands : StandsFor r log
+
+-- the client is this one, stands for the log, and has noted what it accepted
+pub record PlaysClient (shape : Shape) (c : ℕ) (log : List Entry) (x : Customer) : Type 0 where
+  pub me : x.client.me ≡ c
+  pub shape_is : x.client.shape ≡ shape
+  pub stands : StandsForClient x.client log
+  pub noted : x.accepted.items ≡ reverse (accepted shape log)
+
+-- the party plays the actor, whose log this is
+abbrev pub Plays : Shape → Actor → List Entry → Party → Type 0
+Plays shape (ReplicaNumber p) log (Loyal r) = PlaysReplica shape p log r
+Plays shape (ReplicaNumber p) log Traitor = is_traitor shape p ≡ true
+Plays shape (ReplicaNumber p) log (Client x) = ⊥
+Plays shape (ClientNumber c) log (Loyal r) = ⊥
+Plays shape (ClientNumber c) log Traitor = ⊥
+Plays shape (ClientNumber c) log (Client x) = PlaysClient shape c log x
+
+-- the party plays some actor of a shape, to which an envelope within the limits can come from this other one
+pub record CanGet (party : Party) (me from : Actor) (envelope : Envelope) : Type 0 where
+  pub shape : Shape
+  pub log : List Entry
+  pub plays : Plays shape me log party
+  pub other : IsActor shape from
+  pub within : IsEnvelope envelope

@@ -1,0 +1,148 @@
+ghost use Rattle.std.specs.Prelude.{◌≡◌, ◌+◌, ◌≢◌, ◌<◌, ◌++◌, ℕ, [], ◌↔◌, true, false, IfOk, IfSome, IsSome, OnOk, IsOkUnless};
+ghost use Rattle.std.specs.Option.{option_to_list};
+ghost use Rattle.dsr_names.specs.Shape.{IsActor, is_traitor};
+ghost use Rattle.dsr_names.specs.declared.actor.Actor.{Actor};
+ghost use Rattle.dsr_names.specs.declared.actor.Actor.TheVariants.{Replica as ReplicaNumber, Client as ClientNumber};
+ghost use Rattle.dsr_desk.specs.Keys.{is_taken};
+ghost use Rattle.dsr_check.specs.Support.Audit.{AreCast, AreKeysBelow, HasAllKeys};
+ghost use Rattle.dsr_check.specs.Support.Party.{Plays};
+
+use crate::customer::Customer;
+use crate::party::Party;
+use dsr_client::Client;
+use dsr_desk::{Key, Keys};
+use dsr_names::{Actor, ClientId, Refusal, ReplicaId, Shape};
+use dsr_replica::Replica;
+use std::alloc::Global;
+
+/// A party for each actor of the shape, in the order of their places, and the traitors' keys.
+#[derive(Drop)]
+pub(crate) struct Parties {
+    /// The parties, none of which has taken a step.
+    pub(crate) parties: Vec<Party>,
+    /// The keys of the traitors.
+    pub(crate) traitors: Vec<Key>,
+}
+
+/// A party for each actor of the shape. `NoMemory` where memory runs out.
+pub(crate) fn all_parties(alloc: Global, shape: &Shape) -> Result<Parties, Refusal>
+    ensures parties { IfOk result (λ made. AreCast shape.now (shape.now.n + shape.now.m) made.parties.items) }
+    ensures traitors { IfOk result (λ made. AreKeysBelow shape.now shape.now.n made.traitors.items) }
+    ensures refusal { IsOkUnless result Refusal.NoMemory }
+{
+    let mut keys = Keys::new(alloc, *shape)?;
+    let mut parties = Vec::with_capacity(alloc, shape.n() as usize + shape.m() as usize)?;
+    let mut traitors = Vec::new(alloc);
+    for number in 0..shape.n() {
+        let (party, key) = replica_party(alloc, shape, &mut keys, number)?;
+        parties.push(party)?;
+        keep(&mut traitors, key)?;
+    }
+    for number in 0..shape.m() {
+        parties.push(client_party(alloc, shape, &mut keys, number))?;
+    }
+    Ok(Parties { parties, traitors })
+}
+
+/// A key of each actor of the shape: a notary's, who signs whatever was recorded. `NoMemory` where memory runs out.
+pub(crate) fn all_keys(alloc: Global, shape: &Shape) -> Result<Vec<Key>, Refusal>
+    ensures all { IfOk result (λ keys. HasAllKeys shape.now keys.items) }
+    ensures refusal { IsOkUnless result Refusal.NoMemory }
+{
+    let mut untaken = Keys::new(alloc, *shape)?;
+    let mut keys = Vec::with_capacity(alloc, shape.n() as usize + shape.m() as usize)?;
+    for number in 0..shape.n() {
+        let key = replica_key(shape, &mut untaken, number);
+        keys.push(key)?;
+    }
+    for number in 0..shape.m() {
+        let key = client_key(shape, &mut untaken, number);
+        keys.push(key)?;
+    }
+    Ok(keys)
+}
+
+/// The key of a replica of the shape, which was not taken.
+fn replica_key(shape: &Shape, keys: &mut Keys, number: u8) -> Key
+    requires inside { number < shape.now.n }
+    requires keys { keys.old.shape ≡ shape.now }
+    requires untaken { is_taken keys.old (ReplicaNumber number) ≡ false }
+    ensures keys { keys.new.shape ≡ keys.old.shape }
+    ensures others { (other : Actor) → other ≢ ReplicaNumber number → is_taken keys.new other ≡ is_taken keys.old other }
+    ensures key { result ≡ ReplicaNumber number }
+{
+    let _n = shape.n();
+    let Some(key) = keys.take(Actor::Replica(ReplicaId::of(number))) else {
+        unreachable!()
+    };
+    key
+}
+
+/// The key of a client of the shape, which was not taken.
+fn client_key(shape: &Shape, keys: &mut Keys, number: u8) -> Key
+    requires inside { number < shape.now.m }
+    requires keys { keys.old.shape ≡ shape.now }
+    requires untaken { is_taken keys.old (ClientNumber number) ≡ false }
+    ensures keys { keys.new.shape ≡ keys.old.shape }
+    ensures others { (other : Actor) → other ≢ ClientNumber number → is_taken keys.new other ≡ is_taken keys.old other }
+    ensures key { result ≡ ClientNumber number }
+{
+    let _m = shape.m();
+    let Some(key) = keys.take(Actor::Client(ClientId::of(number))) else {
+        unreachable!()
+    };
+    key
+}
+
+/// The party of a replica of the shape, and its key where it is a traitor. `NoMemory` where memory runs out. Requires that its key was
+/// not taken.
+fn replica_party(
+    alloc: Global,
+    shape: &Shape,
+    keys: &mut Keys,
+    number: u8,
+) -> Result<(Party, Option<Key>), Refusal>
+    requires inside { number < shape.now.n }
+    requires keys { keys.old.shape ≡ shape.now }
+    requires untaken { is_taken keys.old (ReplicaNumber number) ≡ false }
+    ensures keys { keys.new.shape ≡ keys.old.shape }
+    ensures others { (other : Actor) → other ≢ ReplicaNumber number → is_taken keys.new other ≡ is_taken keys.old other }
+    ensures plays { IfOk result (λ made. Plays shape.now (ReplicaNumber number) [] made.0) }
+    ensures held { IfOk result (λ made. IfSome made.1 (λ key. key ≡ ReplicaNumber number)) }
+    ensures traitor { IfOk result (λ made. IsSome made.1 ↔ (is_traitor shape.now number ≡ true)) }
+    ensures refusal { IsOkUnless result Refusal.NoMemory }
+{
+    let key = replica_key(shape, keys, number);
+    if shape.is_loyal(key.signer()) {
+        Ok((Party::Loyal(Replica::new(alloc, key, shape)?), None))
+    } else {
+        Ok((Party::Traitor, Some(key)))
+    }
+}
+
+/// The party of a client of the shape, whose key was not taken.
+fn client_party(alloc: Global, shape: &Shape, keys: &mut Keys, number: u8) -> Party
+    requires inside { number < shape.now.m }
+    requires keys { keys.old.shape ≡ shape.now }
+    requires untaken { is_taken keys.old (ClientNumber number) ≡ false }
+    ensures keys { keys.new.shape ≡ keys.old.shape }
+    ensures others { (other : Actor) → other ≢ ClientNumber number → is_taken keys.new other ≡ is_taken keys.old other }
+    ensures plays { Plays shape.now (ClientNumber number) [] result }
+{
+    let key = client_key(shape, keys, number);
+    Party::Client(Customer::new(alloc, Client::new(key, shape)))
+}
+
+/// Keeps the key, where there is one. `NoMemory` where memory runs out.
+fn keep(keys: &mut Vec<Key>, key: Option<Key>) -> Result<(), Refusal>
+    ensures kept { OnOk result (keys.new.items ≡ keys.old.items ++ option_to_list key) }
+    ensures refusal { IsOkUnless result Refusal.NoMemory }
+{
+    match key {
+        Some(key) => match keys.push(key) {
+            Ok(()) => Ok(()),
+            Err(_) => Err(Refusal::NoMemory),
+        },
+        None => Ok(()),
+    }
+}

@@ -1,0 +1,125 @@
+ghost use Rattle.std.specs.Bool.{OnFalse, OnTrue};
+ghost use Rattle.std.specs.Prelude.{None, ◌≡◌, ◌≢◌, ◌↔◌, ◌∷◌, ◌<◌, ℕ, [], List, OnOk, IsTrue, IsOkUnless};
+ghost use Rattle.dsr_names.specs.Shape.{Shape, IsActor};
+ghost use Rattle.dsr_names.specs.declared.actor.Actor.TheVariants.{Client as ClientNumber, Replica as ReplicaNumber};
+ghost use Rattle.dsr_envelope.specs.Limits.{IsEnvelope};
+ghost use Rattle.dsr_envelope.specs.declared.envelope.Envelope.TheVariants.{Ask, Seen};
+ghost use Rattle.dsr_envelope.specs.declared.entry.Entry.{Entry};
+ghost use Rattle.dsr_envelope.specs.declared.entry.Entry.TheVariants.{Post, Take};
+ghost use Rattle.dsr_chain.specs.declared.signed_request.SignedRequest.{SignedRequest as AnAsk};
+ghost use Rattle.dsr_client.specs.Client.{StandsFor};
+ghost use Rattle.dsr_client.specs.Conduct.{IsNext};
+ghost use Rattle.dsr_client.specs.State.{outstanding, seen};
+ghost use Rattle.dsr_check.specs.Support.Party.{PlaysClient};
+
+use dsr_client::Client;
+use dsr_envelope::Envelope;
+use dsr_ledger::Reply;
+use dsr_names::{Actor, Refusal, ReplicaId};
+use dsr_request::Op;
+use std::alloc::Global;
+
+/// A client, and the replies that it accepted, in their order.
+#[derive(Drop)]
+pub(crate) struct Customer {
+    /// The client.
+    pub(crate) client: Client,
+    /// The replies that it accepted.
+    pub(crate) accepted: Vec<Reply>,
+}
+
+impl Customer {
+    /// The client, before it accepted a reply.
+    pub(crate) fn new(alloc: Global, client: Client) -> Customer
+        ensures same { result.client ≡ client }
+        ensures none { result.accepted.items ≡ [] }
+    {
+        Customer {
+            client,
+            accepted: Vec::new(alloc),
+        }
+    }
+
+    /// Whether the client, which is `me`, may post this envelope to this actor next. If so, it has posted it.
+    pub(crate) fn post(&mut self, me: &Actor, to: &Actor, envelope: &Envelope) -> bool
+        ensures posts { (shape : Shape) (c : ℕ) (log : List Entry) → me.now ≡ ClientNumber c → PlaysClient shape c log self.old
+            → IsActor shape to.now
+            → OnTrue result (IsNext shape c log (Post to.now envelope.now) × PlaysClient shape c (Post to.now envelope.now ∷ log) self.new) }
+        ensures not { (shape : Shape) (c : ℕ) (log : List Entry) → me.now ≡ ClientNumber c → PlaysClient shape c log self.old
+            → IsEnvelope envelope.now → OnFalse result (¬ IsNext shape c log (Post to.now envelope.now)) }
+    {
+        match to {
+            Actor::Replica(replica) => asks(&mut self.client, *replica, envelope),
+            Actor::Client(_) => *to != *me && tells(&self.client, envelope),
+        }
+    }
+
+    /// Takes the envelope from another actor of the shape, and notes the reply that is accepted by it. `NoMemory` where memory runs out.
+    pub(crate) fn take(&mut self, from: &Actor, envelope: Envelope) -> Result<(), Refusal>
+        requires actor { IsActor self.old.client.shape from.now }
+        requires other { from.now ≢ ClientNumber self.old.client.me }
+        requires fits { IsEnvelope envelope }
+        ensures plays { (shape : Shape) (c : ℕ) (log : List Entry) → PlaysClient shape c log self.old
+            → OnOk result (PlaysClient shape c (Take from.now envelope ∷ log) self.new) }
+        ensures refusal { IsOkUnless result Refusal.NoMemory }
+    {
+        if let Some(reply) = self.client.taken(*from, envelope) {
+            self.accepted.push(reply)?;
+        }
+        Ok(())
+    }
+}
+
+/// Whether the client may post this envelope to this replica next: its outstanding request, or a new one where nothing is
+/// outstanding. If so, it has posted it.
+fn asks(client: &mut Client, to: ReplicaId, envelope: &Envelope) -> bool
+    ensures me { client.new.me ≡ client.old.me }
+    ensures shape { client.new.shape ≡ client.old.shape }
+    ensures asks { (log : List Entry) → StandsFor client.old log → to < client.old.shape.n
+        → OnTrue result (IsNext client.old.shape client.old.me log (Post (ReplicaNumber to) envelope.now)
+        × StandsFor client.new (Post (ReplicaNumber to) envelope.now ∷ log)) }
+    ensures not { (log : List Entry) → StandsFor client.old log → IsEnvelope envelope.now
+        → OnFalse result (¬ IsNext client.old.shape client.old.me log (Post (ReplicaNumber to) envelope.now)) }
+{
+    match client.ask_for(to) {
+        Some(current) => current.same(envelope),
+        None => match envelope {
+            Envelope::Ask(ask) => begins(client, to, &ask.request.op(), envelope),
+            _ => false,
+        },
+    }
+}
+
+/// Whether the client, with which nothing is outstanding, begins a request of this operation by posting this envelope to this replica. If
+/// so, it has begun it.
+fn begins(client: &mut Client, to: ReplicaId, op: &Op, envelope: &Envelope) -> bool
+    ensures me { client.new.me ≡ client.old.me }
+    ensures shape { client.new.shape ≡ client.old.shape }
+    ensures begins { (log : List Entry) → StandsFor client.old log → to < client.old.shape.n
+        → OnTrue result (IsNext client.old.shape client.old.me log (Post (ReplicaNumber to) envelope.now)
+        × StandsFor client.new (Post (ReplicaNumber to) envelope.now ∷ log)) }
+    ensures not { (log : List Entry) (ask : AnAsk) → StandsFor client.old log → outstanding client.old.shape log ≡ None
+        → envelope.now ≡ Ask ask → ask.request.op ≡ op.now → IsEnvelope envelope.now
+        → OnFalse result (¬ IsNext client.old.shape client.old.me log (Post (ReplicaNumber to) envelope.now)) }
+{
+    let Some(first) = client.first_ask(*op) else {
+        return false;
+    };
+    if !first.same(envelope) {
+        return false;
+    }
+    let Ok(_number) = client.begin(*op) else {
+        unreachable!()
+    };
+    true
+}
+
+/// Whether the envelope tells the client's seen front.
+fn tells(client: &Client, envelope: &Envelope) -> bool
+    ensures tells { (log : List Entry) → StandsFor client.now log → IsTrue result ↔ (envelope.now ≡ Seen (seen client.now.shape log)) }
+{
+    match envelope {
+        Envelope::Seen(front) => *front == client.seen(),
+        _ => false,
+    }
+}

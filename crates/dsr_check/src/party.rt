@@ -1,0 +1,185 @@
+ghost use Rattle.std.specs.Bool.{OnFalse, OnTrue};
+ghost use Rattle.std.specs.Prelude.{Some, ◌≡◌, ◌∷◌, ◌<◌, ◌^◌, ℕ, List, IfOk, IsOkUnless};
+ghost use Rattle.dsr_names.specs.Shape.{Shape, IsActor};
+ghost use Rattle.dsr_names.specs.declared.actor.Actor.TheVariants.{Replica as ReplicaNumber, Client as ClientNumber};
+ghost use Rattle.dsr_envelope.specs.Limits.{IsEnvelope};
+ghost use Rattle.dsr_envelope.specs.Log.{due, rounds};
+ghost use Rattle.dsr_envelope.specs.declared.due.Due.TheVariants.{Take as TakeFrom};
+ghost use Rattle.dsr_envelope.specs.declared.entry.Entry.{Entry};
+ghost use Rattle.dsr_envelope.specs.declared.entry.Entry.TheVariants.{Post, Take};
+ghost use Rattle.dsr_replica.specs.Conduct.{IsNext, reply_to};
+ghost use Rattle.dsr_replica.specs.Replica.{StandsFor};
+ghost use Rattle.dsr_run.specs.OwnStep.{KeepsOwn};
+ghost use Rattle.dsr_run.specs.Run.{KeepsRounds};
+ghost use Rattle.dsr_check.specs.Support.Party.{CanGet, Plays, PlaysClient};
+
+use crate::customer::Customer;
+use crate::shown::{pick_of, shown_clients};
+use dsr_envelope::{Due, Envelope};
+use dsr_names::{Actor, ClientId, Refusal, ReplicaId};
+use dsr_replica::Replica;
+use std::alloc::Global;
+
+/// Who takes an actor's steps again. A loyal actor is a real replica or client; a traitor may do what it likes, as far as it forges
+/// nothing, so there is no code of it.
+#[derive(Drop)]
+pub(crate) enum Party {
+    /// A loyal replica.
+    Loyal(Replica),
+    /// A traitor.
+    Traitor,
+    /// A client.
+    Client(Customer),
+}
+
+impl Party {
+    /// Whether the conduct of the actor, which is `me`, lets it post this envelope to this actor next. If so, it has posted it.
+    /// `NoMemory` where memory runs out.
+    pub(crate) fn post(
+        &mut self,
+        alloc: Global,
+        me: &Actor,
+        to: &Actor,
+        envelope: &Envelope,
+    ) -> Result<bool, Refusal>
+        ensures posts { (shape : Shape) (log : List Entry) → Plays shape me.now log self.old → IsActor shape to.now
+            → IfOk result (λ posts. OnTrue posts (KeepsOwn shape me.now log (Post to.now envelope.now)
+            × Plays shape me.now (Post to.now envelope.now ∷ log) self.new)) }
+        ensures not { (shape : Shape) (log : List Entry) → Plays shape me.now log self.old → IsEnvelope envelope.now
+            → IfOk result (λ posts. OnFalse posts (¬ KeepsOwn shape me.now log (Post to.now envelope.now))) }
+        ensures refusal { IsOkUnless result Refusal.NoMemory }
+    {
+        match self {
+            Party::Loyal(replica) => replica_posts(alloc, replica, me, to, envelope),
+            Party::Traitor => Ok(true),
+            Party::Client(customer) => Ok(customer.post(me, to, envelope)),
+        }
+    }
+
+    /// Whether the conduct of the actor, which is `me`, lets it take this envelope from this actor next. If so, it has taken it.
+    /// `NoMemory` where memory runs out.
+    pub(crate) fn take(
+        &mut self,
+        me: &Actor,
+        from: &Actor,
+        envelope: Envelope,
+    ) -> Result<bool, Refusal>
+        requires { CanGet self.old me.now from.now envelope }
+        ensures takes { (shape : Shape) (log : List Entry) → Plays shape me.now log self.old → IsActor shape from.now
+            → IfOk result (λ takes. OnTrue takes (KeepsOwn shape me.now log (Take from.now envelope)
+            × Plays shape me.now (Take from.now envelope ∷ log) self.new)) }
+        ensures not { (shape : Shape) (log : List Entry) → Plays shape me.now log self.old
+            → IfOk result (λ takes. OnFalse takes (¬ KeepsOwn shape me.now log (Take from.now envelope))) }
+        ensures refusal { IsOkUnless result Refusal.NoMemory }
+    {
+        match self {
+            Party::Loyal(replica) => match from {
+                Actor::Replica(number) => replica_takes(replica, *number, envelope),
+                Actor::Client(client) => {
+                    replica.ask_taken(*client, envelope);
+                    Ok(true)
+                }
+            },
+            Party::Traitor => Ok(true),
+            Party::Client(customer) => {
+                if *from == *me {
+                    return Ok(false);
+                }
+                customer.take(from, envelope)?;
+                Ok(true)
+            }
+        }
+    }
+}
+
+/// Whether a loyal replica may post this envelope to this actor next. If so, it has posted it.
+fn replica_posts(
+    alloc: Global,
+    replica: &mut Replica,
+    me: &Actor,
+    to: &Actor,
+    envelope: &Envelope,
+) -> Result<bool, Refusal>
+    ensures me { replica.new.me ≡ replica.old.me }
+    ensures shape { replica.new.shape ≡ replica.old.shape }
+    ensures posts { (log : List Entry) → replica.old.me ≡ me.now → StandsFor replica.old log → IsActor replica.old.shape to.now
+        → IfOk result (λ posts. OnTrue posts (IsNext replica.old.shape me.now log (Post to.now envelope.now)
+        × KeepsRounds replica.old.shape log (Post to.now envelope.now) × StandsFor replica.new (Post to.now envelope.now ∷ log))) }
+    ensures not { (log : List Entry) → replica.old.me ≡ me.now → StandsFor replica.old log
+        → IfOk result (λ posts. OnFalse posts (¬ (IsNext replica.old.shape me.now log (Post to.now envelope.now)
+        × KeepsRounds replica.old.shape log (Post to.now envelope.now)))) }
+    ensures refusal { IsOkUnless result Refusal.NoMemory }
+{
+    match to {
+        Actor::Replica(number) => sends(alloc, replica, me, *number, envelope),
+        Actor::Client(client) => Ok(replies(replica, *client, envelope)),
+    }
+}
+
+/// Whether a loyal replica may post this envelope to this replica next. If so, it has posted it.
+fn sends(
+    alloc: Global,
+    replica: &mut Replica,
+    me: &Actor,
+    to: ReplicaId,
+    envelope: &Envelope,
+) -> Result<bool, Refusal>
+    ensures me { replica.new.me ≡ replica.old.me }
+    ensures shape { replica.new.shape ≡ replica.old.shape }
+    ensures sends { (log : List Entry) → replica.old.me ≡ me.now → StandsFor replica.old log
+        → IfOk result (λ sends. OnTrue sends (IsNext replica.old.shape me.now log (Post (ReplicaNumber to) envelope.now)
+        × (rounds replica.old.shape log < 2 ^ 36) × StandsFor replica.new (Post (ReplicaNumber to) envelope.now ∷ log))) }
+    ensures not { (log : List Entry) → replica.old.me ≡ me.now → StandsFor replica.old log
+        → IfOk result (λ sends. OnFalse sends (¬ (IsNext replica.old.shape me.now log (Post (ReplicaNumber to) envelope.now)
+        × (rounds replica.old.shape log < 2 ^ 36)))) }
+    ensures refusal { IsOkUnless result Refusal.NoMemory }
+{
+    let shape = replica.shape();
+    let clients = shown_clients(alloc, &shape, me, to, envelope)?;
+    if !replica.allows(to, pick_of(&clients)) {
+        return Ok(false);
+    }
+    let Ok(ours) = replica.envelope_for(alloc, to, pick_of(&clients)) else {
+        return Err(Refusal::NoMemory);
+    };
+    if !ours.same(envelope) {
+        return Ok(false);
+    }
+    replica.posted(to, pick_of(&clients));
+    Ok(true)
+}
+
+/// Whether the envelope is a loyal replica's reply to this client.
+fn replies(replica: &Replica, client: ClientId, envelope: &Envelope) -> bool
+    ensures replies { (log : List Entry) → StandsFor replica.now log
+        → OnTrue result ((reply_to replica.now.shape log client ≡ Some envelope.now) × StandsFor replica.now (Post (ClientNumber client) envelope.now ∷ log)) }
+    ensures not { (log : List Entry) → StandsFor replica.now log
+        → OnFalse result (reply_to replica.now.shape log client ≡ Some envelope.now → ⊥) }
+{
+    match replica.reply_for(client) {
+        Some(reply) => reply.same(envelope),
+        None => false,
+    }
+}
+
+/// Whether a loyal replica may take from this replica next. If so, it has taken this envelope.
+fn replica_takes(
+    replica: &mut Replica,
+    from: ReplicaId,
+    envelope: Envelope,
+) -> Result<bool, Refusal>
+    ensures me { replica.new.me ≡ replica.old.me }
+    ensures shape { replica.new.shape ≡ replica.old.shape }
+    ensures takes { (log : List Entry) → StandsFor replica.old log
+        → IfOk result (λ takes. OnTrue takes ((due replica.old.shape log ≡ TakeFrom from) × StandsFor replica.new (Take (ReplicaNumber from) envelope ∷ log))) }
+    ensures not { (log : List Entry) → StandsFor replica.old log
+        → IfOk result (λ takes. OnFalse takes (due replica.old.shape log ≡ TakeFrom from → ⊥)) }
+    ensures refusal { IsOkUnless result Refusal.NoMemory }
+{
+    if replica.due() != Due::Take(from) {
+        return Ok(false);
+    }
+    replica.room()?;
+    replica.taken(from, envelope);
+    Ok(true)
+}

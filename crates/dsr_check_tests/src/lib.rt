@@ -1,0 +1,5 @@
+//! The tests of the checker. They stand apart from the code, since a crate with tests is proved twice.
+#![tactic(auto)]
+
+#[cfg(test)]
+mod judging;
