@@ -1,20 +1,29 @@
 -- From what the parse gave to what the words ask for.
-use Rattle.std.proofs.Common.{◌≡◌, ◌≢◌, ◌∙◌, Bool, true, false, refl, sym, ap, subst, arith, inl, inr, List, [], ◌∷◌, length, true≢false}
+use Rattle.std.proofs.Common.{◌≡◌, ◌≢◌, ◌∙◌, Bool, true, false, refl, sym, ap, subst, arith, inl, inr, List, [], ◌∷◌, codes, length, Option, None, Some, true≢false}
+use Rattle.std.specs.Borrow.{Bor}
+use Rattle.std.specs.List.{list_all}
+use Rattle.std.specs.Option.{option_eq, option_map, option_map_or}
+use Rattle.std.specs.Prelude.{if◌then◌else◌}
+use Rattle.std.specs.Str.{bytes_eq}
 use Rattle.clap.specs.Kinds.{HasKind, IsAmong, Kinds}
 use Rattle.clap.specs.Values.{kind_of}
-use Rattle.clap.specs.Walk.{Text}
-use Rattle.clap.specs.Faults.{fault_of}
+use Rattle.clap.specs.Walk.{Text, rows_of}
+use Rattle.clap.specs.Faults.{fault_of, is_simple_and_free}
+use Rattle.clap.specs.Matches.{first_value}
+use Rattle.clap.specs.declared.parser.matches.Found.{Found}
 use Rattle.clap.specs.Simple.{subcommand_of}
 use Rattle.clap.specs.declared.error.Error.{Error}
 use Rattle.clap.specs.declared.error.kind.ErrorKind.{ErrorKind}
-use Rattle.clap.specs.declared.error.kind.ErrorKind.TheVariants.{DisplayHelp, InvalidSubcommand, OutOfMemory, TooManyValues, UnknownArgument}
+use Rattle.clap.specs.declared.error.kind.ErrorKind.TheVariants.{DisplayHelp, OutOfMemory}
+use Rattle.clap.proofs.WalkLemmas.{both, first_value-rows}
 use Rattle.dsr_command.specs.Asked.{Asked, asked_of, has_two_hyphens, help, task, unknown}
-use Rattle.dsr_command.specs.CommandLine.{command_line, task_entered}
+use Rattle.dsr_command.specs.CommandLine.{command_line, play_entered, task_entered}
 use Rattle.dsr_command.specs.Readings.{OnHelp, OnUsage}
 use Rattle.dsr_command.specs.declared.Reading.{Reading}
 use Rattle.dsr_command.specs.declared.Reading.TheVariants as reading
 use Rattle.dsr_command.specs.declared.Task.{Task}
-use Rattle.dsr_command.proofs.WordLemmas.{Comes, IsEntered, IsRefused, asked, entered_as_asked}
+use Rattle.dsr_command.specs.declared.Task.TheVariants.{Play, Transcribe}
+use Rattle.dsr_command.proofs.WordLemmas.{Comes, IsEntered, IsRefused, asked, entered_as_asked, is_other, is_refusal}
 
 -- what is said of a help text may say less
 on_help : (r : Reading) (P Q : Type 0) → (P → Q) → OnHelp r P → OnHelp r Q
@@ -30,33 +39,26 @@ on_usage (reading.Help text) P Q f h = h
 on_usage (reading.Usage text) P Q f h = f h
 on_usage reading.NoMemory P Q f h = h
 
--- whether an error of this kind shows the help
-abbrev is_call : ErrorKind → Bool
-is_call DisplayHelp = true
-is_call _ = false
+-- a call for help has a kind
+call_is_some : (kinds : Kinds) → kinds ≡ DisplayHelp ∷ [] → kinds ≡ [] → ⊥
+call_is_some kinds is none = let bad : length {A = ErrorKind} [] ≡ length (DisplayHelp ∷ []) = ap length (sym none ∙ is) in omega (arith, bad)
 
--- a list that begins with a kind is not the empty one
-one_is_some : (kinds : Kinds) (k : ErrorKind) (rest : Kinds) → kinds ≡ k ∷ rest → kinds ≡ [] → ⊥
-one_is_some kinds k rest is none = let bad : length {A = ErrorKind} [] ≡ length (k ∷ rest) = ap length (sym none ∙ is) in omega (arith, bad)
-
--- so a refusal has a kind
+-- so has a refusal
 refused_is_some : (kinds : Kinds) → IsRefused kinds → kinds ≡ [] → ⊥
-refused_is_some kinds (inl h) none = one_is_some kinds _ _ h none
-refused_is_some kinds (inr (inl h)) none = one_is_some kinds _ _ h none
-refused_is_some kinds (inr (inr h)) none = one_is_some kinds _ _ h none
+refused_is_some kinds h none = true≢false (sym h ∙ ap is_refusal none)
 
 -- where the parse passes and no word is `--`, the task that it entered was asked for
 taken : (words : List Text) (a : Asked) (sep : Bool) (kinds : Kinds) → Comes a sep kinds → IsEntered words a → kinds ≡ [] → sep ≡ false
     → a ≡ task (task_entered (subcommand_of command_line words))
 taken words (task named) sep kinds h entered none without = entered
-taken words help sep kinds h entered none without = absurd (one_is_some kinds _ _ h none)
+taken words help sep kinds h entered none without = absurd (call_is_some kinds h none)
 taken words unknown sep kinds (inl h) entered none without = absurd (refused_is_some kinds h none)
 taken words unknown sep kinds (inr h) entered none without = absurd (true≢false (sym h.1 ∙ without))
 
 -- where it passes and a word is `--`, nothing known was
 separator_taken : (a : Asked) (sep : Bool) (kinds : Kinds) → Comes a sep kinds → kinds ≡ [] → sep ≡ true → a ≡ unknown
 separator_taken (task t) sep kinds h none with = absurd (true≢false (sym with ∙ h.1))
-separator_taken help sep kinds h none with = absurd (one_is_some kinds _ _ h none)
+separator_taken help sep kinds h none with = absurd (call_is_some kinds h none)
 separator_taken unknown sep kinds h none with = refl
 
 -- no kind is among none
@@ -64,24 +66,19 @@ none_among : (k : ErrorKind) (kinds : Kinds) → kinds ≡ [] → IsAmong k kind
 none_among k kinds none h = subst (λ (ks : Kinds). IsAmong k ks) none h
 
 -- another kind than that of the help is not it
-no_call : (k : ErrorKind) → is_call k ≡ false → DisplayHelp ≡ k → ⊥
-no_call k other is = true≢false (ap is_call is ∙ other)
+no_call : (k : ErrorKind) → is_other k ≡ true → DisplayHelp ≡ k → ⊥
+no_call k other is = true≢false (sym other ∙ sym (ap is_other is))
 
--- and the help is not among it alone
-one_other : (k : ErrorKind) → is_call k ≡ false → IsAmong DisplayHelp (k ∷ []) → ⊥
-one_other k other (inl is) = no_call k other is
-one_other k other (inr h) = elim h [ ]
+-- and none of a refusal is
+none_of_them : (kinds : Kinds) → list_all is_other kinds ≡ true → IsAmong DisplayHelp kinds → ⊥
+none_of_them [] h among = elim among [ ]
+none_of_them (k ∷ ks) h (inl is) = no_call k (both (is_other k) (list_all is_other ks) h).0 is
+none_of_them (k ∷ ks) h (inr among) = none_of_them ks (both (is_other k) (list_all is_other ks) h).1 among
 
--- nor among the kinds of a refusal
+-- the same of the refusal
 refused_is_other : (kinds : Kinds) → IsRefused kinds → IsAmong DisplayHelp kinds → ⊥
-refused_is_other kinds (inl h) among = one_other UnknownArgument refl (subst (λ (ks : Kinds). IsAmong DisplayHelp ks) h among)
-refused_is_other kinds (inr (inl h)) among = one_other TooManyValues refl (subst (λ (ks : Kinds). IsAmong DisplayHelp ks) h among)
-refused_is_other kinds (inr (inr h)) among = go (subst (λ (ks : Kinds). IsAmong DisplayHelp ks) h among)
-  where
-    go : IsAmong DisplayHelp (UnknownArgument ∷ InvalidSubcommand ∷ []) → ⊥
-    go (inl is) = no_call UnknownArgument refl is
-    go (inr (inl is)) = no_call InvalidSubcommand refl is
-    go (inr (inr h)) = elim h [ ]
+refused_is_other [] h among = elim among [ ]
+refused_is_other (k ∷ ks) h among = none_of_them (k ∷ ks) h among
 
 -- where the parse shows the help, the help was asked for
 called : (a : Asked) (sep : Bool) (kinds : Kinds) → Comes a sep kinds → IsAmong DisplayHelp kinds → a ≡ help
@@ -137,3 +134,25 @@ fault_is_unknown words e r has h = on_usage r _ _ (go has) h
 
 -- what the clauses of `read_words` stand on
 pub ruleset readings = (taken_is_task, separator_is_unknown, on_separator, call_is_help, fault_is_unknown)
+
+-- ---- the flag `--transcript`
+
+-- the task of `play`, by the text of the flag
+abbrev by_text : Option Text → Task
+by_text text = if option_map_or (λ given. bytes_eq given (codes "true")) text false then Transcribe else Play
+
+-- the text is compared with that of a flag that is given
+pub flag_read : (f : Found) (text : Option (Bor Text)) (wanted : Bor Text) (same : Bool) → option_map (λ s. s.now) text ≡ first_value f (codes "transcript")
+    → wanted.now ≡ codes "true" → same ≡ option_eq (λ a b. bytes_eq a.now b.now) text (Some wanted) → (if same then Transcribe else Play) ≡ play_entered (rows_of f)
+flag_read f text wanted same is given compared =
+    ap (λ (b : Bool). if b then Transcribe else Play) compared ∙ go text ∙ ap by_text (is ∙ first_value-rows f (codes "transcript"))
+  where
+    go : (text : Option (Bor Text)) → (if option_eq (λ a b. bytes_eq a.now b.now) text (Some wanted) then Transcribe else Play) ≡ by_text (option_map (λ s. s.now) text)
+    go None = refl
+    go (Some t) = ap (λ (w : Text). if bytes_eq t.now w then Transcribe else Play) given
+
+-- ---- the command
+
+-- `clap`'s exact contracts hold of this command
+pub command_line_is_simple : is_simple_and_free command_line ≡ true
+command_line_is_simple = refl

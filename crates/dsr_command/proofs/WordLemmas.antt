@@ -1,7 +1,7 @@
 -- What `clap` makes of the program's words is what `asked_of` says.
-use Rattle.std.proofs.Common.{◌≡◌, ◌∙◌, ◌⊎◌, ◌||◌, ℕ, Bool, true, false, refl, sym, ap, ap₂, subst, arith, inl, inr, List, [], ◌∷◌, None, Some, codes, length, fold, is_some, not, take, true≢false}
+use Rattle.std.proofs.Common.{◌≡◌, ◌∙◌, ◌⊎◌, ◌&&◌, ◌||◌, ℕ, Bool, true, false, refl, sym, ap, ap₂, subst, arith, inl, inr, List, [], ◌∷◌, None, Some, codes, length, fold, is_some, not, take, true≢false}
 use Rattle.std.specs.Prelude.{◌==◌, if◌then◌else◌}
-use Rattle.std.specs.List.{before_first, list_any, prefix_len}
+use Rattle.std.specs.List.{before_first, list_all, list_any, prefix_len}
 use Rattle.std.specs.Str.{bytes_eq, chars}
 use Rattle.std.proofs.lemmas.Slice.Eq.{bytes_eq-Decides}
 use Rattle.std.proofs.lemmas.List.{take_all}
@@ -9,32 +9,48 @@ use Rattle.std.proofs.lemmas.Bool.Decides.{Decides-eqb}
 use Rattle.clap.specs.Kinds.{Kinds, or_else}
 use Rattle.clap.specs.Lexer.{has_byte, long_of}
 use Rattle.clap.specs.Faults.{check_fault, defaults_fault, entered_fault, fault_of, flag_word_fault, level_fault, settle_fault, step_fault, turn_fault, walk_fault}
-use Rattle.clap.specs.Simple.{App, Shape, built, entered, names_of, subcommand_of}
-use Rattle.clap.specs.Walk.{Held, Names, Rule, Step, Text, Walk, finished, idle, long_or_other, nothing_held, settled, subcommand_met, value, walk_from, walked}
-use Rattle.clap.specs.declared.error.kind.ErrorKind.TheVariants.{DisplayHelp, InvalidSubcommand, TooManyValues, UnknownArgument}
+use Rattle.clap.specs.Simple.{App, Shape, built, entered, filled_from, help_rule, names_of, subcommand_of}
+use Rattle.clap.specs.Walk.{Held, Names, Row, Rule, Step, Text, Walk, finished, idle, long_or_other, nothing_held, settled, subcommand_met, value, walk_from, walked}
+use Rattle.clap.specs.declared.error.kind.ErrorKind.{ErrorKind}
+use Rattle.clap.specs.declared.error.kind.ErrorKind.TheVariants.{DisplayHelp}
 use Rattle.clap.proofs.FaultLemmas.{stopped_fault}
 use Rattle.clap.proofs.OnLiterals.{clap_on_literals}
 use Rattle.clap.proofs.WalkLemmas.{walk_stopped}
-use Rattle.dsr_command.specs.Asked.{Asked, asked_after, asked_of, has_two_hyphens, help, is_help, task, unknown}
-use Rattle.dsr_command.specs.CommandLine.{command_line, task_entered}
+use Rattle.dsr_command.specs.Asked.{Asked, asked_after, asked_after_play, asked_by_other, asked_of, has_two_hyphens, help, is_help, task, unknown}
+use Rattle.dsr_command.specs.CommandLine.{command_line, task_entered, transcript_rule}
 use Rattle.dsr_command.specs.declared.Task.{Task}
-use Rattle.dsr_command.specs.declared.Task.TheVariants.{Apply, Play}
+use Rattle.dsr_command.specs.declared.Task.TheVariants.{Apply, Check, Transcribe}
 
 -- the command as a parse builds it
 abbrev app : App
 app = built command_line
 
--- its flags, which are those of its subcommands too: `--help` and `-h`
-abbrev flags : List Rule
-flags = app.top.rules
+-- the flags of a subcommand that takes `--transcript`, or of one that takes none, and of the command itself: `--help` and `-h` are among them
+abbrev flags : Bool → List Rule
+flags true = filled_from 1 (transcript_rule ∷ help_rule ∷ [])
+flags false = app.top.rules
 
 -- the command or a subcommand, which differ in no more than these
-abbrev shape : Text → Bool → Shape
-shape name is_leaf = record app.top { name = name; is_leaf = is_leaf }
+abbrev shape : Bool → Text → Bool → Shape
+shape takes name is_leaf = record app.top { name = name; is_leaf = is_leaf; rules = flags takes }
 
--- the kinds of a fault that is no call for help
+-- these rows are held, and no argument waits for a value
+abbrev held : List Row → Held
+held rows = record { rows = rows; pending = None; skip = 0 }
+
+-- the kind is not that of a call for help
+abbrev pub is_other : ErrorKind → Bool
+is_other DisplayHelp = false
+is_other _ = true
+
+-- the kinds are those of a fault that is no call for help
+abbrev pub is_refusal : Kinds → Bool
+is_refusal [] = false
+is_refusal (kind ∷ kinds) = list_all is_other (kind ∷ kinds)
+
+-- as a statement
 abbrev pub IsRefused : Kinds → Type 0
-IsRefused kinds = (kinds ≡ UnknownArgument ∷ []) ⊎ ((kinds ≡ TooManyValues ∷ []) ⊎ (kinds ≡ UnknownArgument ∷ InvalidSubcommand ∷ []))
+IsRefused kinds = is_refusal kinds ≡ true
 
 -- ---- the flags
 
@@ -43,9 +59,14 @@ abbrev FlagAs : Bool → Kinds → Step → Type 0
 FlagAs true kinds step = kinds ≡ DisplayHelp ∷ []
 FlagAs false kinds step = IsRefused kinds ⊎ ((kinds ≡ []) × (step ≡ value))
 
--- `FlagAs` holds of the word
-abbrev FlagWord : Text → Type 0
-FlagWord word = FlagAs (is_help word) (flag_word_fault flags false (long_of word) word nothing_held) (long_or_other flags idle word (long_of word) nothing_held).1
+-- `FlagAs` holds of the word, after words that led to these rows
+abbrev FlagWord : Bool → List Row → Text → Type 0
+FlagWord takes rows word = FlagAs (is_help word) (flag_word_fault (flags takes) false (long_of word) word (held rows))
+    (long_or_other (flags takes) idle word (long_of word) (held rows)).1
+
+-- the word is the flag `--transcript`, where that is taken
+abbrev is_flag : Bool → Text → Bool
+is_flag takes word = takes && bytes_eq word (codes "--transcript")
 
 -- the byte `=`
 abbrev is_equals : ℕ → Bool
@@ -75,63 +96,106 @@ flipped a b other = go (b == a) refl
     go false e = refl
     go true e = absurd (true≢false (sym ((Decides-eqb a b).1 (sym ((Decides-eqb b a).0 e))) ∙ other))
 
--- `--name`, with a value or without
-long_flag : (n : ℕ) (ns : Text) → FlagWord (45 ∷ 45 ∷ n ∷ ns)
+-- what a test of the name before `=` says of a name that it passes and that is the whole text
+name_is : (known t : Text) → bytes_eq known (before_first is_equals t) ≡ true → has_byte 61 t ≡ false → t ≡ known
+name_is known t named valued = sym ((bytes_eq-Decides known (before_first is_equals t)).0 named ∙ without_equals t valued)
+
+-- `--name`, with a value or without, where no flag but the help is taken
+help_flag : (rows : List Row) (n : ℕ) (ns : Text) → FlagWord false rows (45 ∷ 45 ∷ n ∷ ns)
 unfolding clap_on_literals
-long_flag n ns = go (bytes_eq (codes "help") (before_first is_equals (n ∷ ns))) (has_byte 61 (n ∷ ns)) (bytes_eq (n ∷ ns) (codes "help")) refl refl refl
+help_flag rows n ns = go (bytes_eq (codes "help") (before_first is_equals (n ∷ ns))) (has_byte 61 (n ∷ ns)) (bytes_eq (n ∷ ns) (codes "help")) refl refl refl
   where
     is_text : bytes_eq (n ∷ ns) (codes "help") ≡ true → n ∷ ns ≡ codes "help"
     is_text e = (bytes_eq-Decides (n ∷ ns) (codes "help")).0 e
 
     go : (named valued same : Bool) → bytes_eq (codes "help") (before_first is_equals (n ∷ ns)) ≡ named → has_byte 61 (n ∷ ns) ≡ valued
-        → bytes_eq (n ∷ ns) (codes "help") ≡ same → FlagWord (45 ∷ 45 ∷ n ∷ ns)
+        → bytes_eq (n ∷ ns) (codes "help") ≡ same → FlagWord false rows (45 ∷ 45 ∷ n ∷ ns)
     go true false true named valued same = rw (named, valued, same) refl
-    go true true false named valued same = rw (named, valued, same) (inl (inr (inl refl)))
-    go false v false named valued same = rw (named, same) (inl (inl refl))
+    go true true false named valued same = rw (named, valued, same) (inl refl)
+    go false v false named valued same = rw (named, same) (inl refl)
     go true true true named valued same = absurd (true≢false (sym valued ∙ ap (has_byte 61) (is_text same)))
     go false v true named valued same = absurd (true≢false (sym (ap (λ t. bytes_eq (codes "help") (before_first is_equals t)) (is_text same)) ∙ named))
     go true false false named valued same =
-        let name = (bytes_eq-Decides (codes "help") (before_first is_equals (n ∷ ns))).0 named in
-        absurd (true≢false (sym ((bytes_eq-Decides (n ∷ ns) (codes "help")).1 (sym (name ∙ without_equals (n ∷ ns) valued))) ∙ same))
+        absurd (true≢false (sym ((bytes_eq-Decides (n ∷ ns) (codes "help")).1 (name_is (codes "help") (n ∷ ns) named valued)) ∙ same))
+
+-- the same where `--transcript` is taken, of another word than that
+other_flag : (rows : List Row) (n : ℕ) (ns : Text) → bytes_eq (n ∷ ns) (codes "transcript") ≡ false → FlagWord true rows (45 ∷ 45 ∷ n ∷ ns)
+unfolding clap_on_literals
+other_flag rows n ns other = first (bytes_eq (codes "transcript") (before_first is_equals (n ∷ ns))) (has_byte 61 (n ∷ ns)) refl refl
+  where
+    is_text : bytes_eq (n ∷ ns) (codes "help") ≡ true → n ∷ ns ≡ codes "help"
+    is_text e = (bytes_eq-Decides (n ∷ ns) (codes "help")).0 e
+
+    go : (named valued same : Bool) → bytes_eq (codes "transcript") (before_first is_equals (n ∷ ns)) ≡ false
+        → bytes_eq (codes "help") (before_first is_equals (n ∷ ns)) ≡ named → has_byte 61 (n ∷ ns) ≡ valued
+        → bytes_eq (n ∷ ns) (codes "help") ≡ same → FlagWord true rows (45 ∷ 45 ∷ n ∷ ns)
+    go true false true less named valued same = rw (less, named, valued, same) refl
+    go true true false less named valued same = rw (less, named, valued, same) (inl refl)
+    go false v false less named valued same = rw (less, named, same) (inl refl)
+    go true true true less named valued same = absurd (true≢false (sym valued ∙ ap (has_byte 61) (is_text same)))
+    go false v true less named valued same = absurd (true≢false (sym (ap (λ t. bytes_eq (codes "help") (before_first is_equals t)) (is_text same)) ∙ named))
+    go true false false less named valued same =
+        absurd (true≢false (sym ((bytes_eq-Decides (n ∷ ns) (codes "help")).1 (name_is (codes "help") (n ∷ ns) named valued)) ∙ same))
+
+    with_value : (same : Bool) → bytes_eq (codes "transcript") (before_first is_equals (n ∷ ns)) ≡ true → has_byte 61 (n ∷ ns) ≡ true
+        → bytes_eq (n ∷ ns) (codes "help") ≡ same → FlagWord true rows (45 ∷ 45 ∷ n ∷ ns)
+    with_value false named valued same = rw (named, valued, same) (inl refl)
+    with_value true named valued same = absurd (true≢false (sym valued ∙ ap (has_byte 61) (is_text same)))
+
+    first : (named valued : Bool) → bytes_eq (codes "transcript") (before_first is_equals (n ∷ ns)) ≡ named → has_byte 61 (n ∷ ns) ≡ valued
+        → FlagWord true rows (45 ∷ 45 ∷ n ∷ ns)
+    first false v named valued = go (bytes_eq (codes "help") (before_first is_equals (n ∷ ns))) v (bytes_eq (n ∷ ns) (codes "help")) named refl valued refl
+    first true true named valued = with_value (bytes_eq (n ∷ ns) (codes "help")) named valued refl
+    first true false named valued =
+        absurd (true≢false (sym ((bytes_eq-Decides (n ∷ ns) (codes "transcript")).1 (name_is (codes "transcript") (n ∷ ns) named valued)) ∙ other))
+
+-- `--name`, but for the flag itself
+long_flag : (takes : Bool) (rows : List Row) (n : ℕ) (ns : Text) → is_flag takes (45 ∷ 45 ∷ n ∷ ns) ≡ false → FlagWord takes rows (45 ∷ 45 ∷ n ∷ ns)
+long_flag true rows n ns other = other_flag rows n ns other
+long_flag false rows n ns other = help_flag rows n ns
 
 -- `-abc`
-short_flag : (x : ℕ) (xs : Text) → (x == 45) ≡ false → FlagWord (45 ∷ x ∷ xs)
+short_flag : (takes : Bool) (rows : List Row) (x : ℕ) (xs : Text) → (x == 45) ≡ false → FlagWord takes rows (45 ∷ x ∷ xs)
 unfolding clap_on_literals
-short_flag x xs other = go (chars (x ∷ xs)) refl
+short_flag takes rows x xs other = go takes (chars (x ∷ xs)) refl
   where
-    at : (c : ℕ) (cs : List ℕ) (b : Bool) → chars (x ∷ xs) ≡ c ∷ cs → (104 == c) ≡ b → FlagWord (45 ∷ x ∷ xs)
-    at c cs true e h = simp (other, e, h) refl
-    at c cs false e h = simp (other, e, h) (inl (inl refl))
+    at : (takes : Bool) (c : ℕ) (cs : List ℕ) (b : Bool) → chars (x ∷ xs) ≡ c ∷ cs → (104 == c) ≡ b → FlagWord takes rows (45 ∷ x ∷ xs)
+    at true c cs true e h = simp (other, e, h) refl
+    at true c cs false e h = simp (other, e, h) (inl refl)
+    at false c cs true e h = simp (other, e, h) refl
+    at false c cs false e h = simp (other, e, h) (inl refl)
 
-    go : (cs : List ℕ) → chars (x ∷ xs) ≡ cs → FlagWord (45 ∷ x ∷ xs)
-    go [] e = simp (other, e) (inr (refl, refl))
-    go (c ∷ cs) e = at c cs (104 == c) e refl
+    go : (takes : Bool) (cs : List ℕ) → chars (x ∷ xs) ≡ cs → FlagWord takes rows (45 ∷ x ∷ xs)
+    go true [] e = simp (other, e) (inr (refl, refl))
+    go false [] e = simp (other, e) (inr (refl, refl))
+    go takes (c ∷ cs) e = at takes c cs (104 == c) e refl
 
--- any word but `--`
-flag_word : (word : Text) → bytes_eq word (codes "--") ≡ false → FlagWord word
+-- any word but `--` and the flag itself
+flag_word : (takes : Bool) (rows : List Row) (word : Text) → bytes_eq word (codes "--") ≡ false → is_flag takes word ≡ false → FlagWord takes rows word
 unfolding clap_on_literals
-flag_word [] other = inr (refl, refl)
-flag_word (a ∷ rest) other = first (a == 45) refl
+flag_word takes rows [] other no_flag = inr (refl, refl)
+flag_word takes rows (a ∷ rest) other no_flag = first (a == 45) refl
   where
-    after : (rest : Text) → bytes_eq (45 ∷ rest) (codes "--") ≡ false → FlagWord (45 ∷ rest)
-    after [] other = inr (refl, refl)
-    after (x ∷ xs) other = second (x == 45) refl
+    after : (rest : Text) → bytes_eq (45 ∷ rest) (codes "--") ≡ false → is_flag takes (45 ∷ rest) ≡ false → FlagWord takes rows (45 ∷ rest)
+    after [] other no_flag = inr (refl, refl)
+    after (x ∷ xs) other no_flag = second (x == 45) refl
       where
-        third : (xs : Text) → bytes_eq (45 ∷ 45 ∷ xs) (codes "--") ≡ false → FlagWord (45 ∷ 45 ∷ xs)
-        third [] other = absurd (true≢false other)
-        third (n ∷ ns) other = long_flag n ns
+        third : (xs : Text) → bytes_eq (45 ∷ 45 ∷ xs) (codes "--") ≡ false → is_flag takes (45 ∷ 45 ∷ xs) ≡ false → FlagWord takes rows (45 ∷ 45 ∷ xs)
+        third [] other no_flag = absurd (true≢false other)
+        third (n ∷ ns) other no_flag = long_flag takes rows n ns no_flag
 
-        second : (b : Bool) → (x == 45) ≡ b → FlagWord (45 ∷ x ∷ xs)
-        second false e = short_flag x xs e
+        second : (b : Bool) → (x == 45) ≡ b → FlagWord takes rows (45 ∷ x ∷ xs)
+        second false e = short_flag takes rows x xs e
         second true e =
             let is : x ≡ 45 = (Decides-eqb x 45).0 e in
-            subst (λ (y : ℕ). bytes_eq (45 ∷ y ∷ xs) (codes "--") ≡ false → FlagWord (45 ∷ y ∷ xs)) (sym is) (third xs) other
+            subst (λ (y : ℕ). bytes_eq (45 ∷ y ∷ xs) (codes "--") ≡ false → is_flag takes (45 ∷ y ∷ xs) ≡ false → FlagWord takes rows (45 ∷ y ∷ xs))
+            (sym is) (third xs) other no_flag
 
-    first : (b : Bool) → (a == 45) ≡ b → FlagWord (a ∷ rest)
+    first : (b : Bool) → (a == 45) ≡ b → FlagWord takes rows (a ∷ rest)
     first false e = let turned : (45 == a) ≡ false = flipped a 45 e in simp (e, turned) (inr (refl, refl))
     first true e =
         let is : a ≡ 45 = (Decides-eqb a 45).0 e in
-        subst (λ (y : ℕ). bytes_eq (y ∷ rest) (codes "--") ≡ false → FlagWord (y ∷ rest)) (sym is) (after rest) other
+        subst (λ (y : ℕ). bytes_eq (y ∷ rest) (codes "--") ≡ false → is_flag takes (y ∷ rest) ≡ false → FlagWord takes rows (y ∷ rest)) (sym is) (after rest) other no_flag
 
 -- ---- a word that names no subcommand
 
@@ -140,20 +204,28 @@ abbrev TurnAs : Bool → Kinds → Type 0
 TurnAs true kinds = kinds ≡ DisplayHelp ∷ []
 TurnAs false kinds = IsRefused kinds
 
+-- the first kinds refuse, whatever follows
+refused_first : (kinds more : Kinds) → IsRefused kinds → IsRefused (or_else kinds more)
+refused_first [] more h = absurd (true≢false (sym h))
+refused_first (k ∷ ks) more h = h
+
 -- a word that no flag takes is refused as one too many
-turn_of : (name : Text) (leaf b : Bool) (kinds : Kinds) (met : Held × Step) → FlagAs b kinds met.1 → TurnAs b (or_else kinds (step_fault (shape name leaf) 1 met.0 met.1))
-turn_of name leaf true kinds met h = rw h refl
-turn_of name leaf false kinds met (inl (inl h)) = rw h (inl refl)
-turn_of name leaf false kinds met (inl (inr (inl h))) = rw h (inr (inl refl))
-turn_of name leaf false kinds met (inl (inr (inr h))) = rw h (inr (inr refl))
-turn_of name true false kinds met (inr h) = rw (h.0, h.1) (inl refl)
-turn_of name false false kinds met (inr h) = rw (h.0, h.1) (inr (inr refl))
+turn_of : (takes : Bool) (name : Text) (leaf b : Bool) (kinds : Kinds) (met : Held × Step) → FlagAs b kinds met.1
+    → TurnAs b (or_else kinds (step_fault (shape takes name leaf) 1 met.0 met.1))
+turn_of takes name leaf true kinds met h = rw h refl
+turn_of takes name leaf false kinds met (inl h) = refused_first kinds _ h
+turn_of true name true false kinds met (inr h) = rw (h.0, h.1) refl
+turn_of true name false false kinds met (inr h) = rw (h.0, h.1) refl
+turn_of false name true false kinds met (inr h) = rw (h.0, h.1) refl
+turn_of false name false false kinds met (inr h) = rw (h.0, h.1) refl
 
 -- so it is at either level
-turn : (name : Text) (leaf : Bool) (names : Names) (word : Text) → subcommand_met names idle word ≡ None → bytes_eq word (codes "--") ≡ false
-    → TurnAs (is_help word) (turn_fault (shape name leaf) names (walk_from nothing_held) word)
-turn name leaf names word unmet other =
-    rw (unmet, other) (turn_of name leaf (is_help word) (flag_word_fault flags false (long_of word) word nothing_held) (long_or_other flags idle word (long_of word) nothing_held) (flag_word word other))
+turn : (takes : Bool) (name : Text) (leaf : Bool) (rows : List Row) (names : Names) (word : Text) → subcommand_met names idle word ≡ None
+    → bytes_eq word (codes "--") ≡ false → is_flag takes word ≡ false
+    → TurnAs (is_help word) (turn_fault (shape takes name leaf) names (walk_from (held rows)) word)
+turn takes name leaf rows names word unmet other no_flag =
+    rw (unmet, other) (turn_of takes name leaf (is_help word) (flag_word_fault (flags takes) false (long_of word) word (held rows))
+    (long_or_other (flags takes) idle word (long_of word) (held rows)) (flag_word takes rows word other no_flag))
 
 -- ---- the words
 
@@ -166,18 +238,16 @@ Comes unknown sep kinds = IsRefused kinds ⊎ ((kinds ≡ []) × (sep ≡ true))
 -- the first word that asks for the help or is refused decides
 by_turn : (b sep : Bool) (kinds more rest : Kinds) → TurnAs b kinds → Comes (if b then help else unknown) sep (or_else (or_else kinds more) rest)
 by_turn true sep kinds more rest h = rw h refl
-by_turn false sep kinds more rest (inl h) = rw h (inl (inl refl))
-by_turn false sep kinds more rest (inr (inl h)) = rw h (inl (inr (inl refl)))
-by_turn false sep kinds more rest (inr (inr h)) = rw h (inl (inr (inr refl)))
+by_turn false sep kinds more rest h = inl (refused_first (or_else kinds more) rest (refused_first kinds more h))
 
 -- a subcommand as a parse builds it
-abbrev leaf : Text → Shape
-leaf name = shape name true
+abbrev leaf : Bool → Text → Shape
+leaf takes name = shape takes name true
 
 -- the kinds of the parse, by those of its walk over the words and where the walk ends
 abbrev after_walk : Kinds → Walk → Kinds
-after_walk failed end = or_else failed (or_else (entered_fault app end.stopped) (or_else (settle_fault flags false end.held)
-    (or_else (defaults_fault (settled flags end.held).rows flags) (check_fault app.top (finished flags end.held) (is_some (entered app end.stopped))))))
+after_walk failed end = or_else failed (or_else (entered_fault app end.stopped) (or_else (settle_fault (flags false) false end.held)
+    (or_else (defaults_fault (settled (flags false) end.held).rows (flags false)) (check_fault app.top (finished (flags false) end.held) (is_some (entered app end.stopped))))))
 
 -- nothing follows
 or_else-nil : (kinds : Kinds) → or_else kinds [] ≡ kinds
@@ -191,53 +261,122 @@ stopped_kinds name rest = after_walk [] (record (walk_from nothing_held) { stopp
 -- a walk that stopped at a name has met all words after it
 after_name : (name : Text) (rest : List Text)
     → after_walk (walk_fault app.top (names_of app) (record (walk_from nothing_held) { stopped = Some (name, []) }) rest)
-    (fold (walked flags (names_of app)) (record (walk_from nothing_held) { stopped = Some (name, []) }) rest)
+    (fold (walked (flags false) (names_of app)) (record (walk_from nothing_held) { stopped = Some (name, []) }) rest)
     ≡ stopped_kinds name rest
 after_name name rest = ap₂ after_walk (stopped_fault app.top (names_of app) (walk_from nothing_held) (name, []) rest)
-    (sym (walk_stopped flags (names_of app) (walk_from nothing_held) name [] rest))
+    (sym (walk_stopped (flags false) (names_of app) (walk_from nothing_held) name [] rest))
 
 -- after `apply` the parse is that of `apply`
-apply_fault : (rest : List Text) → fault_of command_line (codes "apply" ∷ rest) ≡ level_fault (leaf (codes "apply")) [] nothing_held rest false []
+apply_fault : (rest : List Text) → fault_of command_line (codes "apply" ∷ rest) ≡ level_fault (leaf false (codes "apply")) [] (held []) rest false []
 unfolding clap_on_literals
-apply_fault rest = after_name (codes "apply") rest ∙ or_else-nil (level_fault (leaf (codes "apply")) [] nothing_held rest false [])
+apply_fault rest = after_name (codes "apply") rest ∙ or_else-nil (level_fault (leaf false (codes "apply")) [] (held []) rest false [])
 
 -- after `play` it is that of `play`
-play_fault : (rest : List Text) → fault_of command_line (codes "play" ∷ rest) ≡ level_fault (leaf (codes "play")) [] nothing_held rest false []
+play_fault : (rest : List Text) → fault_of command_line (codes "play" ∷ rest) ≡ level_fault (leaf true (codes "play")) [] (held []) rest false []
 unfolding clap_on_literals
-play_fault rest = after_name (codes "play") rest ∙ or_else-nil (level_fault (leaf (codes "play")) [] nothing_held rest false [])
+play_fault rest = after_name (codes "play") rest ∙ or_else-nil (level_fault (leaf true (codes "play")) [] (held []) rest false [])
+
+-- after `check` it is that of `check`
+check_word_fault : (rest : List Text) → fault_of command_line (codes "check" ∷ rest) ≡ level_fault (leaf false (codes "check")) [] (held []) rest false []
+unfolding clap_on_literals
+check_word_fault rest = after_name (codes "check") rest ∙ or_else-nil (level_fault (leaf false (codes "check")) [] (held []) rest false [])
+
+-- the rows after the flag `--transcript`
+abbrev given : List Row
+given = (long_or_other (flags true) idle (codes "--transcript") (long_of (codes "--transcript")) nothing_held).0.rows
+
+-- words that come, after a task's name and what led to these rows, to what is asked for
+abbrev Says : Bool → Text → List Row → Asked → List Text → Type 0
+Says takes name rows asked words = Comes asked (has_two_hyphens words) (level_fault (leaf takes name) [] (held rows) words false [])
+
+-- a word that asks for no task decides
+other_word : (takes : Bool) (name : Text) (rows : List Row) (word : Text) (rest : List Text) → bytes_eq word (codes "--") ≡ false → is_flag takes word ≡ false
+    → Says takes name rows (asked_by_other word) (word ∷ rest)
+unfolding clap_on_literals
+other_word takes name rows word rest other no_flag =
+    by_turn (is_help word) (has_two_hyphens (word ∷ rest)) (turn_fault (leaf takes name) [] (walk_from (held rows)) word) _ _
+    (turn takes name true rows [] word refl other no_flag)
+
+-- the words after a task's name: where they are none, where the first is `--`, where it is the flag, and else
+words_after : (takes : Bool) (name : Text) (rows : List Row) (named : Task) → Says takes name rows (task named) []
+    → ((rest : List Text) → Says takes name rows unknown (codes "--" ∷ rest))
+    → (takes ≡ true → (rest : List Text) → Says takes name rows unknown (codes "--transcript" ∷ rest))
+    → (words : List Text) → Says takes name rows (asked_after named words) words
+unfolding clap_on_literals
+words_after takes name rows named none separated flagged [] = none
+words_after takes name rows named none separated flagged (word ∷ rest) = first (bytes_eq word (codes "--")) (is_flag takes word) refl refl
+  where
+    all_flags : (b : Bool) → takes ≡ b → is_flag takes word ≡ true → Says takes name rows (asked_by_other word) (word ∷ rest)
+    all_flags true e h =
+        let is : word ≡ codes "--transcript" = (bytes_eq-Decides word (codes "--transcript")).0 (sym (ap (λ b. b && bytes_eq word (codes "--transcript")) e) ∙ h) in
+        subst (λ (w : Text). Says takes name rows (asked_by_other w) (w ∷ rest)) (sym is) (flagged e rest)
+    all_flags false e h = absurd (true≢false (sym h ∙ ap (λ b. b && bytes_eq word (codes "--transcript")) e))
+
+    first : (separator flag : Bool) → bytes_eq word (codes "--") ≡ separator → is_flag takes word ≡ flag → Says takes name rows (asked_by_other word) (word ∷ rest)
+    first true flag e f = subst (λ (w : Text). Says takes name rows (asked_by_other w) (w ∷ rest)) (sym ((bytes_eq-Decides word (codes "--")).0 e)) (separated rest)
+    first false true e f = all_flags takes refl f
+    first false false e f = other_word takes name rows word rest e f
+
+says_apply : (words : List Text) → Says false (codes "apply") [] (asked_after Apply words) words
+unfolding clap_on_literals
+says_apply words = words_after false (codes "apply") [] Apply (refl, refl) separated (λ takes. absurd (true≢false (sym takes))) words
+  where
+    separated : (rest : List Text) → Says false (codes "apply") [] unknown (codes "--" ∷ rest)
+    separated [] = inr (refl, refl)
+    separated (more ∷ rest) = inl refl
+
+says_check : (words : List Text) → Says false (codes "check") [] (asked_after Check words) words
+unfolding clap_on_literals
+says_check words = words_after false (codes "check") [] Check (refl, refl) separated (λ takes. absurd (true≢false (sym takes))) words
+  where
+    separated : (rest : List Text) → Says false (codes "check") [] unknown (codes "--" ∷ rest)
+    separated [] = inr (refl, refl)
+    separated (more ∷ rest) = inl refl
+
+-- the words after `play --transcript`
+says_given : (words : List Text) → Says true (codes "play") given (asked_after Transcribe words) words
+unfolding clap_on_literals
+says_given words = words_after true (codes "play") given Transcribe (refl, refl) separated (λ takes rest. inl refl) words
+  where
+    separated : (rest : List Text) → Says true (codes "play") given unknown (codes "--" ∷ rest)
+    separated [] = inr (refl, refl)
+    separated (more ∷ rest) = inl refl
+
+-- the words after `play`
+says_play : (words : List Text) → Says true (codes "play") [] (asked_after_play words) words
+unfolding clap_on_literals
+says_play [] = (refl, refl)
+says_play (word ∷ rest) = first (bytes_eq word (codes "--transcript")) (bytes_eq word (codes "--")) refl refl
+  where
+    separated : (rest : List Text) → Says true (codes "play") [] unknown (codes "--" ∷ rest)
+    separated [] = inr (refl, refl)
+    separated (more ∷ rest) = inl refl
+
+    first : (flag separator : Bool) → bytes_eq word (codes "--transcript") ≡ flag → bytes_eq word (codes "--") ≡ separator
+        → Says true (codes "play") [] (if flag then asked_after Transcribe rest else asked_by_other word) (word ∷ rest)
+    first true s e f =
+        subst (λ (w : Text). Says true (codes "play") [] (asked_after Transcribe rest) (w ∷ rest)) (sym ((bytes_eq-Decides word (codes "--transcript")).0 e)) (says_given rest)
+    first false true e f =
+        subst (λ (w : Text). Says true (codes "play") [] (asked_by_other w) (w ∷ rest)) (sym ((bytes_eq-Decides word (codes "--")).0 f)) (separated rest)
+    first false false e f = other_word true (codes "play") [] word rest f e
 
 -- the parse of these words comes to what they ask for
 abbrev Asks : List Text → Type 0
 Asks words = Comes (asked_of words) (has_two_hyphens words) (fault_of command_line words)
 
--- the same of the words after a task's name
-abbrev Says : Task → Text → List Text → Type 0
-Says named name words = Comes (asked_after named words) (has_two_hyphens words) (level_fault (leaf name) [] nothing_held words false [])
-
--- whatever words follow a task's name
-says : (named : Task) (name : Text) (words : List Text) → Says named name words
-unfolding clap_on_literals
-says named name [] = (refl, refl)
-says named name (word ∷ rest) = go (bytes_eq word (codes "--")) refl
-  where
-    at_separator : (rest : List Text) → Says named name (codes "--" ∷ rest)
-    at_separator [] = inr (refl, refl)
-    at_separator (more ∷ rest) = inl (inl refl)
-
-    go : (b : Bool) → bytes_eq word (codes "--") ≡ b → Says named name (word ∷ rest)
-    go true e = subst (λ (w : Text). Says named name (w ∷ rest)) (sym ((bytes_eq-Decides word (codes "--")).0 e)) (at_separator rest)
-    go false e = by_turn (is_help word) (has_two_hyphens (word ∷ rest)) (turn_fault (leaf name) [] (walk_from nothing_held) word) _ _ (turn name true [] word refl e)
-
 after_apply : (rest : List Text) → Asks (codes "apply" ∷ rest)
-after_apply rest = subst (λ (kinds : Kinds). Comes (asked_after Apply rest) (has_two_hyphens rest) kinds) (sym (apply_fault rest)) (says Apply (codes "apply") rest)
+after_apply rest = subst (λ (kinds : Kinds). Comes (asked_after Apply rest) (has_two_hyphens rest) kinds) (sym (apply_fault rest)) (says_apply rest)
 
 after_play : (rest : List Text) → Asks (codes "play" ∷ rest)
-after_play rest = subst (λ (kinds : Kinds). Comes (asked_after Play rest) (has_two_hyphens rest) kinds) (sym (play_fault rest)) (says Play (codes "play") rest)
+after_play rest = subst (λ (kinds : Kinds). Comes (asked_after_play rest) (has_two_hyphens rest) kinds) (sym (play_fault rest)) (says_play rest)
+
+after_check : (rest : List Text) → Asks (codes "check" ∷ rest)
+after_check rest = subst (λ (kinds : Kinds). Comes (asked_after Check rest) (has_two_hyphens rest) kinds) (sym (check_word_fault rest)) (says_check rest)
 
 after_separator : (rest : List Text) → Asks (codes "--" ∷ rest)
 unfolding clap_on_literals
 after_separator [] = inr (refl, refl)
-after_separator (word ∷ rest) = inl (inr (inr refl))
+after_separator (word ∷ rest) = inl refl
 
 -- a text that is not the other one is not, the other way round
 turned_eq : (a b : Text) → bytes_eq a b ≡ false → bytes_eq b a ≡ false
@@ -249,26 +388,31 @@ turned_eq a b other = go (bytes_eq b a) refl
 
 -- a word that names no task and is not `--`
 after_other : (word : Text) (rest : List Text) → bytes_eq word (codes "apply") ≡ false → bytes_eq word (codes "play") ≡ false
-    → bytes_eq word (codes "--") ≡ false → Asks (word ∷ rest)
+    → bytes_eq word (codes "check") ≡ false → bytes_eq word (codes "--") ≡ false → Asks (word ∷ rest)
 unfolding clap_on_literals
-after_other word rest no_apply no_play other =
+after_other word rest no_apply no_play no_check other =
     let unmet : subcommand_met (names_of app) idle word ≡ None =
-    rw (turned_eq word (codes "apply") no_apply, turned_eq word (codes "play") no_play) refl in
-    rw (no_apply, no_play) (by_turn (is_help word) (has_two_hyphens (word ∷ rest)) (turn_fault app.top (names_of app) (walk_from nothing_held) word) _ _
-    (turn (codes "dsr") false (names_of app) word unmet other))
+    rw (turned_eq word (codes "apply") no_apply, turned_eq word (codes "play") no_play, turned_eq word (codes "check") no_check) refl in
+    rw (no_apply, no_play, no_check) (by_turn (is_help word) (has_two_hyphens (word ∷ rest)) (turn_fault app.top (names_of app) (walk_from nothing_held) word) _ _
+    (turn false (codes "dsr") false [] (names_of app) word unmet other refl))
 
 pub asked : (words : List Text) → Asks words
 unfolding clap_on_literals
 asked [] = (refl, refl)
 asked (word ∷ rest) = first (bytes_eq word (codes "apply")) refl
   where
-    third : (b : Bool) → bytes_eq word (codes "--") ≡ b → bytes_eq word (codes "apply") ≡ false → bytes_eq word (codes "play") ≡ false → Asks (word ∷ rest)
-    third true e no_apply no_play = subst (λ (w : Text). Asks (w ∷ rest)) (sym ((bytes_eq-Decides word (codes "--")).0 e)) (after_separator rest)
-    third false e no_apply no_play = after_other word rest no_apply no_play e
+    fourth : (b : Bool) → bytes_eq word (codes "--") ≡ b → bytes_eq word (codes "apply") ≡ false → bytes_eq word (codes "play") ≡ false
+        → bytes_eq word (codes "check") ≡ false → Asks (word ∷ rest)
+    fourth true e no_apply no_play no_check = subst (λ (w : Text). Asks (w ∷ rest)) (sym ((bytes_eq-Decides word (codes "--")).0 e)) (after_separator rest)
+    fourth false e no_apply no_play no_check = after_other word rest no_apply no_play no_check e
+
+    third : (b : Bool) → bytes_eq word (codes "check") ≡ b → bytes_eq word (codes "apply") ≡ false → bytes_eq word (codes "play") ≡ false → Asks (word ∷ rest)
+    third true e no_apply no_play = subst (λ (w : Text). Asks (w ∷ rest)) (sym ((bytes_eq-Decides word (codes "check")).0 e)) (after_check rest)
+    third false e no_apply no_play = fourth (bytes_eq word (codes "--")) refl no_apply no_play e
 
     second : (b : Bool) → bytes_eq word (codes "play") ≡ b → bytes_eq word (codes "apply") ≡ false → Asks (word ∷ rest)
     second true e no_apply = subst (λ (w : Text). Asks (w ∷ rest)) (sym ((bytes_eq-Decides word (codes "play")).0 e)) (after_play rest)
-    second false e no_apply = third (bytes_eq word (codes "--")) refl no_apply e
+    second false e no_apply = third (bytes_eq word (codes "check")) refl no_apply e
 
     first : (b : Bool) → bytes_eq word (codes "apply") ≡ b → Asks (word ∷ rest)
     first true e = subst (λ (w : Text). Asks (w ∷ rest)) (sym ((bytes_eq-Decides word (codes "apply")).0 e)) (after_apply rest)
@@ -282,47 +426,54 @@ IsEntered words (task named) = task named ≡ task (task_entered (subcommand_of 
 IsEntered words help = Unit {0}
 IsEntered words unknown = Unit {0}
 
--- the subcommand at which the walk stopped
-stopped_at : (name : Text) (rest : List Text)
-    → entered app (fold (walked flags (names_of app)) (record (walk_from nothing_held) { stopped = Some (name, []) }) rest).stopped
-    ≡ entered app (Some (name, rest))
-stopped_at name rest = ap (λ (w : Walk). entered app w.stopped) (sym (walk_stopped flags (names_of app) (walk_from nothing_held) name [] rest))
+-- a word that asks for the help or for nothing known asks for no task
+by_help : (words : List Text) (b : Bool) → IsEntered words (if b then help else unknown)
+by_help words true = tt
+by_help words false = tt
 
-apply_entered : (rest : List Text) → task_entered (subcommand_of command_line (codes "apply" ∷ rest)) ≡ Apply
+apply_entered : (rest : List Text) → IsEntered (codes "apply" ∷ rest) (asked_after Apply rest)
 unfolding clap_on_literals
-apply_entered rest = ap task_entered (stopped_at (codes "apply") rest)
+apply_entered [] = refl
+apply_entered (word ∷ rest) = by_help (codes "apply" ∷ word ∷ rest) (is_help word)
 
-play_entered : (rest : List Text) → task_entered (subcommand_of command_line (codes "play" ∷ rest)) ≡ Play
+check_entered : (rest : List Text) → IsEntered (codes "check" ∷ rest) (asked_after Check rest)
 unfolding clap_on_literals
-play_entered rest = ap task_entered (stopped_at (codes "play") rest)
+check_entered [] = refl
+check_entered (word ∷ rest) = by_help (codes "check" ∷ word ∷ rest) (is_help word)
 
--- what follows a task's name asks for that task, or for none
-after_entered : (words rest : List Text) (named : Task) → task_entered (subcommand_of command_line words) ≡ named → IsEntered words (asked_after named rest)
-after_entered words [] named is = ap task (sym is)
-after_entered words (word ∷ rest) named is = by_help (is_help word)
+given_entered : (rest : List Text) → IsEntered (codes "play" ∷ codes "--transcript" ∷ rest) (asked_after Transcribe rest)
+unfolding clap_on_literals
+given_entered [] = refl
+given_entered (word ∷ rest) = by_help (codes "play" ∷ codes "--transcript" ∷ word ∷ rest) (is_help word)
+
+play_entered : (rest : List Text) → IsEntered (codes "play" ∷ rest) (asked_after_play rest)
+unfolding clap_on_literals
+play_entered [] = refl
+play_entered (word ∷ rest) = go (bytes_eq word (codes "--transcript")) refl
   where
-    by_help : (b : Bool) → IsEntered words (if b then help else unknown)
-    by_help true = tt
-    by_help false = tt
+    go : (b : Bool) → bytes_eq word (codes "--transcript") ≡ b
+        → IsEntered (codes "play" ∷ word ∷ rest) (if b then asked_after Transcribe rest else asked_by_other word)
+    go true e =
+        subst (λ (w : Text). IsEntered (codes "play" ∷ w ∷ rest) (asked_after Transcribe rest)) (sym ((bytes_eq-Decides word (codes "--transcript")).0 e)) (given_entered rest)
+    go false e = by_help (codes "play" ∷ word ∷ rest) (is_help word)
 
 pub entered_as_asked : (words : List Text) → IsEntered words (asked_of words)
 unfolding clap_on_literals
 entered_as_asked [] = refl
 entered_as_asked (word ∷ rest) = first (bytes_eq word (codes "apply")) refl
   where
-    by_help : (b : Bool) → IsEntered (word ∷ rest) (if b then help else unknown)
-    by_help true = tt
-    by_help false = tt
+    third : (b : Bool) → bytes_eq word (codes "check") ≡ b → IsEntered (word ∷ rest) (if b then asked_after Check rest else asked_by_other word)
+    third true e = subst (λ (w : Text). IsEntered (w ∷ rest) (asked_after Check rest)) (sym ((bytes_eq-Decides word (codes "check")).0 e)) (check_entered rest)
+    third false e = by_help (word ∷ rest) (is_help word)
 
     second : (b : Bool) → bytes_eq word (codes "play") ≡ b
-        → IsEntered (word ∷ rest) (if b then asked_after Play rest else (if is_help word then help else unknown))
-    second true e = after_entered (word ∷ rest) rest Play
-        (subst (λ (w : Text). task_entered (subcommand_of command_line (w ∷ rest)) ≡ Play) (sym ((bytes_eq-Decides word (codes "play")).0 e)) (play_entered rest))
-    second false e = by_help (is_help word)
+        → IsEntered (word ∷ rest) (if b then asked_after_play rest else (if bytes_eq word (codes "check") then asked_after Check rest else asked_by_other word))
+    second true e = subst (λ (w : Text). IsEntered (w ∷ rest) (asked_after_play rest)) (sym ((bytes_eq-Decides word (codes "play")).0 e)) (play_entered rest)
+    second false e = third (bytes_eq word (codes "check")) refl
 
     first : (b : Bool) → bytes_eq word (codes "apply") ≡ b
         → IsEntered (word ∷ rest) (if b then asked_after Apply rest
-        else (if bytes_eq word (codes "play") then asked_after Play rest else (if is_help word then help else unknown)))
-    first true e = after_entered (word ∷ rest) rest Apply
-        (subst (λ (w : Text). task_entered (subcommand_of command_line (w ∷ rest)) ≡ Apply) (sym ((bytes_eq-Decides word (codes "apply")).0 e)) (apply_entered rest))
+        else (if bytes_eq word (codes "play") then asked_after_play rest
+        else (if bytes_eq word (codes "check") then asked_after Check rest else asked_by_other word)))
+    first true e = subst (λ (w : Text). IsEntered (w ∷ rest) (asked_after Apply rest)) (sym ((bytes_eq-Decides word (codes "apply")).0 e)) (apply_entered rest)
     first false e = second (bytes_eq word (codes "play")) refl

@@ -4,7 +4,7 @@ use Rattle.std.specs.Prelude.{nat_eq}
 use Rattle.std.specs.List.{list_any, starts_with}
 use Rattle.std.specs.Str.{bytes_eq, chars}
 use Rattle.dsr_command.specs.declared.Task.{Task}
-use Rattle.dsr_command.specs.declared.Task.TheVariants.{Apply, Play}
+use Rattle.dsr_command.specs.declared.Task.TheVariants.{Apply, Check, Play, Transcribe}
 
 -- what words can ask for: a task, the text of the help, or nothing that the program knows
 pub data Asked : Type 0 where
@@ -30,9 +30,15 @@ abbrev pub asked_after : Task → List (List ℕ) → Asked
 asked_after named [] = task named
 asked_after named (word ∷ rest) = asked_by_other word
 
+-- what is asked for by `play` and the words after it: the first of them may be `--transcript`
+abbrev pub asked_after_play : List (List ℕ) → Asked
+asked_after_play [] = task Play
+asked_after_play (word ∷ rest) = if bytes_eq word (codes "--transcript") then asked_after Transcribe rest else asked_by_other word
+
 -- what the words ask for: `apply` is also what no word at all means
 abbrev pub asked_of : List (List ℕ) → Asked
 asked_of [] = task Apply
 asked_of (word ∷ rest) =
     if bytes_eq word (codes "apply") then asked_after Apply rest
-    else (if bytes_eq word (codes "play") then asked_after Play rest else asked_by_other word)
+    else (if bytes_eq word (codes "play") then asked_after_play rest
+    else (if bytes_eq word (codes "check") then asked_after Check rest else asked_by_other word))

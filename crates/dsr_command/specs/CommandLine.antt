@@ -1,10 +1,12 @@
 -- The command that `clap` is given, as the contracts of `clap` see it.
-use Rattle.std.specs.Prelude.{List, ℕ, Option, None, Some, codes, if◌then◌else◌, true}
+use Rattle.std.specs.Prelude.{List, ℕ, Option, None, Some, codes, if◌then◌else◌, false, true}
+use Rattle.std.specs.Option.{option_map_or}
 use Rattle.std.specs.Str.{bytes_eq}
-use Rattle.clap.specs.Words.{App, Row, new_app, with_subcommand}
+use Rattle.clap.specs.Words.{App, Row, Rule, first_of, new_app, new_rule, with_rule, with_subcommand}
 use Rattle.clap.specs.Simple.{on_top}
+use Rattle.clap.specs.declared.builder.action.ArgAction.TheVariants.{SetTrue}
 use Rattle.dsr_command.specs.declared.Task.{Task}
-use Rattle.dsr_command.specs.declared.Task.TheVariants.{Apply, Play}
+use Rattle.dsr_command.specs.declared.Task.TheVariants.{Apply, Check, Play, Transcribe}
 
 -- the program `dsr` before its tasks are listed: the words begin after the program's name, and
 -- there is no word `help`
@@ -12,11 +14,24 @@ abbrev pub program : App
 program = on_top (λ s. record s { no_binary_name = true; disable_help_subcommand = true })
     (new_app (codes "dsr"))
 
--- the program with its tasks, `apply` and `play`, which take no words of their own
+-- the flag `--transcript`, which is given or not
+abbrev pub transcript_rule : Rule
+transcript_rule = record (new_rule (codes "transcript")) { long = Some (codes "transcript"); action = Some SetTrue }
+
+-- the program with its tasks, `apply`, `play` and `check`, of which `play` alone takes a flag
 abbrev pub command_line : App
-command_line = with_subcommand (with_subcommand program (new_app (codes "apply")).top) (new_app (codes "play")).top
+command_line =
+    with_subcommand (with_subcommand (with_subcommand program (new_app (codes "apply")).top)
+    (with_rule (new_app (codes "play")) transcript_rule).top) (new_app (codes "check")).top
+
+-- the task of `play`, by what `clap` gives of its flag
+abbrev pub play_entered : List Row → Task
+play_entered rows =
+    if option_map_or (λ given. bytes_eq given (codes "true")) (first_of (codes "transcript") rows) false then Transcribe else Play
 
 -- the task of the subcommand that the words name, as `clap` gives it; `apply`, where they name none
 abbrev pub task_entered : Option (List ℕ × List Row) → Task
 task_entered None = Apply
-task_entered (Some entered) = if bytes_eq entered.0 (codes "play") then Play else Apply
+task_entered (Some entered) =
+    if bytes_eq entered.0 (codes "play") then play_entered entered.1
+    else (if bytes_eq entered.0 (codes "check") then Check else Apply)

@@ -2,16 +2,16 @@
 #![tactic(auto)]
 
 ghost use Rattle.std.specs.Prelude.{◌≡◌, ◌≢◌, ◌++◌, ◌≤◌, ◌↔◌, IfOk, IsTrue, codes, false, length, map};
-ghost use Rattle.clap.specs.Words.{FailsBy, app_of, fault_of, kind_of, new_app, subcommand_of, subcommand_rows_of};
+ghost use Rattle.clap.specs.Words.{FailsBy, app_of, fault_of, found_of, kind_of, new_app, rows_of, rule_of, subcommand_of, subcommand_rows_of, with_rule};
 ghost use Rattle.clap.specs.declared.builder.command.Command.TheViews.{out-Command as fields_of};
 ghost use Rattle.clap.specs.declared.error.kind.ErrorKind.TheVariants.{DisplayHelp, OutOfMemory, UnknownArgument};
 ghost use Rattle.dsr_command.specs.Asked.{asked_of, has_two_hyphens, help, task, unknown};
-ghost use Rattle.dsr_command.specs.CommandLine.{command_line, program, task_entered};
+ghost use Rattle.dsr_command.specs.CommandLine.{command_line, play_entered, program, task_entered, transcript_rule};
 ghost use Rattle.dsr_command.specs.ShownTexts.{IsHelp, IsUsage, title, usage_title};
 ghost use Rattle.dsr_command.specs.Readings.{IfDo, IfHelp, IfUsage, OnHelp, OnUsage};
 
 use clap::error::ErrorKind;
-use clap::{ArgMatches, Command, Error};
+use clap::{Arg, ArgAction, ArgMatches, Command, Error};
 use std::alloc::{AllocError, Global};
 use std::convert::AsStr;
 
@@ -20,7 +20,8 @@ const TITLE: &str = "dsr keeps a directory of named registers, each free or hold
 
 const ABOUT: &str =
     "Clients send it numbered requests: read, write, swap (compare-and-set), remove. It answers each of them.\n\
-`dsr apply` is one directory. `dsr play` is one that replicas keep together, though some of them are traitors.\n\
+`dsr apply` is one directory. `dsr play` is one that replicas keep together, though some of them are traitors,\n\
+and `dsr check` tells whether what was recorded of such a play is a run.\n\
 Without a command it does what `dsr apply` does.";
 
 const EXAMPLES: &str = "Example:\n  \
@@ -29,9 +30,9 @@ $ printf 'c0 1 write a 5\\nc1 1 swap a 5 6\\nc0 2 read a\\n' | dsr apply\n  \
 1 swapped\n  \
 2 held 6\n\n\
 `dsr apply --help` says how a request is written, and what its answer means; `dsr play --help` the same of plays\n\
-and reports.\n\n\
+and reports, and `dsr check --help` of transcripts.\n\n\
 Exit status:\n  \
-0  the answers, the report or the help was written\n  \
+0  the answers, the report, the transcript or the help was written\n  \
 1  the input was refused, or reading or writing failed\n  \
 2  the words of the command line were not understood\n  \
 3  memory ran out";
@@ -95,6 +96,8 @@ accepted C K PLACE A   the client C accepted the answer A, and its place, for it
 seen C PLACE           how far C has seen: all places before this one\n  \
 decided R VALUES       what the loyal replica R decided, slot by slot; - where no slot is closed\n  \
 history N              how many requests acted; then each of them after its place\n\n\
+With --transcript the steps of all actors are written in place of the report: each post and each take, in their order,\n\
+as `dsr check --help` explains.\n\n\
 Example:\n  \
 $ printf 'dsr-play 1 1 0 1 -\\nasks c0 begin write a 7\\nhears c0\\nposts r0 from c0\\ntakes *\\nreplies c0\\ntakes c0\\n' | dsr play\n  \
 done 6\n  \
@@ -109,6 +112,39 @@ events. Of a play with a bad line N nothing is played: `dsr: bad text in line N`
 the exit status is 1; where N, F, M or TRAITORS are outside their limits, it is `dsr: the shape is not allowed`.\n\
 Refused events are no fault: the status is 0, or 3 where one was refused because memory ran out.";
 
+/// What the help says of the flag of `play`.
+const TRANSCRIPT_HELP: &str = "Write the steps of all actors in place of the report";
+
+const CHECK_ABOUT: &str =
+    "Read a transcript from standard input, and tell whether it is a run, and what came of it";
+
+const CHECK_EXAMPLE: &str =
+    "A transcript begins with the line `dsr-transcript 1 N F M TRAITORS`, or the same with 2: the shape is written as in\n\
+plays. Each other line is a step of an actor. Each line ends with a line feed, the last one too.\n\n  \
+A post B E  the actor A posted the envelope E to B\n  \
+A take B E  A took the envelope E from B\n\n\
+Envelopes too are written as in plays (`dsr play --help`). Version 1 has no lists of requests and no removals.\n\n\
+It is a run where each step may follow those before it. A loyal actor posts what the protocol has it post, and takes\n\
+what it is due to take; a traitor posts anything that needs no forged signature; and what is taken is what was posted.\n\n\
+The report:\n  \
+run N                  it is a run of N steps\n  \
+accepted C K PLACE A   the client C accepted the answer A, and its place, for its request K\n  \
+history N              how many requests acted; then each of them after its place\n\n\
+Example:\n  \
+$ printf 'dsr-play 1 1 0 1 -\\nasks c0 begin write a 7\\nhears c0\\nposts r0 from c0\\n' | dsr play --transcript\n  \
+dsr-transcript 1 1 0 1 -\n  \
+c0 post r0 ask c0#1:write:a:7~c0\n  \
+r0 take c0 ask c0#1:write:a:7~c0\n  \
+r0 post r0 round 0 0/c0#1:write:a:7~c0/r0\n  \
+$ printf 'dsr-transcript 1 1 0 1 -\\nr0 post r0 round 0 0/idle/r0\\nr0 take r0 round 0 0/idle/r0\\n' | dsr check\n  \
+run 2\n  \
+history 0\n  \
+$ printf 'dsr-transcript 1 1 0 1 -\\nr0 post r0 empty\\n' | dsr check\n  \
+dsr: not a run at line 2\n\n\
+The step in that line is the first that may not follow those before it; the header is line 1. Then nothing is written\n\
+on standard output, and the exit status is 1. Of a text with a bad line N it is `dsr: bad text in line N`; where N, F, M\n\
+or TRAITORS are outside their limits, `dsr: the shape is not allowed`. The input has at most 16,777,216 bytes.";
+
 /// What a text for unknown words begins with.
 const USAGE_TITLE: &str = "error: ";
 
@@ -116,7 +152,8 @@ const USAGE_TITLE: &str = "error: ";
 const TIPS: &str = "\n  \
 tip: to answer the requests in a file, run `dsr apply < FILE`\n  \
 tip: to play the play in a file, run `dsr play < FILE`\n  \
-tip: to see what they look like, run `dsr apply --help` or `dsr play --help`\n";
+tip: to check the transcript in a file, run `dsr check < FILE`\n  \
+tip: to see what they look like, run `dsr apply --help` and so on\n";
 
 /// The most bytes of what `clap` says that are shown.
 const MOST_SAID: usize = 3_800;
@@ -131,6 +168,10 @@ pub enum Task {
     Apply,
     /// Play the play of standard input, and report what came of it.
     Play,
+    /// Play the play of standard input, and write the transcript of all steps.
+    Transcribe,
+    /// Check the transcript of standard input, and report what the run gave.
+    Check,
 }
 
 impl Task {
@@ -197,9 +238,21 @@ fn parse<S: AsStr>(alloc: Global, words: &[S]) -> Result<Task, Error>
 fn task_of(matches: &ArgMatches<'_>) -> Task
     ensures { result ≡ task_entered (subcommand_rows_of matches.now) }
 {
-    match matches.subcommand_name() {
-        Some("play") => Task::Play,
+    match matches.subcommand() {
+        Some(("play", given)) => play_task(given),
+        Some(("check", _)) => Task::Check,
         _ => Task::Apply,
+    }
+}
+
+/// The task of `play`, by what was given after it.
+fn play_task(given: &ArgMatches<'_>) -> Task
+    ensures { result ≡ play_entered (rows_of (found_of given.now)) }
+{
+    if given.get_str("transcript") == Some("true") {
+        Task::Transcribe
+    } else {
+        Task::Play
     }
 }
 
@@ -300,7 +353,8 @@ fn dsr_command<'a>(alloc: Global) -> Result<Command<'a>, AllocError>
 {
     let dsr = dsr_alone(alloc)?;
     let dsr = dsr.subcommand(apply_command(alloc))?;
-    dsr.subcommand(play_command(alloc))
+    let dsr = dsr.subcommand(play_command(alloc)?)?;
+    dsr.subcommand(check_command(alloc))
 }
 
 fn dsr_alone<'a>(alloc: Global) -> Result<Command<'a>, AllocError>
@@ -324,11 +378,31 @@ fn apply_command<'a>(alloc: Global) -> Command<'a>
         .after_help(APPLY_EXAMPLE)
 }
 
-fn play_command<'a>(alloc: Global) -> Command<'a>
-    ensures app { app_of result ≡ new_app (codes "play") }
+fn play_command<'a>(alloc: Global) -> Result<Command<'a>, AllocError>
+    ensures { IfOk result (λ command. (app_of command ≡ with_rule (new_app (codes "play")) transcript_rule)
+        × ((fields_of command).has_globals ≡ false)) }
+{
+    let play = Command::new(alloc, "play")
+        .about(PLAY_ABOUT)
+        .after_help(PLAY_EXAMPLE);
+    play.arg(transcript_flag(alloc))
+}
+
+fn transcript_flag<'a>(alloc: Global) -> Arg<'a>
+    ensures rule { rule_of result ≡ transcript_rule }
+    ensures local { result.global ≡ false }
+{
+    Arg::new(alloc, "transcript")
+        .long("transcript")
+        .action(ArgAction::SetTrue)
+        .help(TRANSCRIPT_HELP)
+}
+
+fn check_command<'a>(alloc: Global) -> Command<'a>
+    ensures app { app_of result ≡ new_app (codes "check") }
     ensures local { (fields_of result).has_globals ≡ false }
 {
-    Command::new(alloc, "play")
-        .about(PLAY_ABOUT)
-        .after_help(PLAY_EXAMPLE)
+    Command::new(alloc, "check")
+        .about(CHECK_ABOUT)
+        .after_help(CHECK_EXAMPLE)
 }

@@ -111,5 +111,9 @@ fn choices_are_exact(rt: HostRuntime) -> Result<(), Fail> {
 fn tasks_are_exact(rt: HostRuntime) {
     assert!(rt; Task::Apply.copy().same(&Task::Apply));
     assert!(rt; Task::Play.copy().same(&Task::Play));
+    assert!(rt; Task::Transcribe.copy().same(&Task::Transcribe));
+    assert!(rt; Task::Check.copy().same(&Task::Check));
     assert!(rt; !Task::Apply.same(&Task::Play));
+    assert!(rt; !Task::Play.same(&Task::Transcribe));
+    assert!(rt; !Task::Transcribe.same(&Task::Check));
 }

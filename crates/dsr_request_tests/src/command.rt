@@ -18,17 +18,25 @@ fn reads_the_task(rt: HostRuntime) {
     }
     let reading = read_words(rt.alloc(), &["play"]);
     assert!(rt; matches!(&reading, Reading::Do(Task::Play)));
+    let reading = read_words(rt.alloc(), &["play", "--transcript"]);
+    assert!(rt; matches!(&reading, Reading::Do(Task::Transcribe)));
+    let reading = read_words(rt.alloc(), &["check"]);
+    assert!(rt; matches!(&reading, Reading::Do(Task::Check)));
 }
 
 #[test]
 fn reads_calls_for_help(rt: HostRuntime) {
-    let lines: [&[&str]; 6] = [
+    let lines: [&[&str]; 10] = [
         &["--help"],
         &["-h"],
         &["apply", "--help"],
         &["--help", "apply"],
         &["play", "-h"],
         &["-h", "play", "--transcript"],
+        &["play", "--transcript", "--help"],
+        &["play", "-h", "--transcript"],
+        &["check", "-h"],
+        &["check", "--help", "--transcript"],
     ];
     for words in lines {
         let reading = read_words(rt.alloc(), words);
@@ -40,7 +48,7 @@ fn reads_calls_for_help(rt: HostRuntime) {
 
 #[test]
 fn refuses_other_words(rt: HostRuntime) {
-    let lines: [&[&str]; 14] = [
+    let lines: [&[&str]; 27] = [
         &["fly"],
         &["--help=now"],
         &["apply", "--help=now"],
@@ -51,10 +59,23 @@ fn refuses_other_words(rt: HostRuntime) {
         &["apply", "--transcript"],
         &["apply", "apply"],
         &["apply", "--"],
-        &["play", "--transcript"],
         &["play", "apply"],
         &["play", "--"],
         &["plays"],
+        &["--transcript"],
+        &["--transcript", "play"],
+        &["check", "--transcript"],
+        &["check", "check"],
+        &["check", "--"],
+        &["play", "--transcript", "--transcript"],
+        &["play", "--transcript=true"],
+        &["play", "--transcript="],
+        &["play", "--transcript", "true"],
+        &["play", "--transcript", "--"],
+        &["play", "--", "--transcript"],
+        &["play", "--transcripts"],
+        &["play", "--trans"],
+        &["play", "-t"],
     ];
     for words in lines {
         let reading = read_words(rt.alloc(), words);
@@ -68,7 +89,8 @@ const HELP: &str = "\
 dsr keeps a directory of named registers, each free or holding a number.
 
 Clients send it numbered requests: read, write, swap (compare-and-set), remove. It answers each of them.
-`dsr apply` is one directory. `dsr play` is one that replicas keep together, though some of them are traitors.
+`dsr apply` is one directory. `dsr play` is one that replicas keep together, though some of them are traitors,
+and `dsr check` tells whether what was recorded of such a play is a run.
 Without a command it does what `dsr apply` does.
 
 Usage: dsr [COMMAND]
@@ -76,6 +98,7 @@ Usage: dsr [COMMAND]
 Commands:
   apply  Read request lines from standard input, and write one line for each
   play   Read a play of replicas and clients from standard input, and write what came of it
+  check  Read a transcript from standard input, and tell whether it is a run, and what came of it
 
 Options:
   -h, --help  Print help
@@ -87,10 +110,10 @@ Example:
   2 held 6
 
 `dsr apply --help` says how a request is written, and what its answer means; `dsr play --help` the same of plays
-and reports.
+and reports, and `dsr check --help` of transcripts.
 
 Exit status:
-  0  the answers, the report or the help was written
+  0  the answers, the report, the transcript or the help was written
   1  the input was refused, or reading or writing failed
   2  the words of the command line were not understood
   3  memory ran out
@@ -146,10 +169,11 @@ dsr keeps a directory of named registers, each free or holding a number.
 
 Read a play of replicas and clients from standard input, and write what came of it
 
-Usage: dsr play
+Usage: dsr play [OPTIONS]
 
 Options:
-  -h, --help  Print help
+      --transcript  Write the steps of all actors in place of the report
+  -h, --help        Print help
 
 A play begins with the line `dsr-play 1 N F M TRAITORS`: N replicas, 1 to 16; at most F traitors among them, with
 N >= 2F+1; M clients, 1 to 32; and who the traitors are, as r0+r2, or - for none. What follows is played line by
@@ -179,6 +203,9 @@ The report:
   decided R VALUES       what the loyal replica R decided, slot by slot; - where no slot is closed
   history N              how many requests acted; then each of them after its place
 
+With --transcript the steps of all actors are written in place of the report: each post and each take, in their order,
+as `dsr check --help` explains.
+
 Example:
   $ printf 'dsr-play 1 1 0 1 -\\nasks c0 begin write a 7\\nhears c0\\nposts r0 from c0\\ntakes *\\nreplies c0\\ntakes c0\\n' | dsr play
   done 6
@@ -195,6 +222,49 @@ the exit status is 1; where N, F, M or TRAITORS are outside their limits, it is 
 Refused events are no fault: the status is 0, or 3 where one was refused because memory ran out.
 ";
 
+const CHECK_HELP: &str = "\
+dsr keeps a directory of named registers, each free or holding a number.
+
+Read a transcript from standard input, and tell whether it is a run, and what came of it
+
+Usage: dsr check
+
+Options:
+  -h, --help  Print help
+
+A transcript begins with the line `dsr-transcript 1 N F M TRAITORS`, or the same with 2: the shape is written as in
+plays. Each other line is a step of an actor. Each line ends with a line feed, the last one too.
+
+  A post B E  the actor A posted the envelope E to B
+  A take B E  A took the envelope E from B
+
+Envelopes too are written as in plays (`dsr play --help`). Version 1 has no lists of requests and no removals.
+
+It is a run where each step may follow those before it. A loyal actor posts what the protocol has it post, and takes
+what it is due to take; a traitor posts anything that needs no forged signature; and what is taken is what was posted.
+
+The report:
+  run N                  it is a run of N steps
+  accepted C K PLACE A   the client C accepted the answer A, and its place, for its request K
+  history N              how many requests acted; then each of them after its place
+
+Example:
+  $ printf 'dsr-play 1 1 0 1 -\\nasks c0 begin write a 7\\nhears c0\\nposts r0 from c0\\n' | dsr play --transcript
+  dsr-transcript 1 1 0 1 -
+  c0 post r0 ask c0#1:write:a:7~c0
+  r0 take c0 ask c0#1:write:a:7~c0
+  r0 post r0 round 0 0/c0#1:write:a:7~c0/r0
+  $ printf 'dsr-transcript 1 1 0 1 -\\nr0 post r0 round 0 0/idle/r0\\nr0 take r0 round 0 0/idle/r0\\n' | dsr check
+  run 2
+  history 0
+  $ printf 'dsr-transcript 1 1 0 1 -\\nr0 post r0 empty\\n' | dsr check
+  dsr: not a run at line 2
+
+The step in that line is the first that may not follow those before it; the header is line 1. Then nothing is written
+on standard output, and the exit status is 1. Of a text with a bad line N it is `dsr: bad text in line N`; where N, F, M
+or TRAITORS are outside their limits, `dsr: the shape is not allowed`. The input has at most 16,777,216 bytes.
+";
+
 const NO_SUCH_WORD: &str = "\
 error: unrecognized subcommand 'help'
 
@@ -204,7 +274,8 @@ For more information, try '--help'.
 
   tip: to answer the requests in a file, run `dsr apply < FILE`
   tip: to play the play in a file, run `dsr play < FILE`
-  tip: to see what they look like, run `dsr apply --help` or `dsr play --help`
+  tip: to check the transcript in a file, run `dsr check < FILE`
+  tip: to see what they look like, run `dsr apply --help` and so on
 ";
 
 // The whole of each help: what the program is for, its tasks, its examples and its statuses.
@@ -214,6 +285,7 @@ fn shows_each_help(rt: HostRuntime) {
         (["--help"].as_slice(), HELP),
         (&["apply", "-h"], APPLY_HELP),
         (&["play", "-h"], PLAY_HELP),
+        (&["check", "-h"], CHECK_HELP),
     ] {
         let reading = read_words(rt.alloc(), words);
         assert!(rt; text_of(&reading) == help, "{}", text_of(&reading));
