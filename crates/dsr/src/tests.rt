@@ -56,24 +56,13 @@ fn each_list_of_words_does_its_task(rt: HostRuntime) {
         "dsr: bad text in line 1\n",
     );
     runs(&rt, alloc, &["fly"], text, 2, "", "error: ");
-    runs(
-        &rt,
-        alloc,
-        &["play", "--transcript"],
-        text,
-        2,
-        "",
-        "error: ",
-    );
-    runs(
-        &rt,
-        alloc,
-        &["apply", "--transcript"],
-        text,
-        2,
-        "",
-        "error: ",
-    );
+    for words in [
+        ["apply", "--transcript"],
+        ["check", "--transcript"],
+        ["play", "--transcripts"],
+    ] {
+        runs(&rt, alloc, words.as_slice(), text, 2, "", "error: ");
+    }
 }
 
 // A play of one replica and one client, and its report.
@@ -106,6 +95,93 @@ fn plays_are_reported(rt: HostRuntime) {
         "done 8\nrefused 0\nseen c0 0\nseen c1 0\ndecided r0 c1#1:remove:a,c0#1:write:a:1 idle\nhistory 2\n0 c1#1:remove:a\n1 c0#1:write:a:1\n",
         "",
     );
+}
+
+// The transcript of that play, and the report on it.
+const TRANSCRIPT: &str =
+    "dsr-transcript 1 1 0 1 -\nc0 post r0 ask c0#1:write:a:7~c0\nr0 take c0 ask c0#1:write:a:7~c0\nr0 post r0 round 0 0/c0#1:write:a:7~c0/r0\nr0 take r0 round 0 0/c0#1:write:a:7~c0/r0\nr0 post c0 reply 1 0 written\nc0 take r0 reply 1 0 written\n";
+
+const CHECKED: &str = "run 6\naccepted c0 1 0 written\nhistory 1\n0 c0#1:write:a:7\n";
+
+const TRANSCRIBE: [&str; 2] = ["play", "--transcript"];
+
+#[test]
+fn plays_are_transcribed(rt: HostRuntime) {
+    let alloc = rt.alloc();
+    runs(&rt, alloc, TRANSCRIBE.as_slice(), PLAY, 0, TRANSCRIPT, "");
+    // Refused events leave no step, and a removal wants version 2.
+    runs(
+        &rt,
+        alloc,
+        TRANSCRIBE.as_slice(),
+        "dsr-play 1 3 1 2 r2\nposts r1 from c0\ntell c0 c1\ntake c1 c0\n",
+        0,
+        "dsr-transcript 1 3 1 2 r2\nc0 post c1 seen 0\nc1 take c0 seen 0\n",
+        "",
+    );
+    runs(
+        &rt,
+        alloc,
+        TRANSCRIBE.as_slice(),
+        "dsr-play 1 1 0 1 -\nasks c0 begin remove a\n",
+        0,
+        "dsr-transcript 2 1 0 1 -\nc0 post r0 ask c0#1:remove:a~c0\n",
+        "",
+    );
+    runs(
+        &rt,
+        alloc,
+        TRANSCRIBE.as_slice(),
+        "dsr-play 1 2 1 1 -\n",
+        1,
+        "",
+        "dsr: the shape is not allowed\n",
+    );
+    runs(
+        &rt,
+        alloc,
+        TRANSCRIBE.as_slice(),
+        "dsr-play 1 1 0 1 -\n\n",
+        1,
+        "",
+        "dsr: bad text in line 2\n",
+    );
+}
+
+#[test]
+fn transcripts_are_checked(rt: HostRuntime) {
+    let alloc = rt.alloc();
+    runs(&rt, alloc, &["check"], TRANSCRIPT, 0, CHECKED, "");
+    runs(
+        &rt,
+        alloc,
+        &["check"],
+        "dsr-transcript 2 1 0 1 -\n",
+        0,
+        "run 0\nhistory 0\n",
+        "",
+    );
+    for (text, errors) in [
+        (
+            "dsr-transcript 1 2 1 1 -\n",
+            "dsr: the shape is not allowed\n",
+        ),
+        ("", "dsr: bad text in line 1\n"),
+        (
+            "dsr-transcript 1 1 0 1 -\nr0 post r0",
+            "dsr: bad text in line 2\n",
+        ),
+        (
+            "dsr-transcript 1 1 0 1 -\nr0 post r0 empty\n",
+            "dsr: not a run at line 2\n",
+        ),
+        (
+            "dsr-transcript 1 1 0 1 -\nr0 post r0 round 0 0/idle/r0\nr0 post r0 round 0 0/idle/r0\n",
+            "dsr: not a run at line 3\n",
+        ),
+    ] {
+        runs(&rt, alloc, &["check"], text, 1, "", errors);
+    }
 }
 
 #[test]
@@ -203,20 +279,24 @@ impl Sink for Narrow {
     }
 }
 
-// However many bytes the writer takes before it fails, they are the report's first ones.
-#[test]
-fn a_play_goes_out_as_far_as_it_can(rt: HostRuntime) {
-    let alloc = rt.alloc();
-    for room in 0..REPORT.len() + 1 {
+// However many bytes the writer takes before it fails, they are the first ones of what is to be written.
+fn goes_out_as_far_as_it_can<R: Abort>(
+    rt: &R,
+    alloc: Global,
+    words: &[&str],
+    text: &str,
+    output: &str,
+) {
+    for room in 0..output.len() + 1 {
         let mut out = Narrow {
             taken: Vec::new(alloc),
             room,
         };
         let mut err = Vec::new(alloc);
-        let mut input = PLAY.as_bytes();
-        let status = run(alloc, &["play"], &mut input, &mut out, &mut err);
-        assert_eq!(rt; out.taken.as_slice(), &REPORT.as_bytes()[..room]);
-        if room < REPORT.len() {
+        let mut input = text.as_bytes();
+        let status = run(alloc, words, &mut input, &mut out, &mut err);
+        assert_eq!(rt; out.taken.as_slice(), &output.as_bytes()[..room]);
+        if room < output.len() {
             assert_eq!(rt; status, 1);
             assert_eq!(rt; err.as_slice(), b"dsr: writing failed\n".as_slice());
         } else {
@@ -226,15 +306,25 @@ fn a_play_goes_out_as_far_as_it_can(rt: HostRuntime) {
     }
 }
 
-// A play is not reported where it cannot be read.
+#[test]
+fn a_play_goes_out_as_far_as_it_can(rt: HostRuntime) {
+    let alloc = rt.alloc();
+    goes_out_as_far_as_it_can(&rt, alloc, &["play"], PLAY, REPORT);
+    goes_out_as_far_as_it_can(&rt, alloc, TRANSCRIBE.as_slice(), PLAY, TRANSCRIPT);
+    goes_out_as_far_as_it_can(&rt, alloc, &["check"], TRANSCRIPT, CHECKED);
+}
+
+// A play or a transcript that cannot be read is not told of.
 #[test]
 fn a_play_that_cannot_be_read_is_told(rt: HostRuntime) {
     let alloc = rt.alloc();
-    let mut out = Outside(Vec::new(alloc));
-    let mut err = Vec::new(alloc);
-    assert_eq!(rt; run(alloc, &["play"], &mut Broken, &mut out, &mut err), 1);
-    assert!(rt; out.0.is_empty());
-    assert_eq!(rt; err.as_slice(), b"dsr: reading failed\n".as_slice());
+    for words in [["play"].as_slice(), &["play", "--transcript"], &["check"]] {
+        let mut out = Outside(Vec::new(alloc));
+        let mut err = Vec::new(alloc);
+        assert_eq!(rt; run(alloc, words, &mut Broken, &mut out, &mut err), 1);
+        assert!(rt; out.0.is_empty());
+        assert_eq!(rt; err.as_slice(), b"dsr: reading failed\n".as_slice());
+    }
 }
 
 #[test]

@@ -1,1 +1,3 @@
+mod PlayedLemmas
 mod StatusLemmas
+mod VerdictLemmas

@@ -1,15 +1,17 @@
 -- What was left by showing a help, and what each reading of the words leads to.
 use Rattle.std.proofs.Common.{◌≡◌, ◌<◌, ℕ, zero, suc, List, length, inl, inr, refl, subst, sym, zero-lt-suc}
-use Rattle.std.specs.Prelude.{string_bytes}
+use Rattle.std.specs.Prelude.{Result, Ok, Err, IfErr, OnOk, string_bytes}
 use Rattle.dsr_command.specs.Asked.{Asked, task, help, unknown}
 use Rattle.dsr_command.specs.Readings.{IfDo, IfHelp, IfUsage, OnHelp, OnNoMemory, OnUsage}
 use Rattle.dsr_command.specs.ShownTexts.{IsHelp, IsUsage}
 use Rattle.dsr_command.specs.declared.Reading.{Reading}
 use Rattle.dsr_command.specs.declared.Reading.TheVariants as reading
+use Rattle.dsr_command.specs.declared.Task.{Task}
 use Rattle.dsr_names.specs.Refusal.{refusal_line}
 use Rattle.dsr_names.specs.Streams.{CanFailToTake, SentAll, SentPrefix}
+use Rattle.dsr_names.specs.declared.refusal.Refusal.{Refusal}
 use Rattle.dsr_names.specs.declared.refusal.Refusal.TheVariants.{WriteFailed}
-use Rattle.dsr_cli.specs.Status.{Run, RanOut, StatusFor, Told, IsUnwritten, WhatShowingLeft, WhatTaskLeft}
+use Rattle.dsr_cli.specs.Status.{Run, IsDone, LeftAfter, RanOut, StatusFor, Told, IsUnwritten, WhatShowingLeft, WhatTaskLeft, status_of}
 
 -- a status of 0 and any other are the two ways in which showing a help ends
 pub showing_left : (text : List ℕ) (status : ℕ) (run : Run)
@@ -21,6 +23,15 @@ showing_left text zero run whole part = inl (refl, whole refl)
 showing_left text (suc n) run whole part =
     let h = part (zero-lt-suc n) in
     inr (record { status_is = h.0; told = h.3; too_many = h.1; went_out = h.2 })
+
+-- a task that is done and one that is refused are the two ways in which a task ends
+pub task_left : (named : Task) (done : Result (Unit {0}) Refusal) (status : ℕ) (run : Run)
+    → OnOk done (IsDone named run.io) → IfErr done (λ refusal. LeftAfter named refusal run.io)
+    → OnOk done (status ≡ 0) → IfErr done (λ refusal. (status ≡ status_of refusal) × Told (refusal_line refusal) run)
+    → WhatTaskLeft named status run
+task_left named (Ok nothing) status run all left zero_is refused = inl (zero_is, all)
+task_left named (Err refusal) status run all left zero_is refused =
+    inr (record { refusal = refusal; status_is = refused.0; told = refused.1; left = left })
 
 -- where memory ran out as the words were read, whatever they ask for
 ran_out : (asked : Asked) (status : ℕ) (run : Run) → RanOut status run → StatusFor asked status run

@@ -1,64 +1,100 @@
 -- What `play` leaves, by what it returns (this project).
-use Rattle.std.specs.Prelude.{◌≡◌, ◌⊎◌, ℕ, ◌<◌, ◌≤◌, List, [], length}
+use Rattle.std.specs.Prelude.{◌≡◌, ◌↔◌, ◌⊎◌, ℕ, ◌<◌, ◌≤◌, All, List, [], length}
 use Rattle.std.specs.Io.KnownBytes.{Keeps}
 use Rattle.dsr_names.specs.Limits.{most_bytes}
+use Rattle.dsr_names.specs.Shape.{Shape}
 use Rattle.dsr_names.specs.Streams.{Streams, CanFailToGive, CanFailToTake, SentAll, SentPrefix}
 use Rattle.dsr_names.specs.declared.refusal.Refusal.{Refusal}
 use Rattle.dsr_names.specs.declared.refusal.Refusal.TheVariants.{BadShape, BadText, NoMemory, ReadFailed, WriteFailed}
 use Rattle.dsr_history.specs.Applied.{IsTextOf}
 use Rattle.dsr_world.specs.Outcome.{HasEnded}
 use Rattle.dsr_play.specs.Play.{Play, Spells, IsPlayRefusal}
+use Rattle.dsr_run.specs.Agreement.{HasAgreement}
 use Rattle.dsr_run.specs.Right.{IsRight}
 use Rattle.dsr_run.specs.Run.{IsRun}
 use Rattle.dsr_run.specs.Step.{Step, log_of}
 use Rattle.dsr_world.specs.declared.run_end.RunEnd.{RunEnd}
+use Rattle.dsr_record.specs.Record.{Record}
+use Rattle.dsr_record.specs.RecordText.{IsStepOf, record_text}
+use Rattle.dsr_record.specs.RecordText.{Spells as SpellsRecord}
+use Rattle.dsr_record.specs.declared.version.Version.TheVariants.{One}
 use Rattle.dsr_cli.specs.Report.{report_text}
 
--- the text spells a play whose events made this run of a new world, in which what clients accepted is right; so many events were refused
--- because memory ran out; and this is the report
-pub record HasPlayed (text : List ℕ) (starved : ℕ) (report : List ℕ) : Type 0 where
+-- ---- what is written
+
+-- a form in which a play is told: which text is written, by the shape, the run, and how the events ended
+abbrev pub Form : Type 1
+Form = Shape → List Step → RunEnd → List ℕ → Type 0
+
+-- the report
+abbrev pub IsReport : Form
+IsReport shape run end text = text ≡ report_text shape (log_of run) end
+
+-- the transcript, from which the run can be read back: that of the run's record, in version 1 where that has all of its lines
+pub record IsTranscript (shape : Shape) (run : List Step) (end : RunEnd) (text : List ℕ) : Type 0 where
+  pub recorded : Record
+  pub shape_is : recorded.shape ≡ shape
+  pub run_is : recorded.run ≡ run
+  pub version : (recorded.version ≡ One) ↔ All (IsStepOf One) run
+  pub is : text ≡ record_text recorded
+  pub spells : SpellsRecord text recorded
+
+-- ---- the play
+
+-- the text spells a play of this shape, whose events made this run of a new world and ended so; in it loyal replicas agree, and what
+-- clients accepted is right
+pub record HasRun (text : List ℕ) (shape : Shape) (run : List Step) (end : RunEnd) : Type 0 where
   pub play : Play
   pub spells : Spells text play
+  pub shape_is : play.shape ≡ shape
+  pub is_run : IsRun shape run
+  pub agreement : HasAgreement shape run
+  pub right : IsRight shape run
+  pub ended : HasEnded shape run [] play.events end
+
+-- the text spells a play that was played; so many of its events were refused because memory ran out; and it is told so
+pub record HasPlayed (Tells : Form) (text : List ℕ) (starved : ℕ) (told : List ℕ) : Type 0 where
+  pub shape : Shape
   pub run : List Step
   pub end : RunEnd
-  pub is_run : IsRun play.shape run
-  pub right : IsRight play.shape run
-  pub ended : HasEnded play.shape run [] play.events end
+  pub played : HasRun text shape run end
   pub starved_is : end.starved ≡ starved
-  pub reported : report ≡ report_text play.shape (log_of run) end
+  pub tells : Tells shape run end told
 
--- all events of the play were done, or refused for another reason than memory, and the whole report went out
-pub record PlayedAll (s : Streams) : Type 0 where
+-- ---- what is left
+
+-- all events of the play were done, or refused for another reason than memory, and all of what tells it went out
+pub record PlayedAll (Tells : Form) (s : Streams) : Type 0 where
   pub text : List ℕ
   pub short : length text ≤ most_bytes
   pub given : IsTextOf s.input.left text
   pub starved : ℕ
   pub none_starved : starved ≡ 0
-  pub report : List ℕ
-  pub played : HasPlayed text starved report
-  pub went_out : SentAll report s.output s.written
+  pub told : List ℕ
+  pub played : HasPlayed Tells text starved told
+  pub went_out : SentAll told s.output s.written
 
--- some events of the play were refused because memory ran out, and the whole report went out
-pub record PlayedStarved (s : Streams) : Type 0 where
+-- some events of the play were refused because memory ran out, and all of what tells it went out
+pub record PlayedStarved (Tells : Form) (s : Streams) : Type 0 where
   pub text : List ℕ
   pub short : length text ≤ most_bytes
   pub given : IsTextOf s.input.left text
   pub starved : ℕ
   pub some_starved : 0 < starved
-  pub report : List ℕ
-  pub played : HasPlayed text starved report
-  pub went_out : SentAll report s.output s.written
+  pub told : List ℕ
+  pub played : HasPlayed Tells text starved told
+  pub went_out : SentAll told s.output s.written
 
--- a prefix of the report went out; the sink was one that may not take all of it
-pub record PlayedPart (s : Streams) : Type 0 where
+-- a prefix of what tells it went out; the sink was one that may not take all of it
+pub record PlayedPart (Tells : Form) (s : Streams) : Type 0 where
   pub text : List ℕ
   pub short : length text ≤ most_bytes
   pub given : IsTextOf s.input.left text
   pub starved : ℕ
-  pub report : List ℕ
-  pub played : HasPlayed text starved report
-  pub too_many : CanFailToTake (length report) s.output
-  pub went_out : SentPrefix report s.output s.written
+  pub told : List ℕ
+  pub played : HasPlayed Tells text starved told
+  pub too_many : CanFailToTake (length told) s.output
+  pub went_out : SentPrefix told s.output s.written
 
 -- the text that the source gave is refused so, and nothing went out
 pub record RefusedText (refusal : Refusal) (s : Streams) : Type 0 where
@@ -69,13 +105,13 @@ pub record RefusedText (refusal : Refusal) (s : Streams) : Type 0 where
   pub unwritten : Keeps s.output.contents s.written.contents
 
 -- what each refusal leaves: a text that is no play was refused, by what is wrong with it, and nothing was written; with no memory
--- nothing was written, or the whole report of a play of which some events were refused for that; where reading failed, which it
--- does of a steady source only for too many bytes, nothing was written; where writing failed, a prefix of the report was; there is
+-- nothing was written, or all that tells a play of which some events were refused for that; where reading failed, which it
+-- does of a steady source only for too many bytes, nothing was written; where writing failed, a prefix was; there is
 -- no other refusal
-abbrev pub LeftAfterPlay : Refusal → Streams → Type 0
-LeftAfterPlay BadShape s = RefusedText BadShape s
-LeftAfterPlay (BadText line) s = RefusedText (BadText line) s
-LeftAfterPlay NoMemory s = Keeps s.output.contents s.written.contents ⊎ PlayedStarved s
-LeftAfterPlay ReadFailed s = CanFailToGive s.input × Keeps s.output.contents s.written.contents
-LeftAfterPlay WriteFailed s = PlayedPart s
-LeftAfterPlay other s = ⊥
+abbrev pub LeftAfterPlay : Form → Refusal → Streams → Type 0
+LeftAfterPlay Tells BadShape s = RefusedText BadShape s
+LeftAfterPlay Tells (BadText line) s = RefusedText (BadText line) s
+LeftAfterPlay Tells NoMemory s = Keeps s.output.contents s.written.contents ⊎ PlayedStarved Tells s
+LeftAfterPlay Tells ReadFailed s = CanFailToGive s.input × Keeps s.output.contents s.written.contents
+LeftAfterPlay Tells WriteFailed s = PlayedPart Tells s
+LeftAfterPlay Tells other s = ⊥

@@ -8,8 +8,9 @@ use Rattle.dsr_history.specs.Applied.{AppliedAll, WrittenAfter}
 use Rattle.dsr_command.specs.Asked.{Asked, task, help, unknown}
 use Rattle.dsr_command.specs.ShownTexts.{IsHelp, IsUsage}
 use Rattle.dsr_command.specs.declared.Task.{Task}
-use Rattle.dsr_command.specs.declared.Task.TheVariants.{Apply, Play}
-use Rattle.dsr_cli.specs.Played.{LeftAfterPlay, PlayedAll}
+use Rattle.dsr_command.specs.declared.Task.TheVariants.{Apply, Check, Play, Transcribe}
+use Rattle.dsr_cli.specs.Checked.{CheckedAll, LeftAfterCheck}
+use Rattle.dsr_cli.specs.Played.{IsReport, IsTranscript, LeftAfterPlay, PlayedAll}
 
 -- what a run of the program had and left: its input and output, and its error stream before and after
 pub record Run : Type 1 where
@@ -41,14 +42,24 @@ pub record EndedBy (After : Refusal → Streams → Type 0) (status : ℕ) (run 
   pub told : Told (refusal_line refusal) run
   pub left : After refusal run.io
 
--- after 0 all lines were answered, and after another status some were, up to a refusal
-abbrev pub WhatApplyLeft : ℕ → Run → Type 0
-WhatApplyLeft status run = ((status ≡ 0) × AppliedAll run.io) ⊎ EndedBy WrittenAfter status run
+-- a task was done: all lines were answered; the whole report of a play, or the transcript of its run, went out, and no event of the play
+-- was refused because memory ran out; or the whole report on a transcript's run did
+abbrev pub IsDone : Task → Streams → Type 0
+IsDone Apply s = AppliedAll s
+IsDone Play s = PlayedAll IsReport s
+IsDone Transcribe s = PlayedAll IsTranscript s
+IsDone Check s = CheckedAll s
 
--- after 0 the whole report of a play went out, and no event of it was refused because memory ran out; another status is that of a
--- refusal
-abbrev pub WhatPlayLeft : ℕ → Run → Type 0
-WhatPlayLeft status run = ((status ≡ 0) × PlayedAll run.io) ⊎ EndedBy LeftAfterPlay status run
+-- what a refusal of a task leaves
+abbrev pub LeftAfter : Task → Refusal → Streams → Type 0
+LeftAfter Apply refusal s = WrittenAfter refusal s
+LeftAfter Play refusal s = LeftAfterPlay IsReport refusal s
+LeftAfter Transcribe refusal s = LeftAfterPlay IsTranscript refusal s
+LeftAfter Check refusal s = LeftAfterCheck refusal s
+
+-- after 0 the task was done; another status is that of a refusal
+abbrev pub WhatTaskLeft : Task → ℕ → Run → Type 0
+WhatTaskLeft named status run = ((status ≡ 0) × IsDone named run.io) ⊎ EndedBy (LeftAfter named) status run
 
 -- the status is 1, and that writing failed was told: a prefix of the text went out, to a sink that may not take all of it
 pub record ShowedPart (text : List ℕ) (status : ℕ) (run : Run) : Type 0 where
@@ -78,11 +89,6 @@ pub record ToldUsage (status : ℕ) (run : Run) : Type 0 where
   pub status_is : status ≡ 2
   pub told : Told text run
   pub unwritten : IsUnwritten run
-
--- what a task left, by its status
-abbrev pub WhatTaskLeft : Task → ℕ → Run → Type 0
-WhatTaskLeft Apply status run = WhatApplyLeft status run
-WhatTaskLeft Play status run = WhatPlayLeft status run
 
 -- what the status says, by what was asked: the task was done or refused, help was shown or could not be, or nothing was
 -- asked that the program knows; in each case memory may have run out before anything was written

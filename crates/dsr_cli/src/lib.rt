@@ -1,19 +1,23 @@
 //! The program `dsr` over any words, reader and writers.
 #![tactic(auto)]
 
+mod check;
 mod play;
 mod report;
+mod transcribe;
 
-ghost use Rattle.std.specs.Prelude.{◌≡◌, ◌+◌, ◌<◌, ◌≤◌, length, map};
+ghost use Rattle.std.specs.Prelude.{◌≡◌, ◌+◌, ◌<◌, ◌≤◌, IfErr, OnOk, length, map};
 ghost use Rattle.dsr_names.specs.Limits.{most_calls};
 ghost use Rattle.dsr_names.specs.Refusal.{refusal_line};
 ghost use Rattle.dsr_names.specs.declared.refusal.Refusal.TheVariants.{WriteFailed};
 ghost use Rattle.dsr_names.specs.Streams.{CanFailToTake, Sent, SentAll, SentPrefix, streams};
 ghost use Rattle.dsr_command.specs.Asked.{asked_of};
 ghost use Rattle.dsr_command.specs.Readings.{IfDo, IfHelp, IfUsage, OnNoMemory, OnNoTask};
-ghost use Rattle.dsr_cli.specs.Status.{StatusFor, RanOut, WhatApplyLeft, WhatPlayLeft, WhatShowingLeft, WhatTaskLeft, IfNoTask, run_of, status_of};
+ghost use Rattle.dsr_cli.specs.Status.{StatusFor, RanOut, IsDone, LeftAfter, WhatShowingLeft, WhatTaskLeft, IfNoTask, run_of, status_of};
 
+use crate::check::run_check;
 use crate::play::run_play;
+use crate::transcribe::transcribe_play;
 use dsr_command::{Reading, Task, read_words};
 use dsr_history::run_apply;
 use dsr_names::{Refusal, Sink, Source, tell, tell_refusal, write_output};
@@ -35,8 +39,8 @@ pub const NO_MEMORY: u8 = 3;
 /// Does what the words ask for and answers the program's exit status: 0 where it was done, 1 after a refusal other
 /// than running out of memory, 2 after words that the program does not know, and 3 where memory ran out. The words are those
 /// after the program's own name; none means `apply`. A refusal is told on `errors` as `dsr: ` and its text, a usage
-/// fault by its text; the help goes to `output`. With 0 nothing is written on `errors`. Only `apply` and `play`
-/// read the input. Each of the three is called at most `MOST_CALLS` times.
+/// fault by its text; the help goes to `output`. With 0 nothing is written on `errors`. Only a task
+/// reads the input. Each of the three is called at most `MOST_CALLS` times.
 ///
 /// The events of a play that are refused are part of its report, and no refusal of the play; but where memory ran out for some of
 /// them, the report is written and then `NoMemory` told.
@@ -84,8 +88,10 @@ fn obey<I: Source, O: Sink, E: Sink>(
     ensures tells { (E.output errors.new).calls ≤ (E.output errors.old).calls + most_calls }
 {
     match reading {
-        Reading::Do(Task::Apply) => apply(alloc, input, output, errors),
-        Reading::Do(Task::Play) => play_out(alloc, input, output, errors),
+        Reading::Do(task) => {
+            let done = perform(alloc, task, input, output);
+            status_after(done, errors)
+        }
         Reading::Help(text) => show_help(text.as_str(), output, errors),
         Reading::Usage(text) => {
             tell(errors, text.as_bytes());
@@ -95,41 +101,35 @@ fn obey<I: Source, O: Sink, E: Sink>(
     }
 }
 
-/// Answers the request lines of the input on the output.
-fn apply<I: Source, O: Sink, E: Sink>(
+/// Does the task.
+fn perform<I: Source, O: Sink>(
     alloc: Global,
+    task: Task,
     input: &mut I,
     output: &mut O,
-    errors: &mut E,
-) -> u8
-    ensures left { WhatApplyLeft result
-        (run_of (streams (I.input input.old) (O.output output.old) (O.output output.new)) (E.output errors.old) (E.output errors.new)) }
-    ensures quiet { result ≡ 0 → errors.new ≡ errors.old }
+) -> Result<(), Refusal>
+    ensures done { OnOk result (IsDone task (streams (I.input input.old) (O.output output.old) (O.output output.new))) }
+    ensures refused { IfErr result (λ refusal. LeftAfter task refusal (streams (I.input input.old) (O.output output.old) (O.output output.new))) }
     ensures reads { (I.input input.new).calls ≤ (I.input input.old).calls + most_calls }
     ensures writes { (O.output output.new).calls ≤ (O.output output.old).calls + most_calls }
-    ensures tells { (E.output errors.new).calls ≤ (E.output errors.old).calls + most_calls }
 {
-    match run_apply(alloc, input, output) {
-        Ok(()) => DONE,
-        Err(refusal) => refuse(errors, refusal),
+    match task {
+        Task::Apply => run_apply(alloc, input, output),
+        Task::Play => run_play(alloc, input, output),
+        Task::Transcribe => transcribe_play(alloc, input, output),
+        Task::Check => run_check(alloc, input, output),
     }
 }
 
-/// Plays the play of the input, and reports on the output what came of it.
-fn play_out<I: Source, O: Sink, E: Sink>(
-    alloc: Global,
-    input: &mut I,
-    output: &mut O,
-    errors: &mut E,
-) -> u8
-    ensures left { WhatPlayLeft result
-        (run_of (streams (I.input input.old) (O.output output.old) (O.output output.new)) (E.output errors.old) (E.output errors.new)) }
+/// The status of a task that ended so. A refusal is told.
+fn status_after<E: Sink>(done: Result<(), Refusal>, errors: &mut E) -> u8
+    ensures done { OnOk done (result ≡ 0) }
+    ensures refused { IfErr done (λ refusal. (result ≡ status_of refusal)
+        × Sent (refusal_line refusal) (E.output errors.old) (E.output errors.new)) }
     ensures quiet { result ≡ 0 → errors.new ≡ errors.old }
-    ensures reads { (I.input input.new).calls ≤ (I.input input.old).calls + most_calls }
-    ensures writes { (O.output output.new).calls ≤ (O.output output.old).calls + most_calls }
     ensures tells { (E.output errors.new).calls ≤ (E.output errors.old).calls + most_calls }
 {
-    match run_play(alloc, input, output) {
+    match done {
         Ok(()) => DONE,
         Err(refusal) => refuse(errors, refusal),
     }

@@ -4,13 +4,20 @@ ghost use Rattle.std.specs.Prelude.{◌≡◌, ◌⊎◌, ◌+◌, ◌<◌, ◌�
 ghost use Rattle.dsr_names.specs.Limits.{most_calls};
 ghost use Rattle.dsr_names.specs.Streams.{CanFailToTake, SentAll, SentPrefix, streams};
 ghost use Rattle.dsr_play.specs.Play.{IsPlayRefusal};
-ghost use Rattle.dsr_cli.specs.Played.{HasPlayed, LeftAfterPlay, PlayedAll};
+ghost use Rattle.dsr_cli.specs.Played.{HasPlayed, HasRun, IsReport, LeftAfterPlay, PlayedAll};
 
 use crate::report::report_of;
 use dsr_names::{Refusal, Sink, Source, read_input, write_output};
-use dsr_world::{Play, World};
+use dsr_world::{Play, RunEnd, World};
 use std::alloc::Global;
 use std::mem::forget;
+
+/// The world of a play after it, and how the play's events ended.
+#[derive(Drop)]
+pub(crate) struct Played {
+    pub(crate) world: World,
+    pub(crate) end: RunEnd,
+}
 
 /// The report of a play, and how many of its events were refused because memory ran out.
 #[derive(Drop)]
@@ -20,8 +27,8 @@ struct Outcome {
 }
 
 /// Plays the play that the text spells, in a world of its own.
-fn outcome_of(alloc: Global, text: &[u8]) -> Result<Outcome, Refusal>
-    ensures played { IfOk result (λ outcome. HasPlayed text.now outcome.starved (string_bytes outcome.report)) }
+pub(crate) fn play_out(alloc: Global, text: &[u8]) -> Result<Played, Refusal>
+    ensures played { IfOk result (λ played. HasRun text.now played.world.shape played.world.run played.end) }
     ensures refused { IfErr result (IsPlayRefusal text.now) }
 {
     let play = match Play::read(alloc, text) {
@@ -32,16 +39,26 @@ fn outcome_of(alloc: Global, text: &[u8]) -> Result<Outcome, Refusal>
         return Err(Refusal::NoMemory);
     };
     let end = world.run(alloc, play.events());
-    let Ok(report) = report_of(alloc, &world, &end) else {
+    // The program ends soon, and to free a world letter by letter takes a tenth of the time of a long play.
+    forget(play);
+    Ok(Played { world, end })
+}
+
+/// Plays the play that the text spells, and makes its report.
+fn outcome_of(alloc: Global, text: &[u8]) -> Result<Outcome, Refusal>
+    ensures played { IfOk result (λ outcome. HasPlayed IsReport text.now outcome.starved (string_bytes outcome.report)) }
+    ensures refused { IfErr result (IsPlayRefusal text.now) }
+{
+    let played = match play_out(alloc, text) {
+        Ok(played) => played,
+        Err(refusal) => return Err(refusal),
+    };
+    let Ok(report) = report_of(alloc, &played.world, &played.end) else {
         return Err(Refusal::NoMemory);
     };
-    // The program ends soon, and to free a world letter by letter takes a tenth of the time of a long play.
-    forget(world);
-    forget(play);
-    Ok(Outcome {
-        report,
-        starved: end.starved,
-    })
+    let starved = played.end.starved;
+    forget(played);
+    Ok(Outcome { report, starved })
 }
 
 /// Reads a play, plays it in a world of its own, and writes the report of what came of it. Nothing is played before the end of the
@@ -56,8 +73,8 @@ pub(crate) fn run_play<S: Source, K: Sink>(
     source: &mut S,
     sink: &mut K,
 ) -> Result<(), Refusal>
-    ensures done { OnOk result (PlayedAll (streams (S.input source.old) (K.output sink.old) (K.output sink.new))) }
-    ensures refused { IfErr result (λ e. LeftAfterPlay e (streams (S.input source.old) (K.output sink.old) (K.output sink.new))) }
+    ensures done { OnOk result (PlayedAll IsReport (streams (S.input source.old) (K.output sink.old) (K.output sink.new))) }
+    ensures refused { IfErr result (λ e. LeftAfterPlay IsReport e (streams (S.input source.old) (K.output sink.old) (K.output sink.new))) }
     ensures reads { (S.input source.new).calls ≤ (S.input source.old).calls + most_calls }
     ensures writes { (K.output sink.new).calls ≤ (K.output sink.old).calls + most_calls }
 {

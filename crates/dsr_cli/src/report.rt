@@ -2,7 +2,7 @@
 
 ghost use Rattle.std.specs.Prelude.{◌≡◌, ◌<◌, ◌++◌, IfOk, OnOk, IsOkUnless, reverse, string_bytes};
 ghost use Rattle.dsr_run.specs.Step.{log_of};
-ghost use Rattle.dsr_cli.specs.Report.{report_text, end_text, replies_text, accepted_text, seen_text, decided_line, decided_text, history_text};
+ghost use Rattle.dsr_cli.specs.Report.{report_text, end_text, replies_text, accepted_line, accepted_text, seen_text, decided_line, decided_text, history_text};
 
 use dsr_desk::Content;
 use dsr_ledger::Reply;
@@ -63,9 +63,18 @@ fn write_replies(out: &mut String, client: ClientId, replies: &[Reply]) -> Resul
     ensures refusal { IsOkUnless result Refusal.NoMemory }
 {
     for reply in replies {
-        let (number, place, answer) = (reply.number, reply.place, reply.answer);
-        writeln!(out, "accepted {client} {number} {place} {answer}")?;
+        write_reply(out, client, reply)?;
     }
+    Ok(())
+}
+
+/// Writes the line of a reply that this client accepted.
+pub(crate) fn write_reply(out: &mut String, client: ClientId, reply: &Reply) -> Result<(), Refusal>
+    ensures text { OnOk result (string_bytes out.new ≡ string_bytes out.old ++ accepted_line client reply.now) }
+    ensures refusal { IsOkUnless result Refusal.NoMemory }
+{
+    let (number, place, answer) = (reply.number, reply.place, reply.answer);
+    writeln!(out, "accepted {client} {number} {place} {answer}")?;
     Ok(())
 }
 
@@ -121,7 +130,7 @@ fn write_decisions(
 }
 
 /// Writes the requests that acted, each after its place.
-fn write_history(out: &mut String, history: &[Request]) -> Result<(), Refusal>
+pub(crate) fn write_history(out: &mut String, history: &[Request]) -> Result<(), Refusal>
     ensures text { OnOk result (string_bytes out.new ≡ string_bytes out.old ++ history_text (reverse history.now)) }
     ensures refusal { IsOkUnless result Refusal.NoMemory }
 {
