@@ -1,8 +1,8 @@
 #!/usr/bin/env python3
 """The samples of the documents, run: tests/samples.py, with no arguments.
 
-1. Each `$ COMMAND` with the lines it prints, as README.md and the helps show them, is run by a shell, and must print
-   just that. In the helps `dsr` stands for `./dsr`.
+1. Each `$ COMMAND` with the lines it prints, as README.md, examples/record/README.md and the helps show them, is run by a shell, and
+   must print just that. In the helps `dsr` stands for `./dsr`.
 2. Each block of docs/FORMATS.md whose lines are a request and, after two or more spaces, its answer: the program must answer
    the requests so.
 3. Each text of code in the first column of docs/FORMATS.md's table of bad lines, where the row says no more about it: the
@@ -104,6 +104,7 @@ def main():
     results = [
         built,
         say("README.md", faults_of_commands(text_of("README.md"))),
+        say("examples/record/README.md", faults_of_commands(text_of("examples/record/README.md"))),
         say("docs/FORMATS.md", faults_of_answers(formats), faults_of_bad_lines(formats)),
     ]
     for words in HELPS:
