@@ -2,4 +2,6 @@
 #![tactic(auto)]
 
 #[cfg(test)]
+mod checking;
+#[cfg(test)]
 mod judging;
