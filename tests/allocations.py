@@ -4,7 +4,7 @@
 Runs the built program on some examples with its 1st, 2nd, 3rd .. allocation refused, until a run meets no refusal. A run
 that met one must end with status 3, write nothing on standard output, and say so on standard error; the last one must do
 what it does with ample memory. A play may also be reported whole, where one of its events was refused for that: then the report says
-so, and for each event whether it was done.
+so, and for each event whether it was done; or its transcript may be written, which is then a run of fewer steps.
 
 Then it runs the tests of the crates below the command line whose calls can return that memory was refused, one by one and
 in the same way. A test that meets a refusal must pass, or end with that error, or with an assertion that got that error
@@ -23,8 +23,11 @@ import tempfile
 
 TOP = os.path.dirname(os.path.dirname(os.path.realpath(__file__)))
 PROGRAM = f"{TOP}/crates/dsr/out/dsr"
-EXAMPLES = [("apply", "first-lines"), ("apply", "swaps"), ("apply", "repeated-numbers"), ("apply", "full-table"),
-            ("play", "one-replica"), ("play", "three-loyal")]
+# The words of each run, its input and what it must write.
+EXAMPLES = [("apply", "first-lines.apply", "first-lines.out"), ("apply", "swaps.apply", "swaps.out"),
+            ("apply", "repeated-numbers.apply", "repeated-numbers.out"), ("apply", "full-table.apply", "full-table.out"),
+            ("play", "one-replica.play", "one-replica.out"), ("play", "three-loyal.play", "three-loyal.out"),
+            ("play --transcript", "one-replica.play", "whole-run.check"), ("check", "whole-run.check", "whole-run.out")]
 # The crates of tests that end with an error where memory was refused.
 CRATES = ["dsr_request_tests", "dsr_history_tests", "dsr_envelope_tests", "dsr_slot_tests", "dsr_replica_tests", "dsr_script_tests",
           "dsr_play_tests", "dsr_world_tests", "dsr_record_tests"]
@@ -56,18 +59,29 @@ def tells_of_starved(report, wanted):
                 and re.match(rb"first \d+ E12 NoMemory\n", report[has.end():]) and re.search(rb"^history \d+$", report, re.M))
 
 
-def fault_of(word, text, wanted, refuser, note):
+def is_shorter_run(transcript, wanted):
+    """Whether this is the transcript of a run of fewer steps than the wanted one, under the same header, as the program itself says."""
+    lines, whole = transcript.split(b"\n"), wanted.split(b"\n")
+    checked = subprocess.run([PROGRAM, "check"], input=transcript, capture_output=True, timeout=60)
+    return bool(lines[0] == whole[0] and len(lines) < len(whole) and checked.stdout.startswith(b"run %d\n" % (len(lines) - 2)))
+
+
+# What else may be written, by the words, where an event was refused for want of memory.
+STARVED = {"play": tells_of_starved, "play --transcript": is_shorter_run}
+
+
+def fault_of(words, text, wanted, refuser, note):
     """What is wrong with the runs on this text, or None; how many allocations were refused, and how often that ended the run."""
     ended = reported = 0
     for nth in range(1, MOST_RUNS):
-        run, refused = refused_run([PROGRAM, word], nth, refuser, note, text)
+        run, refused = refused_run([PROGRAM, *words.split()], nth, refuser, note, text)
         if not refused:
             if (run.returncode, run.stdout) != (0, wanted):
                 return f"with no refusal its status is {run.returncode}, or its output differs", nth - 1, ended
-            if word == "play" and not reported:
+            if words in STARVED and not reported:
                 return "no event that was refused is reported", nth - 1, ended
             return (None if ended else "no refusal ended it"), nth - 1, ended
-        starved = word == "play" and tells_of_starved(run.stdout, wanted)
+        starved = words in STARVED and run.stdout and STARVED[words](run.stdout, wanted)
         if (run.returncode, run.stderr) == (3, b"dsr: no memory\n") and (starved or not run.stdout):
             ended, reported = ended + 1, reported + bool(starved)
         elif (run.returncode, run.stdout, run.stderr) != (0, wanted, b""):
@@ -109,11 +123,11 @@ def main():
     with tempfile.TemporaryDirectory(prefix="dsr-allocations-") as room:
         refuser = f"{room}/refuse.so"
         subprocess.run(["cc", "-shared", "-fPIC", "-O1", "-o", refuser, f"{TOP}/tests/refuse.c", "-ldl"], check=True)
-        for word, name in EXAMPLES:
-            stem = f"{TOP}/examples/{name}"
-            fault, count, ended = fault_of(word, read(f"{stem}.{word}"), read(f"{stem}.out"), refuser, f"{room}/refused")
+        for words, given, written in EXAMPLES:
+            text, wanted = read(f"{TOP}/examples/{given}"), read(f"{TOP}/examples/{written}")
+            fault, count, ended = fault_of(words, text, wanted, refuser, f"{room}/refused")
             passed, failed = passed + (fault is None), failed + (fault is not None)
-            print(f"{name}: {fault or f'ok, each of {count} allocations refused in turn, {ended} times with status 3'}", flush=True)
+            print(f"{words} on {given}: {fault or f'ok, each of {count} allocations refused in turn, {ended} times with status 3'}", flush=True)
         for crate in CRATES:
             fault, tests, count = fault_of_crate(crate, refuser, f"{room}/refused")
             passed, failed = passed + (fault is None), failed + (fault is not None)

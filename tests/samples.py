@@ -7,6 +7,10 @@
    the requests so.
 3. Each text of code in the first column of docs/FORMATS.md's table of bad lines, where the row says no more about it: the
    program must refuse it in line 1, as a line and between two good ones.
+4. Each transcript in a block of docs/FORMATS.md: the program must report on it as one of the later blocks that begin with `run` says, in
+   their order. The play there must be reported as the block after it says, and its transcript be the first.
+5. Each text of code in the first columns of docs/FORMATS.md's tables of lines that are no steps: right after the header that the table
+   names, the program must find no run, at line 2.
 
 The last line is `N passed, M failed`: a count for the built program, and for each file and help.
 """
@@ -17,7 +21,7 @@ import subprocess
 import sys
 
 TOP = os.path.dirname(os.path.dirname(os.path.realpath(__file__)))
-HELPS = [["--help"], ["apply", "--help"], ["play", "--help"]]
+HELPS = [["--help"], ["apply", "--help"], ["play", "--help"], ["check", "--help"]]
 
 
 def text_of(path):
@@ -25,8 +29,8 @@ def text_of(path):
         return file.read()
 
 
-def program_on(text):
-    run = subprocess.run([f"{TOP}/dsr", "apply"], input=text, capture_output=True, text=True, timeout=60)
+def program_on(text, words=("apply",)):
+    run = subprocess.run([f"{TOP}/dsr", *words], input=text, capture_output=True, text=True, timeout=60)
     return run.returncode, run.stdout, run.stderr
 
 
@@ -87,6 +91,38 @@ def faults_of_bad_lines(text):
     return faults, len(lines)
 
 
+def blocks_that_begin(text, begin):
+    """The blocks of the text whose first line begins so."""
+    return re.findall(rf"^```\n({begin}.*?)^```", text, re.M | re.S)
+
+
+def faults_of_transcripts(text):
+    transcripts, reports = blocks_that_begin(text, "dsr-transcript "), blocks_that_begin(text, "run ")
+    plays, outcomes = blocks_that_begin(text, "dsr-play "), blocks_that_begin(text, "done ")
+    wanted = [("check", transcripts, reports), ("play", plays, outcomes), ("play --transcript", plays, transcripts[:len(plays)])]
+    faults = []
+    for words, inputs, outputs in wanted:
+        if len(inputs) != len(outputs):
+            faults.append(f"there are {len(inputs)} texts for {words}, and {len(outputs)} outputs")
+        for given, written in zip(inputs, outputs):
+            run = program_on(given, words.split())
+            if run != (0, written, ""):
+                faults.append(f"{words} on {given!r}: {run}, and not {written!r}")
+    return faults, sum(len(inputs) for _, inputs, _ in wanted)
+
+
+def faults_of_steps(text):
+    faults, count = [], 0
+    for header, table in re.findall(r"^\| Line, right after `(dsr-transcript [^`]*)` \|[^\n]*\n(.*?)^$", text, re.M | re.S):
+        for row in re.findall(r"^\| (`[^`]*`(?:, `[^`]*`)*) \| [^|]* \|$", table, re.M):
+            for line in re.findall(r"`([^`]*)`", row):
+                count += 1
+                run = program_on(f"{header}\n{line}\n", ["check"])
+                if run != (1, "", "dsr: not a run at line 2\n"):
+                    faults.append(f"{line!r}: {run}")
+    return faults, count
+
+
 def say(name, *parts):
     """Prints what was found in one file, and returns whether all of it is right and there is some."""
     faults = [fault for part, _ in parts for fault in part]
@@ -105,7 +141,7 @@ def main():
         built,
         say("README.md", faults_of_commands(text_of("README.md"))),
         say("examples/record/README.md", faults_of_commands(text_of("examples/record/README.md"))),
-        say("docs/FORMATS.md", faults_of_answers(formats), faults_of_bad_lines(formats)),
+        say("docs/FORMATS.md", faults_of_answers(formats), faults_of_bad_lines(formats), faults_of_transcripts(formats), faults_of_steps(formats)),
     ]
     for words in HELPS:
         shown = subprocess.run([f"{TOP}/dsr", *words], capture_output=True, text=True, timeout=60).stdout
