@@ -168,7 +168,7 @@ def without(edits, lacking, repository, report):
 def try_all(room, repository, edits, report):
     """Tries these edits side by side, and reports them."""
     crates = {edit.crate for edit in edits}
-    needed = {name for crate in crates for name in [*repository.below(crate), crate] if not room.is_program(name)}
+    needed = {name for crate in crates for name in [*repository.below(crate), crate] if room.is_library(name, repository.rows[name][0])}
     lacking = room.take_libraries([name for name in repository.rows if name in needed], report.asked.begun)
     edits = without(edits, lacking, repository, report)
     processors = libraries.processors()

@@ -45,8 +45,9 @@ class Room:
             if os.path.exists(f"{TOP}/{name}"):
                 shutil.copy2(f"{TOP}/{name}", self.top)
 
-    def is_program(self, crate):
-        return os.path.exists(f"{self.top}/crates/{crate}/src/main.rt")
+    def is_library(self, crate, row):
+        """Whether crates can stand on this one, of this row in crates.txt: on a program or a static library none can."""
+        return "staticlib" not in row.partition(":")[0].split() and not os.path.exists(f"{self.top}/crates/{crate}/src/main.rt")
 
     def stamps_of_rt_ci(self, crates, begun):
         """The stamps for the libraries that `rt ci` left, if it began at that time and proved all of them over these sources, else None.
