@@ -282,6 +282,20 @@ def has_kept_work(top, name):
         return any(crate.has_kept() for crate in crates_of(toolchain(), top)[name].below())
 
 
+def build_archive(top, name, to):
+    """Proves the static library of this name and compiles it to this file, over the libraries below it as rt left them in out/, which must be
+    there. Gives what the toolchain said where that fails, else None."""
+    with other_toolchain():
+        module = toolchain()
+        crate = crates_of(module, top)[name]
+        with alone_with(module, [*crate.below(), crate]):
+            def make(crate, jobs):
+                words = [*crate.words(["--jobs", str(jobs)], keeps=False), "--toolchain", f"{module.KIT}/toolchain", "--backend", "llvm"]
+                return crate.call(module.RATTLE, "build", *words, "-o", to)
+            status, said = made(make, crate, processors())
+            return said if status else None
+
+
 def build_program(top, name, progress):
     """Proves the program of this name and all libraries below it, as far as they are not, and leaves the program in its crate's out/."""
     with other_toolchain():

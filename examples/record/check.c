@@ -6,7 +6,7 @@
  *
  * The second library is the toolchain's: it is what the first one asks for memory, and calls malloc, realloc and free.
  *
- * It prints what was found, and ends with its number: 0 for a run.
+ * It prints what was found, and ends with its number: 0 for a run, and 17 where standard input could not be read into memory.
  */
 #include <inttypes.h>
 #include <stdio.h>
@@ -50,20 +50,19 @@ int main(void)
     free(text);
     switch (report.status) {
     case DSR_RUN:
-        printf("a run of %" PRIu64 " entries: %" PRIu64 " requests in its history, %" PRIu64 " accepted replies\n",
-               report.entries, report.history, report.accepted);
+        printf("entries %" PRIu64 "\nhistory %" PRIu64 "\naccepted %" PRIu64 "\n", report.entries, report.history, report.accepted);
         break;
     case DSR_BAD_SHAPE:
         puts("the shape is not allowed");
         break;
     case DSR_BAD_TEXT:
-        printf("line %" PRIu64 " is none of a transcript\n", report.line);
+        printf("bad text in line %" PRIu64 "\n", report.line);
         break;
     case DSR_NOT_A_RUN:
-        printf("the step in line %" PRIu64 " may not be next\n", report.line);
+        printf("not a run at line %" PRIu64 "\n", report.line);
         break;
     default:
-        puts("memory ran out");
+        puts("no memory");
     }
     return (int)report.status;
 }
