@@ -1,5 +1,5 @@
 -- What a step that may be next meets in an audit, and how the audit goes on standing for the run with it.
-use Rattle.std.proofs.Common.{◌≡◌, ◌↔◌, ℕ, ◌<◌, Bool, true, false, List, [], ◌∷◌, ◌++◌, Option, None, Some, length, length-append, append-nil, ◌⊎◌, inl, inr, refl, ap, sym, ◌∙◌, subst, arith}
+use Rattle.std.proofs.Common.{zero, suc, ◌≡◌, ◌↔◌, ℕ, ◌<◌, Bool, true, false, List, [], ◌∷◌, ◌++◌, Option, None, Some, length, length-append, append-nil, ◌⊎◌, inl, inr, refl, ap, sym, ◌∙◌, subst, arith}
 use Rattle.std.specs.Bool.{OnFalse, OnTrue}
 use Rattle.std.specs.Prelude.{Any, IfNone, OnSome, slice_set, slice_index_or}
 use Rattle.std.proofs.lemmas.Bool.{true≢false}
@@ -21,16 +21,19 @@ use Rattle.dsr_envelope.specs.declared.entry.Entry.TheVariants.{Post, Take}
 use Rattle.dsr_envelope.specs.Envelope.{Carries}
 use Rattle.dsr_envelope.specs.Limits.{IsEnvelope}
 use Rattle.dsr_envelope.specs.Log.{posted_to, taken_from}
+use Rattle.dsr_envelope.specs.declared.pick.Pick.TheVariants.{Plain}
+use Rattle.dsr_replica.specs.Conduct.{envelope_to}
 use Rattle.dsr_script.specs.Held.{IsUnforged}
 use Rattle.dsr_run.specs.Known.{KnowsAll}
 use Rattle.dsr_run.specs.OwnStep.{KeepsOwn}
-use Rattle.dsr_run.specs.Run.{IsMadeOrPosted, IsNextStep, IsRun, IsTraitor, KeepsConduct}
+use Rattle.dsr_run.specs.Run.{HasPosted, IsMadeOrPosted, IsNextStep, IsRun, IsTraitor, KeepsConduct}
 use Rattle.dsr_run.specs.Step.{Step, Logs, log_of}
 use Rattle.dsr_run.proofs.Lemmas.{actors_within, all_made, step_made, known_posted, known_still, posted_entry, posted_within}
-use Rattle.dsr_check.specs.Support.Audit.{AreParts, ForgesNone, Holds, IsBoxOf, IsOpen, held_in}
+use Rattle.dsr_check.specs.Support.Audit.{AreFirsts, AreParts, ForgesNone, Holds, IsBoxOf, IsFirstOf, IsOpen, held_in}
 use Rattle.dsr_check.specs.Support.Party.{CanGet, Plays}
 use Rattle.dsr_check.specs.declared.held.Held.{Held}
 use Rattle.dsr_check.specs.declared.party.Party.{Party}
+use Rattle.dsr_check.proofs.Repeating.{firsts_posted, firsts_taken, posts_again}
 use Rattle.dsr_check.proofs.Stepping.{played_step, boxes_posted, boxes_taken}
 
 -- ---- boxes
@@ -130,7 +133,7 @@ where_some (Some y) x A e h = h
 -- ---- an audit
 
 module _ (shape : Shape) (run : List Step) (parties : List Party) (rows : List (List (MailBox Held))) (notary keys : List Actor) (known : List Signature)
-    (are : AreParts shape run parties rows notary keys known) where
+    (firsts : List (Option Held)) (are : AreParts shape run parties rows notary keys known firsts) where
   -- the place of an actor is one of the parties', and of the rows' and boxes'
   pub party_at : (a : Actor) → IsActor shape a → place_of shape a < length parties
   party_at a inside = let below = place_below shape a inside in let count = are.played.count in omega (arith, below, count)
@@ -216,19 +219,21 @@ module _ (shape : Shape) (run : List Step) (parties : List Party) (rows : List (
   knows_traitor from to x bad p traitor = known_still shape run known (from, Post to x) (are.knows p traitor) (λ t y e loyal. bad loyal)
 
   -- after a post
-  pub parts_posted : (from to : Actor) (h : Held) (party : Party) (new : List Signature) → IsActor shape from → IsActor shape to
+  pub parts_posted : (from to : Actor) (h : Held) (party : Party) (new : List Signature) (last : List (Option Held)) → IsActor shape from → IsActor shape to
       → IsOpen (box_at rows (place_of shape from) (place_of shape to)) → h.draft.now ≡ h.envelope → IsEnvelope h.envelope
       → ForgesNone shape (log_of run) from h.envelope → KeepsOwn shape from (log_of run from) (Post to h.envelope)
       → Plays shape from (Post to h.envelope ∷ log_of run from) party → KnowsAll shape (log_of ((from, Post to h.envelope) ∷ run)) new
+      → AreFirsts shape (log_of ((from, Post to h.envelope) ∷ run)) last
       → AreParts shape ((from, Post to h.envelope) ∷ run) (slice_set parties (place_of shape from) party)
-      (with_box rows (place_of shape from) (place_of shape to) (with_item (box_at rows (place_of shape from) (place_of shape to)) h)) notary keys new
-  parts_posted from to h party new actor other opened recorded fits forges keeps plays knows = record {
+      (with_box rows (place_of shape from) (place_of shape to) (with_item (box_at rows (place_of shape from) (place_of shape to)) h)) notary keys new last
+  parts_posted from to h party new last actor other opened recorded fits forges keeps plays knows kept = record {
     is_run = (are.is_run, next);
     played = played_step shape run parties (from, Post to h.envelope) party are.played actor plays;
     boxes = boxes_posted shape run rows from to h are.boxes actor other recorded opened.0;
     signs = are.signs;
     held = are.held;
     knows = knows;
+    kept = kept;
   }
     where
       is : IsBoxOf (box_at rows (place_of shape from) (place_of shape to)) (posted_to to (log_of run from)) (taken_from from (log_of run to))
@@ -259,7 +264,7 @@ module _ (shape : Shape) (run : List Step) (parties : List Party) (rows : List (
       → (box_at rows (place_of shape from) (place_of shape at)).item ≡ Some h → KeepsOwn shape at (log_of run at) (Take from h.envelope)
       → Plays shape at (Take from h.envelope ∷ log_of run at) party
       → AreParts shape ((at, Take from h.envelope) ∷ run) (slice_set parties (place_of shape at) party)
-      (with_box rows (place_of shape from) (place_of shape at) (without_item (box_at rows (place_of shape from) (place_of shape at)))) notary keys known
+      (with_box rows (place_of shape from) (place_of shape at) (without_item (box_at rows (place_of shape from) (place_of shape at)))) notary keys known firsts
   parts_taken at from h party actor other full keeps plays = record {
     is_run = (are.is_run, next);
     played = played_step shape run parties (at, Take from h.envelope) party are.played actor plays;
@@ -267,6 +272,7 @@ module _ (shape : Shape) (run : List Step) (parties : List Party) (rows : List (
     signs = are.signs;
     held = are.held;
     knows = λ p traitor. known_still shape run known (at, Take from h.envelope) (are.knows p traitor) (λ t y e loyal. no_post from h.envelope t y e);
+    kept = firsts_taken shape run firsts are.kept at from h.envelope;
   }
     where
       next : IsNextStep shape (log_of run) (at, Take from h.envelope)
@@ -318,15 +324,15 @@ module _ (shape : Shape) (run : List Step) (parties : List Party) (rows : List (
       → l ≡ place_of shape at → IsActor shape at → IsActor shape from → (box_at rows k l).item ≡ Some h
       → later ≡ with_box rows k l (without_item (box_at rows k l)) → h.envelope ≡ x
       → KeepsOwn shape at (log_of run at) (Take from h.envelope) × Plays shape at (Take from h.envelope ∷ log_of run at) party
-      → AreParts shape ((at, Take from x) ∷ run) (slice_set parties l party) later notary keys known
+      → AreParts shape ((at, Take from x) ∷ run) (slice_set parties l party) later notary keys known firsts
   parts_taken_at at from h x party k l later from_at at_at actor other full rows_are same took =
       let taken = parts_taken at from h party actor other (held_at from at k l h from_at at_at full) took.0 took.1 in
-      subst (λ e. AreParts shape ((at, Take from e) ∷ run) (slice_set parties l party) later notary keys known) same
-      (subst (λ r. AreParts shape ((at, Take from h.envelope) ∷ run) (slice_set parties l party) r notary keys known) (sym rows_are)
-      (subst (λ j. AreParts shape ((at, Take from h.envelope) ∷ run) (slice_set parties j party) (with_box rows k j (without_item (box_at rows k j))) notary keys known)
+      subst (λ e. AreParts shape ((at, Take from e) ∷ run) (slice_set parties l party) later notary keys known firsts) same
+      (subst (λ r. AreParts shape ((at, Take from h.envelope) ∷ run) (slice_set parties l party) r notary keys known firsts) (sym rows_are)
+      (subst (λ j. AreParts shape ((at, Take from h.envelope) ∷ run) (slice_set parties j party) (with_box rows k j (without_item (box_at rows k j))) notary keys known firsts)
       (sym at_at)
       (subst (λ i. AreParts shape ((at, Take from h.envelope) ∷ run) (slice_set parties (place_of shape at) party)
-      (with_box rows i (place_of shape at) (without_item (box_at rows i (place_of shape at)))) notary keys known) (sym from_at) taken)))
+      (with_box rows i (place_of shape at) (without_item (box_at rows i (place_of shape at)))) notary keys known firsts) (sym from_at) taken)))
 
   -- what is known after a post
   pub knows_after : (from to : Actor) (x : Envelope) (new : List Signature) → IsActor shape from
@@ -340,17 +346,56 @@ module _ (shape : Shape) (run : List Step) (parties : List Party) (rows : List (
   ]
 
   -- after a post
-  pub parts_posted_at : (from to : Actor) (h : Held) (party : Party) (new : List Signature) (k l : ℕ) (later : List (List (MailBox Held)))
+  pub parts_posted_at : (from to : Actor) (h : Held) (party : Party) (new : List Signature) (last : List (Option Held)) (k l : ℕ) (later : List (List (MailBox Held)))
       → k ≡ place_of shape from → l ≡ place_of shape to → IsActor shape from → IsActor shape to
       → IsOpen (box_at rows (place_of shape from) (place_of shape to)) → h.draft.now ≡ h.envelope → IsEnvelope h.envelope
       → ForgesNone shape (log_of run) from h.envelope → later ≡ with_box rows k l (with_item (box_at rows k l) h)
       → KeepsOwn shape from (log_of run from) (Post to h.envelope) × Plays shape from (Post to h.envelope ∷ log_of run from) party
-      → KnowsAll shape (log_of ((from, Post to h.envelope) ∷ run)) new
-      → AreParts shape ((from, Post to h.envelope) ∷ run) (slice_set parties k party) later notary keys new
-  parts_posted_at from to h party new k l later from_at to_at actor other opened recorded fits forges rows_are posted knows =
-      let parts = parts_posted from to h party new actor other opened recorded fits forges posted.0 posted.1 knows in
-      subst (λ r. AreParts shape ((from, Post to h.envelope) ∷ run) (slice_set parties k party) r notary keys new) (sym rows_are)
-      (subst (λ i. AreParts shape ((from, Post to h.envelope) ∷ run) (slice_set parties i party) (with_box rows i l (with_item (box_at rows i l) h)) notary keys new)
+      → KnowsAll shape (log_of ((from, Post to h.envelope) ∷ run)) new → AreFirsts shape (log_of ((from, Post to h.envelope) ∷ run)) last
+      → AreParts shape ((from, Post to h.envelope) ∷ run) (slice_set parties k party) later notary keys new last
+  parts_posted_at from to h party new last k l later from_at to_at actor other opened recorded fits forges rows_are posted knows kept =
+      let parts = parts_posted from to h party new last actor other opened recorded fits forges posted.0 posted.1 knows kept in
+      subst (λ r. AreParts shape ((from, Post to h.envelope) ∷ run) (slice_set parties k party) r notary keys new last) (sym rows_are)
+      (subst (λ i. AreParts shape ((from, Post to h.envelope) ∷ run) (slice_set parties i party) (with_box rows i l (with_item (box_at rows i l) h)) notary keys new last)
       (sym from_at)
       (subst (λ j. AreParts shape ((from, Post to h.envelope) ∷ run) (slice_set parties (place_of shape from) party)
-      (with_box rows (place_of shape from) j (with_item (box_at rows (place_of shape from) j) h)) notary keys new) (sym to_at) parts))
+      (with_box rows (place_of shape from) j (with_item (box_at rows (place_of shape from) j) h)) notary keys new last) (sym to_at) parts))
+
+  -- what a loyal actor posts again makes nothing known
+  pub knows_again : (from to : Actor) (x : Envelope) → IsLoyal shape from → ((s : Signature) → Carries x s → HasPosted (log_of run from) s)
+      → KnowsAll shape (log_of ((from, Post to x) ∷ run)) known
+  knows_again from to x loyal before p traitor =
+      known_posted shape run known known from to x (are.knows p traitor) loyal
+      (λ s. (inl, λ h. elim h [ inl old ↦ old | inr carried ↦ (are.knows p traitor).all s from loyal (before s carried) ]))
+
+  -- what is kept of an actor is in its log
+  first_in_log : (from : Actor) (first : Held) → IsActor shape from → slice_index_or firsts (place_of shape from) None ≡ Some first
+      → In (Post (Replica 0) first.envelope) (log_of run from)
+  first_in_log from first actor kept =
+      let last = are.kept.last from actor first kept in
+      posted_entry (Replica 0) (log_of run from) first.envelope
+      (subst (In first.envelope) (sym last.1.1) (In-append_right first.envelope last.1.0 (first.envelope ∷ []) (here refl)))
+
+  -- after a loyal replica's post of what it posted to replica 0
+  pub parts_again : (p q : ℕ) (h first : Held) (party : Party) (later : List (List (MailBox Held))) → is_traitor shape p ≡ false → p < shape.n → q < shape.n
+      → 0 < q → IsOpen (box_at rows p q) → slice_index_or firsts p None ≡ Some first → h.draft.now ≡ h.envelope → h.envelope ≡ first.envelope
+      → later ≡ with_box rows p q (with_item (box_at rows p q) h)
+      → (((y : Envelope) → envelope_to shape (Replica p) (log_of run (Replica p)) q Plain ≡ Some y → h.envelope ≡ y)
+      → KeepsOwn shape (Replica p) (log_of run (Replica p)) (Post (Replica q) h.envelope)
+      × Plays shape (Replica p) (Post (Replica q) h.envelope ∷ log_of run (Replica p)) party)
+      → AreParts shape ((Replica p, Post (Replica q) h.envelope) ∷ run) (slice_set parties p party) later notary keys known firsts
+  parts_again p q h first party later honest inside other after opened kept recorded same rows_are posts =
+      let last = are.kept.last (Replica p) inside first kept in
+      let stands = first_in_log (Replica p) first inside kept in
+      let fits = subst IsEnvelope (sym same) (posted_within shape run are.is_run (Replica p) (Replica 0) first.envelope stands) in
+      let loyal : IsLoyal shape (Replica p) = (inside, honest) in
+      let posted = posts (λ y given. same ∙ posts_again shape run are.is_run p q loyal after last.1.0 first.envelope y last.1.1 given) in
+      let knows = knows_again (Replica p) (Replica q) h.envelope loyal
+      (λ s carried. record { to = Replica 0; envelope = first.envelope; posted = stands; carried = subst (λ x. Carries x s) same carried }) in
+      let left = firsts_posted shape run firsts are.kept (Replica p) (Replica q) h None recorded inside (no_first q h after) in
+      parts_posted_at (Replica p) (Replica q) h party known firsts p q later refl refl inside other opened recorded fits
+      (loyal_forges_none shape (log_of run) (Replica p) h.envelope loyal) rows_are posted knows left
+    where
+      no_first : (q : ℕ) (h : Held) → 0 < q → IsFirstOf (Replica q) h None
+      no_first zero h after = absurd (omega (arith, after))
+      no_first (suc q) h after = refl

@@ -7,6 +7,7 @@ mod Legality
 mod Opening
 mod Playing
 mod RegisterCounts
+mod Repeating
 mod Showing
 mod Stepping
 mod TableLemmas

@@ -20,6 +20,7 @@ use Rattle.dsr_check.specs.Support.Audit.{held_in, AreParts, AreCast, HasAllKeys
 use Rattle.dsr_base.specs.declared.boxes.MailBox.{MailBox}
 use Rattle.dsr_check.specs.declared.party.Party.{Party}
 use Rattle.dsr_check.specs.declared.held.Held.{Held}
+use Rattle.dsr_check.proofs.Repeating.{no_firsts}
 use Rattle.dsr_names.proofs.PlaceLemmas.{same_place, place_below}
 
 -- ---- parties
@@ -115,9 +116,10 @@ more_keys shape k keys (Some key) are is when a = (
 -- ---- the audit
 
 pub opened : (shape : Shape) (parties : List Party) (rows : List (List (MailBox Held))) (notary keys : List Actor) (known : List Signature)
-    → AreCast shape (shape.n + shape.m) parties → HasAllKeys shape notary → AreKeysBelow shape shape.n keys → AreSquare (shape.n + shape.m) rows
-    → ((from to : ℕ) → box_at rows from to ≡ empty_box) → known ≡ [] → AreParts shape [] parties rows notary keys known
-opened shape parties rows notary keys known are signs held square empty none = record {
+    (firsts : List (Option Held)) → AreCast shape (shape.n + shape.m) parties → HasAllKeys shape notary → AreKeysBelow shape shape.n keys → AreSquare (shape.n + shape.m) rows
+    → ((from to : ℕ) → box_at rows from to ≡ empty_box) → known ≡ [] → length firsts ≡ shape.n + shape.m
+    → ((place : ℕ) → slice_index_or firsts place None ≡ None) → AreParts shape [] parties rows notary keys known firsts
+opened shape parties rows notary keys known firsts are signs held square empty none count kept_none = record {
   is_run = tt;
   played = record { count = are.count; each = λ who inside d. are.each who inside (place_below shape who inside) d };
   boxes = record {
@@ -133,6 +135,7 @@ opened shape parties rows notary keys known are signs held square empty none = r
   signs = signs;
   held = traitors;
   knows = λ p traitor. record { from = λ s h. elim (subst (In s) none h) [ ]; all = λ s a loyal h. elim h.posted [ ] };
+  kept = no_firsts shape firsts count kept_none;
 }
   where
     traitors : (a : Actor) → Any (λ holder. holder ≡ a) keys ↔ IsTraitor shape a

@@ -1,8 +1,11 @@
 ghost use Rattle.std.specs.Bool.{OnFalse, OnTrue};
-ghost use Rattle.std.specs.Prelude.{◌≡◌, ◌⊎◌, ◌↔◌, ◌∷◌, ℕ, [], List, Any, IfOk, IfSome, IfNone, OnOk, OnSome, IsTrue, IsOkUnless, length, reverse};
+ghost use Rattle.std.specs.Prelude.{◌≡◌, ◌<◌, None, Some, slice_index_or, ◌⊎◌, ◌↔◌, ◌∷◌, ℕ, [], List, Any, IfOk, IfSome, IfNone, OnOk, OnSome, IsTrue, IsOkUnless, length, reverse};
 ghost use Rattle.dsr_base.specs.Member.{In};
 ghost use Rattle.dsr_names.specs.Shape.{IsActor, IsLoyal};
+ghost use Rattle.dsr_base.specs.Boxes.{box_at};
+ghost use Rattle.dsr_check.specs.declared.held.Held.{Held as AHeld};
 ghost use Rattle.dsr_names.specs.declared.actor.Actor.{Actor};
+ghost use Rattle.dsr_names.specs.declared.actor.Actor.TheVariants.{Replica as ReplicaNumber};
 ghost use Rattle.dsr_desk.specs.Signature.{Signature};
 ghost use Rattle.dsr_envelope.specs.Envelope.{Carries};
 ghost use Rattle.dsr_envelope.specs.Limits.{IsEnvelope};
@@ -11,7 +14,7 @@ ghost use Rattle.dsr_script.specs.Held.{IsUnforged};
 ghost use Rattle.dsr_run.specs.OwnStep.{KeepsOwn};
 ghost use Rattle.dsr_run.specs.Run.{IsNextStep};
 ghost use Rattle.dsr_run.specs.Step.{Step, log_of};
-ghost use Rattle.dsr_check.specs.Support.Audit.{ForgesNone, Holds, IsOpen, Stands, StandsFor, box_of};
+ghost use Rattle.dsr_check.specs.Support.Audit.{ForgesNone, Holds, IsFirstOf, IsOpen, with_first, Stands, StandsFor, box_of};
 
 use crate::casting::{all_keys, all_parties};
 use crate::held::Held;
@@ -19,7 +22,7 @@ use crate::party::Party;
 use dsr_base::Boxes;
 use dsr_desk::Key;
 use dsr_envelope::Envelope;
-use dsr_names::{Actor, NUMBER_END, Refusal, Shape};
+use dsr_names::{Actor, NUMBER_END, Refusal, ReplicaId, Shape};
 use dsr_record::{NotedEntry, NotedStep};
 use dsr_script::{Draft, Known, build};
 use std::alloc::Global;
@@ -39,6 +42,8 @@ pub(crate) struct Audit<'a> {
     pub(crate) keys: Vec<Key>,
     /// What traitors know of the signatures of loyal actors.
     pub(crate) known: Known,
+    /// What each actor last posted to replica 0, at its place: a loyal replica posts it to the others of the round too.
+    pub(crate) firsts: Vec<Option<Held<'a>>>,
 }
 
 impl<'a> Audit<'a> {
@@ -50,7 +55,9 @@ impl<'a> Audit<'a> {
     {
         let made = all_parties(alloc, &shape)?;
         let notary = all_keys(alloc, &shape)?;
-        let boxes = Boxes::new(alloc, shape.n() as usize + shape.m() as usize)?;
+        let count = shape.n() as usize + shape.m() as usize;
+        let boxes = Boxes::new(alloc, count)?;
+        let firsts = no_firsts(alloc, count)?;
         Ok(Audit {
             shape,
             parties: made.parties,
@@ -58,6 +65,7 @@ impl<'a> Audit<'a> {
             notary,
             keys: made.traitors,
             known: Known::new(alloc),
+            firsts,
         })
     }
 
@@ -97,6 +105,10 @@ impl<'a> Audit<'a> {
         if !self.shape.has(*from) || !self.shape.has(*to) || !self.is_open(from, to) {
             return Ok(false);
         }
+        let again = self.post_again(alloc, from, to, draft)?;
+        if again {
+            return Ok(true);
+        }
         let Some(envelope) = self.unforged(alloc, from, draft)? else {
             return Ok(false);
         };
@@ -122,6 +134,65 @@ impl<'a> Audit<'a> {
         let held = self.boxes.take(poster, taker);
         let next = self.parties[taker].take(at, from, held.envelope)?;
         Ok(next)
+    }
+
+    /// Whether a loyal replica may post next to another than replica 0 what it last posted to replica 0, recorded like this. If so, that is
+    /// followed, else nothing changed.
+    fn post_again(
+        &mut self,
+        alloc: Global,
+        from: &Actor,
+        to: &Actor,
+        draft: &'a Draft,
+    ) -> Result<bool, Refusal>
+        requires stands { Stands self.old }
+        requires from { IsActor self.old.shape from.now }
+        requires to { IsActor self.old.shape to.now }
+        requires open { IsOpen (box_of self.old from.now to.now) }
+        ensures next { (run : List Step) → StandsFor self.old run
+            → IfOk result (λ again. OnTrue again (StandsFor self.new ((from.now, Post to.now draft.now) ∷ run))) }
+        ensures shape { self.new.shape ≡ self.old.shape }
+        ensures stays { IfOk result (λ again. OnFalse again (self.new ≡ self.old)) }
+        ensures refusal { IsOkUnless result Refusal.NoMemory }
+    {
+        match (from, to) {
+            (Actor::Replica(poster), Actor::Replica(taker)) if taker.number() > 0 => {
+                let again = self.repeat(alloc, *poster, *taker, draft)?;
+                Ok(again)
+            }
+            _ => Ok(false),
+        }
+    }
+
+    /// The same, from this replica to this one.
+    fn repeat(
+        &mut self,
+        alloc: Global,
+        from: ReplicaId,
+        to: ReplicaId,
+        draft: &'a Draft,
+    ) -> Result<bool, Refusal>
+        requires stands { Stands self.old }
+        requires from { from < self.old.shape.n }
+        requires to { to < self.old.shape.n }
+        requires later { 0 < to }
+        requires open { IsOpen (box_at self.old.boxes from to) }
+        ensures next { (run : List Step) → StandsFor self.old run
+            → IfOk result (λ again. OnTrue again (StandsFor self.new ((ReplicaNumber from, Post (ReplicaNumber to) draft.now) ∷ run))) }
+        ensures shape { self.new.shape ≡ self.old.shape }
+        ensures stays { IfOk result (λ again. OnFalse again (self.new ≡ self.old)) }
+        ensures refusal { IsOkUnless result Refusal.NoMemory }
+    {
+        let (poster, taker) = (from.number() as usize, to.number() as usize);
+        let Some(envelope) = copy_of(alloc, &self.firsts[poster], draft)? else {
+            return Ok(false);
+        };
+        if !self.parties[poster].can_repeat(to) {
+            return Ok(false);
+        }
+        self.parties[poster].repeat(to);
+        self.boxes.put(poster, taker, Held { envelope, draft });
+        Ok(true)
     }
 
     /// Whether the box from one actor to another can get one envelope more.
@@ -209,6 +280,8 @@ impl<'a> Audit<'a> {
             from,
             &held.envelope,
         )?;
+        let first = first_of(alloc, to, &held)?;
+        keep_first(&mut self.firsts, poster, first);
         self.boxes.put(poster, taker, held);
         Ok(true)
     }
@@ -253,4 +326,62 @@ fn learn(
         return Ok(());
     }
     known.learn(envelope)
+}
+
+/// For so many actors, that nothing is kept. `NoMemory` where memory runs out.
+fn no_firsts<'a>(alloc: Global, count: usize) -> Result<Vec<Option<Held<'a>>>, Refusal>
+    ensures count { IfOk result (λ firsts. length firsts.items ≡ count) }
+    ensures none { IfOk result (λ firsts. (place : ℕ) → slice_index_or firsts.items place None ≡ None) }
+    ensures refusal { IsOkUnless result Refusal.NoMemory }
+{
+    let mut firsts = Vec::with_capacity(alloc, count)?;
+    for _ in 0..count {
+        firsts.push(None)?;
+    }
+    Ok(firsts)
+}
+
+/// The envelope that is kept, once more, where it was recorded like this. `NoMemory` where memory runs out or one handle more is refused.
+fn copy_of(alloc: Global, first: &Option<Held>, draft: &Draft) -> Result<Option<Envelope>, Refusal>
+    ensures copy { IfOk result (λ copy. IfSome copy (λ envelope. (held : AHeld) × (first.now ≡ Some held) × (held.draft.now ≡ draft.now) × (envelope ≡ held.envelope))) }
+    ensures refusal { IsOkUnless result Refusal.NoMemory }
+{
+    match first {
+        Some(held) => {
+            if !held.draft.same(draft) {
+                return Ok(None);
+            }
+            let envelope = held.envelope.try_copy(alloc)?;
+            Ok(Some(envelope))
+        }
+        None => Ok(None),
+    }
+}
+
+/// What is kept of a post: the envelope once more, where it goes to replica 0. `NoMemory` where memory runs out or one handle more is
+/// refused.
+fn first_of<'a>(alloc: Global, to: &Actor, held: &Held<'a>) -> Result<Option<Held<'a>>, Refusal>
+    ensures first { IfOk result (λ first. IsFirstOf to.now held.now first) }
+    ensures refusal { IsOkUnless result Refusal.NoMemory }
+{
+    match to {
+        Actor::Replica(taker) if taker.number() == 0 => {
+            let envelope = held.envelope.try_copy(alloc)?;
+            Ok(Some(Held {
+                envelope,
+                draft: held.draft,
+            }))
+        }
+        _ => Ok(None),
+    }
+}
+
+/// Keeps what there is to keep of an actor's post at the actor's place.
+fn keep_first<'a>(firsts: &mut Vec<Option<Held<'a>>>, place: usize, first: Option<Held<'a>>)
+    requires { place < length firsts.old.items }
+    ensures { firsts.new.items ≡ with_first firsts.old.items place first.entry }
+{
+    if let Some(held) = first {
+        firsts[place] = Some(held);
+    }
 }

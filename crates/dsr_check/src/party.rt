@@ -1,5 +1,5 @@
 ghost use Rattle.std.specs.Bool.{OnFalse, OnTrue};
-ghost use Rattle.std.specs.Prelude.{Some, ◌≡◌, ◌∷◌, ◌<◌, ◌^◌, ℕ, List, IfOk, IsOkUnless};
+ghost use Rattle.std.specs.Prelude.{Some, ◌↔◌, IsTrue, ◌≡◌, ◌∷◌, ◌<◌, ◌^◌, ℕ, List, IfOk, IsOkUnless};
 ghost use Rattle.dsr_names.specs.Shape.{Shape, IsActor};
 ghost use Rattle.dsr_names.specs.declared.actor.Actor.TheVariants.{Replica as ReplicaNumber, Client as ClientNumber};
 ghost use Rattle.dsr_envelope.specs.Limits.{IsEnvelope};
@@ -7,15 +7,17 @@ ghost use Rattle.dsr_envelope.specs.Log.{due, rounds};
 ghost use Rattle.dsr_envelope.specs.declared.due.Due.TheVariants.{Take as TakeFrom};
 ghost use Rattle.dsr_envelope.specs.declared.entry.Entry.{Entry};
 ghost use Rattle.dsr_envelope.specs.declared.entry.Entry.TheVariants.{Post, Take};
-ghost use Rattle.dsr_replica.specs.Conduct.{IsNext, reply_to};
+ghost use Rattle.dsr_replica.specs.Conduct.{IsNext, envelope_to, reply_to};
+ghost use Rattle.dsr_envelope.specs.declared.envelope.Envelope.{Envelope as AnEnvelope};
+ghost use Rattle.dsr_envelope.specs.declared.pick.Pick.TheVariants.{Plain};
 ghost use Rattle.dsr_replica.specs.Replica.{StandsFor};
 ghost use Rattle.dsr_run.specs.OwnStep.{KeepsOwn};
 ghost use Rattle.dsr_run.specs.Run.{KeepsRounds};
-ghost use Rattle.dsr_check.specs.Support.Party.{CanGet, Plays, PlaysClient};
+ghost use Rattle.dsr_check.specs.Support.Party.{CanGet, CanRepeat, Plays, PlaysClient};
 
 use crate::customer::Customer;
 use crate::shown::{pick_of, shown_clients};
-use dsr_envelope::{Due, Envelope};
+use dsr_envelope::{Due, Envelope, Pick};
 use dsr_names::{Actor, ClientId, Refusal, ReplicaId};
 use dsr_replica::Replica;
 use std::alloc::Global;
@@ -53,6 +55,30 @@ impl Party {
             Party::Loyal(replica) => replica_posts(alloc, replica, me, to, envelope),
             Party::Traitor => Ok(true),
             Party::Client(customer) => Ok(customer.post(me, to, envelope)),
+        }
+    }
+
+    /// Whether the actor is a loyal replica that may post to this replica next, without choosing anything.
+    pub(crate) fn can_repeat(&self, to: ReplicaId) -> bool
+        ensures { IsTrue result ↔ CanRepeat self.now to }
+    {
+        match self {
+            Party::Loyal(replica) => replica.allows(to, Pick::Plain),
+            Party::Traitor | Party::Client(_) => false,
+        }
+    }
+
+    /// Posts to this replica, without choosing anything. Requires that it can.
+    pub(crate) fn repeat(&mut self, to: ReplicaId)
+        requires { CanRepeat self.old to }
+        ensures repeats { (shape : Shape) (p : ℕ) (log : List Entry) (envelope : AnEnvelope) → Plays shape (ReplicaNumber p) log self.old
+            → ((other : AnEnvelope) → envelope_to shape (ReplicaNumber p) log to Plain ≡ Some other → envelope ≡ other)
+            → KeepsOwn shape (ReplicaNumber p) log (Post (ReplicaNumber to) envelope)
+            × Plays shape (ReplicaNumber p) (Post (ReplicaNumber to) envelope ∷ log) self.new }
+    {
+        match self {
+            Party::Loyal(replica) => replica.posted(to, Pick::Plain),
+            Party::Traitor | Party::Client(_) => unreachable!(),
         }
     }
 

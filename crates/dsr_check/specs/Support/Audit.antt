@@ -1,5 +1,5 @@
 -- How an audit stands for the run that it has followed (this project).
-use Rattle.std.specs.Prelude.{◌≡◌, ◌↔◌, ℕ, suc, ◌+◌, ◌++◌, ◌∷◌, ◌<◌, ◌^◌, true, [], List, Option, None, Some, Any, length, slice_index_or}
+use Rattle.std.specs.Prelude.{◌≡◌, ◌↔◌, ℕ, zero, suc, ◌+◌, ◌++◌, ◌∷◌, ◌<◌, ◌^◌, true, [], List, Option, None, Some, Any, length, slice_index_or, slice_set}
 use Rattle.dsr_base.specs.Boxes.{AreSquare, box_at}
 use Rattle.dsr_base.specs.declared.boxes.MailBox.{MailBox}
 use Rattle.dsr_names.specs.Places.{place_of}
@@ -48,6 +48,23 @@ pub record AreBoxes (shape : Shape) (logs : Logs) (rows : List (List (MailBox He
   pub each : (from to : Actor) → IsActor shape from → IsActor shape to
       → IsBoxOf (box_at rows (place_of shape from) (place_of shape to)) (posted_to to (logs from)) (taken_from from (logs to))
 
+-- of each actor that has posted to replica 0, what is kept is the last of it, as it was recorded
+pub record AreFirsts (shape : Shape) (logs : Logs) (firsts : List (Option Held)) : Type 0 where
+  pub count : length firsts ≡ shape.n + shape.m
+  pub last : (who : Actor) → IsActor shape who → (held : Held) → slice_index_or firsts (place_of shape who) None ≡ Some held
+      → (held.draft.now ≡ held.envelope) × ((older : List Envelope) × (posted_to (Replica 0) (logs who) ≡ older ++ held.envelope ∷ []))
+
+-- what is kept after a post: the envelope, where it went to replica 0
+abbrev pub with_first : List (Option Held) → ℕ → Option Held → List (Option Held)
+with_first firsts place None = firsts
+with_first firsts place (Some held) = slice_set firsts place (Some held)
+
+-- what was kept of this post is it, where it went to replica 0
+abbrev pub IsFirstOf : Actor → Held → Option Held → Type 0
+IsFirstOf (Replica zero) held kept = (first : Held) × (kept ≡ Some first) × (first.draft.now ≡ held.draft.now) × (first.envelope ≡ held.envelope)
+IsFirstOf (Replica (suc q)) held kept = kept ≡ None
+IsFirstOf (Client c) held kept = kept ≡ None
+
 -- the box from one actor to another
 abbrev pub box_of : Audit → Actor → Actor → MailBox Held
 box_of a from to = box_at a.boxes (place_of a.shape from) (place_of a.shape to)
@@ -60,18 +77,20 @@ ForgesNone shape logs from envelope = IsTraitor shape from → (s : Signature) �
 abbrev pub HasAllKeys : Shape → List Actor → Type 0
 HasAllKeys shape keys = (a : Actor) → IsActor shape a → Any (λ holder. holder ≡ a) keys
 
--- the parts of an audit stand for a run: the parties, the boxes, the notary's keys, the traitors' keys, and what is known
-pub record AreParts (shape : Shape) (run : List Step) (parties : List Party) (rows : List (List (MailBox Held))) (notary keys : List Actor) (known : List Signature) : Type 0 where
+-- the parts of an audit stand for a run: the parties, the boxes, the notary's keys, the traitors' keys, what is known, and what is kept of
+-- posts to replica 0
+pub record AreParts (shape : Shape) (run : List Step) (parties : List Party) (rows : List (List (MailBox Held))) (notary keys : List Actor) (known : List Signature) (firsts : List (Option Held)) : Type 0 where
   pub is_run : IsRun shape run
   pub played : ArePlayed shape (log_of run) parties
   pub boxes : AreBoxes shape (log_of run) rows
   pub signs : HasAllKeys shape notary
   pub held : AreKeys shape keys
   pub knows : KnowsAll shape (log_of run) known
+  pub kept : AreFirsts shape (log_of run) firsts
 
 -- the audit has followed this run
 abbrev pub StandsFor : Audit → List Step → Type 0
-StandsFor a run = AreParts a.shape run a.parties.items a.boxes a.notary.items a.keys.items a.known.signatures
+StandsFor a run = AreParts a.shape run a.parties.items a.boxes a.notary.items a.keys.items a.known.signatures a.firsts.items
 
 -- the audit has followed some run
 abbrev pub Stands : Audit → Type 0

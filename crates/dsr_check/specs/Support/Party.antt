@@ -8,7 +8,7 @@ use Rattle.dsr_envelope.specs.declared.envelope.Envelope.{Envelope}
 use Rattle.dsr_envelope.specs.declared.pick.Pick.{Pick}
 use Rattle.dsr_envelope.specs.declared.pick.Pick.TheVariants.{Plain, From}
 use Rattle.dsr_envelope.specs.Limits.{IsEnvelope}
-use Rattle.dsr_replica.specs.Replica.{Replica, StandsFor}
+use Rattle.dsr_replica.specs.Replica.{Allows, Replica, StandsFor}
 use Rattle.dsr_client.specs.Client.{StandsFor as StandsForClient}
 use Rattle.dsr_client.specs.State.{accepted}
 use Rattle.dsr_check.specs.declared.customer.Customer.{Customer}
@@ -50,3 +50,9 @@ pub record CanGet (party : Party) (me from : Actor) (envelope : Envelope) : Type
   pub plays : Plays shape me log party
   pub other : IsActor shape from
   pub within : IsEnvelope envelope
+
+-- the party is a loyal replica that may post to this replica without choosing anything
+abbrev pub CanRepeat : Party → ℕ → Type 0
+CanRepeat (Loyal r) q = Allows r q Plain
+CanRepeat Traitor q = ⊥
+CanRepeat (Client x) q = ⊥

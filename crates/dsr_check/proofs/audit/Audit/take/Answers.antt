@@ -14,7 +14,7 @@ take-requires c =
     let run = c.requires.0 in
     let actor = c.has.ensures.0 c.if-not-has.false in
     let other = c.has-else-not-has.ensures.0 c.if-not-has-2.false in
-    can_get a.shape run a.parties.items a.boxes a.notary.items a.keys.items a.known.signatures c.requires.1 c.args.at.now c.args.from.now c.take-held.result
+    can_get a.shape run a.parties.items a.boxes a.notary.items a.keys.items a.known.signatures a.firsts.items c.requires.1 c.args.at.now c.args.from.now c.take-held.result
     c.index_mut.result.now c.place-poster.result c.place-taker.result c.place-poster.ensures c.place-taker.ensures actor other c.take-held.ensures.item
     c.index_mut.ensures.value
 
@@ -26,15 +26,15 @@ returns-clause-next c run are =
     let held = c.take-held.result in
     let actor = c.has.ensures.0 c.if-not-has.false in
     let other = c.has-else-not-has.ensures.0 c.if-not-has-2.false in
-    let plays = plays_at a.shape run a.parties.items a.boxes a.notary.items a.keys.items a.known.signatures are at c.index_mut.result.now c.place-taker.result
+    let plays = plays_at a.shape run a.parties.items a.boxes a.notary.items a.keys.items a.known.signatures a.firsts.items are at c.index_mut.result.now c.place-taker.result
     c.place-taker.ensures actor c.index_mut.ensures.value in
-    let same = same_held a.shape run a.parties.items a.boxes a.notary.items a.keys.items a.known.signatures are at from held c.args.draft.now
+    let same = same_held a.shape run a.parties.items a.boxes a.notary.items a.keys.items a.known.signatures a.firsts.items are at from held c.args.draft.now
     c.place-poster.result c.place-taker.result c.place-poster.ensures c.place-taker.ensures actor other c.take-held.ensures.item
     (c.holds.ensures.0 c.if-not-holds.false) in
     on_true c.in_ok-next.next
     (KeepsOwn a.shape at (log_of run at) (Take from held.envelope) × Plays a.shape at (Take from held.envelope ∷ log_of run at) c.take.new.self)
     (AreParts a.shape ((at, Take from c.args.draft.now) ∷ run) (slice_set a.parties.items c.place-taker.result c.take.new.self) c.take-held.new.self a.notary.items
-    a.keys.items a.known.signatures)
-    (λ took. parts_taken_at a.shape run a.parties.items a.boxes a.notary.items a.keys.items a.known.signatures are at from held c.args.draft.now c.take.new.self
+    a.keys.items a.known.signatures a.firsts.items)
+    (λ took. parts_taken_at a.shape run a.parties.items a.boxes a.notary.items a.keys.items a.known.signatures a.firsts.items are at from held c.args.draft.now c.take.new.self
     c.place-poster.result c.place-taker.result c.take-held.new.self c.place-poster.ensures c.place-taker.ensures actor other c.take-held.ensures.item
     c.take-held.ensures.rest same took) (c.in_ok-next.ensures.takes a.shape (log_of run at) plays other)
