@@ -1,0 +1,94 @@
+#!/usr/bin/env python3
+"""What `dsr check` does with transcripts of 16 MiB of the worst kinds: tests/large_transcripts.py, with no arguments. It runs the built
+program.
+
+Each kind repeats two lines, a post of an envelope and the take of it, until the text has as many bytes as a transcript may have. So
+how many steps it has is known by how it was made, and that nothing acts. Then the same with a last line that is no step, and with one byte
+more than may be read. The program has twice the memory that it needed when that was measured: so many MiB for each kind.
+
+The last line is `N passed, M failed`.
+"""
+
+import os
+import resource
+import subprocess
+import sys
+
+TOP = os.path.dirname(os.path.dirname(os.path.realpath(__file__)))
+PROGRAM = f"{TOP}/crates/dsr/out/dsr"
+# as ./dsr runs the program: with large pages of memory, where the system has them
+ENVIRONMENT = {"GLIBC_TUNABLES": "glibc.malloc.hugetlb=1", **os.environ}
+MOST_BYTES = 16_777_216
+MIB = 1 << 20
+TRAITOR = "dsr-transcript 2 3 1 1 r0"
+
+
+def sent(envelope):
+    """The traitor posts the envelope to itself, and takes it."""
+    return [f"r0 post r0 {envelope}", f"r0 take r0 {envelope}"]
+
+
+def chains(chain, count=32):
+    return "round 0 " + " ".join([chain] * count)
+
+
+# What each kind is, its first lines, the two that are repeated, and how many MiB it needed.
+ASKED = ["c0 post r0 ask c0#1:write:a:7~c0"]
+REQUESTS = ",".join(["c0#1:write:a:7~c0"] * 8)
+KINDS = [
+    ("the shortest lines", ["dsr-transcript 1 1 0 2 -"], ["c0 post c1 seen 0", "c1 take c0 seen 0"], 140),
+    ("one chain of one signature", [TRAITOR], sent("round 0 0/idle/r0"), 150),
+    ("32 chains of one signature", [TRAITOR], sent(chains("0/idle/r0")), 160),
+    ("32 chains of 16 signatures", [TRAITOR], sent(chains("0/idle/" + "+".join(["r0"] * 16))), 155),
+    ("32 chains of 8 requests", [TRAITOR, *ASKED], sent(chains(f"0/{REQUESTS}/r0")), 130),
+    ("statements that are spelled out", [TRAITOR], sent(chains("0/idle/" + "+".join(["r0(1/idle/-)"] * 16))), 1005),
+]
+
+
+def transcript(first, repeated, last=()):
+    """The text of these lines, the repeated ones as often as fits into the most bytes, and how many steps it has."""
+    size = sum(len(line) + 1 for line in [*first, *last])
+    times = (MOST_BYTES - size) // sum(len(line) + 1 for line in repeated)
+    lines = [*first, *repeated * times, *last]
+    return "".join(f"{line}\n" for line in lines).encode(), len(lines) - 1
+
+
+def outcome(text, mib):
+    """The status, the standard output and the standard error of the program, which has so much memory."""
+    def limited():
+        resource.setrlimit(resource.RLIMIT_AS, (mib * MIB, mib * MIB))
+
+    run = subprocess.run([PROGRAM, "check"], input=text, capture_output=True, timeout=120, env=ENVIRONMENT, preexec_fn=limited)
+    return run.returncode, run.stdout.decode(errors="replace"), run.stderr.decode(errors="replace")
+
+
+def cases():
+    """What each case is, its text, the memory it has, and what is to come of it."""
+    for what, first, repeated, needed in KINDS:
+        text, steps = transcript(first, repeated)
+        yield what, text, 2 * needed, (0, f"run {steps}\nhistory 0\n", "")
+        # the box is empty again after each take, so nothing can be taken once more
+        text, steps = transcript(first, repeated, repeated[1:])
+        yield f"{what}, and a last line that is no step", text, 2 * needed, (1, "", f"dsr: not a run at line {steps + 1}\n")
+    what, first, repeated, needed = KINDS[0]
+    text, _ = transcript(first, repeated)
+    longer = text + b"\n" * (MOST_BYTES + 1 - len(text))
+    yield "one byte more than can be read", longer, 2 * needed, (1, "", "dsr: reading failed\n")
+
+
+def main():
+    if subprocess.run([f"{TOP}/dsr", "--help"], stdin=subprocess.DEVNULL, stdout=subprocess.DEVNULL).returncode != 0:
+        print("the program cannot be built or run\n0 passed, 1 failed")
+        return 1
+    passed = failed = 0
+    for what, text, mib, wanted in cases():
+        found = outcome(text, mib)
+        passed, failed = passed + (found == wanted), failed + (found != wanted)
+        said = "ok" if found == wanted else f"FAILED: {found[0]}, {found[1][:200]!r} and {found[2][:200]!r}, not {wanted}"
+        print(f"{what}, {len(text)} bytes, within {mib} MiB: {said}", flush=True)
+    print(f"{passed} passed, {failed} failed")
+    return 1 if failed else 0
+
+
+if __name__ == "__main__":
+    sys.exit(main())
