@@ -115,7 +115,7 @@ def changes(text, is_row):
     elif is_row:
         yield from with_a_byte_changed(text, 1)
     else:
-        yield from with_a_byte_changed(text, 1, 4, len(text) % 4)
+        yield from with_a_byte_changed(text, 1, 2, len(text) % 2)
     if len(text) <= 2 * SHORT:
         yield from cut_at_each_byte(text)
 
