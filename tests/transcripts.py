@@ -4,8 +4,8 @@
 1. The texts of tests/transcript_rows.py: `dsr check` says of each what is written there.
 2. Each play of examples/: its transcript is the file beside it, or it is refused as without `--transcript`; and the report of the checker has
    the accepted replies and the history of the play's own report.
-3. Each of these transcripts with a small change: two neighbouring lines exchanged, a line left out, cut after each line, a byte changed; and some
-   cut at every byte. `dsr check` says what tests/slow_check.py does.
+3. Each of these transcripts, and that of the honest service, with a small change: two neighbouring lines exchanged, a line left out, cut
+   after each line, a byte changed; and some cut at every byte. `dsr check` says what tests/slow_check.py does.
 4. 200 random plays, traitors in them: their transcripts are those of tests/slow_play.py, and they and some changes of them are
    checked as before.
 5. examples/record/service.py prints the transcripts beside it, and the checker says of them what stands there.
@@ -106,7 +106,7 @@ def cut_at_each_byte(text):
 
 
 def changes(text, is_row):
-    """All that is tried on a transcript: of a short one much, of an attack's a part."""
+    """All that is tried on a transcript: of a short one much, of an attack's or a service's a part."""
     yield from exchanged(text)
     yield from without_a_line(text)
     yield from cut_after_a_line(text)
@@ -115,7 +115,7 @@ def changes(text, is_row):
     elif is_row:
         yield from with_a_byte_changed(text, 1)
     else:
-        yield from with_a_byte_changed(text, 1, 2, len(text) % 2)
+        yield from with_a_byte_changed(text, 1, max(2, len(text) // 1_500))
     if len(text) <= 2 * SHORT:
         yield from cut_at_each_byte(text)
 
@@ -204,7 +204,7 @@ def task_of_random_play(seed):
 
 
 def tasks_of_changes():
-    for stem in stems():
+    for stem in [*stems(), f"{TOP}/examples/record/honest"]:
         text = bytes_of(f"{stem}.transcript")
         is_row = os.path.basename(os.path.dirname(stem)) == "examples"
         for first in range(0, sum(1 for _ in changes(text, is_row)), TEXTS_A_TASK) if text else []:
