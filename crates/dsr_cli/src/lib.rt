@@ -42,8 +42,8 @@ pub const NO_MEMORY: u8 = 3;
 /// fault by its text; the help goes to `output`. With 0 nothing is written on `errors`. Only a task
 /// reads the input. Each of the three is called at most `MOST_CALLS` times.
 ///
-/// The events of a play that are refused are part of its report, and no refusal of the play; but where memory ran out for some of
-/// them, the report is written and then `NoMemory` told.
+/// The events of a play that are refused are no refusal of the play: its report counts them, and its transcript has nothing of them. But
+/// where memory ran out for some of them, the report or the transcript is written and then `NoMemory` told.
 ///
 /// It is for a program that ends after it: what a play took is not freed.
 pub fn run<S: AsStr, I: Source, O: Sink, E: Sink>(
