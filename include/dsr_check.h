@@ -38,7 +38,7 @@ enum {
  * What the caller owes, which nothing checks: `text` points to `length` bytes and is not null, even where `length` is 0; `report` points
  * to a report; nobody writes to either during the call; and the call is made neither from a signal handler nor in the forked
  * child of a process with threads. Memory comes from the program's `malloc`, `realloc` and `free`, and all of it is given back before
- * the call returns. Calls at the same time in several threads do not disturb each other.
+ * the call returns, which is tested. The library keeps nothing between calls.
  */
 void dsr_check_text(const unsigned char *text, size_t length, struct dsr_report *report);
 
