@@ -1,0 +1,7 @@
+pub mod BoxSteps
+pub mod Dealing
+pub mod FewPosts
+pub mod Moves
+pub mod Numbers
+pub mod Parts
+pub mod Told

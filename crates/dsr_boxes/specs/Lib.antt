@@ -1,0 +1,5 @@
+pub mod Pass
+pub mod Place
+pub mod Play
+pub mod Rule
+pub mod View

@@ -1,0 +1,75 @@
+-- What each step on a word tells the pass that makes it (this project).
+use Rattle.std.specs.Prelude.{◌≡◌, ◌≢◌, ℕ, List, [], ◌∷◌, Option, None, Some, length}
+use Rattle.atomic_table.specs.Table.{Step}
+use Rattle.dsr_names.specs.Places.{size, actor_at}
+use Rattle.dsr_names.specs.Shape.{Shape, IsActor, shape_of}
+use Rattle.dsr_names.specs.declared.actor.Actor.{Actor}
+use Rattle.dsr_envelope.specs.declared.envelope.Envelope.{Envelope}
+use Rattle.dsr_envelope.specs.declared.entry.Entry.{Entry}
+use Rattle.dsr_envelope.specs.declared.entry.Entry.TheVariants.{Post, Take}
+use Rattle.dsr_envelope.specs.Limits.{IsEnvelope}
+use Rattle.dsr_run.specs.Run.{AreLogs}
+use Rattle.dsr_boxes.specs.declared.view.Doing.TheVariants.{Resting}
+use Rattle.dsr_boxes.specs.declared.view.View.{View}
+use Rattle.dsr_boxes.specs.Pass.{logs_in}
+use Rattle.dsr_boxes.specs.Place.{word_of}
+use Rattle.dsr_boxes.specs.View.{Holding, sitting, keeping, actor_in, log_in, logs_kept, end_in, content_in, resting, filling, emptying}
+
+-- what a play says: of the step, the pass before, the number found, and the pass after
+abbrev pub Telling : Type 1
+Telling = Step (Option Envelope) → Holding → ℕ → Holding → Type 0
+
+-- a claim: where the own box to an actor was empty, it is filled from now on
+abbrev pub Claims : Telling
+Claims step before found after = (to : Actor) → IsActor before.0.shape to → step.word ≡ word_of before.0.shape (actor_in before.0.part) to
+    → (found ≡ 0 → after ≡ filling before.0.shape (actor_in before.0.part) (log_in before.0.part) to None) × (found ≢ 0 → after ≡ before)
+
+-- a publish: the box is full, and the post of what was put into it stands in the log
+abbrev pub Publishes : Telling
+Publishes step before found after =
+    after ≡ resting before.0.shape (actor_in before.0.part) (Post (end_in before.0.part) (content_in before.1) ∷ log_in before.0.part)
+
+-- a fetch: where the box from an actor was full, it is emptied from now on, and the take of what lies in it stands in the log
+abbrev pub Fetches : Telling
+Fetches step before found after = (from : Actor) → IsActor before.0.shape from → step.word ≡ word_of before.0.shape from (actor_in before.0.part)
+    → (found ≡ 2 → (envelope : Envelope) × IsEnvelope envelope
+    × (after ≡ emptying before.0.shape (actor_in before.0.part) (Take from envelope ∷ log_in before.0.part) from (Some envelope)))
+    × (found ≢ 2 → after ≡ before)
+
+-- a release: the box is empty
+abbrev pub Releases : Telling
+Releases step before found after = after ≡ resting before.0.shape (actor_in before.0.part) (log_in before.0.part)
+
+-- a look at the end: where the pass has the logs of all actors, they are the logs of a run
+abbrev pub Learns : Telling
+Learns step before found after =
+    (length (logs_kept before.0.part) ≡ size before.0.shape → AreLogs before.0.shape (logs_in before.0.shape (logs_kept before.0.part)))
+
+-- a new pass that stands for nobody
+abbrev pub Enters : Telling
+Enters step before found after = (after ≡ (keeping before.0.shape [], []))
+
+-- logs without that of the highest place
+abbrev pub lower : List (List Entry) → List (List Entry)
+lower [] = []
+lower (log ∷ logs) = logs
+
+-- the view of the actor of the highest place
+abbrev pub highest : Shape → List (List Entry) → View
+highest shape [] = keeping shape []
+highest shape (log ∷ logs) = sitting shape (actor_at shape (length logs)) log Resting
+
+-- a view of many is parted into one without the actor of the highest place, and that actor's
+abbrev pub without_last : View → View
+without_last v = keeping v.shape (lower (logs_kept v.part))
+
+abbrev pub last_alone : View → View
+last_alone v = highest v.shape (logs_kept v.part)
+
+-- the pass of many with that of the next place
+abbrev pub with_next : View → View → View
+with_next v w = keeping v.shape (log_in w.part ∷ logs_kept v.part)
+
+-- a pass that stands for nobody any more
+abbrev pub spent : View
+spent = keeping (shape_of 0 0 0 0) []

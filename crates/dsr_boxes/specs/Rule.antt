@@ -1,0 +1,81 @@
+-- The rule of the boxes that threads share (this project): whatever the threads do, there is a run, whose logs are those in their passes' views, and
+-- each box is as these logs say.
+use Rattle.std.specs.Prelude.{◌≡◌, ℕ, zero, suc, ◌+◌, ◌*◌, ◌<◌, List, [], ◌∷◌, ◌++◌, Option, None, Some, length, replicate, reverse, slice_index, slice_index_or}
+use mathlib.Core.Option.{some}
+use mathlib.Core.Option as maybe
+use lib.ListN.{get_elem?}
+use Rattle.atomic_table.specs.Table.{State}
+use Rattle.dsr_names.specs.Places.{size, place_of}
+use Rattle.dsr_names.specs.Shape.{Shape, IsAllowed, IsActor}
+use Rattle.dsr_names.specs.declared.actor.Actor.{Actor}
+use Rattle.dsr_envelope.specs.declared.envelope.Envelope.{Envelope}
+use Rattle.dsr_envelope.specs.declared.entry.Entry.{Entry}
+use Rattle.dsr_envelope.specs.Log.{posted_to, taken_from}
+use Rattle.dsr_run.specs.Run.{IsRun}
+use Rattle.dsr_run.specs.Step.{Step, Logs, log_of}
+use Rattle.dsr_boxes.specs.declared.view.Doing.{Doing}
+use Rattle.dsr_boxes.specs.declared.view.Doing.TheVariants.{Resting, Filling, Emptying}
+use Rattle.dsr_boxes.specs.declared.view.Part.{Part}
+use Rattle.dsr_boxes.specs.declared.view.Part.TheVariants.{Keeping, Sitting}
+use Rattle.dsr_boxes.specs.declared.view.View.{View}
+use Rattle.dsr_boxes.specs.Place.{slot_of, word_of}
+use Rattle.dsr_boxes.specs.View.{keeping}
+
+-- all boxes, as data: the words, the slots that nobody holds, and the views of all passes
+abbrev pub Table : Type 0
+Table = State (Option Envelope) View
+
+-- the log of an actor among those of the lowest places, the highest place first
+abbrev pub log_at : Shape → List (List Entry) → Actor → List Entry
+log_at shape logs a = slice_index_or (reverse logs) (place_of shape a) []
+
+-- the view of all actors before any step
+abbrev pub first_view : Shape → View
+first_view shape = keeping shape (replicate (size shape) [])
+
+-- for which actors a view stands: nobody else's does
+abbrev pub IsOf : Shape → Part → Actor → Type 0
+IsOf shape (Keeping logs) a = IsActor shape a × (place_of shape a < length logs)
+IsOf shape (Sitting me log doing) a = me ≡ a
+
+-- what an actor does between two steps of a run, as its box's word shows it: 1 while it fills the box, 3 while it empties it
+abbrev pub IsDoing : Shape → List ℕ → Actor → Doing → Type 0
+IsDoing shape words me Resting = Unit {0}
+IsDoing shape words me (Filling to) = IsActor shape to × (slice_index words (word_of shape me to) ≡ 1)
+IsDoing shape words me (Emptying from) = IsActor shape from × (slice_index words (word_of shape from me) ≡ 3)
+
+-- the view has the logs of its actors
+abbrev pub Stands : Shape → List ℕ → Logs → Part → Type 0
+Stands shape words logs (Keeping kept) = (a : Actor) → IsActor shape a → place_of shape a < length kept → logs a ≡ log_at shape kept a
+Stands shape words logs (Sitting me log doing) = IsActor shape me × (logs me ≡ log) × IsDoing shape words me doing
+
+-- a box's word, what was posted there, what was taken, and what lies in its slot if nobody holds it. The word is 0: it is empty, all that
+-- was posted was taken; 1: its poster fills it; 2: it is full, one envelope was not taken and lies there; 3: its taker empties it
+abbrev pub Agrees : ℕ → List Envelope → List Envelope → maybe.Option (maybe.Option (Option Envelope)) → Type 0
+Agrees zero posted taken home = (posted ≡ taken) × (home ≡ some (some None))
+Agrees (suc zero) posted taken home = posted ≡ taken
+Agrees (suc (suc zero)) posted taken home = (envelope : Envelope) × (posted ≡ taken ++ envelope ∷ []) × (home ≡ some (some (Some envelope)))
+Agrees (suc (suc (suc zero))) posted taken home = posted ≡ taken
+Agrees (suc (suc (suc (suc more)))) posted taken home = ⊥
+
+-- the first four words tell the shape, and never change
+pub record IsHead (shape : Shape) (words : List ℕ) : Type 0 where
+  pub n : slice_index words 0 ≡ shape.n
+  pub f : slice_index words 1 ≡ shape.f
+  pub m : slice_index words 2 ≡ shape.m
+  pub traitors : slice_index words 3 ≡ shape.traitors
+
+-- the rule: there is a run, each view has its actors' logs in it, no two views stand for one actor, and each box agrees with what
+-- was posted there and taken
+pub record Kept (shape : Shape) (table : Table) : Type 0 where
+  pub allowed : IsAllowed shape
+  pub run : List Step
+  pub is : IsRun shape run
+  pub head : IsHead shape table.words
+  pub wide : length table.words ≡ 4 + size shape * size shape
+  pub deep : length table.homes ≡ size shape * size shape
+  pub stand : (i : ℕ) (v : View) → get_elem? table.views i ≡ some v → Stands shape table.words (log_of run) v.part
+  pub apart : (i j : ℕ) (v w : View) (a : Actor) → get_elem? table.views i ≡ some v → get_elem? table.views j ≡ some w
+      → IsOf shape v.part a → IsOf shape w.part a → i ≡ j
+  pub boxes : (a b : Actor) → IsActor shape a → IsActor shape b
+      → Agrees (slice_index table.words (word_of shape a b)) (posted_to b (log_of run a)) (taken_from a (log_of run b)) (get_elem? table.homes (slot_of shape a b))

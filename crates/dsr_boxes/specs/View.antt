@@ -1,0 +1,67 @@
+-- What each pass knows of the boxes, and what it holds of them (this project). No value of it is made: it stands in proofs alone.
+use Rattle.std.specs.Prelude.{ℕ, List, [], ◌∷◌, Option, None, Some}
+use Rattle.atomic_table.specs.Table.{Me}
+use Rattle.dsr_names.specs.Shape.{Shape}
+use Rattle.dsr_names.specs.declared.actor.Actor.{Actor}
+use Rattle.dsr_names.specs.declared.actor.Actor.TheVariants.{Replica}
+use Rattle.dsr_envelope.specs.declared.envelope.Envelope.{Envelope}
+use Rattle.dsr_envelope.specs.declared.envelope.Envelope.TheVariants.{Empty}
+use Rattle.dsr_envelope.specs.declared.entry.Entry.{Entry}
+use Rattle.dsr_boxes.specs.declared.view.Doing.{Doing}
+use Rattle.dsr_boxes.specs.declared.view.Doing.TheVariants.{Resting, Filling, Emptying}
+use Rattle.dsr_boxes.specs.declared.view.Part.{Part}
+use Rattle.dsr_boxes.specs.declared.view.Part.TheVariants.{Keeping, Sitting}
+use Rattle.dsr_boxes.specs.declared.view.View.{View}
+use Rattle.dsr_boxes.specs.Place.{slot_of}
+
+-- a view, and the slots that its pass holds, each with the envelope in it
+abbrev pub Holding : Type 0
+Holding = Me (Option Envelope) View
+
+-- the view of one actor with this log
+abbrev pub sitting : Shape → Actor → List Entry → Doing → View
+sitting shape me log doing = record { shape = shape; part = Sitting me log doing }
+
+-- the view of all actors of the lowest places, as many as there are logs; the log of the highest place stands first
+abbrev pub keeping : Shape → List (List Entry) → View
+keeping shape logs = record { shape = shape; part = Keeping logs }
+
+-- the actor of a view of one
+abbrev pub actor_in : Part → Actor
+actor_in (Keeping logs) = Replica 0
+actor_in (Sitting me log doing) = me
+
+-- its log
+abbrev pub log_in : Part → List Entry
+log_in (Keeping logs) = []
+log_in (Sitting me log doing) = log
+
+-- the logs of a view of many
+abbrev pub logs_kept : Part → List (List Entry)
+logs_kept (Keeping logs) = logs
+logs_kept (Sitting me log doing) = []
+
+-- the other end of the box that an actor fills or empties
+abbrev pub end_in : Part → Actor
+end_in (Keeping logs) = Replica 0
+end_in (Sitting me log Resting) = me
+end_in (Sitting me log (Filling to)) = to
+end_in (Sitting me log (Emptying from)) = from
+
+-- the envelope in the slot that was taken last
+abbrev pub content_in : List (ℕ × Option Envelope) → Envelope
+content_in [] = Empty
+content_in ((slot, None) ∷ held) = Empty
+content_in ((slot, Some envelope) ∷ held) = envelope
+
+-- an actor between two steps
+abbrev pub resting : Shape → Actor → List Entry → Holding
+resting shape me log = (sitting shape me log Resting, [])
+
+-- an actor that has claimed its box to another, with what lies in the slot
+abbrev pub filling : Shape → Actor → List Entry → Actor → Option Envelope → Holding
+filling shape me log to content = (sitting shape me log (Filling to), (slot_of shape me to, content) ∷ [])
+
+-- an actor that has fetched the box from another, with what lies in the slot
+abbrev pub emptying : Shape → Actor → List Entry → Actor → Option Envelope → Holding
+emptying shape me log from content = (sitting shape me log (Emptying from), (slot_of shape from me, content) ∷ [])

@@ -1,0 +1,20 @@
+//! The boxes between the actors of a shape, shared by threads: each actor posts and takes with a pass of its own, without a lock, and
+//! whatever the threads do, their logs are those of a run.
+#![tactic(auto)]
+
+mod open;
+mod parcel;
+mod parking;
+mod pass;
+mod returned;
+mod rule;
+mod shared_boxes;
+mod steps;
+#[cfg(test)]
+mod tests;
+mod view;
+
+pub use parcel::Parcel;
+pub use pass::Pass;
+pub use returned::Returned;
+pub use shared_boxes::SharedBoxes;

@@ -1,0 +1,54 @@
+ghost use Rattle.std.specs.Prelude.{◌≡◌, IfOk, IsOkUnless};
+
+use dsr_envelope::{Envelope, Letter};
+use dsr_names::Refusal;
+use std::alloc::Global;
+use std::marker::Model;
+
+/// What lies in a box: an envelope for the taker to consume, and the same as a letter for the taker's log, so that a take
+/// allocates nothing.
+#[derive(Drop)]
+pub struct Parcel {
+    envelope: Envelope,
+    letter: Letter,
+}
+
+impl Model for Parcel {
+    ghost use Rattle.std.specs.Prelude.{◌≡◌};
+    ghost use Rattle.dsr_envelope.specs.declared.envelope.Envelope.{Envelope};
+
+    ghost Value = { Envelope };
+
+    ghost view = { λ p. p.envelope };
+
+    ghost invariant = { λ p. p.letter ≡ p.envelope };
+}
+
+impl Parcel {
+    /// The envelope as a parcel, and a letter of it for the poster's own log. `NoMemory` where memory runs out or one handle more is refused:
+    /// then the envelope is gone.
+    pub fn of(alloc: Global, envelope: Envelope) -> Result<(Parcel, Letter), Refusal>
+        ensures parcel { IfOk result (λ made. made.0 ≡ envelope) }
+        ensures own { IfOk result (λ made. made.1 ≡ envelope) }
+        ensures refusal { IsOkUnless result Refusal.NoMemory }
+    {
+        let copy = envelope.try_copy(alloc)?;
+        let letter = Letter::of(alloc, envelope)?;
+        let own = letter.try_copy()?;
+        Ok((
+            Parcel {
+                envelope: copy,
+                letter,
+            },
+            own,
+        ))
+    }
+
+    /// The envelope, and the letter of it.
+    pub fn into_parts(self) -> (Envelope, Letter)
+        ensures envelope { result.0 ≡ self }
+        ensures letter { result.1 ≡ self }
+    {
+        (self.envelope, self.letter)
+    }
+}

@@ -1,0 +1,90 @@
+//! Sleeping until a box is as one wants it, and waking who sleeps. Neither changes a box.
+//!
+//! Who sleeps first notes the word on which it does; then the system looks whether the word is still as it was found, and only then has it
+//! sleep. Who changes a word then looks whether its other end has noted it. All of this is in one order, so either the change comes before
+//! the system looks, or the note before the changer looks: no wake is lost. And where nobody sleeps, a wake is one load.
+
+ghost use Rattle.std.specs.Prelude.{◌≡◌, ◌<◌};
+ghost use Rattle.dsr_names.specs.Places.{size};
+ghost use Rattle.dsr_names.specs.Shape.{IsActor};
+
+use crate::shared_boxes::SharedBoxes;
+use crate::steps::{EMPTY, FULL};
+use dsr_names::Actor;
+use std::sync::Wait;
+use std::sync::atomic::Ordering::SeqCst;
+
+impl SharedBoxes {
+    /// Has the poster sleep while its box to the taker does not stand empty.
+    pub(crate) fn sleep_until_empty<R: Wait>(&self, rt: &R, poster: &Actor, taker: &Actor)
+        requires poster { IsActor self.now.shape poster.now }
+        requires taker { IsActor self.now.shape taker.now }
+    {
+        let word = self.word_of(poster, taker);
+        self.sleep_unless(rt, poster, word, EMPTY);
+    }
+
+    /// Has the taker sleep while the poster's box to it is not full.
+    pub(crate) fn sleep_until_full<R: Wait>(&self, rt: &R, poster: &Actor, taker: &Actor)
+        requires poster { IsActor self.now.shape poster.now }
+        requires taker { IsActor self.now.shape taker.now }
+    {
+        let word = self.word_of(poster, taker);
+        self.sleep_unless(rt, taker, word, FULL);
+    }
+
+    /// Wakes the taker of a box if it sleeps there.
+    pub(crate) fn wake_taker(&self, poster: &Actor, taker: &Actor)
+        requires poster { IsActor self.now.shape poster.now }
+        requires taker { IsActor self.now.shape taker.now }
+    {
+        let word = self.word_of(poster, taker);
+        self.wake_at(taker, word);
+    }
+
+    /// Wakes the poster of a box if it sleeps there.
+    pub(crate) fn wake_poster(&self, poster: &Actor, taker: &Actor)
+        requires poster { IsActor self.now.shape poster.now }
+        requires taker { IsActor self.now.shape taker.now }
+    {
+        let word = self.word_of(poster, taker);
+        self.wake_at(poster, word);
+    }
+
+    /// Wakes everybody who sleeps on a box.
+    pub fn wake_all(&self) {
+        for sleeper in self.sleepers.as_slice() {
+            let word = sleeper.load(SeqCst) as usize;
+            if word != 0 && word < self.memory.word_count() {
+                self.memory.shared.wake_all(word);
+            }
+        }
+    }
+
+    /// Has the actor sleep until a wake, unless the word is the wanted one.
+    fn sleep_unless<R: Wait>(&self, rt: &R, sleeper: &Actor, word: usize, wanted: u64)
+        requires sleeper { IsActor self.now.shape sleeper.now }
+        requires word { word < self.now.id.words }
+    {
+        let found = self.memory.shared.peek(word);
+        if found == wanted {
+            return;
+        }
+        let place = self.shape.place(sleeper);
+        self.sleepers[place].store(word as u64, SeqCst);
+        // A word is at most 3, so that its low half is all of it.
+        self.memory.shared.park(rt, word, (found % 4) as u32);
+        self.sleepers[place].store(0, SeqCst);
+    }
+
+    /// Wakes the actor if it sleeps on this word.
+    fn wake_at(&self, sleeper: &Actor, word: usize)
+        requires sleeper { IsActor self.now.shape sleeper.now }
+        requires word { word < self.now.id.words }
+    {
+        let place = self.shape.place(sleeper);
+        if self.sleepers[place].load(SeqCst) == word as u64 {
+            self.memory.shared.wake_all(word);
+        }
+    }
+}

@@ -1,0 +1,97 @@
+ghost use Rattle.std.specs.Prelude.{◌≡◌, IfSome, IfNone, OnOk, OnErr, IsOkUnless};
+ghost use Rattle.dsr_names.specs.Shape.{IsActor};
+ghost use Rattle.dsr_names.specs.declared.refusal.Refusal.{Refusal};
+ghost use Rattle.dsr_envelope.specs.declared.entry.Entry.TheVariants.{Post, Take};
+ghost use Rattle.dsr_envelope.specs.Limits.{IsEnvelope};
+ghost use Rattle.dsr_run.specs.OwnStep.{MayPost, HasPostsLeft};
+ghost use Rattle.dsr_boxes.specs.Pass.{IsPassOf, with_entry, MayTake};
+
+use crate::parcel::Parcel;
+use crate::rule::Token;
+use crate::shared_boxes::SharedBoxes;
+use dsr_names::{Actor, Refusal};
+use std::marker::Model;
+use std::sync::Wait;
+
+/// What one actor posts and takes with. There is one for each actor, and it is never copied.
+#[derive(Drop)]
+pub struct Pass {
+    pub(crate) token: Token,
+    pub(crate) actor: Actor,
+}
+
+impl Model for Pass {
+    ghost use Rattle.std.specs.Prelude.{◌≡◌};
+    ghost use Rattle.dsr_names.specs.Shape.{IsActor};
+    ghost use Rattle.dsr_boxes.specs.Pass.{Pass};
+    ghost use Rattle.dsr_boxes.specs.View.{log_in, resting};
+
+    ghost Value = { Pass };
+
+    ghost view = { λ p. record { id = p.token.table_id; shape = p.token.me.0.shape; actor = p.actor; log = log_in p.token.me.0.part } };
+
+    ghost invariant = { λ p. (p.token.me ≡ resting p.token.me.0.shape p.actor (log_in p.token.me.0.part)) × IsActor p.token.me.0.shape p.actor };
+}
+
+impl Pass {
+    /// The actor.
+    pub fn actor(&self) -> &Actor
+        ensures same { result.now ≡ self.now.actor }
+        ensures inside { IsActor self.now.shape result.now }
+    {
+        &self.actor
+    }
+
+    /// Posts the parcel to an actor, which is one step of a run. `BoxFull` where the box does not stand empty, or its taker still empties it:
+    /// then nothing changed, and the parcel is gone. It waits for nobody and allocates nothing. Requires that the own log allows the post.
+    pub fn post(&mut self, boxes: &SharedBoxes, to: &Actor, parcel: Parcel) -> Result<(), Refusal>
+        requires boxes { IsPassOf boxes.now self.old }
+        requires to { IsActor self.old.shape to.now }
+        requires conduct { MayPost self.old.shape self.old.actor self.old.log to.now parcel }
+        requires few { HasPostsLeft self.old.log to.now }
+        ensures posted { OnOk result (self.new ≡ with_entry self.old (Post to.now parcel)) }
+        ensures full { OnErr result (self.new ≡ self.old) }
+        ensures refusal { IsOkUnless result Refusal.BoxFull }
+    {
+        if !boxes.claim(&mut self.token, &self.actor, to) {
+            return Err(Refusal::BoxFull);
+        }
+        boxes.publish(&mut self.token, &self.actor, to, parcel);
+        boxes.wake_taker(&self.actor, to);
+        Ok(())
+    }
+
+    /// Takes what lies in the box of an actor to this one, which is one step of a run. `None` where nothing lies there, or its poster still
+    /// fills it: then nothing changed. It waits for nobody and allocates nothing. Requires that the own log allows the take.
+    pub fn take(&mut self, boxes: &SharedBoxes, from: &Actor) -> Option<Parcel>
+        requires boxes { IsPassOf boxes.now self.old }
+        requires from { IsActor self.old.shape from.now }
+        requires conduct { MayTake self.old.shape self.old.actor self.old.log from.now }
+        ensures taken { IfSome result (λ parcel. self.new ≡ with_entry self.old (Take from.now parcel)) }
+        ensures within { IfSome result IsEnvelope }
+        ensures none { IfNone result (self.new ≡ self.old) }
+    {
+        if !boxes.fetch(&mut self.token, &self.actor, from) {
+            return None;
+        }
+        let parcel = boxes.release(&mut self.token, &self.actor, from);
+        boxes.wake_poster(from, &self.actor);
+        Some(parcel)
+    }
+
+    /// Sleeps while the own box to an actor does not stand empty. It may return earlier.
+    pub fn wait_to<R: Wait>(&self, rt: &R, boxes: &SharedBoxes, to: &Actor)
+        requires boxes { IsPassOf boxes.now self.now }
+        requires to { IsActor self.now.shape to.now }
+    {
+        boxes.sleep_until_empty(rt, &self.actor, to);
+    }
+
+    /// Sleeps while the box of an actor to this one is not full. It may return earlier.
+    pub fn wait_from<R: Wait>(&self, rt: &R, boxes: &SharedBoxes, from: &Actor)
+        requires boxes { IsPassOf boxes.now self.now }
+        requires from { IsActor self.now.shape from.now }
+    {
+        boxes.sleep_until_full(rt, from, &self.actor);
+    }
+}

@@ -1,0 +1,66 @@
+ghost use Rattle.std.specs.Prelude.{◌≡◌, [], ◌∷◌, length};
+ghost use Rattle.dsr_names.specs.Places.{size, place_of};
+ghost use Rattle.dsr_run.specs.Run.{AreLogs};
+ghost use Rattle.dsr_boxes.specs.Pass.{IsPassOf, IsReturnedTo, logs_in};
+ghost use Rattle.dsr_boxes.specs.View.{keeping};
+
+use crate::pass::Pass;
+use crate::rule::{Enter, Gather, Learn, Token};
+use crate::shared_boxes::SharedBoxes;
+use std::marker::Model;
+
+/// The passes that came back, for the boxes to be closed. It stands for their logs.
+#[derive(Drop)]
+pub struct Returned {
+    token: Token,
+}
+
+impl Model for Returned {
+    ghost use Rattle.std.specs.Prelude.{◌≡◌, []};
+    ghost use Rattle.dsr_boxes.specs.Pass.{Returned};
+    ghost use Rattle.dsr_boxes.specs.View.{keeping, logs_kept};
+
+    ghost Value = { Returned };
+
+    ghost view = { λ r. record { id = r.token.table_id; shape = r.token.me.0.shape; logs = logs_kept r.token.me.0.part } };
+
+    ghost invariant = { λ r. r.token.me ≡ (keeping r.token.me.0.shape (logs_kept r.token.me.0.part), []) };
+}
+
+impl SharedBoxes {
+    /// No pass that came back yet.
+    pub fn none_returned(&self) -> Returned
+        ensures boxes { IsReturnedTo self.now result }
+        ensures none { result.logs ≡ [] }
+    {
+        let (_word, token) = self.memory.shared.load_new_seat::<Enter>(0);
+        Returned { token }
+    }
+
+    /// Closes the boxes, for which each actor's pass must have come back: their logs are those of a run. Envelopes that were not taken are gone.
+    pub fn close(self, returned: Returned)
+        requires boxes { IsReturnedTo self returned }
+        requires all { length returned.logs ≡ size self.shape }
+        ensures run { AreLogs self.shape (logs_in self.shape returned.logs) }
+    {
+        let mut returned = returned;
+        self.memory.shared.load::<Learn>(&mut returned.token, 0);
+    }
+}
+
+impl Returned {
+    /// Takes back the pass of the actor of the next place.
+    pub fn take_back(&mut self, boxes: &SharedBoxes, pass: Pass)
+        requires boxes { IsReturnedTo boxes.now self.old }
+        requires pass { IsPassOf boxes.now pass }
+        requires next { place_of boxes.now.shape pass.actor ≡ length self.old.logs }
+        ensures boxes { IsReturnedTo boxes.now self.new }
+        ensures logs { self.new.logs ≡ pass.log ∷ self.old.logs }
+    {
+        let Pass { token, actor: _ } = pass;
+        boxes
+            .memory
+            .shared
+            .join_seat::<Gather>(&mut self.token, token);
+    }
+}

@@ -1,0 +1,114 @@
+//! The steps on a box, each of one word: a poster claims an empty box and publishes, a taker fetches a full one and releases. After a claim
+//! or a fetch nothing can fail.
+
+ghost use Rattle.std.specs.Prelude.{◌≡◌, ◌∷◌, None, Some};
+ghost use Rattle.std.specs.Bool.{OnTrue, OnFalse};
+ghost use Rattle.dsr_names.specs.Shape.{IsActor};
+ghost use Rattle.dsr_envelope.specs.declared.envelope.Envelope.{Envelope};
+ghost use Rattle.dsr_envelope.specs.declared.entry.Entry.TheVariants.{Post, Take};
+ghost use Rattle.dsr_envelope.specs.Limits.{IsEnvelope};
+ghost use Rattle.dsr_run.specs.OwnStep.{MayPost, HasPostsLeft};
+ghost use Rattle.dsr_boxes.specs.Pass.{MayTake};
+ghost use Rattle.dsr_boxes.specs.View.{log_in, resting, filling, emptying};
+
+use crate::parcel::Parcel;
+use crate::rule::{Claim, Fetch, Publish, Release, Token};
+use crate::shared_boxes::SharedBoxes;
+use dsr_names::Actor;
+
+/// A box's word: nothing lies in it.
+pub(crate) const EMPTY: u64 = 0;
+/// Its poster fills it.
+pub(crate) const FILLING: u64 = 1;
+/// An envelope lies in it.
+pub(crate) const FULL: u64 = 2;
+/// Its taker empties it.
+pub(crate) const EMPTYING: u64 = 3;
+
+impl SharedBoxes {
+    /// Claims the own box to an actor: true where it was empty. Then only this token can use it, until it publishes.
+    pub(crate) fn claim(&self, token: &mut Token, me: &Actor, to: &Actor) -> bool
+        requires id { token.old.table_id ≡ self.now.id }
+        requires me { IsActor self.now.shape me.now }
+        requires to { IsActor self.now.shape to.now }
+        requires rests { token.old.me ≡ resting self.now.shape me.now (log_in token.old.me.0.part) }
+        ensures id { token.new.table_id ≡ token.old.table_id }
+        ensures claimed { OnTrue result (token.new.me ≡ filling self.now.shape me.now (log_in token.old.me.0.part) to.now None) }
+        ensures missed { OnFalse result (token.new.me ≡ token.old.me) }
+    {
+        let word = self.word_of(me, to);
+        let found = self
+            .memory
+            .shared
+            .compare_exchange::<Claim>(token, word, EMPTY, FILLING);
+        found == EMPTY
+    }
+
+    /// Puts the parcel into the claimed box and publishes it: this is the post. Requires that the post may be next by the own log.
+    pub(crate) fn publish(&self, token: &mut Token, me: &Actor, to: &Actor, parcel: Parcel)
+        requires id { token.old.table_id ≡ self.now.id }
+        requires me { IsActor self.now.shape me.now }
+        requires to { IsActor self.now.shape to.now }
+        requires fills { token.old.me ≡ filling self.now.shape me.now (log_in token.old.me.0.part) to.now None }
+        requires conduct { MayPost self.now.shape me.now (log_in token.old.me.0.part) to.now parcel }
+        requires few { HasPostsLeft (log_in token.old.me.0.part) to.now }
+        ensures id { token.new.table_id ≡ token.old.table_id }
+        ensures posted { token.new.me ≡ resting self.now.shape me.now (Post to.now parcel ∷ log_in token.old.me.0.part) }
+    {
+        let nothing = self
+            .memory
+            .shared
+            .exchange(token, self.slot_of(me, to), Some(parcel));
+        drop(nothing);
+        let word = self.word_of(me, to);
+        self.memory
+            .shared
+            .compare_exchange::<Publish>(token, word, FILLING, FULL);
+    }
+
+    /// Fetches the box of an actor to the own one: true where it was full. This is the take. Then only this token can use it, until it
+    /// releases the box. Requires that the take may be next by the own log.
+    pub(crate) fn fetch(&self, token: &mut Token, me: &Actor, from: &Actor) -> bool
+        requires id { token.old.table_id ≡ self.now.id }
+        requires me { IsActor self.now.shape me.now }
+        requires from { IsActor self.now.shape from.now }
+        requires rests { token.old.me ≡ resting self.now.shape me.now (log_in token.old.me.0.part) }
+        requires conduct { MayTake self.now.shape me.now (log_in token.old.me.0.part) from.now }
+        ensures id { token.new.table_id ≡ token.old.table_id }
+        ensures fetched { OnTrue result ((envelope : Envelope) × IsEnvelope envelope
+            × (token.new.me ≡ emptying self.now.shape me.now (Take from.now envelope ∷ log_in token.old.me.0.part) from.now (Some envelope))) }
+        ensures missed { OnFalse result (token.new.me ≡ token.old.me) }
+    {
+        let word = self.word_of(from, me);
+        let found = self
+            .memory
+            .shared
+            .compare_exchange::<Fetch>(token, word, FULL, EMPTYING);
+        found == FULL
+    }
+
+    /// Takes the parcel out of the fetched box, and releases the box.
+    pub(crate) fn release(&self, token: &mut Token, me: &Actor, from: &Actor) -> Parcel
+        requires id { token.old.table_id ≡ self.now.id }
+        requires me { IsActor self.now.shape me.now }
+        requires from { IsActor self.now.shape from.now }
+        requires full { (envelope : Envelope)
+            × (token.old.me ≡ emptying self.now.shape me.now (log_in token.old.me.0.part) from.now (Some envelope)) }
+        ensures id { token.new.table_id ≡ token.old.table_id }
+        ensures taken { token.old.me ≡ emptying self.now.shape me.now (log_in token.old.me.0.part) from.now (Some result) }
+        ensures released { token.new.me ≡ resting self.now.shape me.now (log_in token.old.me.0.part) }
+    {
+        let content = self
+            .memory
+            .shared
+            .exchange(token, self.slot_of(from, me), None);
+        let Some(parcel) = content else {
+            unreachable!()
+        };
+        let word = self.word_of(from, me);
+        self.memory
+            .shared
+            .compare_exchange::<Release>(token, word, EMPTYING, EMPTY);
+        parcel
+    }
+}
