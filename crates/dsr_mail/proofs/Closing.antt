@@ -1,0 +1,31 @@
+-- What the logs of a closed mail are.
+use Rattle.std.proofs.Common.{◌≡◌, ℕ, true, false, List, [], ◌++◌, reverse, if◌then◌else◌, ◌⊎◌, inl, inr, refl, ap, sym, ◌∙◌, subst}
+use Rattle.std.specs.Prelude.{slice_index_or}
+use Rattle.std.proofs.lemmas.List.{reverse-reverse}
+use Rattle.dsr_base.specs.Member.{In}
+use Rattle.dsr_names.specs.Places.{size, place_of}
+use Rattle.dsr_names.specs.Shape.{Shape, IsActor}
+use Rattle.dsr_names.specs.declared.actor.Actor.{Actor}
+use Rattle.dsr_names.proofs.PlaceLemmas.{place_below}
+use Rattle.dsr_envelope.specs.declared.entry.Entry.{Entry}
+use Rattle.dsr_node.specs.Node.{Plays}
+use Rattle.dsr_node.specs.declared.node.Node.{Node}
+use Rattle.dsr_boxes.specs.Pass.{Pass, logs_in}
+use Rattle.dsr_mail.specs.Leaving.{IsLogged, AreJoined}
+use Rattle.dsr_mail.specs.Logs.{Logs, logs_of}
+use Rattle.dsr_mail.specs.Played.{ArePlayed}
+use Rattle.dsr_mail.proofs.Clearing.{actor_test}
+
+-- the log of an actor of the shape is that at its place
+pub log_there : (shape : Shape) (logs : List (List Entry)) (a : Actor) → IsActor shape a
+    → logs_in shape (reverse logs) a ≡ slice_index_or logs (place_of shape a) []
+log_there shape logs a inside =
+    ap (λ b. if b then slice_index_or (reverse (reverse logs)) (place_of shape a) [] else []) (actor_test shape a inside)
+    ∙ ap (λ l. slice_index_or l (place_of shape a) []) (reverse-reverse logs)
+
+-- each seat's log is its actor's
+pub own_log : (closed : Logs) (shape : Shape) (logs : List (List Entry)) (seat : Pass) → closed.shape ≡ shape → closed.lists ≡ reverse logs
+    → IsLogged shape logs seat → logs_of closed seat.actor ≡ seat.log
+own_log closed shape logs seat same lists is =
+    ap (λ s. logs_in s closed.lists seat.actor) same
+    ∙ (ap (λ l. logs_in shape l seat.actor) lists ∙ (log_there shape logs seat.actor is.actor ∙ is.log))

@@ -1,0 +1,10 @@
+pub mod Asked
+pub mod Counts
+pub mod Leaving
+pub mod Logs
+pub mod LogsFields
+pub mod Loyal
+pub mod Played
+pub mod Refusals
+pub mod Seats
+pub mod Traitor

@@ -1,0 +1,182 @@
+ghost use Rattle.std.specs.Prelude.{◌≡◌, ◌↔◌, [], reverse, None, Some, Ok, Err, IfOk, IfErr, IsTrue, OnOk, OnErr};
+ghost use Rattle.std.specs.Option.{option_map};
+ghost use Rattle.dsr_names.specs.Shape.{IsActor};
+ghost use Rattle.dsr_names.specs.declared.actor.Actor.TheVariants.{Client};
+ghost use Rattle.dsr_names.specs.declared.refusal.Refusal.{Refusal};
+ghost use Rattle.dsr_envelope.specs.declared.envelope.Envelope.{Envelope};
+ghost use Rattle.dsr_envelope.specs.declared.envelope.Envelope.TheVariants.{Seen};
+ghost use Rattle.dsr_envelope.specs.declared.entry.Entry.TheVariants.{Post, Take};
+ghost use Rattle.dsr_envelope.specs.Limits.{IsEnvelope};
+ghost use Rattle.dsr_client.specs.Conduct.{IsClientLog};
+ghost use Rattle.dsr_client.specs.State.{accepted, outstanding, seen};
+ghost use Rattle.dsr_node.specs.Conduct.{post_of, AcceptsBy};
+ghost use Rattle.dsr_boxes.specs.Pass.{IsPassOf, with_entry};
+ghost use Rattle.dsr_mail.specs.Loyal.{IsClientActor};
+ghost use Rattle.dsr_mail.specs.Refusals.{IsRefusedBy, HasAsked, post_refused, take_refused, tell_refused};
+
+use crate::asked::Asked;
+use crate::loyal::Loyal;
+use crate::mail::Mail;
+use dsr_envelope::Pick;
+use dsr_ledger::Reply;
+use dsr_names::{Actor, ClientId, Refusal, ReplicaId};
+use std::alloc::Global;
+use std::marker::Model;
+
+/// The seat of a client: the client, its log, and its boxes at the mail.
+#[derive(Drop)]
+pub struct ClientSeat {
+    loyal: Loyal,
+    asked: Asked,
+}
+
+impl Model for ClientSeat {
+    ghost use Rattle.dsr_boxes.specs.Pass.{Pass};
+    ghost use Rattle.dsr_mail.specs.Asked.{AreAsked};
+    ghost use Rattle.dsr_mail.specs.Loyal.{IsClientActor};
+
+    ghost Value = { Pass };
+
+    ghost view = { λ s. s.loyal };
+
+    ghost invariant = { λ s. IsClientActor s.loyal.actor × AreAsked s.loyal.shape s.loyal.log s.asked };
+}
+
+impl ClientSeat {
+    /// The seat of a client, before it did anything.
+    pub(crate) fn new(loyal: Loyal) -> ClientSeat
+        requires client { IsClientActor loyal.actor }
+        requires first { loyal.log ≡ [] }
+        ensures { result ≡ loyal }
+    {
+        ClientSeat {
+            loyal,
+            asked: Asked::none(),
+        }
+    }
+
+    /// The loyal actor.
+    pub(crate) fn into_loyal(self) -> Loyal
+        ensures { result ≡ self }
+    {
+        self.loyal
+    }
+
+    /// The actor.
+    pub fn actor(&self) -> Actor
+        ensures same { result ≡ self.now.actor }
+        ensures inside { IsActor self.now.shape result }
+    {
+        *self.loyal.seat().actor()
+    }
+
+    /// The client's number.
+    pub fn client(&self) -> ClientId
+        ensures same { self.now.actor ≡ Client result }
+        ensures conduct { IsClientLog self.now.shape result self.now.log }
+    {
+        let _node = self.loyal.node();
+        let Actor::Client(client) = self.loyal.seat().actor() else {
+            unreachable!()
+        };
+        *client
+    }
+
+    /// Posts to an actor by a choice. It waits for nobody. Refused with the first of these that holds: `NoActor` where there is no such
+    /// actor; `WrongRole` where it is a client, whom `try_tell` is for; `NotDue` where the conduct has no such post now; `Exhausted` where a
+    /// counter would pass its limit; `BoxFull` where what it posted there last was not taken yet; `NoMemory` where memory runs out. After
+    /// each of them nothing changed.
+    pub fn try_post(
+        &mut self,
+        alloc: Global,
+        mail: &Mail,
+        to: Actor,
+        pick: Pick,
+    ) -> Result<(), Refusal>
+        requires mail { IsPassOf mail.now self.old }
+        ensures ok { OnOk result ((x : Envelope) × (post_of self.old.shape self.old.log self.old.actor to pick ≡ Some x)
+            × (self.new ≡ with_entry self.old (Post to x))) }
+        ensures err { OnErr result (self.new ≡ self.old) }
+        ensures refused { (refusal : Refusal) → post_refused self.old.shape self.old.actor self.old.log to pick ≡ Some refusal → result ≡ Err refusal }
+        ensures last { IfErr result (IsRefusedBy (post_refused self.old.shape self.old.actor self.old.log to pick) Refusal.BoxFull) }
+    {
+        match self.loyal.try_post(alloc, mail.boxes(), &to, &pick) {
+            Ok(()) => {}
+            Err(refusal) => return Err(refusal),
+        }
+        self.asked.note_post(&to, &pick);
+        Ok(())
+    }
+
+    /// Takes from an actor what it posted to this client, and returns the reply that the client accepts by it, if it accepts one. It waits
+    /// for nobody. Refused with the first of these that holds: `NoActor` where there is no such actor; `WrongRole` where it is the client
+    /// itself; `BoxEmpty` where nothing lies there; `NoMemory` where memory runs out. After each of them nothing changed.
+    pub fn try_take(&mut self, mail: &Mail, from: Actor) -> Result<Option<Reply>, Refusal>
+        requires mail { IsPassOf mail.now self.old }
+        ensures ok { IfOk result (λ reply. (x : Envelope) × IsEnvelope x × (self.new ≡ with_entry self.old (Take from x))
+            × AcceptsBy reply (accepted self.new.shape self.new.log) (accepted self.old.shape self.old.log)) }
+        ensures err { OnErr result (self.new ≡ self.old) }
+        ensures refused { (refusal : Refusal) → take_refused self.old.shape self.old.actor self.old.log from ≡ Some refusal → result ≡ Err refusal }
+        ensures last { IfErr result (IsRefusedBy (take_refused self.old.shape self.old.actor self.old.log from) Refusal.BoxEmpty) }
+    {
+        let reply = match self.loyal.try_take(mail.boxes(), &from) {
+            Ok(reply) => reply,
+            Err(refusal) => return Err(refusal),
+        };
+        self.asked.note_reply(&reply);
+        Ok(reply)
+    }
+
+    /// Tells another client the seen front. It waits for nobody. Refused with the first of these that holds: `NoActor` where there is no such
+    /// actor; `WrongRole` where it is no client, or the client itself; `Exhausted` where the box has had all its posts; `BoxFull` where what
+    /// it posted there last was not taken yet; `NoMemory` where memory runs out. After each of them nothing changed.
+    pub fn try_tell(&mut self, alloc: Global, mail: &Mail, to: Actor) -> Result<(), Refusal>
+        requires mail { IsPassOf mail.now self.old }
+        ensures ok { OnOk result (self.new ≡ with_entry self.old (Post to (Seen (seen self.old.shape self.old.log)))) }
+        ensures err { OnErr result (self.new ≡ self.old) }
+        ensures refused { (refusal : Refusal) → tell_refused self.old.shape self.old.actor self.old.log to ≡ Some refusal → result ≡ Err refusal }
+        ensures last { IfErr result (IsRefusedBy (tell_refused self.old.shape self.old.actor self.old.log to) Refusal.BoxFull) }
+    {
+        match self.loyal.try_tell(alloc, mail.boxes(), &to) {
+            Ok(()) => {}
+            Err(refusal) => return Err(refusal),
+        }
+        Ok(())
+    }
+
+    /// The number of the outstanding request; `None` where nothing is outstanding.
+    pub fn outstanding(&self) -> Option<u64>
+        ensures { result ≡ option_map (λ ask. ask.request.number) (outstanding self.now.shape self.now.log) }
+    {
+        self.loyal.client().outstanding()
+    }
+
+    /// Whether it has posted the outstanding request to this replica.
+    pub fn asked(&self, replica: ReplicaId) -> bool
+        ensures { IsTrue result ↔ HasAsked self.now.shape self.now.log replica }
+    {
+        let _number = replica.number();
+        self.asked.has(replica)
+    }
+
+    /// The seen front.
+    pub fn seen(&self) -> u64
+        ensures { result ≡ seen self.now.shape self.now.log }
+    {
+        self.loyal.client().seen()
+    }
+
+    /// The replies that it accepted, in their order.
+    pub fn accepted(&self) -> &[Reply]
+        ensures { result.now ≡ reverse (accepted self.now.shape self.now.log) }
+    {
+        self.loyal.client().accepted()
+    }
+
+    /// Wakes everybody who sleeps at the mail, so that each tries again.
+    pub fn wake(&self, mail: &Mail)
+        requires mail { IsPassOf mail.now self.now }
+    {
+        mail.boxes().wake_all();
+    }
+}

@@ -1,0 +1,22 @@
+//! The mail: the seat of each actor, from which it posts and takes by its own log and its own boxes alone, in threads or in one.
+#![tactic(auto)]
+
+mod actors;
+mod asked;
+mod client_seat;
+mod leaving;
+mod log;
+mod logs;
+mod loyal;
+mod mail;
+mod replica_seat;
+mod seat;
+mod seats;
+mod traitor_seat;
+
+pub use client_seat::ClientSeat;
+pub use logs::Logs;
+pub use mail::Mail;
+pub use replica_seat::ReplicaSeat;
+pub use seats::Seats;
+pub use traitor_seat::TraitorSeat;

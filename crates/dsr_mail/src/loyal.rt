@@ -1,0 +1,244 @@
+ghost use Rattle.std.specs.Prelude.{◌≡◌, None, Some, if◌then◌else◌, Err, IfOk, IfErr, IsOk, OnOk, OnErr};
+ghost use Rattle.dsr_names.specs.Shape.{IsActor};
+ghost use Rattle.dsr_names.specs.declared.refusal.Refusal.{Refusal};
+ghost use Rattle.dsr_envelope.specs.declared.envelope.Envelope.{Envelope};
+ghost use Rattle.dsr_envelope.specs.declared.envelope.Envelope.TheVariants.{Seen};
+ghost use Rattle.dsr_envelope.specs.declared.entry.Entry.TheVariants.{Post, Take};
+ghost use Rattle.dsr_envelope.specs.Limits.{IsEnvelope};
+ghost use Rattle.dsr_client.specs.State.{seen};
+ghost use Rattle.dsr_node.specs.Conduct.{post_of};
+ghost use Rattle.dsr_node.specs.Node.{IsReplicaNumber, TakesReply};
+ghost use Rattle.dsr_boxes.specs.Pass.{IsPassOf, with_entry};
+ghost use Rattle.dsr_mail.specs.Loyal.{IsLoyalSeat, IsReplicaOf, IsClientOf, IsClientActor};
+ghost use Rattle.dsr_mail.specs.Seats.{KeepsLog};
+ghost use Rattle.dsr_mail.specs.Refusals.{IsRefusedBy, is_spent, post_refused, take_refused, tell_refused};
+
+use crate::actors::{are_clients, is_own_client, look_at};
+use crate::seat::Seat;
+use dsr_boxes::SharedBoxes;
+use dsr_envelope::{Envelope, Pick};
+use dsr_ledger::Reply;
+use dsr_names::{Actor, Refusal};
+use dsr_node::Node;
+use dsr_replica::Replica;
+use std::alloc::Global;
+use std::marker::Model;
+
+/// The seat of a loyal replica or a client, with the node that plays it.
+#[derive(Drop)]
+pub(crate) struct Loyal {
+    seat: Seat,
+    node: Node,
+}
+
+impl Model for Loyal {
+    ghost use Rattle.dsr_boxes.specs.Pass.{Pass};
+    ghost use Rattle.dsr_mail.specs.Loyal.{IsLoyalSeat};
+
+    ghost Value = { Pass };
+
+    ghost view = { λ l. l.seat };
+
+    ghost invariant = { λ l. IsLoyalSeat l.seat l.node };
+}
+
+impl Loyal {
+    /// The seat of a loyal actor, which this node plays.
+    pub(crate) fn new(seat: Seat, node: Node) -> Loyal
+        requires { IsLoyalSeat seat node }
+        ensures { result ≡ seat }
+    {
+        Loyal { seat, node }
+    }
+
+    /// The seat.
+    pub(crate) fn seat(&self) -> &Seat
+        ensures { result.now ≡ self.now }
+    {
+        &self.seat
+    }
+
+    /// The node.
+    pub(crate) fn node(&self) -> &Node
+        ensures { IsLoyalSeat self.now result.now }
+    {
+        &self.node
+    }
+
+    /// The seat and the node.
+    pub(crate) fn into_parts(self) -> (Seat, Node)
+        ensures seat { result.0 ≡ self }
+        ensures node { IsLoyalSeat self result.1 }
+    {
+        (self.seat, self.node)
+    }
+
+    /// The client's node. Requires that the actor is a client.
+    pub(crate) fn client(&self) -> &Node
+        requires { IsClientActor self.now.actor }
+        ensures { IsClientOf self.now result.now }
+    {
+        &self.node
+    }
+
+    /// The replica. Requires that the actor is one.
+    pub(crate) fn replica(&self) -> &Replica
+        requires { IsReplicaNumber self.now.actor }
+        ensures { IsReplicaOf self.now result.now }
+    {
+        let Some(replica) = self.node.replica() else {
+            unreachable!()
+        };
+        replica
+    }
+
+    /// Posts to an actor by a choice. Refused with the first of these that holds: `NoActor` where there is no such actor; `WrongRole` where
+    /// both are clients; `NotDue` where the conduct has no such post now; `Exhausted` where a counter would pass its limit; `BoxFull`;
+    /// `NoMemory`. After each of them nothing changed.
+    pub(crate) fn try_post(
+        &mut self,
+        alloc: Global,
+        boxes: &SharedBoxes,
+        to: &Actor,
+        pick: &Pick,
+    ) -> Result<(), Refusal>
+        requires { IsPassOf boxes.now self.old }
+        ensures ok { OnOk result ((x : Envelope) × (post_of self.old.shape self.old.log self.old.actor to.now pick.now ≡ Some x)
+            × (self.new ≡ with_entry self.old (Post to.now x))) }
+        ensures err { OnErr result (self.new ≡ self.old) }
+        ensures refused { (refusal : Refusal) → post_refused self.old.shape self.old.actor self.old.log to.now pick.now ≡ Some refusal
+            → result ≡ Err refusal }
+        ensures last { IfErr result (IsRefusedBy (post_refused self.old.shape self.old.actor self.old.log to.now pick.now) Refusal.BoxFull) }
+        ensures keeps { KeepsLog self.old.shape self.old.actor self.old.log }
+    {
+        if let Some(refusal) = self.post_refusal(to, pick) {
+            return Err(refusal);
+        }
+        look_at(pick);
+        let _n = self.seat.shape().n();
+        let _actor = self.seat.actor();
+        let Ok(envelope) = self.node.envelope_for(alloc, *to, *pick) else {
+            return Err(Refusal::NoMemory);
+        };
+        match self.seat.post(alloc, boxes, to, envelope) {
+            Ok(()) => {}
+            Err(refusal) => return Err(refusal),
+        }
+        self.node.posted(*to, *pick);
+        Ok(())
+    }
+
+    /// Takes from an actor, and returns the reply that a client accepts by it. Refused with the first of these that holds: `NoActor` where
+    /// there is no such actor; `WrongRole` where it is the client itself; `NotDue` where the conduct has no such take now; `BoxEmpty`;
+    /// `NoMemory`. After each of them nothing changed.
+    pub(crate) fn try_take(
+        &mut self,
+        boxes: &SharedBoxes,
+        from: &Actor,
+    ) -> Result<Option<Reply>, Refusal>
+        requires { IsPassOf boxes.now self.old }
+        ensures ok { IfOk result (λ reply. (x : Envelope) × IsEnvelope x × (self.new ≡ with_entry self.old (Take from.now x))
+            × TakesReply self.old.shape self.old.actor self.old.log from.now x reply) }
+        ensures err { OnErr result (self.new ≡ self.old) }
+        ensures refused { (refusal : Refusal) → take_refused self.old.shape self.old.actor self.old.log from.now ≡ Some refusal
+            → result ≡ Err refusal }
+        ensures last { IfErr result (IsRefusedBy (take_refused self.old.shape self.old.actor self.old.log from.now) Refusal.BoxEmpty) }
+    {
+        if let Some(refusal) = self.take_refusal(from) {
+            return Err(refusal);
+        }
+        let _n = self.seat.shape().n();
+        let Ok(()) = self.node.room() else {
+            return Err(Refusal::NoMemory);
+        };
+        match self.seat.take(boxes, from) {
+            Ok(envelope) => Ok(self.node.taken(*from, envelope)),
+            Err(refusal) => Err(refusal),
+        }
+    }
+
+    /// Tells another client the seen front. Refused with the first of these that holds: `NoActor` where there is no such actor; `WrongRole`
+    /// where the two are not different clients; `Exhausted` where the box has had all its posts; `BoxFull`; `NoMemory`. After each of them
+    /// nothing changed.
+    pub(crate) fn try_tell(
+        &mut self,
+        alloc: Global,
+        boxes: &SharedBoxes,
+        to: &Actor,
+    ) -> Result<(), Refusal>
+        requires { IsPassOf boxes.now self.old }
+        ensures ok { OnOk result (self.new ≡ with_entry self.old (Post to.now (Seen (seen self.old.shape self.old.log)))) }
+        ensures err { OnErr result (self.new ≡ self.old) }
+        ensures refused { (refusal : Refusal) → tell_refused self.old.shape self.old.actor self.old.log to.now ≡ Some refusal
+            → result ≡ Err refusal }
+        ensures last { IfErr result (IsRefusedBy (tell_refused self.old.shape self.old.actor self.old.log to.now) Refusal.BoxFull) }
+    {
+        if let Some(refusal) = self.tell_refusal(to) {
+            return Err(refusal);
+        }
+        let envelope = Envelope::Seen(self.node.seen());
+        match self.seat.post(alloc, boxes, to, envelope) {
+            Ok(()) => {}
+            Err(refusal) => return Err(refusal),
+        }
+        Ok(())
+    }
+
+    /// What the own log refuses a post with, if it does.
+    fn post_refusal(&self, to: &Actor, pick: &Pick) -> Option<Refusal>
+        ensures { result ≡ post_refused self.now.shape self.now.actor self.now.log to.now pick.now }
+    {
+        if !self.seat.shape().has(*to) {
+            return Some(Refusal::NoActor);
+        }
+        if are_clients(self.seat.actor(), to) {
+            return Some(Refusal::WrongRole);
+        }
+        match self.node.refusal(*to, *pick) {
+            Some(refusal) => Some(refusal),
+            None => self.spent_refusal(to),
+        }
+    }
+
+    /// What the own log refuses a take with, if it does.
+    fn take_refusal(&self, from: &Actor) -> Option<Refusal>
+        ensures { result ≡ take_refused self.now.shape self.now.actor self.now.log from.now }
+    {
+        if !self.seat.shape().has(*from) {
+            return Some(Refusal::NoActor);
+        }
+        if is_own_client(self.seat.actor(), from) {
+            return Some(Refusal::WrongRole);
+        }
+        if self.node.is_undue(*from) {
+            return Some(Refusal::NotDue);
+        }
+        None
+    }
+
+    /// What the own log refuses it with that the seen front is told, if it does.
+    fn tell_refusal(&self, to: &Actor) -> Option<Refusal>
+        ensures { result ≡ tell_refused self.now.shape self.now.actor self.now.log to.now }
+    {
+        if !self.seat.shape().has(*to) {
+            return Some(Refusal::NoActor);
+        }
+        let actor = self.seat.actor();
+        if !are_clients(actor, to) || is_own_client(actor, to) {
+            return Some(Refusal::WrongRole);
+        }
+        self.spent_refusal(to)
+    }
+
+    /// `Exhausted` where the box to an actor of the shape has had all the posts that it may have.
+    fn spent_refusal(&self, to: &Actor) -> Option<Refusal>
+        requires { IsActor self.now.shape to.now }
+        ensures { result ≡ (if is_spent self.now.log to.now then Some Refusal.Exhausted else None) }
+    {
+        if self.seat.is_spent(to) {
+            Some(Refusal::Exhausted)
+        } else {
+            None
+        }
+    }
+}

@@ -1,0 +1,129 @@
+ghost use Rattle.std.specs.Prelude.{◌≡◌, ◌++◌, [], map, reverse, vec_capacity, IfOk, IsOkUnless};
+ghost use Rattle.dsr_base.specs.Member.{In};
+ghost use Rattle.dsr_names.specs.Places.{size};
+ghost use Rattle.dsr_desk.specs.Keys.{IsWhole};
+ghost use Rattle.dsr_run.specs.Run.{AreLogs};
+ghost use Rattle.dsr_boxes.specs.Pass.{Pass, IsReturnedTo, new_pass};
+ghost use Rattle.dsr_mail.specs.Leaving.{IsLogged, IsRoomForAll, AreJoined};
+ghost use Rattle.dsr_mail.specs.Logs.{logs_of};
+ghost use Rattle.dsr_mail.specs.Seats.{is_loyal_replica, is_traitor_replica, is_client, actors_of, AreSeatsOf};
+
+use crate::leaving::Leaving;
+use crate::log::Log;
+use crate::logs::Logs;
+use crate::seats::Seats;
+use dsr_boxes::{Returned, SharedBoxes};
+use dsr_desk::Keys;
+use dsr_names::{Refusal, Shape};
+use dsr_node::Node;
+use std::alloc::Global;
+use std::marker::Model;
+
+/// The boxes between the actors of a shape, for all seats to share.
+#[derive(Drop)]
+pub struct Mail {
+    boxes: SharedBoxes,
+    /// Room for the logs of all actors, so that closing allocates nothing.
+    logs: Vec<Log>,
+    /// Room for their nodes.
+    nodes: Vec<Node>,
+}
+
+impl Model for Mail {
+    ghost use Rattle.std.specs.Prelude.{◌≡◌, [], vec_capacity};
+    ghost use Rattle.dsr_boxes.specs.Pass.{SharedBoxes};
+    ghost use Rattle.dsr_mail.specs.Leaving.{IsRoomForAll};
+
+    ghost Value = { SharedBoxes };
+
+    ghost view = { λ m. m.boxes };
+
+    ghost invariant = { λ m. (m.logs.items ≡ []) × (m.nodes.items ≡ []) × IsRoomForAll m.boxes.shape (vec_capacity m.logs)
+        × IsRoomForAll m.boxes.shape (vec_capacity m.nodes) };
+}
+
+impl Mail {
+    /// The mail between the actors of a shape, all boxes empty, and the seat of each actor, which holds the actor's key. `NoMemory` where
+    /// memory runs out.
+    pub fn open(alloc: Global, shape: Shape, keys: Keys) -> Result<(Mail, Seats), Refusal>
+        requires whole { IsWhole keys }
+        requires same { keys.shape ≡ shape }
+        ensures shape { IfOk result (λ made. made.0.shape ≡ shape) }
+        ensures replicas { IfOk result (λ made. made.1.replicas.items ≡ map (new_pass made.0) (actors_of is_loyal_replica made.0.shape)) }
+        ensures traitors { IfOk result (λ made. made.1.traitors.items ≡ map (new_pass made.0) (actors_of is_traitor_replica made.0.shape)) }
+        ensures clients { IfOk result (λ made. made.1.clients.items ≡ map (new_pass made.0) (actors_of is_client made.0.shape)) }
+        ensures refusal { IsOkUnless result Refusal.NoMemory }
+    {
+        let size = shape.size();
+        let logs = Vec::with_capacity(alloc, size)?;
+        let nodes = Vec::with_capacity(alloc, size)?;
+        let (boxes, passes) = SharedBoxes::open(alloc, shape)?;
+        let seats = Seats::of(alloc, &boxes, passes, keys)?;
+        Ok((Mail { boxes, logs, nodes }, seats))
+    }
+
+    /// The shape.
+    pub fn shape(&self) -> &Shape
+        ensures { result.now ≡ self.now.shape }
+    {
+        self.boxes.shape()
+    }
+
+    /// Closes the mail, for which the seat of each actor must have come back: their logs are those of a run. It allocates nothing. Envelopes
+    /// that were not taken are gone.
+    pub fn close(self, seats: Seats) -> Logs
+        requires replicas { AreSeatsOf self is_loyal_replica seats.replicas.items }
+        requires traitors { AreSeatsOf self is_traitor_replica seats.traitors.items }
+        requires clients { AreSeatsOf self is_client seats.clients.items }
+        ensures shape { result.shape ≡ self.shape }
+        ensures own { (seat : Pass) → In seat (seats.replicas.items ++ (seats.traitors.items ++ seats.clients.items))
+            → logs_of result seat.actor ≡ seat.log }
+        ensures run { AreLogs result.shape (logs_of result) }
+    {
+        let shape = *self.boxes.shape();
+        let mut logs = self.logs;
+        let mut nodes = self.nodes;
+        let returned = return_all(&self.boxes, seats, &mut logs, &mut nodes);
+        self.boxes.close(returned);
+        Logs::joined(shape, nodes, logs)
+    }
+
+    /// The boxes.
+    pub(crate) fn boxes(&self) -> &SharedBoxes
+        ensures { result.now ≡ self.now }
+    {
+        &self.boxes
+    }
+}
+
+/// All seats return: their passes to the boxes, their logs and nodes to these lists, by the places of their actors. Requires room for all.
+fn return_all(
+    boxes: &SharedBoxes,
+    seats: Seats,
+    logs: &mut Vec<Log>,
+    nodes: &mut Vec<Node>,
+) -> Returned
+    requires replicas { AreSeatsOf boxes.now is_loyal_replica seats.replicas.items }
+    requires traitors { AreSeatsOf boxes.now is_traitor_replica seats.traitors.items }
+    requires clients { AreSeatsOf boxes.now is_client seats.clients.items }
+    requires no_logs { logs.old.items ≡ [] }
+    requires no_nodes { nodes.old.items ≡ [] }
+    requires room_logs { IsRoomForAll boxes.now.shape (vec_capacity logs.old) }
+    requires room_nodes { IsRoomForAll boxes.now.shape (vec_capacity nodes.old) }
+    ensures boxes { IsReturnedTo boxes.now result }
+    ensures logs { result.logs ≡ reverse logs.new.items }
+    ensures joined { AreJoined boxes.now.shape (size boxes.now.shape) logs.new.items nodes.new.items }
+    ensures replicas { (seat : Pass) → In seat seats.replicas.items → IsLogged boxes.now.shape logs.new.items seat }
+    ensures traitors { (seat : Pass) → In seat seats.traitors.items → IsLogged boxes.now.shape logs.new.items seat }
+    ensures clients { (seat : Pass) → In seat seats.clients.items → IsLogged boxes.now.shape logs.new.items seat }
+{
+    let mut leaving = Leaving::all(seats);
+    let mut returned = boxes.none_returned();
+    for place in 0..boxes.shape().size() {
+        let (pass, log, node) = leaving.next(boxes, place);
+        returned.take_back(boxes, pass);
+        logs.push_reserved(log);
+        nodes.push_reserved(node);
+    }
+    returned
+}

@@ -1,0 +1,171 @@
+ghost use Rattle.std.specs.Prelude.{◌≡◌, ◌↔◌, ◌<◌, ◌^◌, None, Some, Ok, Err, IfErr, IsSome, IsTrue, OnOk, OnErr};
+ghost use Rattle.std.specs.Option.{option_map};
+ghost use Rattle.dsr_names.specs.Shape.{IsActor, IsLoyal};
+ghost use Rattle.dsr_names.specs.declared.actor.Actor.TheVariants.{Replica};
+ghost use Rattle.dsr_names.specs.declared.refusal.Refusal.{Refusal};
+ghost use Rattle.dsr_envelope.specs.declared.envelope.Envelope.{Envelope};
+ghost use Rattle.dsr_envelope.specs.declared.entry.Entry.TheVariants.{Post, Take};
+ghost use Rattle.dsr_envelope.specs.Limits.{IsEnvelope};
+ghost use Rattle.dsr_envelope.specs.Log.{due, rounds};
+ghost use Rattle.dsr_replica.specs.Conduct.{IsLoyalLog, envelope_to, reply_to};
+ghost use Rattle.dsr_replica.specs.Held.{held};
+ghost use Rattle.dsr_node.specs.Conduct.{post_of};
+ghost use Rattle.dsr_node.specs.Node.{IsReplicaNumber};
+ghost use Rattle.dsr_boxes.specs.Pass.{IsPassOf, with_entry};
+ghost use Rattle.dsr_mail.specs.Refusals.{IsRefusedBy, post_refused, take_refused, wait_refused};
+
+use crate::loyal::Loyal;
+use crate::mail::Mail;
+use dsr_envelope::{Due, Envelope, Pick};
+use dsr_names::{Actor, ClientId, Refusal, ReplicaId};
+use dsr_request::Request;
+use std::alloc::Global;
+use std::marker::Model;
+use std::sync::Wait;
+
+/// The seat of a loyal replica: the replica, its log, and its boxes at the mail.
+#[derive(Drop)]
+pub struct ReplicaSeat {
+    loyal: Loyal,
+}
+
+impl Model for ReplicaSeat {
+    ghost use Rattle.dsr_node.specs.Node.{IsReplicaNumber};
+    ghost use Rattle.dsr_boxes.specs.Pass.{Pass};
+
+    ghost Value = { Pass };
+
+    ghost view = { λ s. s.loyal };
+
+    ghost invariant = { λ s. IsReplicaNumber s.loyal.actor };
+}
+
+impl ReplicaSeat {
+    /// The seat of a loyal replica.
+    pub(crate) fn new(loyal: Loyal) -> ReplicaSeat
+        requires { IsReplicaNumber loyal.actor }
+        ensures { result ≡ loyal }
+    {
+        ReplicaSeat { loyal }
+    }
+
+    /// The loyal actor.
+    pub(crate) fn into_loyal(self) -> Loyal
+        ensures { result ≡ self }
+    {
+        self.loyal
+    }
+
+    /// The actor.
+    pub fn actor(&self) -> Actor
+        ensures same { result ≡ self.now.actor }
+        ensures inside { IsActor self.now.shape result }
+    {
+        *self.loyal.seat().actor()
+    }
+
+    /// The replica's number.
+    pub fn replica(&self) -> ReplicaId
+        ensures same { self.now.actor ≡ Replica result }
+        ensures loyal { IsLoyal self.now.shape self.now.actor }
+    {
+        let _replica = self.loyal.replica();
+        let Actor::Replica(replica) = self.loyal.seat().actor() else {
+            unreachable!()
+        };
+        *replica
+    }
+
+    /// What it does next with the other replicas.
+    pub fn due(&self) -> Due
+        ensures same { result ≡ due self.now.shape self.now.log }
+        ensures conduct { IsLoyalLog self.now.shape self.now.actor self.now.log }
+    {
+        let _node = self.loyal.node();
+        self.loyal.replica().due()
+    }
+
+    /// Whether it may post to this replica by this choice: the post is due, there is such an envelope, and the round is below 2^36.
+    pub fn allows(&self, to: ReplicaId, pick: Pick) -> bool
+        ensures { IsTrue result ↔ (IsSome (envelope_to self.now.shape self.now.actor self.now.log to pick) × (rounds self.now.shape self.now.log < 2 ^ 36)) }
+    {
+        self.loyal.replica().allows(to, pick)
+    }
+
+    /// The request that is held of a client.
+    pub fn held(&self, client: ClientId) -> Option<Request>
+        ensures { result ≡ option_map (λ ask. ask.request) (held self.now.shape client self.now.log) }
+    {
+        self.loyal.replica().held(client)
+    }
+
+    /// The envelope with the reply to a client's last request that acted; `None` where none did.
+    pub fn reply_for(&self, client: ClientId) -> Option<Envelope>
+        ensures { result ≡ reply_to self.now.shape self.now.log client }
+    {
+        self.loyal.replica().reply_for(client)
+    }
+
+    /// Posts to an actor by a choice. It waits for nobody. Refused with the first of these that holds: `NoActor` where there is no such
+    /// actor; `NotDue` where the conduct has no such post now; `Exhausted` where a counter would pass its limit; `BoxFull` where what it
+    /// posted there last was not taken yet; `NoMemory` where memory runs out. After each of them nothing changed.
+    pub fn try_post(
+        &mut self,
+        alloc: Global,
+        mail: &Mail,
+        to: Actor,
+        pick: Pick,
+    ) -> Result<(), Refusal>
+        requires mail { IsPassOf mail.now self.old }
+        ensures ok { OnOk result ((x : Envelope) × (post_of self.old.shape self.old.log self.old.actor to pick ≡ Some x)
+            × (self.new ≡ with_entry self.old (Post to x))) }
+        ensures err { OnErr result (self.new ≡ self.old) }
+        ensures refused { (refusal : Refusal) → post_refused self.old.shape self.old.actor self.old.log to pick ≡ Some refusal → result ≡ Err refusal }
+        ensures last { IfErr result (IsRefusedBy (post_refused self.old.shape self.old.actor self.old.log to pick) Refusal.BoxFull) }
+    {
+        self.loyal.try_post(alloc, mail.boxes(), &to, &pick)
+    }
+
+    /// Takes from an actor what it posted to this replica. It waits for nobody. Refused with the first of these that holds: `NoActor` where
+    /// there is no such actor; `NotDue` where it is a replica and the take is not due; `BoxEmpty` where nothing lies there; `NoMemory` where
+    /// memory runs out. After each of them nothing changed.
+    pub fn try_take(&mut self, mail: &Mail, from: Actor) -> Result<(), Refusal>
+        requires mail { IsPassOf mail.now self.old }
+        ensures ok { OnOk result ((x : Envelope) × IsEnvelope x × (self.new ≡ with_entry self.old (Take from x))) }
+        ensures err { OnErr result (self.new ≡ self.old) }
+        ensures refused { (refusal : Refusal) → take_refused self.old.shape self.old.actor self.old.log from ≡ Some refusal → result ≡ Err refusal }
+        ensures last { IfErr result (IsRefusedBy (take_refused self.old.shape self.old.actor self.old.log from) Refusal.BoxEmpty) }
+    {
+        match self.loyal.try_take(mail.boxes(), &from) {
+            Ok(_) => Ok(()),
+            Err(refusal) => Err(refusal),
+        }
+    }
+
+    /// Sleeps while what it posted to a replica is not taken. It may return earlier, so the caller tries again. `NoActor` where there is no
+    /// such actor, `WrongRole` where it is a client, whom no replica waits for.
+    pub fn wait_to<R: Wait>(&self, rt: &R, mail: &Mail, to: Actor) -> Result<(), Refusal>
+        requires mail { IsPassOf mail.now self.now }
+        ensures refused { (refusal : Refusal) → wait_refused self.now.shape to ≡ Some refusal → result ≡ Err refusal }
+        ensures ok { wait_refused self.now.shape to ≡ None → result ≡ Ok tt }
+    {
+        self.loyal.seat().wait_to(rt, mail.boxes(), &to)
+    }
+
+    /// Sleeps while a replica has posted nothing that could be taken. It may return earlier, so the caller tries again. `NoActor` where there
+    /// is no such actor, `WrongRole` where it is a client, whom no replica waits for.
+    pub fn wait_from<R: Wait>(&self, rt: &R, mail: &Mail, from: Actor) -> Result<(), Refusal>
+        requires mail { IsPassOf mail.now self.now }
+        ensures refused { (refusal : Refusal) → wait_refused self.now.shape from ≡ Some refusal → result ≡ Err refusal }
+        ensures ok { wait_refused self.now.shape from ≡ None → result ≡ Ok tt }
+    {
+        self.loyal.seat().wait_from(rt, mail.boxes(), &from)
+    }
+
+    /// Wakes everybody who sleeps at the mail, so that each tries again.
+    pub fn wake(&self, mail: &Mail)
+        requires mail { IsPassOf mail.now self.now }
+    {
+        mail.boxes().wake_all();
+    }
+}

@@ -1,0 +1,206 @@
+ghost use Rattle.std.specs.Prelude.{◌≡◌, ◌⊎◌, ◌<◌, [], ◌∷◌, vec_len, vec_capacity, reverse, IfOk, IfErr, IfNone, IsOk, OnOk, OnErr, IsOkUnless, None, Some, Ok, Err};
+ghost use Rattle.dsr_names.specs.Shape.{IsActor};
+ghost use Rattle.dsr_names.specs.declared.refusal.Refusal.{Refusal};
+ghost use Rattle.dsr_envelope.specs.declared.entry.Entry.TheVariants.{Post, Take};
+ghost use Rattle.dsr_envelope.specs.Limits.{IsEnvelope};
+ghost use Rattle.dsr_run.specs.OwnStep.{MayPost, HasPostsLeft};
+ghost use Rattle.dsr_boxes.specs.Pass.{IsPassOf, with_entry, MayTake};
+ghost use Rattle.dsr_mail.specs.Refusals.{is_spent, wait_refused};
+
+use crate::log::Log;
+use dsr_boxes::{Parcel, Pass, SharedBoxes};
+use dsr_envelope::{Entry, Envelope};
+use dsr_names::{Actor, NUMBER_END, Refusal, Shape};
+use std::alloc::Global;
+use std::marker::Model;
+use std::sync::Wait;
+
+/// What an actor of any kind has at the mail: its pass, its log, and how many envelopes it posted to each actor.
+#[derive(Drop)]
+pub(crate) struct Seat {
+    pass: Pass,
+    shape: Shape,
+    entries: Vec<Entry>,
+    /// How many envelopes it posted to each actor, by that actor's place.
+    posts: Vec<u64>,
+}
+
+impl Model for Seat {
+    ghost use Rattle.std.specs.Prelude.{◌≡◌, reverse};
+    ghost use Rattle.dsr_boxes.specs.Pass.{Pass};
+    ghost use Rattle.dsr_mail.specs.Counts.{AreCounts};
+
+    ghost Value = { Pass };
+
+    ghost view = { λ s. s.pass };
+
+    ghost invariant = { λ s. (s.shape ≡ s.pass.shape) × (reverse s.entries.items ≡ s.pass.log) × AreCounts s.pass.shape s.pass.log s.posts.items };
+}
+
+impl Seat {
+    /// The seat of the actor whose pass this is, before it did anything. `NoMemory` where memory runs out: then the pass is gone.
+    pub(crate) fn new(alloc: Global, pass: Pass, shape: Shape) -> Result<Seat, Refusal>
+        requires shape { pass.shape ≡ shape }
+        requires first { pass.log ≡ [] }
+        ensures same { IfOk result (λ seat. seat ≡ pass) }
+        ensures refusal { IsOkUnless result Refusal.NoMemory }
+    {
+        let posts = vec![in alloc; 0; shape.size()]?;
+        Ok(Seat {
+            pass,
+            shape,
+            entries: Vec::new(alloc),
+            posts,
+        })
+    }
+
+    /// The shape.
+    pub(crate) fn shape(&self) -> &Shape
+        ensures { result.now ≡ self.now.shape }
+    {
+        &self.shape
+    }
+
+    /// The actor.
+    pub(crate) fn actor(&self) -> &Actor
+        ensures same { result.now ≡ self.now.actor }
+        ensures inside { IsActor self.now.shape result.now }
+    {
+        self.pass.actor()
+    }
+
+    /// Whether the box to an actor of the shape has had all the posts that it may have.
+    pub(crate) fn is_spent(&self, to: &Actor) -> bool
+        requires { IsActor self.now.shape to.now }
+        ensures { result ≡ is_spent self.now.log to.now }
+    {
+        let posts = self.posts[self.shape.place(to)];
+        posts >= NUMBER_END - 1
+    }
+
+    /// Posts the envelope to an actor. `NoMemory` where memory runs out or one handle more is refused, `BoxFull` where the box is not
+    /// empty: then nothing changed, and the envelope is gone. Requires that the own log allows the post.
+    pub(crate) fn post(
+        &mut self,
+        alloc: Global,
+        boxes: &SharedBoxes,
+        to: &Actor,
+        envelope: Envelope,
+    ) -> Result<(), Refusal>
+        requires boxes { IsPassOf boxes.now self.old }
+        requires to { IsActor self.old.shape to.now }
+        requires conduct { MayPost self.old.shape self.old.actor self.old.log to.now envelope }
+        requires few { HasPostsLeft self.old.log to.now }
+        ensures posted { OnOk result (self.new ≡ with_entry self.old (Post to.now envelope)) }
+        ensures unchanged { OnErr result (self.new ≡ self.old) }
+        ensures refusal { IfErr result (λ refusal. (refusal ≡ Refusal.BoxFull) ⊎ (refusal ≡ Refusal.NoMemory)) }
+    {
+        let (parcel, own) = Parcel::of(alloc, envelope)?;
+        make_room(&mut self.entries)?;
+        match self.pass.post(boxes, to, parcel) {
+            Ok(()) => {}
+            Err(refusal) => return Err(refusal),
+        }
+        self.entries.push_reserved(Entry::Post {
+            to: *to,
+            envelope: own,
+        });
+        self.posts[self.shape.place(to)] += 1;
+        Ok(())
+    }
+
+    /// Takes from an actor what it posted to this one. `NoMemory` where memory runs out, `BoxEmpty` where the box is not full: then
+    /// nothing changed. Requires that the own log allows the take.
+    pub(crate) fn take(&mut self, boxes: &SharedBoxes, from: &Actor) -> Result<Envelope, Refusal>
+        requires boxes { IsPassOf boxes.now self.old }
+        requires from { IsActor self.old.shape from.now }
+        requires conduct { MayTake self.old.shape self.old.actor self.old.log from.now }
+        ensures taken { IfOk result (λ envelope. self.new ≡ with_entry self.old (Take from.now envelope)) }
+        ensures within { IfOk result IsEnvelope }
+        ensures unchanged { OnErr result (self.new ≡ self.old) }
+        ensures refusal { IfErr result (λ refusal. (refusal ≡ Refusal.BoxEmpty) ⊎ (refusal ≡ Refusal.NoMemory)) }
+    {
+        make_room(&mut self.entries)?;
+        let Some(parcel) = self.pass.take(boxes, from) else {
+            return Err(Refusal::BoxEmpty);
+        };
+        let (envelope, letter) = parcel.into_parts();
+        self.entries.push_reserved(Entry::Take {
+            from: *from,
+            envelope: letter,
+        });
+        Ok(envelope)
+    }
+
+    /// Sleeps while the own box to a replica does not stand empty. It may return earlier. `NoActor` where there is no such actor,
+    /// `WrongRole` where it is a client.
+    pub(crate) fn wait_to<R: Wait>(
+        &self,
+        rt: &R,
+        boxes: &SharedBoxes,
+        to: &Actor,
+    ) -> Result<(), Refusal>
+        requires { IsPassOf boxes.now self.now }
+        ensures refused { (refusal : Refusal) → wait_refused self.now.shape to.now ≡ Some refusal → result ≡ Err refusal }
+        ensures ok { wait_refused self.now.shape to.now ≡ None → result ≡ Ok tt }
+    {
+        if let Some(refusal) = self.wait_refusal(to) {
+            return Err(refusal);
+        }
+        self.pass.wait_to(rt, boxes, to);
+        Ok(())
+    }
+
+    /// Sleeps while the box of a replica to this actor is not full. It may return earlier. `NoActor` where there is no such actor,
+    /// `WrongRole` where it is a client.
+    pub(crate) fn wait_from<R: Wait>(
+        &self,
+        rt: &R,
+        boxes: &SharedBoxes,
+        from: &Actor,
+    ) -> Result<(), Refusal>
+        requires { IsPassOf boxes.now self.now }
+        ensures refused { (refusal : Refusal) → wait_refused self.now.shape from.now ≡ Some refusal → result ≡ Err refusal }
+        ensures ok { wait_refused self.now.shape from.now ≡ None → result ≡ Ok tt }
+    {
+        if let Some(refusal) = self.wait_refusal(from) {
+            return Err(refusal);
+        }
+        self.pass.wait_from(rt, boxes, from);
+        Ok(())
+    }
+
+    /// What a wait for another is refused with, if it is.
+    fn wait_refusal(&self, other: &Actor) -> Option<Refusal>
+        ensures same { result ≡ wait_refused self.now.shape other.now }
+        ensures inside { IfNone result (IsActor self.now.shape other.now) }
+    {
+        if !self.shape.has(*other) {
+            return Some(Refusal::NoActor);
+        }
+        match other {
+            Actor::Replica(_) => None,
+            Actor::Client(_) => Some(Refusal::WrongRole),
+        }
+    }
+
+    /// The pass, and the log.
+    pub(crate) fn into_parts(self) -> (Pass, Log)
+        ensures pass { result.0 ≡ self }
+        ensures log { result.1 ≡ self.log }
+    {
+        (self.pass, Log::of(self.entries))
+    }
+}
+
+/// Makes room for one more entry. `NoMemory` where it is refused: then the entries are as before.
+fn make_room(entries: &mut Vec<Entry>) -> Result<(), Refusal>
+    ensures same { entries.new.items ≡ entries.old.items }
+    ensures room { OnOk result (vec_len entries.new < vec_capacity entries.new) }
+    ensures refusal { IsOkUnless result Refusal.NoMemory }
+{
+    match entries.reserve(1) {
+        Ok(()) => Ok(()),
+        Err(_) => Err(Refusal::NoMemory),
+    }
+}
