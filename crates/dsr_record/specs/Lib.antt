@@ -1,3 +1,4 @@
+pub mod Merge
 pub mod Record
 pub mod RecordFile
 pub mod RecordText

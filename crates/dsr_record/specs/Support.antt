@@ -1,2 +1,3 @@
--- How noted entries are seen.
+-- How noted entries are seen, and merges of logs.
+pub mod Merging
 pub mod Noted

@@ -3,6 +3,8 @@
 
 mod files;
 mod laws;
+mod mailboxes;
+mod merging;
 mod noted;
 mod record;
 mod recording;

@@ -41,7 +41,7 @@ impl Record {
 }
 
 /// The first version whose transcripts can have all of these steps. Requires that texts can spell each.
-fn least_version(steps: &[NotedStep]) -> Version
+pub(crate) fn least_version(steps: &[NotedStep]) -> Version
     requires { All IsSpelledStep steps.now }
     ensures least { (result ≡ One) ↔ All (IsStepOf One) steps.now }
     ensures fits { All (IsStepOf result) steps.now }
@@ -54,7 +54,7 @@ fn least_version(steps: &[NotedStep]) -> Version
 }
 
 /// The entry with its envelope as data. Requires that the envelope is within the limits.
-fn noted(alloc: Global, entry: &Entry) -> Result<NotedEntry, Refusal>
+pub(crate) fn noted(alloc: Global, entry: &Entry) -> Result<NotedEntry, Refusal>
     requires { IsEnvelope (envelope_of entry.now) }
     ensures same { IfOk result (λ noted. entry_of noted ≡ entry.now) }
     ensures refusal { IsOkUnless result Refusal.NoMemory }

@@ -1,6 +1,7 @@
 //! Transcripts that are read, written, and made of worlds.
 
 use dsr_base::Exact;
+use dsr_mail::Logs;
 use dsr_names::{Actor, ClientId, Outside, Refusal, ReplicaId, Shape, Sink, Source};
 use dsr_play::Play;
 use dsr_record::{NotedEntry, NotedStep, Record, Version, read, write};
@@ -233,6 +234,23 @@ fn the_record_of_a_world_has_version_2_where_it_needs_it(rt: HostRuntime) -> Res
         b"dsr-play 1 1 0 1 -\npost c0 r0 begin read a\n".as_slice(),
     )?;
     assert_eq!(rt; plain.version(), Version::One);
+    Ok(())
+}
+
+#[test]
+fn the_record_of_empty_logs_has_no_steps(rt: HostRuntime) -> Result<(), Fail> {
+    let shape = Shape::new(3, 1, 2, 0b001)?;
+    let logs = Logs::empty(shape);
+    assert_eq!(rt; *logs.shape(), shape);
+    assert_eq!(rt; logs.of(Actor::Replica(ReplicaId::FIRST)).len(), 0);
+    assert_eq!(rt; logs.accepted(ClientId::FIRST).len(), 0);
+    assert_eq!(rt; logs.history().len(), 0);
+    let recorded = Record::of_logs(rt.alloc(), &logs)?;
+    assert_eq!(rt; recorded.version(), Version::One);
+    assert_eq!(rt;
+        written(rt.alloc(), &recorded)?.as_slice(),
+        b"dsr-transcript 1 3 1 2 r0\n".as_slice()
+    );
     Ok(())
 }
 
