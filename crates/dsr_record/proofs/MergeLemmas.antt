@@ -1,5 +1,5 @@
 -- How logs are merged: what is next, what is left, and that a merge goes on.
-use Rattle.std.proofs.Common.{◌≡◌, ◌≢◌, ℕ, suc, ◌+◌, ◌<◌, ◌≤◌, ◌-◌, ◌^◌, nat_lt, Bool, true, false, List, [], ◌∷◌, ◌++◌, None, Some, length, length-append, reverse, ◌⊎◌, inl, inr, refl, ap, sym, ◌∙◌, subst, arith, if◌then◌else◌}
+use Rattle.std.proofs.Common.{◌≡◌, ℕ, suc, ◌+◌, ◌<◌, ◌≤◌, ◌-◌, ◌^◌, nat_lt, Bool, true, false, List, [], ◌∷◌, ◌++◌, None, Some, length, length-append, reverse, ◌⊎◌, inl, inr, refl, ap, sym, ◌∙◌, subst, arith, if◌then◌else◌}
 use Rattle.std.specs.Prelude.{All, slice_get, slice_index_or, slice_set}
 use Rattle.std.proofs.lemmas.Option.{none-some, same_Some}
 use Rattle.std.proofs.lemmas.Bool.{cases_Bool}
@@ -84,10 +84,6 @@ module _ (logs : Logs) (merged : List Step) (a : Actor) (rest : List Entry) (lef
   none_goes e can =
       let same = next_one (logs a) (log_of merged a) rest can.next.0 can.entry left can.next.1 in
       nonempty can.entry (reverse can.next.0) (sym same ∙ e)
-
-  -- where somebody can go on, something is left
-  pub can_left : CanGoOn logs merged a → rest ≢ []
-  can_left can e = none_goes e can
 
   -- the first entry of the rest is the next
   pub next_of : (entry : Entry) (more : List Entry) → rest ≡ entry ∷ more → IsNextOf logs merged a entry

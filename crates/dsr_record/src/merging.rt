@@ -24,7 +24,7 @@ use std::alloc::Global;
 impl Record {
     /// The record of all entries of the logs, in one order: again and again the next entry of the lowest actor, replicas before clients, whose
     /// next entry can go on. A post can go on where its box is empty, a take where its box holds that envelope. It is of version 1 where each
-    /// step can stand in a transcript of version 1, else of version 2.
+    /// step can stand in a transcript of version 1, else of version 2. Nothing says that the steps are a run.
     ///
     /// `NotARun` where entries are left and none of them can go on: its line is the first that the transcript lacks. `NoMemory` where memory
     /// runs out.
