@@ -1,12 +1,11 @@
 -- How a client's seat goes on knowing which replicas it asked.
-use Rattle.std.proofs.Common.{◌≡◌, ◌≢◌, ◌↔◌, ℕ, suc, ◌<◌, Bool, true, false, List, [], ◌∷◌, Option, None, Some, length, ◌⊎◌, inl, inr, refl, ap, sym, ◌∙◌, subst, arith}
-use Rattle.std.specs.Prelude.{slice_index_or, slice_set, replicate}
+use Rattle.std.proofs.Common.{◌≡◌, ◌≢◌, ℕ, ◌<◌, Bool, true, false, List, ◌∷◌, Option, None, Some, length, ◌⊎◌, inl, inr, refl, ap, sym, ◌∙◌, subst, arith}
+use Rattle.std.specs.Prelude.{slice_index_or, slice_set}
 use Rattle.std.specs.Option.{option_map}
 use Rattle.std.proofs.lemmas.Bool.{false≢true}
-use Rattle.std.proofs.lemmas.Bool.Decides.{nat_tests}
 use Rattle.std.proofs.lemmas.List.{get_or-replicate, get_or-set_same, get_or-set_other}
 use Rattle.std.proofs.lemmas.Option.{none-some, same_Some}
-use Rattle.dsr_base.specs.Member.{In, here, there}
+use Rattle.dsr_base.specs.Member.{here, there}
 use Rattle.dsr_names.specs.Shape.{Shape}
 use Rattle.dsr_names.specs.declared.actor.Actor.{Actor}
 use Rattle.dsr_names.specs.declared.actor.Actor.TheVariants.{Replica, Client}
@@ -21,7 +20,7 @@ use Rattle.dsr_envelope.specs.declared.pick.Pick.TheVariants.{Plain, From, Begin
 use Rattle.dsr_request.specs.declared.op.Op.{Op}
 use Rattle.dsr_client.specs.Accepted.{AcceptsNone, Accepts}
 use Rattle.dsr_client.specs.Conduct.{IsClientLog, ask_of, next_number, chosen_beside}
-use Rattle.dsr_client.specs.State.{State, state_after, asked_beside, outstanding, accepted}
+use Rattle.dsr_client.specs.State.{state_after, asked_beside, outstanding, accepted}
 use Rattle.dsr_client.proofs.Lemmas.{accept_cases, take_quiet, next_unasked}
 use Rattle.dsr_node.specs.Conduct.{post_of, AcceptsBy}
 use Rattle.dsr_node.specs.Node.{TakesReply}

@@ -1,19 +1,14 @@
 -- What the logs of a closed mail are.
-use Rattle.std.proofs.Common.{◌≡◌, ℕ, true, false, List, [], ◌++◌, reverse, if◌then◌else◌, ◌⊎◌, inl, inr, refl, ap, sym, ◌∙◌, subst}
+use Rattle.std.proofs.Common.{◌≡◌, List, [], reverse, if◌then◌else◌, ap, ◌∙◌}
 use Rattle.std.specs.Prelude.{slice_index_or}
 use Rattle.std.proofs.lemmas.List.{reverse-reverse}
-use Rattle.dsr_base.specs.Member.{In}
-use Rattle.dsr_names.specs.Places.{size, place_of}
+use Rattle.dsr_names.specs.Places.{place_of}
 use Rattle.dsr_names.specs.Shape.{Shape, IsActor}
 use Rattle.dsr_names.specs.declared.actor.Actor.{Actor}
-use Rattle.dsr_names.proofs.PlaceLemmas.{place_below}
 use Rattle.dsr_envelope.specs.declared.entry.Entry.{Entry}
-use Rattle.dsr_node.specs.Node.{Plays}
-use Rattle.dsr_node.specs.declared.node.Node.{Node}
 use Rattle.dsr_boxes.specs.Pass.{Pass, logs_in}
-use Rattle.dsr_mail.specs.Leaving.{IsLogged, AreJoined}
+use Rattle.dsr_mail.specs.Leaving.{IsLogged}
 use Rattle.dsr_mail.specs.Logs.{Logs, logs_of}
-use Rattle.dsr_mail.specs.Played.{ArePlayed}
 use Rattle.dsr_mail.proofs.Clearing.{actor_test}
 
 -- the log of an actor of the shape is that at its place

@@ -1,7 +1,7 @@
 -- How seats come and go by the places of their actors.
-use Rattle.std.proofs.Common.{◌≡◌, ◌≢◌, ℕ, zero, suc, ◌+◌, ◌-◌, ◌<◌, ◌≤◌, nat_lt, not, Bool, true, false, List, [], ◌∷◌, ◌++◌, length, reverse, if◌then◌else◌, length-append, append-nil, append_assoc, ◌⊎◌, inl, inr, refl, ap, ap₂, sym, ◌∙◌, subst, arith}
-use Rattle.std.specs.Prelude.{All, map, slice_index_or}
-use Rattle.std.proofs.lemmas.Bool.{cases_lt, true≢false, false≢true}
+use Rattle.std.proofs.Common.{◌≡◌, ◌≢◌, ℕ, zero, suc, ◌-◌, ◌<◌, ◌≤◌, nat_lt, not, Bool, true, false, List, [], ◌∷◌, ◌++◌, length, reverse, if◌then◌else◌, length-append, append-nil, append_assoc, ◌⊎◌, inl, inr, refl, ap, ap₂, sym, ◌∙◌, subst, arith}
+use Rattle.std.specs.Prelude.{map, slice_index_or}
+use Rattle.std.proofs.lemmas.Bool.{cases_lt}
 use Rattle.std.proofs.lemmas.Bool.Decides.{nat_tests}
 use Rattle.std.proofs.lemmas.List.{append_cancel_left, reverse-append, map-append, get_or_append_left}
 use Rattle.std.proofs.Math.Seq.{get_or-append_seam}
@@ -11,7 +11,7 @@ use Rattle.dsr_names.specs.Shape.{Shape, IsActor, IsLoyal, is_traitor}
 use Rattle.dsr_names.specs.declared.actor.Actor.{Actor}
 use Rattle.dsr_names.specs.declared.actor.Actor.TheVariants.{Replica, Client}
 use Rattle.dsr_envelope.specs.declared.entry.Entry.{Entry}
-use Rattle.dsr_names.proofs.PlaceLemmas.{place_below, same_place, actor_of_place, place_of_actor}
+use Rattle.dsr_names.proofs.PlaceLemmas.{same_place, place_of_actor}
 use Rattle.dsr_node.specs.Node.{Plays}
 use Rattle.dsr_node.specs.declared.node.Node.{Node}
 use Rattle.dsr_boxes.specs.Pass.{SharedBoxes, Pass, IsPassOf, new_pass, new_passes}

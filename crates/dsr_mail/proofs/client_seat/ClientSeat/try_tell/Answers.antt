@@ -12,5 +12,5 @@ invariant_of-self-2 c =
     let told = c.in-Ok.ensures.ok in (
       subst (λ (s : Pass). IsClientActor s.actor) (sym told) c.self.invariant.0,
       subst (λ (s : Pass). AreAsked s.shape s.log c.self.inside.asked) (sym told)
-      (asked_told seat.shape seat.log c.self.inside.asked c.args.to (seen seat.shape seat.log) c.self.invariant.1),
+          (asked_told seat.shape seat.log c.self.inside.asked c.args.to (seen seat.shape seat.log) c.self.invariant.1),
     )

@@ -1,4 +1,4 @@
-use Rattle.std.proofs.Common.{◌≡◌, ◌⊎◌, true, false, ap, sym, ◌∙◌, subst}
+use Rattle.std.proofs.Common.{◌≡◌, ◌⊎◌, true, ap, sym, ◌∙◌, subst}
 use Rattle.std.proofs.lemmas.Bool.{true≢false}
 use Rattle.std.specs.Vec.Iter.{into_iter_items}
 use Rattle.dsr_base.specs.Member.{In}
@@ -6,7 +6,7 @@ use Rattle.dsr_names.specs.Places.{actor_at}
 use Rattle.dsr_names.specs.Shape.{IsActor, IsLoyal}
 use Rattle.dsr_boxes.specs.Pass.{Pass, IsPassOf}
 use Rattle.dsr_mail.specs.Seats.{is_loyal_replica, is_traitor_replica, is_client}
-use Rattle.dsr_mail.proofs.Seating.{IsFirst, left_first, left_some, loyal_kind, traitor_kind, leaves_node, one_left}
+use Rattle.dsr_mail.proofs.Seating.{left_first, left_some, loyal_kind, traitor_kind, leaves_node, one_left}
 use Rattle.dsr_mail.proofs.leaving.Leaving.next.Goals as goal
 
 pub first_of-requires : goal.first_of-requires

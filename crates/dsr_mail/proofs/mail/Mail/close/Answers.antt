@@ -1,6 +1,5 @@
-use Rattle.std.proofs.Common.{◌≡◌, ◌++◌, inl, inr, reverse, ap, sym, ◌∙◌, subst}
+use Rattle.std.proofs.Common.{◌++◌, inl, inr, ◌∙◌}
 use Rattle.dsr_base.proofs.MemberLemmas.{In-append_cases}
-use Rattle.dsr_boxes.specs.Pass.{Pass, SharedBoxes}
 use Rattle.dsr_mail.proofs.Closing.{own_log}
 use Rattle.dsr_mail.proofs.mail.Mail.close.Goals as goal
 

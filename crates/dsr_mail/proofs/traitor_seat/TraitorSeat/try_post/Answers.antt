@@ -1,7 +1,7 @@
 use Rattle.std.proofs.Common.{sym, subst}
 use Rattle.dsr_boxes.specs.Pass.{Pass}
 use Rattle.dsr_mail.specs.Traitor.{IsTraitorSeat}
-use Rattle.dsr_mail.proofs.Planting.{planted_seat, may_plant}
+use Rattle.dsr_mail.proofs.Planting.{planted_seat}
 use Rattle.dsr_mail.proofs.traitor_seat.TraitorSeat.try_post.Goals as goal
 
 pub invariant_of-self-2 : goal.invariant_of-self-2
