@@ -24,7 +24,7 @@ use Rattle.dsr_base.specs.Member.{In, here}
 use Rattle.dsr_base.proofs.MemberLemmas.{In-append_right}
 use Rattle.dsr_boxes.specs.declared.view.Doing.TheVariants.{Resting, Filling, Emptying}
 use Rattle.dsr_boxes.specs.declared.view.View.{View}
-use Rattle.dsr_boxes.specs.Pass.{MayTake}
+use Rattle.dsr_boxes.specs.Pass.{IsInRun, MayTake}
 use Rattle.dsr_boxes.specs.Place.{slot_of, word_of}
 use Rattle.dsr_boxes.specs.Play.{Claims, Publishes, Fetches, Releases}
 use Rattle.dsr_boxes.specs.Rule.{Table, Agrees, Kept}
@@ -138,6 +138,10 @@ unmoved shape table i id v there kept =
 
 -- ---- the steps
 
+-- the log of an actor in a run
+in_run : (shape : Shape) (run : List Step) → IsRun shape run → (me : Actor) (log : List Entry) → log_of run me ≡ log → IsInRun shape me log
+in_run shape run is me log own = record { logs = log_of run; are = record { run = run; is = is; each = λ a. refl }; own = own }
+
 module _ (shape : Shape) (slots id : ℕ) (me : Actor) (log : List Entry) (in_me : IsActor shape me) where
   abbrev Outcome : Table → ℕ → List (ℕ × Option Envelope) → (ℕ → Holding → Type 0) → ℕ → Type 0
   Outcome s i held told n =
@@ -212,7 +216,11 @@ module _ (shape : Shape) (slots id : ℕ) (me : Actor) (log : List Entry) (in_me
                 in_me in_to (slice_set s.homes (slot_of shape me to) (some (Some x))) (home_is s.homes (slot_of shape me to) (some (Some x)) low) id
                 (sitting shape me log (Filling to)) (sitting shape me (Post to x ∷ log) Resting) there refl (λ a of. of)
                 (own.0, own_log shape kept.run me (Post to x) ∙ ap (λ l. Post to x ∷ l) own.1, tt),
-            refl,
+            (
+              refl,
+              in_run shape ((me, Post to x) ∷ kept.run) (kept.is, next) me (Post to x ∷ log)
+                  (own_log shape kept.run me (Post to x) ∙ ap (λ l. Post to x ∷ l) own.1),
+            ),
           )
 
       pub publishes : Allows (Kept shape) slots id (filling shape me log to (Some x)) (word_of shape me to) (λ n. either (eqb n 1) 2 n)
@@ -253,8 +261,16 @@ module _ (shape : Shape) (slots id : ℕ) (me : Actor) (log : List Entry) (in_me
                   (in_from, get_or-set_same s.words (word_of shape from me) 3 0 low_word),
                 ),
             λ other in_other same.
-                let one = one_word shape from me other me in_from in_me in_other in_me same in
-                ((λ e. (box.0, within, λ i. emptying shape me (Take (one.0 i) box.0 ∷ log) (one.0 i) (Some box.0))), λ ne. absurd (ne full)),
+                let one = one_word shape from me other me in_from in_me in_other in_me same in (
+                  (λ e. (
+                    box.0,
+                    within,
+                    (λ i. emptying shape me (Take (one.0 i) box.0 ∷ log) (one.0 i) (Some box.0)),
+                    in_run shape ((me, Take from box.0) ∷ kept.run) (kept.is, next) me (Take from box.0 ∷ log)
+                        (own_log shape kept.run me (Take from box.0) ∙ ap (λ l. Take from box.0 ∷ l) own.1),
+                  )),
+                  λ ne. absurd (ne full),
+                ),
           )
 
       fetch_miss : (s : Table) → (kept : Kept shape s) → get_elem? s.views id ≡ some (sitting shape me log Resting) → slice_index s.words (word_of shape from me) ≢ 2
@@ -293,7 +309,7 @@ module _ (shape : Shape) (slots id : ℕ) (me : Actor) (log : List Entry) (in_me
               (λ e. absurd (never (slice_index s.words (word_of shape from me)) 3 1 empties e (omega arith))) (λ e. refl) (same, refl))
               in_from in_me (slice_set s.homes (slot_of shape from me) (some None)) (home_is s.homes (slot_of shape from me) (some None) low) id
               (sitting shape me log (Emptying from)) (sitting shape me log Resting) there refl (λ a of. of) (own.0, own.1, tt),
-          refl,
+          (refl, refl),
         )
 
     pub releases : Allows (Kept shape) slots id (emptying shape me log from None) (word_of shape from me) (λ n. either (eqb n 3) 0 n)

@@ -18,15 +18,15 @@ use Rattle.dsr_envelope.specs.declared.entry.Entry.{Entry}
 use Rattle.dsr_node.specs.Conduct.{is_actor}
 use Rattle.dsr_run.specs.Run.{IsRun, AreLogs}
 use Rattle.dsr_run.specs.Step.{Step, log_of}
-use Rattle.dsr_run.proofs.Lemmas.{actors_within}
+use Rattle.dsr_run.proofs.Lemmas.{actors_within, no_logs}
 use Rattle.dsr_boxes.specs.declared.view.Doing.TheVariants.{Resting}
 use Rattle.dsr_boxes.specs.declared.view.Part.TheVariants.{Keeping, Sitting}
 use Rattle.dsr_boxes.specs.declared.view.View.{View}
-use Rattle.dsr_boxes.specs.Pass.{logs_in}
+use Rattle.dsr_boxes.specs.Pass.{IsInRun, logs_in}
 use Rattle.dsr_boxes.specs.Place.{slot_of, word_of}
 use Rattle.dsr_boxes.specs.Play.{Learns, Enters as EntersAs, without_last, last_alone, with_next, spent}
 use Rattle.dsr_boxes.specs.Rule.{Table, IsOf, Stands, Agrees, Kept, log_at, first_view}
-use Rattle.dsr_boxes.specs.View.{Holding, sitting, keeping}
+use Rattle.dsr_boxes.specs.View.{Holding, sitting, keeping, resting, log_in}
 use Rattle.dsr_boxes.proofs.BoxSteps.{unmoved}
 use Rattle.dsr_boxes.proofs.Numbers.{slot_below, log_last, log_lower, log_blank}
 
@@ -385,6 +385,21 @@ opens shape allowed = record {
         subst (λ w. Agrees w [] [] (get_elem? (map some (replicate {A = Option Envelope} (size shape * size shape) None)) (slot_of shape a b)))
         (sym (ap (slice_index (first_words shape)) (sym (four (slot_of shape a b))) ∙ word_zero (slot_of shape a b) low))
         (refl, nothing_there (size shape * size shape) (slot_of shape a b) low)
+
+-- who has done nothing is in the run of no step
+pub new_in_run : (shape : Shape) (me : Actor) (log : List Entry) → log ≡ [] → IsInRun shape me log
+new_in_run shape me log empty = record { logs = λ a. []; are = no_logs shape; own = sym empty }
+
+-- what is parted is the pass of the actor at this place, who has done nothing
+pub parted_pass : (shape : Shape) (place : ℕ) (m own : Holding) (actor : Actor) → m ≡ (keeping shape ([] ∷ replicate place []), []) → own ≡ (last_alone m.0, [])
+    → actor ≡ actor_at shape place → IsActor shape actor
+    → (own ≡ resting own.0.shape actor (log_in own.0.part)) × IsActor own.0.shape actor × IsInRun own.0.shape actor (log_in own.0.part)
+parted_pass shape place m own actor m_is own_is actor_is inside =
+    let rests : own ≡ resting shape actor [] =
+    own_is ∙ (ap (λ x. (last_alone x.0, [])) m_is
+    ∙ (λ i. resting shape (actor_at shape (length-replicate {A = List Entry} place [] i)) []) ∙ sym (ap (λ a. resting shape a []) actor_is)) in
+    subst (λ y. (y ≡ resting y.0.shape actor (log_in y.0.part)) × IsActor y.0.shape actor × IsInRun y.0.shape actor (log_in y.0.part)) (sym rests)
+    (refl, inside, new_in_run shape actor [] refl)
 
 -- ---- as calls ask for them
 

@@ -14,11 +14,11 @@ use Rattle.dsr_envelope.specs.declared.entry.Entry.{Entry}
 use Rattle.dsr_envelope.specs.declared.entry.Entry.TheVariants.{Take}
 use Rattle.dsr_envelope.specs.Limits.{IsEnvelope}
 use Rattle.dsr_run.specs.OwnStep.{MayPost, HasPostsLeft}
-use Rattle.dsr_boxes.specs.Pass.{MayTake}
+use Rattle.dsr_boxes.specs.Pass.{IsInRun, MayTake}
 use Rattle.dsr_boxes.specs.Place.{slot_of, word_of}
 use Rattle.dsr_boxes.specs.Play.{Claims, Publishes, Fetches, Releases}
 use Rattle.dsr_boxes.specs.Rule.{Kept}
-use Rattle.dsr_boxes.specs.View.{Holding, resting, filling, emptying}
+use Rattle.dsr_boxes.specs.View.{Holding, actor_in, log_in, resting, filling, emptying}
 use Rattle.dsr_boxes.proofs.BoxSteps.{claims, publishes, fetches, releases}
 use Rattle.dsr_boxes.proofs.Numbers.{few_slots, slot_below, word_below}
 
@@ -109,8 +109,14 @@ module _ (shape key : Shape) (slots id word : ℕ) (me other : Actor) (log : Lis
       (λ t. t other in_other at) told
 
   pub fetch_told : (found : ℕ) (after : Holding) → word ≡ word_of shape other me → m ≡ resting shape me log → Fetches (step slots word 2 3 none) m found after
-      → (found ≡ 2 → (envelope : Envelope) × IsEnvelope envelope × (after ≡ emptying shape me (Take other envelope ∷ log) other (Some envelope))) × (found ≢ 2 → after ≡ m)
+      → (found ≡ 2 → (envelope : Envelope) × IsEnvelope envelope × (after ≡ emptying shape me (Take other envelope ∷ log) other (Some envelope))
+      × IsInRun shape me (Take other envelope ∷ log)) × (found ≢ 2 → after ≡ m)
   fetch_told found after at is told =
       subst (λ x. Fetches (step slots word 2 3 none) x found after
-      → (found ≡ 2 → (envelope : Envelope) × IsEnvelope envelope × (after ≡ emptying shape me (Take other envelope ∷ log) other (Some envelope))) × (found ≢ 2 → after ≡ x)) (sym is)
-      (λ t. t other in_other at) told
+      → (found ≡ 2 → (envelope : Envelope) × IsEnvelope envelope × (after ≡ emptying shape me (Take other envelope ∷ log) other (Some envelope))
+      × IsInRun shape me (Take other envelope ∷ log)) × (found ≢ 2 → after ≡ x)) (sym is)
+      (λ t. let its = t other in_other at in ((λ e. let got = its.0 e in (got.0, got.1, got.2, in_run_as after got.2 got.3)), its.1)) told
+    where
+      in_run_as : {envelope : Envelope} (x : Holding) → x ≡ emptying shape me (Take other envelope ∷ log) other (Some envelope)
+          → IsInRun x.0.shape (actor_in x.0.part) (log_in x.0.part) → IsInRun shape me (Take other envelope ∷ log)
+      in_run_as x e run = subst (λ y. IsInRun y.0.shape (actor_in y.0.part) (log_in y.0.part)) e run

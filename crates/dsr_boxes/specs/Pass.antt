@@ -9,6 +9,7 @@ use Rattle.dsr_envelope.specs.declared.entry.Entry.{Entry}
 use Rattle.dsr_envelope.specs.declared.entry.Entry.TheVariants.{Take}
 use Rattle.dsr_node.specs.Conduct.{is_actor}
 use Rattle.dsr_run.specs.OwnStep.{KeepsOwn}
+use Rattle.dsr_run.specs.Run.{AreLogs}
 use Rattle.dsr_run.specs.Step.{Logs}
 use Rattle.dsr_boxes.specs.Rule.{log_at}
 
@@ -54,6 +55,12 @@ new_passes boxes (suc place) = new_passes boxes place ++ new_pass boxes (actor_a
 -- the actor may take from the other, by its own log, whatever the envelope
 abbrev pub MayTake : Shape → Actor → List Entry → Actor → Type 0
 MayTake shape me log from = (envelope : Envelope) → KeepsOwn shape me log (Take from envelope)
+
+-- there is a run in which this is the actor's log: whatever holds of the logs of every run holds of those
+pub record IsInRun (shape : Shape) (actor : Actor) (log : List Entry) : Type 0 where
+  pub logs : Logs
+  pub are : AreLogs shape logs
+  pub own : logs actor ≡ log
 
 -- these logs as those of all actors: who is not of the shape has done nothing
 abbrev pub logs_in : Shape → List (List Entry) → Logs

@@ -11,7 +11,7 @@ use Rattle.dsr_envelope.specs.Limits.{IsEnvelope}
 use Rattle.dsr_run.specs.Run.{AreLogs}
 use Rattle.dsr_boxes.specs.declared.view.Doing.TheVariants.{Resting}
 use Rattle.dsr_boxes.specs.declared.view.View.{View}
-use Rattle.dsr_boxes.specs.Pass.{logs_in}
+use Rattle.dsr_boxes.specs.Pass.{IsInRun, logs_in}
 use Rattle.dsr_boxes.specs.Place.{word_of}
 use Rattle.dsr_boxes.specs.View.{Holding, sitting, keeping, actor_in, log_in, logs_kept, end_in, content_in, resting, filling, emptying}
 
@@ -24,21 +24,24 @@ abbrev pub Claims : Telling
 Claims step before found after = (to : Actor) → IsActor before.0.shape to → step.word ≡ word_of before.0.shape (actor_in before.0.part) to
     → (found ≡ 0 → after ≡ filling before.0.shape (actor_in before.0.part) (log_in before.0.part) to None) × (found ≢ 0 → after ≡ before)
 
--- a publish: the box is full, and the post of what was put into it stands in the log
+-- a publish: the post of what was put into the box stands in the log, which is the actor's in a run
 abbrev pub Publishes : Telling
 Publishes step before found after =
-    after ≡ resting before.0.shape (actor_in before.0.part) (Post (end_in before.0.part) (content_in before.1) ∷ log_in before.0.part)
+    (after ≡ resting before.0.shape (actor_in before.0.part) (Post (end_in before.0.part) (content_in before.1) ∷ log_in before.0.part))
+    × IsInRun after.0.shape (actor_in after.0.part) (log_in after.0.part)
 
--- a fetch: where the box from an actor was full, it is emptied from now on, and the take of what lies in it stands in the log
+-- a fetch: where the box from an actor was full, it is emptied from now on, and the take of what lies in it stands in the log, which is the
+-- actor's in a run
 abbrev pub Fetches : Telling
 Fetches step before found after = (from : Actor) → IsActor before.0.shape from → step.word ≡ word_of before.0.shape from (actor_in before.0.part)
     → (found ≡ 2 → (envelope : Envelope) × IsEnvelope envelope
-    × (after ≡ emptying before.0.shape (actor_in before.0.part) (Take from envelope ∷ log_in before.0.part) from (Some envelope)))
+    × (after ≡ emptying before.0.shape (actor_in before.0.part) (Take from envelope ∷ log_in before.0.part) from (Some envelope))
+    × IsInRun after.0.shape (actor_in after.0.part) (log_in after.0.part))
     × (found ≢ 2 → after ≡ before)
 
--- a release: the box is empty
+-- a release: 0 is written, so that the box is empty and can be claimed again
 abbrev pub Releases : Telling
-Releases step before found after = after ≡ resting before.0.shape (actor_in before.0.part) (log_in before.0.part)
+Releases step before found after = (step.second ≡ 0) × (after ≡ resting before.0.shape (actor_in before.0.part) (log_in before.0.part))
 
 -- a look at the end: where the pass has the logs of all actors, they are the logs of a run
 abbrev pub Learns : Telling
@@ -54,7 +57,7 @@ abbrev pub lower : List (List Entry) → List (List Entry)
 lower [] = []
 lower (log ∷ logs) = logs
 
--- the view of the actor of the highest place
+-- the view of the actor of the highest place; of nobody, where there is no log
 abbrev pub highest : Shape → List (List Entry) → View
 highest shape [] = keeping shape []
 highest shape (log ∷ logs) = sitting shape (actor_at shape (length logs)) log Resting
@@ -63,6 +66,7 @@ highest shape (log ∷ logs) = sitting shape (actor_at shape (length logs)) log 
 abbrev pub without_last : View → View
 without_last v = keeping v.shape (lower (logs_kept v.part))
 
+-- that actor's view
 abbrev pub last_alone : View → View
 last_alone v = highest v.shape (logs_kept v.part)
 

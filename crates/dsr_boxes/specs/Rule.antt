@@ -44,13 +44,14 @@ IsDoing shape words me Resting = Unit {0}
 IsDoing shape words me (Filling to) = IsActor shape to × (slice_index words (word_of shape me to) ≡ 1)
 IsDoing shape words me (Emptying from) = IsActor shape from × (slice_index words (word_of shape from me) ≡ 3)
 
--- the view has the logs of its actors
+-- the view has the logs of its actors; one of one actor is of an actor of the shape, whose box's word shows what it does
 abbrev pub Stands : Shape → List ℕ → Logs → Part → Type 0
 Stands shape words logs (Keeping kept) = (a : Actor) → IsActor shape a → place_of shape a < length kept → logs a ≡ log_at shape kept a
 Stands shape words logs (Sitting me log doing) = IsActor shape me × (logs me ≡ log) × IsDoing shape words me doing
 
--- a box's word, what was posted there, what was taken, and what lies in its slot if nobody holds it. The word is 0: it is empty, all that
--- was posted was taken; 1: its poster fills it; 2: it is full, one envelope was not taken and lies there; 3: its taker empties it
+-- a box's word, what was posted there, what was taken, and what lies in its slot if nobody holds it. Where the word is 0 all that was posted was
+-- taken, and nothing lies there; where it is 2 one envelope was not taken, and lies there; where it is 1, while its poster fills it, or 3, while
+-- its taker empties it, all was taken. It is no other number
 abbrev pub Agrees : ℕ → List Envelope → List Envelope → maybe.Option (maybe.Option (Option Envelope)) → Type 0
 Agrees zero posted taken home = (posted ≡ taken) × (home ≡ some (some None))
 Agrees (suc zero) posted taken home = posted ≡ taken
@@ -65,8 +66,8 @@ pub record IsHead (shape : Shape) (words : List ℕ) : Type 0 where
   pub m : slice_index words 2 ≡ shape.m
   pub traitors : slice_index words 3 ≡ shape.traitors
 
--- the rule: there is a run, each view has its actors' logs in it, no two views stand for one actor, and each box agrees with what
--- was posted there and taken
+-- the rule: there is a run, each view has its actors' logs in it, no two views stand for one actor, and each box agrees with what was posted there
+-- and taken; besides, the shape is within the limits, the words begin with it, and there is a word and a slot for each box
 pub record Kept (shape : Shape) (table : Table) : Type 0 where
   pub allowed : IsAllowed shape
   pub run : List Step

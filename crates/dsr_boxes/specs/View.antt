@@ -26,29 +26,29 @@ sitting shape me log doing = record { shape = shape; part = Sitting me log doing
 abbrev pub keeping : Shape → List (List Entry) → View
 keeping shape logs = record { shape = shape; part = Keeping logs }
 
--- the actor of a view of one
+-- the actor of a view of one; of others it says nothing
 abbrev pub actor_in : Part → Actor
 actor_in (Keeping logs) = Replica 0
 actor_in (Sitting me log doing) = me
 
--- its log
+-- its log; empty of others
 abbrev pub log_in : Part → List Entry
 log_in (Keeping logs) = []
 log_in (Sitting me log doing) = log
 
--- the logs of a view of many
+-- the logs of a view of many; none of others
 abbrev pub logs_kept : Part → List (List Entry)
 logs_kept (Keeping logs) = logs
 logs_kept (Sitting me log doing) = []
 
--- the other end of the box that an actor fills or empties
+-- the other end of the box that an actor fills or empties; of one that does neither it says nothing
 abbrev pub end_in : Part → Actor
 end_in (Keeping logs) = Replica 0
 end_in (Sitting me log Resting) = me
 end_in (Sitting me log (Filling to)) = to
 end_in (Sitting me log (Emptying from)) = from
 
--- the envelope in the slot that was taken last
+-- the envelope in the slot that was taken last; the empty one where there is none
 abbrev pub content_in : List (ℕ × Option Envelope) → Envelope
 content_in [] = Empty
 content_in ((slot, None) ∷ held) = Empty

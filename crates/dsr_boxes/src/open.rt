@@ -14,7 +14,8 @@ use std::alloc::Global;
 use std::sync::atomic::AtomicU64;
 
 impl SharedBoxes {
-    /// The boxes between the actors of the shape, all empty, and a pass for each actor, by its place. `NoMemory` where memory runs out.
+    /// The boxes between the actors of the shape, all empty, and a pass for each actor, by its place, whose log is empty. `NoMemory` where memory
+    /// runs out.
     pub fn open(alloc: Global, shape: Shape) -> Result<(SharedBoxes, Vec<Pass>), Refusal>
         ensures shape { IfOk result (λ made. made.0.shape ≡ shape) }
         ensures passes { IfOk result (λ made. made.1.items ≡ new_passes made.0 (size made.0.shape)) }

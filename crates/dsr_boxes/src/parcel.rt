@@ -5,8 +5,8 @@ use dsr_names::Refusal;
 use std::alloc::Global;
 use std::marker::Model;
 
-/// What lies in a box: an envelope for the taker to consume, and the same as a letter for the taker's log, so that a take
-/// allocates nothing.
+/// What lies in a box: an envelope for the taker to consume, and the same as a letter for the taker's log, so that nothing has to be allocated
+/// between the two steps of a take.
 #[derive(Drop)]
 pub struct Parcel {
     envelope: Envelope,

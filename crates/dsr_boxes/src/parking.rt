@@ -1,8 +1,11 @@
-//! Sleeping until a box is as one wants it, and waking who sleeps. Neither changes a box.
+//! Sleeping until a box is as one wants it, and waking who sleeps. Neither changes a box, and no contract speaks of it.
 //!
-//! Who sleeps first notes the word on which it does; then the system looks whether the word is still as it was found, and only then has it
-//! sleep. Who changes a word then looks whether its other end has noted it. All of this is in one order, so either the change comes before
-//! the system looks, or the note before the changer looks: no wake is lost. And where nobody sleeps, a wake is one load.
+//! Who sleeps first notes at its own place the word on which it does; then the system looks whether the word is still as it was found, and only
+//! then has it sleep. Who publishes or releases looks afterwards whether the box's other end has noted that word. Words, notes and the system's
+//! look are in one order: so either the change comes before the look, and the sleeper does not sleep, or the note before the changer's
+//! look, and it is woken. No wake by a post or a take is lost. That needs three things more. A poster waits while the word is 2 or 3, a taker
+//! while it is 0 or 1: a claim and a fetch end neither wait, so they need not look. The word cannot come back to what was found without the
+//! sleeper itself. And a place has one writer, as a pass is not shared by threads. Where nobody sleeps, a wake is one load.
 
 ghost use Rattle.std.specs.Prelude.{◌≡◌, ◌<◌};
 ghost use Rattle.dsr_names.specs.Places.{size};
@@ -14,8 +17,11 @@ use dsr_names::Actor;
 use std::sync::Wait;
 use std::sync::atomic::Ordering::SeqCst;
 
+/// The note of one who does not sleep. It is the number of a word too, but of none that is a box's.
+const AWAKE: u64 = 0;
+
 impl SharedBoxes {
-    /// Has the poster sleep while its box to the taker does not stand empty.
+    /// Has the poster sleep while its box to the taker is not empty.
     pub(crate) fn sleep_until_empty<R: Wait>(&self, rt: &R, poster: &Actor, taker: &Actor)
         requires poster { IsActor self.now.shape poster.now }
         requires taker { IsActor self.now.shape taker.now }
@@ -51,11 +57,12 @@ impl SharedBoxes {
         self.wake_at(poster, word);
     }
 
-    /// Wakes everybody who sleeps on a box.
+    /// Wakes everybody who sleeps on a box now. It changes no word, so it may miss who is about to sleep: whoever has to end others calls it again
+    /// until they have ended.
     pub fn wake_all(&self) {
         for sleeper in self.sleepers.as_slice() {
             let word = sleeper.load(SeqCst) as usize;
-            if word != 0 && word < self.memory.word_count() {
+            if word != AWAKE as usize && word < self.memory.word_count() {
                 self.memory.shared.wake_all(word);
             }
         }
@@ -74,7 +81,7 @@ impl SharedBoxes {
         self.sleepers[place].store(word as u64, SeqCst);
         // A word is at most 3, so that its low half is all of it.
         self.memory.shared.park(rt, word, (found % 4) as u32);
-        self.sleepers[place].store(0, SeqCst);
+        self.sleepers[place].store(AWAKE, SeqCst);
     }
 
     /// Wakes the actor if it sleeps on this word.

@@ -4,7 +4,7 @@ ghost use Rattle.dsr_names.specs.declared.refusal.Refusal.{Refusal};
 ghost use Rattle.dsr_envelope.specs.declared.entry.Entry.TheVariants.{Post, Take};
 ghost use Rattle.dsr_envelope.specs.Limits.{IsEnvelope};
 ghost use Rattle.dsr_run.specs.OwnStep.{MayPost, HasPostsLeft};
-ghost use Rattle.dsr_boxes.specs.Pass.{IsPassOf, with_entry, MayTake};
+ghost use Rattle.dsr_boxes.specs.Pass.{IsPassOf, IsInRun, with_entry, MayTake};
 
 use crate::parcel::Parcel;
 use crate::rule::Token;
@@ -23,27 +23,29 @@ pub struct Pass {
 impl Model for Pass {
     ghost use Rattle.std.specs.Prelude.{◌≡◌};
     ghost use Rattle.dsr_names.specs.Shape.{IsActor};
-    ghost use Rattle.dsr_boxes.specs.Pass.{Pass};
+    ghost use Rattle.dsr_boxes.specs.Pass.{Pass, IsInRun};
     ghost use Rattle.dsr_boxes.specs.View.{log_in, resting};
 
     ghost Value = { Pass };
 
     ghost view = { λ p. record { id = p.token.table_id; shape = p.token.me.0.shape; actor = p.actor; log = log_in p.token.me.0.part } };
 
-    ghost invariant = { λ p. (p.token.me ≡ resting p.token.me.0.shape p.actor (log_in p.token.me.0.part)) × IsActor p.token.me.0.shape p.actor };
+    ghost invariant = { λ p. (p.token.me ≡ resting p.token.me.0.shape p.actor (log_in p.token.me.0.part)) × IsActor p.token.me.0.shape p.actor
+        × IsInRun p.token.me.0.shape p.actor (log_in p.token.me.0.part) };
 }
 
 impl Pass {
-    /// The actor.
+    /// The actor. There is a run in which its log is that of this pass.
     pub fn actor(&self) -> &Actor
         ensures same { result.now ≡ self.now.actor }
         ensures inside { IsActor self.now.shape result.now }
+        ensures run { IsInRun self.now.shape self.now.actor self.now.log }
     {
         &self.actor
     }
 
-    /// Posts the parcel to an actor, which is one step of a run. `BoxFull` where the box does not stand empty, or its taker still empties it:
-    /// then nothing changed, and the parcel is gone. It waits for nobody and allocates nothing. Requires that the own log allows the post.
+    /// Posts the parcel to an actor, which is one step of a run. `BoxFull` where the box is not empty: what was posted there last was not taken, or
+    /// its taker still empties it. Then nothing changed, and the parcel is gone. It waits for nobody and allocates nothing. Requires that the own log allows the post.
     pub fn post(&mut self, boxes: &SharedBoxes, to: &Actor, parcel: Parcel) -> Result<(), Refusal>
         requires boxes { IsPassOf boxes.now self.old }
         requires to { IsActor self.old.shape to.now }
@@ -61,8 +63,8 @@ impl Pass {
         Ok(())
     }
 
-    /// Takes what lies in the box of an actor to this one, which is one step of a run. `None` where nothing lies there, or its poster still
-    /// fills it: then nothing changed. It waits for nobody and allocates nothing. Requires that the own log allows the take.
+    /// Takes what lies in the box of an actor to this one, which is one step of a run. `None` where the box is not full: nothing was posted, or
+    /// its poster still fills it. Then nothing changed. It waits for nobody and allocates nothing. Requires that the own log allows the take.
     pub fn take(&mut self, boxes: &SharedBoxes, from: &Actor) -> Option<Parcel>
         requires boxes { IsPassOf boxes.now self.old }
         requires from { IsActor self.old.shape from.now }
@@ -79,7 +81,7 @@ impl Pass {
         Some(parcel)
     }
 
-    /// Sleeps while the own box to an actor does not stand empty. It may return earlier.
+    /// Sleeps while the own box to an actor is not empty. It may return earlier; where the actor never takes, only a wake of all ends it.
     pub fn wait_to<R: Wait>(&self, rt: &R, boxes: &SharedBoxes, to: &Actor)
         requires boxes { IsPassOf boxes.now self.now }
         requires to { IsActor self.now.shape to.now }
@@ -87,7 +89,7 @@ impl Pass {
         boxes.sleep_until_empty(rt, &self.actor, to);
     }
 
-    /// Sleeps while the box of an actor to this one is not full. It may return earlier.
+    /// Sleeps while the box of an actor to this one is not full. It may return earlier; where the actor never posts, only a wake of all ends it.
     pub fn wait_from<R: Wait>(&self, rt: &R, boxes: &SharedBoxes, from: &Actor)
         requires boxes { IsPassOf boxes.now self.now }
         requires from { IsActor self.now.shape from.now }

@@ -33,6 +33,7 @@ impl SharedBoxes {
         ensures boxes { IsReturnedTo self.now result }
         ensures none { result.logs ≡ [] }
     {
+        // A token enters at a load; what it finds does not matter.
         let (_word, token) = self.memory.shared.load_new_seat::<Enter>(0);
         Returned { token }
     }
@@ -44,6 +45,7 @@ impl SharedBoxes {
         ensures run { AreLogs self.shape (logs_in self.shape returned.logs) }
     {
         let mut returned = returned;
+        // At this load the rule holds, and the token has all logs: so they are seen to be those of a run.
         self.memory.shared.load::<Learn>(&mut returned.token, 0);
     }
 }

@@ -23,6 +23,7 @@ pub(crate) type Memory = Table<Option<Parcel>, View, Shape, BoxRule, Global>;
 /// What a pass steps with.
 pub(crate) type Token = Seat<Option<Parcel>, View>;
 
+/// What a claim tells its pass.
 pub(crate) struct Claim;
 
 impl Play<Option<Parcel>, View> for Claim {
@@ -31,6 +32,7 @@ impl Play<Option<Parcel>, View> for Claim {
     ghost then = { Claims };
 }
 
+/// What a publish tells its pass.
 pub(crate) struct Publish;
 
 impl Play<Option<Parcel>, View> for Publish {
@@ -39,6 +41,7 @@ impl Play<Option<Parcel>, View> for Publish {
     ghost then = { Publishes };
 }
 
+/// What a fetch tells its pass.
 pub(crate) struct Fetch;
 
 impl Play<Option<Parcel>, View> for Fetch {
@@ -47,6 +50,7 @@ impl Play<Option<Parcel>, View> for Fetch {
     ghost then = { Fetches };
 }
 
+/// What a release tells its pass.
 pub(crate) struct Release;
 
 impl Play<Option<Parcel>, View> for Release {
@@ -55,6 +59,7 @@ impl Play<Option<Parcel>, View> for Release {
     ghost then = { Releases };
 }
 
+/// What the pass with all logs is told at the end.
 pub(crate) struct Learn;
 
 impl Play<Option<Parcel>, View> for Learn {
@@ -63,6 +68,7 @@ impl Play<Option<Parcel>, View> for Learn {
     ghost then = { Learns };
 }
 
+/// What a new pass that stands for nobody is told.
 pub(crate) struct Enter;
 
 impl Play<Option<Parcel>, View> for Enter {
@@ -71,6 +77,7 @@ impl Play<Option<Parcel>, View> for Enter {
     ghost then = { Enters };
 }
 
+/// How the pass of the highest place is parted from that of all up to it.
 pub(crate) struct Deal;
 
 impl Split<View> for Deal {
@@ -81,6 +88,7 @@ impl Split<View> for Deal {
     ghost right = { last_alone };
 }
 
+/// How the pass of the next place is joined to those that came back.
 pub(crate) struct Gather;
 
 impl Join<View> for Gather {

@@ -13,7 +13,7 @@ use std::sync::atomic::AtomicU64;
 pub struct SharedBoxes {
     pub(crate) memory: Memory,
     pub(crate) shape: Shape,
-    /// At each actor's place the word on which it sleeps, 0 where it does not.
+    /// At each actor's place its note: the word on which it sleeps, 0 where it does not, since no box has that word.
     pub(crate) sleepers: Vec<AtomicU64>,
 }
 
@@ -37,7 +37,7 @@ impl SharedBoxes {
         &self.shape
     }
 
-    /// The slot of the box from one actor to another.
+    /// The slot of the box from one actor to another: 48 actors have 2,304 boxes.
     pub(crate) fn slot_of(&self, from: &Actor, to: &Actor) -> usize
         requires from { IsActor self.now.shape from.now }
         requires to { IsActor self.now.shape to.now }
@@ -54,7 +54,9 @@ impl SharedBoxes {
         ensures same { result ≡ word_of self.now.shape from.now to.now }
         ensures inside { result < self.now.id.words }
     {
+        // For the proof: how many words there are.
         let _sized = &self.memory;
+        // The first four words tell the shape.
         4 + self.slot_of(from, to)
     }
 }

@@ -8,7 +8,7 @@ ghost use Rattle.dsr_envelope.specs.declared.envelope.Envelope.{Envelope};
 ghost use Rattle.dsr_envelope.specs.declared.entry.Entry.TheVariants.{Post, Take};
 ghost use Rattle.dsr_envelope.specs.Limits.{IsEnvelope};
 ghost use Rattle.dsr_run.specs.OwnStep.{MayPost, HasPostsLeft};
-ghost use Rattle.dsr_boxes.specs.Pass.{MayTake};
+ghost use Rattle.dsr_boxes.specs.Pass.{IsInRun, MayTake};
 ghost use Rattle.dsr_boxes.specs.View.{log_in, resting, filling, emptying};
 
 use crate::parcel::Parcel;
@@ -54,6 +54,7 @@ impl SharedBoxes {
         requires few { HasPostsLeft (log_in token.old.me.0.part) to.now }
         ensures id { token.new.table_id ≡ token.old.table_id }
         ensures posted { token.new.me ≡ resting self.now.shape me.now (Post to.now parcel ∷ log_in token.old.me.0.part) }
+        ensures run { IsInRun self.now.shape me.now (Post to.now parcel ∷ log_in token.old.me.0.part) }
     {
         let nothing = self
             .memory
@@ -61,6 +62,7 @@ impl SharedBoxes {
             .exchange(token, self.slot_of(me, to), Some(parcel));
         drop(nothing);
         let word = self.word_of(me, to);
+        // It finds what the claim wrote: nobody else changes the word of a claimed box.
         self.memory
             .shared
             .compare_exchange::<Publish>(token, word, FILLING, FULL);
@@ -76,7 +78,8 @@ impl SharedBoxes {
         requires conduct { MayTake self.now.shape me.now (log_in token.old.me.0.part) from.now }
         ensures id { token.new.table_id ≡ token.old.table_id }
         ensures fetched { OnTrue result ((envelope : Envelope) × IsEnvelope envelope
-            × (token.new.me ≡ emptying self.now.shape me.now (Take from.now envelope ∷ log_in token.old.me.0.part) from.now (Some envelope))) }
+            × (token.new.me ≡ emptying self.now.shape me.now (Take from.now envelope ∷ log_in token.old.me.0.part) from.now (Some envelope))
+            × IsInRun self.now.shape me.now (Take from.now envelope ∷ log_in token.old.me.0.part)) }
         ensures missed { OnFalse result (token.new.me ≡ token.old.me) }
     {
         let word = self.word_of(from, me);
@@ -106,6 +109,7 @@ impl SharedBoxes {
             unreachable!()
         };
         let word = self.word_of(from, me);
+        // It finds what the fetch wrote: nobody else changes the word of a fetched box.
         self.memory
             .shared
             .compare_exchange::<Release>(token, word, EMPTYING, EMPTY);

@@ -10,7 +10,7 @@ ghost use Rattle.dsr_envelope.specs.Limits.{IsEnvelope};
 ghost use Rattle.dsr_client.specs.Conduct.{IsClientLog};
 ghost use Rattle.dsr_client.specs.State.{accepted, outstanding, seen};
 ghost use Rattle.dsr_node.specs.Conduct.{post_of, AcceptsBy};
-ghost use Rattle.dsr_boxes.specs.Pass.{IsPassOf, with_entry};
+ghost use Rattle.dsr_boxes.specs.Pass.{IsPassOf, IsInRun, with_entry};
 ghost use Rattle.dsr_mail.specs.Loyal.{IsClientActor};
 ghost use Rattle.dsr_mail.specs.Refusals.{IsRefusedBy, HasAsked, post_refused, take_refused, tell_refused};
 
@@ -62,10 +62,11 @@ impl ClientSeat {
         self.loyal
     }
 
-    /// The actor.
+    /// The actor. There is a run in which its log is that of this seat.
     pub fn actor(&self) -> Actor
         ensures same { result ≡ self.now.actor }
         ensures inside { IsActor self.now.shape result }
+        ensures run { IsInRun self.now.shape self.now.actor self.now.log }
     {
         *self.loyal.seat().actor()
     }
@@ -75,6 +76,7 @@ impl ClientSeat {
         ensures same { self.now.actor ≡ Client result }
         ensures conduct { IsClientLog self.now.shape result self.now.log }
     {
+        // For the proof: what its contract says.
         let _node = self.loyal.node();
         let Actor::Client(client) = self.loyal.seat().actor() else {
             unreachable!()
@@ -84,8 +86,8 @@ impl ClientSeat {
 
     /// Posts to an actor by a choice. It waits for nobody. Refused with the first of these that holds: `NoActor` where there is no such
     /// actor; `WrongRole` where it is a client, whom `try_tell` is for; `NotDue` where the conduct has no such post now; `Exhausted` where a
-    /// counter would pass its limit; `BoxFull` where what it posted there last was not taken yet; `NoMemory` where memory runs out. After
-    /// each of them nothing changed.
+    /// counter would pass its limit; `NoMemory` where memory runs out; `BoxFull` where what it posted there last was not taken, or is still being taken
+    /// out. Requires a seat of this mail. After each of them nothing changed.
     pub fn try_post(
         &mut self,
         alloc: Global,
@@ -110,7 +112,8 @@ impl ClientSeat {
 
     /// Takes from an actor what it posted to this client, and returns the reply that the client accepts by it, if it accepts one. It waits
     /// for nobody. Refused with the first of these that holds: `NoActor` where there is no such actor; `WrongRole` where it is the client
-    /// itself; `BoxEmpty` where nothing lies there; `NoMemory` where memory runs out. After each of them nothing changed.
+    /// itself; `NoMemory` where memory runs out; `BoxEmpty` where nothing was posted there, or it is still being filled.
+    /// Requires a seat of this mail. After each of them nothing changed.
     pub fn try_take(&mut self, mail: &Mail, from: Actor) -> Result<Option<Reply>, Refusal>
         requires mail { IsPassOf mail.now self.old }
         ensures ok { IfOk result (λ reply. (x : Envelope) × IsEnvelope x × (self.new ≡ with_entry self.old (Take from x))
@@ -128,8 +131,8 @@ impl ClientSeat {
     }
 
     /// Tells another client the seen front. It waits for nobody. Refused with the first of these that holds: `NoActor` where there is no such
-    /// actor; `WrongRole` where it is no client, or the client itself; `Exhausted` where the box has had all its posts; `BoxFull` where what
-    /// it posted there last was not taken yet; `NoMemory` where memory runs out. After each of them nothing changed.
+    /// actor; `WrongRole` where it is no client, or the client itself; `Exhausted` where the box has had all its posts; `NoMemory` where
+    /// memory runs out; `BoxFull` where what it posted there last was not taken, or is still being taken out. Requires a seat of this mail. After each of them nothing changed.
     pub fn try_tell(&mut self, alloc: Global, mail: &Mail, to: Actor) -> Result<(), Refusal>
         requires mail { IsPassOf mail.now self.old }
         ensures ok { OnOk result (self.new ≡ with_entry self.old (Post to (Seen (seen self.old.shape self.old.log)))) }
@@ -173,7 +176,8 @@ impl ClientSeat {
         self.loyal.client().accepted()
     }
 
-    /// Wakes everybody who sleeps at the mail, so that each tries again.
+    /// Wakes everybody who sleeps at the mail now, so that each tries again. It may miss who is about to sleep: whoever has to end others calls it
+    /// again until they have ended. Requires a seat of this mail.
     pub fn wake(&self, mail: &Mail)
         requires mail { IsPassOf mail.now self.now }
     {

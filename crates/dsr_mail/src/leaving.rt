@@ -102,6 +102,7 @@ fn leave_traitor(traitor: TraitorSeat) -> (Pass, Log, Node)
     ensures log { result.1 ≡ traitor.log }
     ensures plays { Plays traitor.shape traitor.actor traitor.log result.2 }
 {
+    // For the proof: what its contract says.
     let _replica = traitor.replica();
     let (pass, log) = traitor.into_seat().into_parts();
     (pass, log, Node::Traitor)

@@ -26,7 +26,7 @@ use std::marker::Model;
 #[derive(Drop)]
 pub struct Logs {
     shape: Shape,
-    /// None where nothing was done.
+    /// None in the logs of no mail (`Logs::empty`).
     actors: Option<Actors>,
 }
 
@@ -103,6 +103,7 @@ impl Logs {
         ensures answered { (number : ℕ) → TookAllReplies self.now.shape (logs_of self.now (ClientNumber client)) number
             → HasReplyTo number result.now }
     {
+        // For the proof: what its contract says.
         let _m = self.shape.m();
         match self.node(&Actor::Client(client)) {
             Some(node) => node.accepted(),
@@ -129,12 +130,13 @@ impl Logs {
         history
     }
 
-    /// The loyal replica of this number over its log. `None` where it is a traitor, or nothing was done.
+    /// The loyal replica of this number over its log. `None` where it is a traitor, or in the logs of no mail.
     fn loyal(&self, number: u8) -> Option<&Replica>
         requires { number < self.now.shape.n }
         ensures loyal { IfSome result (λ replica. PlaysReplica self.now.shape number (logs_of self.now (ReplicaNumber number)) replica.now) }
         ensures none { IfNone result ((is_traitor self.now.shape number ≡ true) ⊎ (decided_at self.now.shape (logs_of self.now) number ≡ [])) }
     {
+        // For the proof: what its contract says.
         let _n = self.shape.n();
         match self.node(&Actor::Replica(ReplicaId::of(number))) {
             Some(node) => node.replica(),
@@ -142,7 +144,7 @@ impl Logs {
         }
     }
 
-    /// The node of an actor of the shape, over its log. `None` where nothing was done.
+    /// The node of an actor of the shape, over its log. `None` in the logs of no mail.
     fn node(&self, actor: &Actor) -> Option<&Node>
         requires { IsActor self.now.shape actor.now }
         ensures plays { IfSome result (λ node. Plays self.now.shape actor.now (logs_of self.now actor.now) node.now) }

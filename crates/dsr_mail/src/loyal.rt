@@ -93,8 +93,8 @@ impl Loyal {
     }
 
     /// Posts to an actor by a choice. Refused with the first of these that holds: `NoActor` where there is no such actor; `WrongRole` where
-    /// both are clients; `NotDue` where the conduct has no such post now; `Exhausted` where a counter would pass its limit; `BoxFull`;
-    /// `NoMemory`. After each of them nothing changed.
+    /// both are clients; `NotDue` where the conduct has no such post now; `Exhausted` where a counter would pass its limit; `NoMemory`;
+    /// `BoxFull`. After each of them nothing changed.
     pub(crate) fn try_post(
         &mut self,
         alloc: Global,
@@ -115,6 +115,7 @@ impl Loyal {
             return Err(refusal);
         }
         look_at(pick);
+        // For the proof: what their contracts say.
         let _n = self.seat.shape().n();
         let _actor = self.seat.actor();
         let Ok(envelope) = self.node.envelope_for(alloc, *to, *pick) else {
@@ -129,8 +130,8 @@ impl Loyal {
     }
 
     /// Takes from an actor, and returns the reply that a client accepts by it. Refused with the first of these that holds: `NoActor` where
-    /// there is no such actor; `WrongRole` where it is the client itself; `NotDue` where the conduct has no such take now; `BoxEmpty`;
-    /// `NoMemory`. After each of them nothing changed.
+    /// there is no such actor; `WrongRole` where it is the client itself; `NotDue` where the conduct has no such take now; `NoMemory`;
+    /// `BoxEmpty`. After each of them nothing changed.
     pub(crate) fn try_take(
         &mut self,
         boxes: &SharedBoxes,
@@ -147,6 +148,7 @@ impl Loyal {
         if let Some(refusal) = self.take_refusal(from) {
             return Err(refusal);
         }
+        // For the proof: what its contract says.
         let _n = self.seat.shape().n();
         let Ok(()) = self.node.room() else {
             return Err(Refusal::NoMemory);
@@ -158,7 +160,7 @@ impl Loyal {
     }
 
     /// Tells another client the seen front. Refused with the first of these that holds: `NoActor` where there is no such actor; `WrongRole`
-    /// where the two are not different clients; `Exhausted` where the box has had all its posts; `BoxFull`; `NoMemory`. After each of them
+    /// where the two are not different clients; `Exhausted` where the box has had all its posts; `NoMemory`; `BoxFull`. After each of them
     /// nothing changed.
     pub(crate) fn try_tell(
         &mut self,

@@ -44,7 +44,7 @@ impl Model for Mail {
 
 impl Mail {
     /// The mail between the actors of a shape, all boxes empty, and the seat of each actor, which holds the actor's key. `NoMemory` where
-    /// memory runs out.
+    /// memory runs out: then the keys are gone. Requires whole keys of this shape.
     pub fn open(alloc: Global, shape: Shape, keys: Keys) -> Result<(Mail, Seats), Refusal>
         requires whole { IsWhole keys }
         requires same { keys.shape ≡ shape }

@@ -11,7 +11,7 @@ ghost use Rattle.dsr_replica.specs.Conduct.{IsLoyalLog, envelope_to, reply_to};
 ghost use Rattle.dsr_replica.specs.Held.{held};
 ghost use Rattle.dsr_node.specs.Conduct.{post_of};
 ghost use Rattle.dsr_node.specs.Node.{IsReplicaNumber};
-ghost use Rattle.dsr_boxes.specs.Pass.{IsPassOf, with_entry};
+ghost use Rattle.dsr_boxes.specs.Pass.{IsPassOf, IsInRun, with_entry};
 ghost use Rattle.dsr_mail.specs.Refusals.{IsRefusedBy, post_refused, take_refused, wait_refused};
 
 use crate::loyal::Loyal;
@@ -56,10 +56,11 @@ impl ReplicaSeat {
         self.loyal
     }
 
-    /// The actor.
+    /// The actor. There is a run in which its log is that of this seat.
     pub fn actor(&self) -> Actor
         ensures same { result ≡ self.now.actor }
         ensures inside { IsActor self.now.shape result }
+        ensures run { IsInRun self.now.shape self.now.actor self.now.log }
     {
         *self.loyal.seat().actor()
     }
@@ -69,6 +70,7 @@ impl ReplicaSeat {
         ensures same { self.now.actor ≡ Replica result }
         ensures loyal { IsLoyal self.now.shape self.now.actor }
     {
+        // For the proof: what its contract says.
         let _replica = self.loyal.replica();
         let Actor::Replica(replica) = self.loyal.seat().actor() else {
             unreachable!()
@@ -81,6 +83,7 @@ impl ReplicaSeat {
         ensures same { result ≡ due self.now.shape self.now.log }
         ensures conduct { IsLoyalLog self.now.shape self.now.actor self.now.log }
     {
+        // For the proof: what its contract says.
         let _node = self.loyal.node();
         self.loyal.replica().due()
     }
@@ -107,8 +110,8 @@ impl ReplicaSeat {
     }
 
     /// Posts to an actor by a choice. It waits for nobody. Refused with the first of these that holds: `NoActor` where there is no such
-    /// actor; `NotDue` where the conduct has no such post now; `Exhausted` where a counter would pass its limit; `BoxFull` where what it
-    /// posted there last was not taken yet; `NoMemory` where memory runs out. After each of them nothing changed.
+    /// actor; `NotDue` where the conduct has no such post now; `Exhausted` where a counter would pass its limit; `NoMemory` where memory runs
+    /// out; `BoxFull` where what it posted there last was not taken, or is still being taken out. Requires a seat of this mail. After each of them nothing changed.
     pub fn try_post(
         &mut self,
         alloc: Global,
@@ -127,8 +130,8 @@ impl ReplicaSeat {
     }
 
     /// Takes from an actor what it posted to this replica. It waits for nobody. Refused with the first of these that holds: `NoActor` where
-    /// there is no such actor; `NotDue` where it is a replica and the take is not due; `BoxEmpty` where nothing lies there; `NoMemory` where
-    /// memory runs out. After each of them nothing changed.
+    /// there is no such actor; `NotDue` where it is a replica and the take is not due; `NoMemory` where memory runs out; `BoxEmpty` where nothing
+    /// was posted there, or it is still being filled. Requires a seat of this mail. After each of them nothing changed.
     pub fn try_take(&mut self, mail: &Mail, from: Actor) -> Result<(), Refusal>
         requires mail { IsPassOf mail.now self.old }
         ensures ok { OnOk result ((x : Envelope) × IsEnvelope x × (self.new ≡ with_entry self.old (Take from x))) }
@@ -162,7 +165,8 @@ impl ReplicaSeat {
         self.loyal.seat().wait_from(rt, mail.boxes(), &from)
     }
 
-    /// Wakes everybody who sleeps at the mail, so that each tries again.
+    /// Wakes everybody who sleeps at the mail now, so that each tries again. It may miss who is about to sleep: whoever has to end others calls it
+    /// again until they have ended. Requires a seat of this mail.
     pub fn wake(&self, mail: &Mail)
         requires mail { IsPassOf mail.now self.now }
     {

@@ -4,7 +4,7 @@ ghost use Rattle.dsr_names.specs.declared.refusal.Refusal.{Refusal};
 ghost use Rattle.dsr_envelope.specs.declared.entry.Entry.TheVariants.{Post, Take};
 ghost use Rattle.dsr_envelope.specs.Limits.{IsEnvelope};
 ghost use Rattle.dsr_run.specs.OwnStep.{MayPost, HasPostsLeft};
-ghost use Rattle.dsr_boxes.specs.Pass.{IsPassOf, with_entry, MayTake};
+ghost use Rattle.dsr_boxes.specs.Pass.{IsPassOf, IsInRun, with_entry, MayTake};
 ghost use Rattle.dsr_mail.specs.Refusals.{is_spent, wait_refused};
 
 use crate::log::Log;
@@ -61,10 +61,11 @@ impl Seat {
         &self.shape
     }
 
-    /// The actor.
+    /// The actor. There is a run in which its log is that of this seat.
     pub(crate) fn actor(&self) -> &Actor
         ensures same { result.now ≡ self.now.actor }
         ensures inside { IsActor self.now.shape result.now }
+        ensures run { IsInRun self.now.shape self.now.actor self.now.log }
     {
         self.pass.actor()
     }

@@ -95,6 +95,7 @@ impl Seats {
         ensures refusal { IsOkUnless result Refusal.NoMemory }
     {
         let actor = *pass.actor();
+        // For the proof: what its contract says.
         let _n = shape.n();
         let Some(key) = keys.take(actor) else {
             unreachable!()

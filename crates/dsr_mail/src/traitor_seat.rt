@@ -7,7 +7,7 @@ ghost use Rattle.dsr_envelope.specs.declared.entry.Entry.TheVariants.{Post, Take
 ghost use Rattle.dsr_envelope.specs.Limits.{IsEnvelope};
 ghost use Rattle.dsr_run.specs.OwnStep.{ForgesNone};
 ghost use Rattle.dsr_run.specs.Run.{IsTraitor};
-ghost use Rattle.dsr_boxes.specs.Pass.{IsPassOf, with_entry};
+ghost use Rattle.dsr_boxes.specs.Pass.{IsPassOf, IsInRun, with_entry};
 ghost use Rattle.dsr_mail.specs.Refusals.{IsRefusedBy, plant_refused, take_refused, wait_refused};
 
 use crate::mail::Mail;
@@ -63,10 +63,11 @@ impl TraitorSeat {
         self.seat
     }
 
-    /// The actor.
+    /// The actor. There is a run in which its log is that of this seat.
     pub fn actor(&self) -> Actor
         ensures same { result ≡ self.now.actor }
         ensures inside { IsActor self.now.shape result }
+        ensures run { IsInRun self.now.shape self.now.actor self.now.log }
     {
         *self.seat.actor()
     }
@@ -84,7 +85,8 @@ impl TraitorSeat {
 
     /// Posts what the draft describes to an actor. It waits for nobody. Refused with the first of these that holds: `NoActor` where there is
     /// no such actor; `Exhausted` where the box has had all its posts; `Forged` where a signature is neither its own nor in what it took;
-    /// `BoxFull` where what it posted there last was not taken yet; `NoMemory` where memory runs out. After each of them nothing changed.
+    /// `NoMemory` where memory runs out; `BoxFull` where what it posted there last was not taken, or is still being taken out.
+    /// Requires a seat of this mail. After each of them nothing changed.
     pub fn try_post(
         &mut self,
         alloc: Global,
@@ -118,7 +120,8 @@ impl TraitorSeat {
     }
 
     /// Takes from an actor what it posted to this traitor. It waits for nobody. Refused with the first of these that holds: `NoActor` where
-    /// there is no such actor; `BoxEmpty` where nothing lies there; `NoMemory` where memory runs out. After each of them nothing changed.
+    /// there is no such actor; `NoMemory` where memory runs out; `BoxEmpty` where nothing was posted there, or it is still being filled.
+    /// Requires a seat of this mail. After each of them nothing changed.
     pub fn try_take(&mut self, mail: &Mail, from: Actor) -> Result<(), Refusal>
         requires mail { IsPassOf mail.now self.old }
         ensures ok { OnOk result ((x : Envelope) × IsEnvelope x × (self.new ≡ with_entry self.old (Take from x))) }
@@ -162,7 +165,8 @@ impl TraitorSeat {
         self.seat.wait_from(rt, mail.boxes(), &from)
     }
 
-    /// Wakes everybody who sleeps at the mail, so that each tries again.
+    /// Wakes everybody who sleeps at the mail now, so that each tries again. It may miss who is about to sleep: whoever has to end others calls it
+    /// again until they have ended. Requires a seat of this mail.
     pub fn wake(&self, mail: &Mail)
         requires mail { IsPassOf mail.now self.now }
     {
