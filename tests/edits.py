@@ -5,6 +5,7 @@ tests/edits.py                   Tries the edits that tests/refused.txt does not
 tests/edits.py anew              Tries all, and compares with the record.
 tests/edits.py CRATE/EDIT ..     Tries these, or all of a CRATE, whatever the record has, and prints where each is refused.
 tests/edits.py --record ..       Does the same, and writes the record: a line for each edit that was refused now or before.
+tests/edits.py --bundled ..      Does the same, and tries edits that change the bodies of different functions by one check (tests/bundles.py).
 
 An edit passes where it is refused since some contract is not proved; what the record rests on is told in tests/refused.py.
 The crate itself and the libraries below it are proved first, in this repository, over the work that `rt check` kept: of a crate that is not
@@ -28,7 +29,8 @@ import time
 from collections import namedtuple
 from concurrent.futures import ThreadPoolExecutor, as_completed
 
-from refused import Outcome, Record, Repository, key_of, outcomes, read_record, write_record
+from bundles import refused_in_bundles
+from refused import FOLDER_OF_RT, Outcome, Record, Repository, key_of, outcomes, read_record, write_record
 from room import Room, libraries
 
 TOP = os.path.dirname(os.path.dirname(os.path.realpath(__file__)))
@@ -40,8 +42,8 @@ BEGIN, LINES_OF_ALL, LINES_OF_EDIT = 10, 25, 140
 GAIN = 0.9
 
 Batch = namedtuple("Batch", "crate edits seconds")
-# What the command's words ask for: all edits, some by name, a record to be written, and when `rt ci` began.
-Asked = namedtuple("Asked", "anew names records begun")
+# What the command's words ask for: all edits, some by name, a record to be written, when `rt ci` began, and bundles.
+Asked = namedtuple("Asked", "anew names records begun bundles")
 
 
 def say(text):
@@ -90,21 +92,33 @@ def batches_of(edits, lines, processors):
     return sorted(batches, key=lambda batch: (-batch.seconds, batch.crate))
 
 
-def tried(room, number, batch, repository):
+def tried(room, number, batch, repository, report):
     """Tries a batch, and gives what came of each of its edits, and how many seconds that took."""
     begun = time.monotonic()
     top = room.copy_for(number, batch, repository)
+    folder, found = f"{top}/crates/{batch.crate}", {}
+    if report.asked.bundles:
+        found = refused_in_bundles(folder, batch.edits, report.record)
+    for edit in found:
+        os.remove(f"{folder}/{FOLDER_OF_RT}/{edit.name}")
+    left = [edit for edit in batch.edits if edit not in found]
+    found.update(tried_alone(top, batch.crate, left) if left else {})
+    shutil.rmtree(top)
+    return found, time.monotonic() - begun
+
+
+def tried_alone(top, crate, edits):
+    """What came of each of these edits of the crate, tried one after another."""
     # It would take all processors and all memory for itself, and there are as many copies as there are processors.
     one_job = {**os.environ, "RT_JOBS": "1"}
-    run = subprocess.run(["rt", "must-fail", batch.crate], cwd=top, env=one_job, stdin=subprocess.DEVNULL, stdout=subprocess.PIPE,
+    run = subprocess.run(["rt", "must-fail", crate], cwd=top, env=one_job, stdin=subprocess.DEVNULL, stdout=subprocess.PIPE,
                          stderr=subprocess.STDOUT, encoding="utf-8", errors="replace")
-    shutil.rmtree(top)
     found = outcomes(run.stdout)
     if run.returncode != 0 and not any(it.fault for it in found.values()):
         found = {}
     last = "\n    ".join(run.stdout.rstrip("\n").split("\n")[-12:])
     missing = Outcome(None, f"rt ended with status {run.returncode} and said nothing of it; the end of what it said:\n    {last}")
-    return {edit: found.get(key_of(edit), missing) for edit in batch.edits}, time.monotonic() - begun
+    return {edit: found.get(key_of(edit), missing) for edit in edits}
 
 
 class Report:
@@ -176,7 +190,7 @@ def try_all(room, repository, edits, report):
     say(f"{len(edits)} edits of {len({batch.crate for batch in batches})} crates, in {len(batches)} copies of the repository, {processors} at a time")
     left = [batch.crate for batch in batches]
     with ThreadPoolExecutor(processors) as pool:
-        runs = {pool.submit(tried, room, number, batch, repository): batch for number, batch in enumerate(batches)}
+        runs = {pool.submit(tried, room, number, batch, repository, report): batch for number, batch in enumerate(batches)}
         for run in as_completed(runs):
             crate = runs[run].crate
             left.remove(crate)
@@ -190,8 +204,8 @@ def usage(why):
 
 def asked_by(words):
     """What these words of the command ask for."""
-    records, begun = "--record" in words, None
-    words = [word for word in words if word != "--record"]
+    records, bundles, begun = "--record" in words, "--bundled" in words, None
+    words = [word for word in words if word not in ("--record", "--bundled")]
     if "--proved-since" in words:
         at = words.index("--proved-since")
         try:
@@ -203,7 +217,7 @@ def asked_by(words):
     names = [] if anew else words
     if any(word.startswith("-") or word == "anew" for word in names):
         usage(f"these words are not understood: {' '.join(words)}")
-    return Asked(anew, names, records, begun)
+    return Asked(anew, names, records, begun, bundles)
 
 
 def named(edits, name):

@@ -15,6 +15,7 @@ import unittest
 
 sys.dont_write_bytecode = True
 
+import bundles
 import edits
 import refused
 from refused import Outcome, Record, Repository
@@ -249,6 +250,136 @@ class WhatTheToolchainSays(unittest.TestCase):
         self.assertIsNone(self.found["low/proof-name.edit"].place)
         self.assertIn("names what the edit took away", self.found["low/proof-name.edit"].fault)
         self.assertIn("a warning alone", self.found["low/warned.edit"].fault)
+
+
+SOURCE = """\
+ghost use Rattle.std.specs.Prelude.{◌≡◌};
+
+/// How many.
+const MOST: u8 = 3;
+
+impl Row {
+    /// The first.
+    pub fn first(&self) -> u8
+        ensures { result ≡ self.now.first }
+    {
+        self.first
+    }
+
+    fn both(&self) -> u8 {
+        self.first + self.second
+    }
+}
+
+impl fmt::Display for Row {
+    fn fmt(&self) -> u8 {
+        0
+    }
+}
+
+/// The same of any.
+pub(crate) fn first<T>(row: &T) -> u8
+    requires { row.now ≡ 1 }
+{
+    row.first
+}
+"""
+CHECK = """\
+note: src/lib.rt:8:5: it is not proved that what the function ensures holds when it returns (`returns`); `search` gave up at one of its limits
+./proofs/lib/Row/both/Answers.antt:7:3: error: `sum`: the two types differ only where one has `1`
+./proofs/first/Answers.antt:7:3: error: `b` has no field `gone`
+note: src/lib.rt:15:9: warning: this is not used
+note: src/lib.rt:31:5: the facts known there say nothing
+proofs/Lemmas.antt:3:4: error: `lemma`: expected a type
+"""
+
+
+class Bundles(unittest.TestCase):
+    def setUp(self):
+        self.top = tempfile.mkdtemp(prefix="bundles-test-")
+        self.addCleanup(shutil.rmtree, self.top)
+        write(f"{self.top}/src/lib.rt", SOURCE)
+        self.crate = bundles.Crate(self.top)
+
+    def edit(self, *pairs, file="src/lib.rt"):
+        path = f"{self.top}/{len(os.listdir(self.top))}.edit"
+        write(path, f"file: {file}\n" + "".join(f"old: {old}\nnew: {new}\n" for old, new in pairs))
+        return refused.Edit("low", os.path.basename(path), path)
+
+    def function_of(self, *pairs, **more):
+        changes = bundles.changed_lines(self.edit(*pairs, **more), self.top)
+        found = changes and self.crate.function_of(changes)
+        return found and (found.owner, found.name)
+
+    def test_functions_have_their_owners(self):
+        self.assertEqual([(it.owner, it.name) for it in self.crate.functions],
+                         [("Row", "first"), ("Row", "both"), ("Row", "fmt"), ("lib", "first")])
+
+    def test_a_change_in_one_body(self):
+        self.assertEqual(self.function_of(("self.first + self.second", "self.first")), ("Row", "both"))
+        self.assertEqual(self.function_of(("    row.first", "    0")), ("lib", "first"))
+        self.assertEqual(self.function_of(("self.first + self.second", "self.first + 1"), ("self.first + 1", "1")), ("Row", "both"))
+
+    def test_what_is_not_one_body_is_tried_alone(self):
+        self.assertIsNone(self.function_of(("const MOST: u8 = 3;", "const MOST: u8 = 4;")))
+        self.assertIsNone(self.function_of(("ensures { result ≡ self.now.first }", "ensures { result ≡ 0 }")))
+        self.assertIsNone(self.function_of(("    requires { row.now ≡ 1 }", "")))
+        self.assertIsNone(self.function_of(("self.first + self.second", "1"), ("    row.first", "    0")))
+        self.assertIsNone(self.function_of(("fn both(&self) -> u8 {", "fn both(&self) -> u16 {")))
+
+    def test_what_cannot_be_applied_is_tried_alone(self):
+        self.assertIsNone(self.function_of(("there is no such text", "1")))
+        self.assertIsNone(self.function_of(("fn ", "1")))
+        self.assertIsNone(self.function_of(("        self.first", "1")))
+        self.assertIsNone(self.function_of(("self.first + self.second", "1"), file="src/gone.rt"))
+
+    def test_one_edit_of_a_function_in_a_bundle(self):
+        both, first = (next(it for it in self.crate.functions if it[1:3] == key) for key in (("Row", "both"), ("lib", "first")))
+        self.assertEqual(bundles.bundles_of({"a": both, "b": both, "c": first}, ["a", "b", "c"]), [["a", "c"], ["b"]])
+        many = {number: number for number in range(bundles.MOST_OF_A_BUNDLE + 1)}
+        self.assertEqual([len(it) for it in bundles.bundles_of(many, list(many))], [bundles.MOST_OF_A_BUNDLE, 1])
+
+    def test_a_check_tells_of_functions(self):
+        told = {(it.owner, it.name): places for it, places in bundles.places_told(self.crate, CHECK).items()}
+        self.assertEqual(told, {
+            ("Row", "first"): ["src/lib.rt:8:5: it is not proved that what the function ensures holds when it returns (`returns`)"],
+            ("Row", "both"): ["proofs/lib/Row/both/Answers.antt:7:3: error: `sum`: the two types differ only where one has `1`"],
+        })
+
+    def test_two_functions_of_one_name_are_not_told_apart(self):
+        write(f"{self.top}/src/other.rt", "impl Row {\n    fn both(&self) {\n        1\n    }\n}\n")
+        self.assertNotIn("both", [it.name for it in bundles.places_told(bundles.Crate(self.top), CHECK)])
+
+    def test_sources_are_replaced_and_not_changed(self):
+        os.link(f"{self.top}/src/lib.rt", f"{self.top}/another")
+        changes = bundles.changed_lines(self.edit(("self.first + self.second", "1")), self.top)
+        self.crate.write(changes)
+        self.assertIn("        1\n", refused.bytes_of(f"{self.top}/src/lib.rt").decode())
+        self.assertEqual(refused.bytes_of(f"{self.top}/another").decode(), SOURCE)
+        self.crate.restore(changes)
+        self.assertEqual(refused.bytes_of(f"{self.top}/src/lib.rt").decode(), SOURCE)
+
+    def test_the_recorded_place_is_the_one_that_is_kept(self):
+        edit = self.edit(("self.first + self.second", "1"))
+        changes = {edit: bundles.changed_lines(edit, self.top)}
+        functions = {edit: self.crate.function_of(changes[edit])}
+        said = "note: src/lib.rt:15:9: it is not proved (`a`)\nnote: src/lib.rt:15:9: it is not proved (`b`)\n"
+        bundles_checked, bundles.checked = bundles.checked, lambda crate: ("refused", said)
+        self.addCleanup(setattr, bundles, "checked", bundles_checked)
+        for recorded, place in ((None, "(`a`)"), ("src/lib.rt:15:9: it is not proved (`b`)", "(`b`)"), ("src/lib.rt:9:9: elsewhere", "(`a`)")):
+            record = {refused.key_of(edit): Record("sum", recorded)} if recorded else {}
+            found = bundles.tried_as_one(self.crate, [edit], changes, functions, record)
+            self.assertTrue(found[edit].place.endswith(place), recorded)
+
+    def test_a_check_that_proves_or_stops_refuses_nothing(self):
+        edit = self.edit(("self.first + self.second", "1"))
+        changes = {edit: bundles.changed_lines(edit, self.top)}
+        functions = {edit: self.crate.function_of(changes[edit])}
+        bundles_checked = bundles.checked
+        self.addCleanup(setattr, bundles, "checked", bundles_checked)
+        for verdict in ("proved", None):
+            bundles.checked = lambda crate, verdict=verdict: (verdict, "note: src/lib.rt:15:9: it is not proved (`a`)\n")
+            self.assertEqual(bundles.tried_as_one(self.crate, [edit], changes, functions, {}), {})
 
 
 class Batches(unittest.TestCase):
