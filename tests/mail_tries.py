@@ -1,0 +1,220 @@
+#!/usr/bin/env python3
+"""Random tries of the mail by threads: tests/mail_tries.py, or with the word `soak` for an hour of them. It needs what `rt ci` built.
+
+Runs `dsr_mail_tries` over shapes of all sizes: each thread makes random calls at its seats, and what came of it is a transcript. Which
+call succeeds is up to the threads, so no two runs are alike. Of each transcript is asked:
+
+1. that `dsr check` takes it for a run;
+2. what is counted here from its lines alone: what an actor took from another is the first so many envelopes that were posted to it there,
+   so none was lost, none came twice, and none overtook another. And of a post at a box that is full, or a take at one that is empty, there is none;
+3. that something was done: in all runs of a shape together every kind of line stands, and each of the actors posted and took.
+
+The last line is `N passed, M failed`.
+"""
+
+import os
+import subprocess
+import sys
+import time
+
+TOP = os.path.dirname(os.path.dirname(os.path.realpath(__file__)))
+TRIES = f"{TOP}/crates/dsr_mail_tries/out/dsr_mail_tries"
+PROGRAM = f"{TOP}/crates/dsr/out/dsr"
+MOST_BYTES = 16_777_216
+SOAK = 3_600
+
+# Each shape, at how many seats a thread takes turns, how many tries each thread makes, and how many runs there are.
+ROWS = [
+    ("1 0 1 -", 1, 20_000, 2),
+    ("1 0 32 -", 8, 8_000, 2),
+    ("3 1 2 -", 1, 10_000, 2),
+    ("4 1 2 r0", 4, 20_000, 4),
+    ("4 1 2 r3", 1, 10_000, 4),
+    ("5 2 4 r1+r4", 2, 10_000, 2),
+    ("7 3 8 r0+r2+r6", 3, 8_000, 2),
+    ("10 4 16 r0+r3+r5+r9", 6, 8_000, 2),
+    ("16 7 32 r0+r1+r2+r3+r4+r5+r6", 16, 20_000, 2),
+    ("16 7 32 r1+r3+r5+r7+r9+r11+r13", 1, 2_000, 2),
+    ("16 0 32 -", 16, 20_000, 1),
+]
+
+
+def say(text):
+    print(text, flush=True)
+
+
+def seats_of(shape):
+    """How many seats of loyal replicas, of traitors and of clients there are."""
+    n, _, m, traitors = shape.split(" ")
+    count = 0 if traitors == "-" else len(traitors.split("+"))
+    return int(n) - count, count, int(m)
+
+
+def threads_of(shape, seats):
+    return sum(-(-count // seats) for count in seats_of(shape))
+
+
+def actors_of(shape):
+    n, _, m, _ = shape.split(" ")
+    return [f"r{number}" for number in range(int(n))] + [f"c{number}" for number in range(int(m))]
+
+
+def run(seed, tries, seats, shape):
+    """The transcript of a run; None where it ended badly, which is said."""
+    words = [TRIES, str(seed), str(tries), str(seats), shape]
+    try:
+        ran = subprocess.run(words, stdin=subprocess.DEVNULL, capture_output=True, timeout=300)
+    except (OSError, subprocess.TimeoutExpired) as error:
+        say(f"{' '.join(words)}: {error}")
+        return None
+    if ran.returncode != 0 or ran.stderr:
+        say(f"{' '.join(words)}: status {ran.returncode}: {ran.stderr.decode(errors='replace')}")
+        return None
+    return ran.stdout
+
+
+def box_fault(lines):
+    """What is wrong with what was posted and taken at each box, by the lines of a transcript without the first; None where nothing is."""
+    posted, taken = {}, {}
+    for line in lines:
+        actor, what, other, envelope = line.split(" ", 3)
+        if what == "post":
+            box = (actor, other)
+            if len(posted.get(box, ())) != len(taken.get(box, ())):
+                return f"posted into a full box: {line[:80]}"
+            posted.setdefault(box, []).append(envelope)
+        elif what == "take":
+            box = (other, actor)
+            if len(posted.get(box, ())) == len(taken.get(box, ())):
+                return f"taken from an empty box: {line[:80]}"
+            taken.setdefault(box, []).append(envelope)
+        else:
+            return f"no line of a transcript: {line[:80]}"
+    for box, envelopes in taken.items():
+        if envelopes != posted[box][:len(envelopes)]:
+            return f"what {box[1]} took from {box[0]} is not what was posted there first"
+    return None
+
+
+def check_fault(text):
+    """What `dsr check` says against the transcript; None where it takes it for a run of as many steps as it has lines after the first."""
+    ran = subprocess.run([PROGRAM, "check"], input=text, capture_output=True, timeout=300)
+    steps = text.count(b"\n") - 1
+    wanted = f"run {steps}\n".encode()
+    if ran.returncode != 0 or ran.stderr:
+        return f"status {ran.returncode}: {ran.stderr.decode(errors='replace')}"
+    if not ran.stdout.startswith(wanted):
+        return f"it says {ran.stdout[:40]!r}, and not {wanted!r}"
+    return None
+
+
+def fault_of(text, shape):
+    """What is wrong with a transcript of this shape; None where nothing is."""
+    if len(text) > MOST_BYTES:
+        return f"it has {len(text)} bytes, more than `dsr check` reads"
+    first, *lines = text.decode().split("\n")[:-1]
+    if first not in (f"dsr-transcript 1 {shape}", f"dsr-transcript 2 {shape}"):
+        return f"its first line is {first[:80]!r}"
+    return box_fault(lines) or check_fault(text)
+
+
+def kinds_of(text):
+    """Who posted or took, and which kinds of envelopes, as a set of words, and how many lines there are."""
+    found = set()
+    lines = text.decode().split("\n")[1:-1]
+    for line in lines:
+        actor, what, _, envelope = line.split(" ", 3)
+        found.add((actor, what))
+        found.add((what, envelope.split(" ", 1)[0]))
+    return found, len(lines)
+
+
+def wanted_kinds(shape):
+    """What must be found in all runs of a shape together."""
+    loyal, traitors, clients = seats_of(shape)
+    kinds = {(actor, what) for actor in actors_of(shape) for what in ("post", "take")}
+    kinds |= {(what, envelope) for what in ("post", "take") for envelope in ("ask", "round", "reply")}
+    if clients > 1:
+        kinds |= {("post", "seen"), ("take", "seen")}
+    if traitors > 0:
+        kinds |= {("post", "empty"), ("take", "empty")}
+    return kinds
+
+
+def row(seed, shape, seats, tries, runs):
+    """How many counts passed and failed of the runs of a shape, and how many tries and lines they had."""
+    passed = failed = lines = 0
+    found = set()
+    for at in range(runs):
+        text = run(seed + at, tries, seats, shape)
+        fault = "it gave no transcript" if text is None else fault_of(text, shape)
+        if fault is not None:
+            say(f"seed {seed + at}, {tries} tries, {seats} seats a thread, {shape}: {fault}")
+            failed += 1
+            continue
+        passed += 1
+        more, count = kinds_of(text)
+        found |= more
+        lines += count
+    missing = wanted_kinds(shape) - found
+    if missing:
+        say(f"{shape}: in no run: {', '.join(' '.join(words) for words in sorted(missing)[:8])}")
+    return passed + (not missing), failed + bool(missing), runs * tries * threads_of(shape, seats), lines
+
+
+def all_rows(seed):
+    """The sums of what the rows give, each with seeds of its own."""
+    sums = [0, 0, 0, 0]
+    for at, (shape, seats, tries, runs) in enumerate(ROWS):
+        sums = [sum(pair) for pair in zip(sums, row(seed + 1_000 * at, shape, seats, tries, runs))]
+    return sums
+
+
+def own_faults():
+    """That both judges find what is wrong: how many counts there are, and what they missed. Each case is of one replica and two clients."""
+    good = ["c0 post c1 seen 0", "c1 take c0 seen 0", "c0 post r0 ask c0#1:write:a:7~c0", "r0 take c0 ask c0#1:write:a:7~c0",
+            "c0 post c1 seen 0", "c1 post c0 seen 0", "c0 take c1 seen 0", "c1 take c0 seen 0"]
+    twice = good[:2] + good[1:]
+    lost = good[:2] + [good[4]] + good[4:]
+    other = good[:3] + ["r0 take c0 ask c0#1:write:a:8~c0"] + good[4:]
+    early = [good[1], good[0]] + good[2:]
+    cases = [("a run", good, False), ("an envelope taken twice", twice, True), ("an envelope lost", lost, True),
+             ("another envelope taken than was posted", other, True), ("a take before its post", early, True)]
+    missed = []
+    for what, lines, is_wrong in cases:
+        if (box_fault(lines) is not None) != is_wrong:
+            missed.append(f"the count of boxes is wrong about {what}")
+        text = "".join(f"{line}\n" for line in ["dsr-transcript 1 1 0 2 -", *lines]).encode()
+        if (check_fault(text) is not None) != is_wrong:
+            missed.append(f"`dsr check` is wrong about {what}")
+    return 2 * len(cases), missed
+
+
+def main():
+    soak = sys.argv[1:] == ["soak"]
+    if sys.argv[1:] and not soak:
+        sys.exit(__doc__)
+    for program in (TRIES, PROGRAM):
+        if not os.path.exists(program):
+            say(f"{program} is missing: `rt ci` builds it")
+            say("0 passed, 1 failed")
+            return 1
+    count, missed = own_faults()
+    for text in missed:
+        say(text)
+    passed, failed, tries, lines = count - len(missed), len(missed), 0, 0
+    start, seed = time.monotonic(), 1
+    while True:
+        more = all_rows(seed)
+        passed, failed, tries, lines = (sum(pair) for pair in zip((passed, failed, tries, lines), more))
+        seed += 1_000_000
+        if not soak or failed or time.monotonic() - start > SOAK:
+            break
+        say(f"{tries} tries so far, in {time.monotonic() - start:.0f} seconds")
+    say(f"{tries} tries, {lines} steps, in {time.monotonic() - start:.0f} seconds")
+    say(f"{passed} passed, {failed} failed")
+    return 1 if failed else 0
+
+
+if __name__ == "__main__":
+    sys.exit(main())
