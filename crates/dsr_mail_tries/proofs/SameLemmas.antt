@@ -1,11 +1,11 @@
 -- How seats stay the same.
-use Rattle.std.proofs.Common.{◌≡◌, ◌≢◌, ℕ, zero, suc, ◌<◌, Bool, List, [], ◌∷◌, length, get_or, set, ◌⊎◌, inl, inr, refl, ap, ap₂, sym, ◌∙◌, subst, arith, get_or-set_same, get_or-set_other, length-set}
-use Rattle.std.proofs.lemmas.List.{get_or_default}
+use Rattle.std.proofs.Common.{◌≡◌, ℕ, zero, suc, ◌<◌, Bool, List, [], ◌∷◌, ◌++◌, length, take, get_or, set, inl, inr, refl, ap, ap₂, sym, ◌∙◌, subst, arith, get_or-set_same, get_or-set_other, length-set}
+use Rattle.std.proofs.lemmas.List.{get_or_default, take_at}
 use Rattle.std.proofs.lemmas.Bool.{cases_eq}
 use Rattle.std.specs.Prelude.{map}
 use Rattle.dsr_names.specs.Shape.{Shape}
 use Rattle.dsr_names.specs.declared.actor.Actor.{Actor}
-use Rattle.dsr_boxes.specs.Pass.{SharedBoxes, Pass, IsPassOf, new_pass}
+use Rattle.dsr_boxes.specs.Pass.{SharedBoxes, Pass, new_pass}
 use Rattle.dsr_mail.specs.Seats.{actors_of, AreSeatsOf}
 use Rattle.dsr_mail_tries.specs.Same.{IsSameSeat, AreOfMail, AreSameSeats}
 
@@ -72,3 +72,10 @@ come_back mail kind xs ys is same =
       of_mail_on (λ seat. seat) mail xs ys same (new_of_mail mail (actors_of kind mail.shape) xs is),
       same_actors mail (actors_of kind mail.shape) ys (subst (λ l. AreSameSeats (λ seat. seat) l ys) is same),
     )
+
+-- also where a list of them was written through a slice
+pub come_back_written : (mail : SharedBoxes) (kind : Shape → Actor → Bool) (xs ys zs : List Pass) (n : ℕ)
+    → xs ≡ map (new_pass mail) (actors_of kind mail.shape) → length xs ≡ n → AreSameSeats (λ seat. seat) xs ys
+    → AreSeatsOf mail kind (take n (ys ++ zs))
+come_back_written mail kind xs ys zs n is long same =
+    subst (AreSeatsOf mail kind) (sym (take_at ys zs n (same.0 ∙ long))) (come_back mail kind xs ys is same)

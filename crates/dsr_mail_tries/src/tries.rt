@@ -1,6 +1,7 @@
 //! The threads, and their turns over seats.
 
 ghost use Rattle.std.specs.Prelude.{◌≡◌, map};
+ghost use Rattle.std.specs.Thread.{IsSync};
 ghost use Rattle.dsr_boxes.specs.Pass.{new_pass};
 ghost use Rattle.dsr_mail.specs.Seats.{is_loyal_replica, is_traitor_replica, is_client, actors_of, AreSeatsOf};
 ghost use Rattle.dsr_mail_tries.specs.Same.{AreOfMail, AreSameSeats};
@@ -48,7 +49,6 @@ pub(crate) fn logs_of<R: Threads + Sync>(
 }
 
 /// Makes the tries at all seats of a mail, at which nothing was done yet. All come back.
-#[tactic(auto, using(crate::proofs::SameLemmas::new_of_mail, crate::proofs::SameLemmas::come_back))]
 fn try_all<R: Threads + Sync>(rt: &R, alloc: Global, mail: &Mail, plan: &Plan, seats: &mut Seats)
     requires replicas { seats.old.replicas.items ≡ map (new_pass mail.now) (actors_of is_loyal_replica mail.now.shape) }
     requires traitors { seats.old.traitors.items ≡ map (new_pass mail.now) (actors_of is_traitor_replica mail.now.shape) }
@@ -82,8 +82,15 @@ fn try_kinds<R: Threads + Sync>(
 {
     join_mut(
         rt,
-        &mut || spread(rt, alloc, mail, plan, Kind::Replicas, replicas),
-        &mut || try_others(rt, alloc, mail, plan, traitors, clients),
+        &mut ||
+            requires { IsSync R.row × AreOfMail (λ seat. seat) mail.now replicas.now }
+            ensures { AreSameSeats (λ seat. seat) replicas.entry.now replicas.exit.now }
+        { spread(rt, alloc, mail, plan, Kind::Replicas, replicas) },
+        &mut ||
+            requires { IsSync R.row × AreOfMail (λ seat. seat) mail.now traitors.now × AreOfMail (λ seat. seat) mail.now clients.now }
+            ensures traitors { AreSameSeats (λ seat. seat) traitors.entry.now traitors.exit.now }
+            ensures clients { AreSameSeats (λ seat. seat) clients.entry.now clients.exit.now }
+        { try_others(rt, alloc, mail, plan, traitors, clients) },
     );
 }
 
@@ -103,8 +110,14 @@ fn try_others<R: Threads + Sync>(
 {
     join_mut(
         rt,
-        &mut || spread(rt, alloc, mail, plan, Kind::Traitors, traitors),
-        &mut || spread(rt, alloc, mail, plan, Kind::Clients, clients),
+        &mut ||
+            requires { IsSync R.row × AreOfMail (λ seat. seat) mail.now traitors.now }
+            ensures { AreSameSeats (λ seat. seat) traitors.entry.now traitors.exit.now }
+        { spread(rt, alloc, mail, plan, Kind::Traitors, traitors) },
+        &mut ||
+            requires { IsSync R.row × AreOfMail (λ seat. seat) mail.now clients.now }
+            ensures { AreSameSeats (λ seat. seat) clients.entry.now clients.exit.now }
+        { spread(rt, alloc, mail, plan, Kind::Clients, clients) },
     );
 }
 
