@@ -7,7 +7,7 @@ call succeeds is up to the threads, so no two runs are alike. Of each transcript
 1. that `dsr check` takes it for a run;
 2. what is counted here from its lines alone: what an actor took from another is the first so many envelopes that were posted to it there,
    so none was lost, none came twice, and none overtook another. And of a post at a box that is full, or a take at one that is empty, there is none;
-3. that something was done: in all runs of a shape together every kind of line stands, and each of the actors posted and took.
+3. that much was done: in all runs together each actor that there can be posted and took, and each kind of envelope was posted and taken.
 
 The last line is `N passed, M failed`.
 """
@@ -25,17 +25,18 @@ SOAK = 3_600
 
 # Each shape, at how many seats a thread takes turns, how many tries each thread makes, and how many runs there are.
 ROWS = [
-    ("1 0 1 -", 1, 20_000, 2),
-    ("1 0 32 -", 8, 8_000, 2),
-    ("3 1 2 -", 1, 10_000, 2),
-    ("4 1 2 r0", 4, 20_000, 4),
-    ("4 1 2 r3", 1, 10_000, 4),
-    ("5 2 4 r1+r4", 2, 10_000, 2),
-    ("7 3 8 r0+r2+r6", 3, 8_000, 2),
-    ("10 4 16 r0+r3+r5+r9", 6, 8_000, 2),
-    ("16 7 32 r0+r1+r2+r3+r4+r5+r6", 16, 20_000, 2),
-    ("16 7 32 r1+r3+r5+r7+r9+r11+r13", 1, 2_000, 2),
-    ("16 0 32 -", 16, 20_000, 1),
+    ("1 0 1 -", 1, 200_000, 2),
+    ("1 0 32 -", 8, 100_000, 2),
+    ("3 1 2 -", 1, 200_000, 4),
+    ("4 1 2 r0", 4, 200_000, 4),
+    ("4 1 2 r3", 1, 200_000, 4),
+    ("5 2 4 r1+r4", 2, 200_000, 4),
+    ("7 3 8 r0+r2+r6", 3, 200_000, 4),
+    ("10 4 16 r0+r3+r5+r9", 6, 200_000, 4),
+    ("16 7 32 r0+r1+r2+r3+r4+r5+r6", 16, 400_000, 2),
+    ("16 7 32 r1+r3+r5+r7+r9+r11+r13", 1, 50_000, 4),
+    ("16 7 32 -", 16, 150_000, 2),
+    ("16 0 32 -", 16, 150_000, 1),
 ]
 
 
@@ -119,55 +120,52 @@ def fault_of(text, shape):
 
 
 def kinds_of(text):
-    """Who posted or took, and which kinds of envelopes, as a set of words, and how many lines there are."""
+    """Who posted and took, and which kinds of envelopes, as a set of pairs of words."""
     found = set()
-    lines = text.decode().split("\n")[1:-1]
-    for line in lines:
+    for line in text.decode().split("\n")[1:-1]:
         actor, what, _, envelope = line.split(" ", 3)
-        found.add((actor, what))
-        found.add((what, envelope.split(" ", 1)[0]))
-    return found, len(lines)
+        found |= {(actor, what), (what, envelope.split(" ", 1)[0])}
+    return found
 
 
-def wanted_kinds(shape):
-    """What must be found in all runs of a shape together."""
-    loyal, traitors, clients = seats_of(shape)
-    kinds = {(actor, what) for actor in actors_of(shape) for what in ("post", "take")}
-    kinds |= {(what, envelope) for what in ("post", "take") for envelope in ("ask", "round", "reply")}
-    if clients > 1:
-        kinds |= {("post", "seen"), ("take", "seen")}
-    if traitors > 0:
-        kinds |= {("post", "empty"), ("take", "empty")}
-    return kinds
+def wanted_kinds():
+    """What must be found in all runs together."""
+    actors = [f"r{number}" for number in range(16)] + [f"c{number}" for number in range(32)]
+    return {(actor, what) for actor in actors for what in ("post", "take")} | {
+        (what, envelope) for what in ("post", "take") for envelope in ("ask", "round", "reply", "seen", "empty")}
 
 
-def row(seed, shape, seats, tries, runs):
-    """How many counts passed and failed of the runs of a shape, and how many tries and lines they had."""
-    passed = failed = lines = 0
-    found = set()
-    for at in range(runs):
-        text = run(seed + at, tries, seats, shape)
+class Sums:
+    """What all runs so far had."""
+
+    def __init__(self):
+        self.passed = self.failed = self.tries = self.steps = 0
+        self.found = set()
+
+    def add_run(self, seed, tries, seats, shape):
+        text = run(seed, tries, seats, shape)
         fault = "it gave no transcript" if text is None else fault_of(text, shape)
         if fault is not None:
-            say(f"seed {seed + at}, {tries} tries, {seats} seats a thread, {shape}: {fault}")
-            failed += 1
-            continue
-        passed += 1
-        more, count = kinds_of(text)
-        found |= more
-        lines += count
-    missing = wanted_kinds(shape) - found
-    if missing:
-        say(f"{shape}: in no run: {', '.join(' '.join(words) for words in sorted(missing)[:8])}")
-    return passed + (not missing), failed + bool(missing), runs * tries * threads_of(shape, seats), lines
+            say(f"seed {seed}, {tries} tries, {seats} seats a thread, {shape}: {fault}")
+            self.failed += 1
+            return
+        self.passed += 1
+        self.tries += tries * threads_of(shape, seats)
+        self.steps += text.count(b"\n") - 1
+        self.found |= kinds_of(text)
 
+    def add_all(self, seed):
+        """All rows, each run with a seed of its own."""
+        for at, (shape, seats, tries, runs) in enumerate(ROWS):
+            for again in range(runs):
+                self.add_run(seed + 1_000 * at + again, tries, seats, shape)
 
-def all_rows(seed):
-    """The sums of what the rows give, each with seeds of its own."""
-    sums = [0, 0, 0, 0]
-    for at, (shape, seats, tries, runs) in enumerate(ROWS):
-        sums = [sum(pair) for pair in zip(sums, row(seed + 1_000 * at, shape, seats, tries, runs))]
-    return sums
+    def judge_kinds(self):
+        missing = wanted_kinds() - self.found
+        if missing:
+            say(f"in no run: {', '.join(' '.join(words) for words in sorted(missing))}")
+        self.passed += not missing
+        self.failed += bool(missing)
 
 
 def own_faults():
@@ -202,18 +200,20 @@ def main():
     count, missed = own_faults()
     for text in missed:
         say(text)
-    passed, failed, tries, lines = count - len(missed), len(missed), 0, 0
+    sums = Sums()
+    sums.passed, sums.failed = count - len(missed), len(missed)
     start, seed = time.monotonic(), 1
     while True:
-        more = all_rows(seed)
-        passed, failed, tries, lines = (sum(pair) for pair in zip((passed, failed, tries, lines), more))
+        sums.add_all(seed)
         seed += 1_000_000
-        if not soak or failed or time.monotonic() - start > SOAK:
+        took = time.monotonic() - start
+        if not soak or sums.failed or took > SOAK:
             break
-        say(f"{tries} tries so far, in {time.monotonic() - start:.0f} seconds")
-    say(f"{tries} tries, {lines} steps, in {time.monotonic() - start:.0f} seconds")
-    say(f"{passed} passed, {failed} failed")
-    return 1 if failed else 0
+        say(f"{sums.tries} tries so far, in {took:.0f} seconds")
+    sums.judge_kinds()
+    say(f"{sums.tries} tries, of which {sums.steps} are steps, in {took:.0f} seconds")
+    say(f"{sums.passed} passed, {sums.failed} failed")
+    return 1 if sums.failed else 0
 
 
 if __name__ == "__main__":

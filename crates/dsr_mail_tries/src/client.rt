@@ -14,7 +14,7 @@ use std::alloc::Global;
 impl Player for ClientSeat {
     ghost pass = { λ s. s };
 
-    /// Mostly something of a replica, else something of a client, or anything.
+    /// Something of a replica, and sometimes something of a client, or anything.
     fn try_once(&mut self, alloc: Global, mail: &Mail, dice: &mut Dice) {
         match dice.below(16) {
             0..=4 => ask(self, alloc, mail, dice),

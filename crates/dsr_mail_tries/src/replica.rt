@@ -13,12 +13,12 @@ use std::alloc::Global;
 impl Player for ReplicaSeat {
     ghost pass = { λ s. s };
 
-    /// Mostly what is due, else something of a client, or anything.
+    /// What is due, something of a client, or sometimes anything.
     fn try_once(&mut self, alloc: Global, mail: &Mail, dice: &mut Dice) {
         match dice.below(16) {
-            0..=9 => follow(self, alloc, mail, dice),
-            10 | 11 => take(self, mail, Actor::Client(dice.client(mail.shape()))),
-            12 | 13 => reply(self, alloc, mail, dice),
+            0..=5 => follow(self, alloc, mail, dice),
+            6..=10 => take(self, mail, Actor::Client(dice.client(mail.shape()))),
+            11..=13 => reply(self, alloc, mail, dice),
             14 => take(self, mail, dice.anyone()),
             _ => stray(self, alloc, mail, dice),
         }
