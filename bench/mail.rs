@@ -4,8 +4,9 @@
 //! steps a line with it, and the nanoseconds that it took at the mail and with the lock. `bench/mail` runs it.
 #![tactic(auto)]
 
-ghost use Rattle.std.specs.Prelude.{All};
-ghost use Rattle.dsr_boxes.specs.Pass.{IsPassOf};
+ghost use Rattle.std.specs.Prelude.{◌≡◌, All, map};
+ghost use Rattle.dsr_boxes.specs.Pass.{IsPassOf, new_pass};
+ghost use Rattle.dsr_mail.specs.Seats.{is_client, actors_of};
 
 use dsr_desk::Keys;
 use dsr_mail::{ClientSeat, Mail};
@@ -14,7 +15,7 @@ use std::alloc::Global;
 use std::process::ExitCode;
 use std::sync::{Mutex, Wait};
 use std::thread::{Threads, join, map_vec};
-use std::time::Instant;
+use std::time::{Clock, Instant};
 
 /// A client's seat, with the mail that it is at.
 #[derive(Drop)]
@@ -85,14 +86,33 @@ fn at_mail<R: Threads + Wait + Sync>(
     Some(())
 }
 
-/// How long so many steps take at a mail of one replica and two clients.
-fn time_of_mail(rt: &HostRuntime, steps: u64) -> Option<u128> {
-    let shape = Shape::new(1, 0, 2, 0).ok()?;
-    let keys = Keys::new(rt.alloc(), shape).ok()?;
-    let (mail, seats) = Mail::open(rt.alloc(), shape, keys).ok()?;
+/// How long so many steps take at this mail, where nothing was done yet.
+fn time_at<R: Threads + Wait + Clock + Sync>(
+    rt: &R,
+    alloc: Global,
+    mail: &Mail,
+    clients: Vec<ClientSeat>,
+    steps: u64,
+) -> Option<u128>
+    requires { clients.items ≡ map (new_pass mail.now) (actors_of is_client mail.now.shape) }
+{
     let start = Instant::now(rt).ok()?;
-    at_mail(rt, rt.alloc(), &mail, seats.clients, steps)?;
+    at_mail(rt, alloc, mail, clients, steps)?;
     Some(start.elapsed(rt).ok()?.as_nanos())
+}
+
+/// How long so many steps take at a mail of one replica and two clients.
+fn time_of_mail<R: Threads + Wait + Clock + Sync>(
+    rt: &R,
+    alloc: Global,
+    steps: u64,
+) -> Option<u128> {
+    let shape = Shape::new(1, 0, 2, 0).ok()?;
+    let keys = Keys::new(alloc, shape).ok()?;
+    let Ok((mail, seats)) = Mail::open(alloc, shape, keys) else {
+        return None;
+    };
+    time_at(rt, alloc, &mail, seats.clients, steps)
 }
 
 /// Puts so many numbers, each where there is none.
@@ -126,7 +146,7 @@ fn get_all<R: Wait>(rt: &R, slot: &Mutex<Option<u64>>, steps: u64) {
 }
 
 /// How long so many steps take with a lock.
-fn time_of_lock(rt: &HostRuntime, steps: u64) -> Option<u128> {
+fn time_of_lock<R: Threads + Wait + Clock + Sync>(rt: &R, steps: u64) -> Option<u128> {
     let slot = Mutex::new(None);
     let start = Instant::now(rt).ok()?;
     join(
@@ -139,7 +159,10 @@ fn time_of_lock(rt: &HostRuntime, steps: u64) -> Option<u128> {
 
 fn main(rt: HostRuntime) -> std::io::Result<ExitCode> {
     for steps in [10_000, 100_000, 1_000_000] {
-        let (Some(mail), Some(lock)) = (time_of_mail(&rt, steps), time_of_lock(&rt, steps)) else {
+        let (Some(mail), Some(lock)) = (
+            time_of_mail(&rt, rt.alloc(), steps),
+            time_of_lock(&rt, steps),
+        ) else {
             return Ok(ExitCode::FAILURE);
         };
         println!(rt; "{steps} {mail} {lock}")?;

@@ -29,21 +29,20 @@ module _ {P : Type 0} (pass : P → Pass) where
   -- they stay the same where one of them does
   pub same_at : (xs ys : List P) (place : ℕ) (old new : P) → AreSameSeats pass xs ys → place < length ys
       → IsSameSeat (pass (get_or ys place old)) (pass new) → AreSameSeats pass xs (set ys place new)
-  same_at xs ys place old new same below one =
-      (
-        length-set ys place new ∙ same.0,
-        λ k d short. elim (cases_eq k place) [
-          | inl is ↦
-              let there : get_or ys k d ≡ get_or ys place old = ap (λ i. get_or ys i d) is ∙ get_or_default ys place d old below in
-              let here_now : get_or (set ys place new) k d ≡ new =
-              ap (λ i. get_or (set ys place new) i d) is ∙ get_or-set_same ys place new d below in
-              subst (λ y. IsSameSeat (pass (get_or xs k d)) (pass y)) (sym here_now)
-              (same_twice (pass (get_or xs k d)) (pass (get_or ys place old)) (pass new)
-              (subst (λ y. IsSameSeat (pass (get_or xs k d)) (pass y)) there (same.1 k d short)) one)
-          | inr apart ↦
-              subst (λ y. IsSameSeat (pass (get_or xs k d)) (pass y)) (sym (get_or-set_other ys place k new d apart)) (same.1 k d short)
-        ],
-      )
+  same_at xs ys place old new same below one = (
+    length-set ys place new ∙ same.0,
+    λ k d short. elim (cases_eq k place) [
+      | inl is ↦
+          let there : get_or ys k d ≡ get_or ys place old = ap (λ i. get_or ys i d) is ∙ get_or_default ys place d old below in
+          let here_now : get_or (set ys place new) k d ≡ new =
+          ap (λ i. get_or (set ys place new) i d) is ∙ get_or-set_same ys place new d below in
+          subst (λ y. IsSameSeat (pass (get_or xs k d)) (pass y)) (sym here_now)
+          (same_twice (pass (get_or xs k d)) (pass (get_or ys place old)) (pass new)
+          (subst (λ y. IsSameSeat (pass (get_or xs k d)) (pass y)) there (same.1 k d short)) one)
+      | inr apart ↦
+          subst (λ y. IsSameSeat (pass (get_or xs k d)) (pass y)) (sym (get_or-set_other ys place k new d apart)) (same.1 k d short)
+    ],
+  )
 
 -- new seats of a mail are its own
 pub new_of_mail : (mail : SharedBoxes) (actors : List Actor) (xs : List Pass) → xs ≡ map (new_pass mail) actors → AreOfMail (λ seat. seat) mail xs
@@ -67,11 +66,10 @@ same_actors mail (a ∷ rest) (y ∷ ys) same =
 -- so all seats come back
 pub come_back : (mail : SharedBoxes) (kind : Shape → Actor → Bool) (xs ys : List Pass) → xs ≡ map (new_pass mail) (actors_of kind mail.shape)
     → AreSameSeats (λ seat. seat) xs ys → AreSeatsOf mail kind ys
-come_back mail kind xs ys is same =
-    (
-      of_mail_on (λ seat. seat) mail xs ys same (new_of_mail mail (actors_of kind mail.shape) xs is),
-      same_actors mail (actors_of kind mail.shape) ys (subst (λ l. AreSameSeats (λ seat. seat) l ys) is same),
-    )
+come_back mail kind xs ys is same = (
+  of_mail_on (λ seat. seat) mail xs ys same (new_of_mail mail (actors_of kind mail.shape) xs is),
+  same_actors mail (actors_of kind mail.shape) ys (subst (λ l. AreSameSeats (λ seat. seat) l ys) is same),
+)
 
 -- also where a list of them was written through a slice
 pub come_back_written : (mail : SharedBoxes) (kind : Shape → Actor → Bool) (xs ys zs : List Pass) (n : ℕ)

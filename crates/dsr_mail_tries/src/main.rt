@@ -48,7 +48,10 @@ fn plan_of(rt: &HostRuntime) -> Option<Plan> {
 fn main(rt: HostRuntime) -> io::Result<ExitCode> {
     let mut errors = Outside(rt.stderr());
     let Some(plan) = plan_of(&rt) else {
-        tell(&mut errors, b"usage: dsr_mail_tries SEED TRIES SEATS SHAPE\n");
+        tell(
+            &mut errors,
+            b"usage: dsr_mail_tries SEED TRIES SEATS SHAPE\n",
+        );
         return Ok(ExitCode::from(USAGE_FAULT));
     };
     match run(&rt, rt.alloc(), &plan, &mut Outside(rt.stdout())) {

@@ -17,9 +17,10 @@ impl Player for TraitorSeat {
 
     /// Takes or posts, mostly of a replica.
     fn try_once(&mut self, alloc: Global, mail: &Mail, dice: &mut Dice) {
+        let replica = Actor::Replica(dice.replica(mail.shape()));
         match dice.below(16) {
-            0..=6 => take(self, mail, Actor::Replica(dice.replica(mail.shape()))),
-            7..=13 => send(self, alloc, mail, Actor::Replica(dice.replica(mail.shape())), dice),
+            0..=6 => take(self, mail, replica),
+            7..=13 => send(self, alloc, mail, replica, dice),
             14 => take(self, mail, dice.anyone()),
             _ => send(self, alloc, mail, dice.anyone(), dice),
         }
