@@ -1,0 +1,16 @@
+-- Seats stay those of the same actors at the same mail, whatever is tried at them (this project).
+use Rattle.std.specs.Prelude.{◌≡◌, ℕ, ◌<◌, List, length, slice_index_or}
+use Rattle.dsr_boxes.specs.Pass.{SharedBoxes, Pass, IsPassOf}
+
+-- the seat is that of the same actor at the same mail
+abbrev pub IsSameSeat : Pass → Pass → Type 0
+IsSameSeat old new = (new.id ≡ old.id) × (new.shape ≡ old.shape) × (new.actor ≡ old.actor)
+
+module _ {P : Type 0} (pass : P → Pass) where
+  -- the seats are seats of this mail
+  abbrev pub AreOfMail : SharedBoxes → List P → Type 0
+  AreOfMail mail seats = (k : ℕ) (d : P) → k < length seats → IsPassOf mail (pass (slice_index_or seats k d))
+
+  -- there are as many seats, each the same one
+  abbrev pub AreSameSeats : List P → List P → Type 0
+  AreSameSeats old new = (length new ≡ length old) × ((k : ℕ) (d : P) → k < length old → IsSameSeat (pass (slice_index_or old k d)) (pass (slice_index_or new k d)))
