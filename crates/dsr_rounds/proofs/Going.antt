@@ -1,0 +1,147 @@
+-- How seats go on, and which refusals of a try end a host.
+use Rattle.std.proofs.Common.{◌≡◌, ◌≢◌, ℕ, suc, ◌<◌, ◌^◌, ◌||◌, not, nat_lt, ◌⊎◌, inl, inr, Bool, true, false, List, [], ◌∷◌, ◌++◌, Option, None, Some, length, if◌then◌else◌, refl, ap, sym, ◌∙◌, subst, arith}
+use Rattle.std.specs.Prelude.{IsSome}
+use Rattle.std.specs.Option.{is_none}
+use Rattle.std.proofs.lemmas.Bool.{true≢false, false≢true}
+use Rattle.std.proofs.lemmas.Bool.Decides.{nat_tests}
+use Rattle.std.proofs.lemmas.List.{append_assoc}
+use Rattle.std.proofs.lemmas.Option.{none-some}
+use Rattle.dsr_names.specs.Shape.{Shape, IsActor}
+use Rattle.dsr_names.specs.declared.actor.Actor.{Actor}
+use Rattle.dsr_names.specs.declared.actor.Actor.TheVariants.{Replica, Client}
+use Rattle.dsr_names.specs.declared.refusal.Refusal.{Refusal}
+use Rattle.dsr_names.specs.declared.refusal.Refusal.TheVariants.{NoActor, WrongRole, NotDue, Exhausted, NoMemory, BoxFull, BoxEmpty}
+use Rattle.dsr_envelope.specs.declared.entry.Entry.{Entry}
+use Rattle.dsr_envelope.specs.declared.pick.Pick.{Pick}
+use Rattle.dsr_envelope.specs.declared.pick.Pick.TheVariants.{Plain}
+use Rattle.dsr_envelope.specs.Log.{posted_to}
+use Rattle.dsr_node.specs.Conduct.{post_of, is_exhausted, is_undue, is_actor, is_traitor_of, are_clients, is_own_client}
+use Rattle.dsr_run.specs.OwnStep.{HasPostsLeft}
+use Rattle.dsr_boxes.specs.Pass.{SharedBoxes, Pass, IsPassOf, with_entry}
+use Rattle.dsr_mail.specs.Refusals.{IsRefusedBy, is_spent, post_refused, take_refused, plant_refused}
+use Rattle.dsr_rounds.specs.Ends.{GoesOn, HostRefusal}
+use Rattle.dsr_rounds.specs.Limits.{IsExhausted}
+
+-- ---- seats go on
+
+pub goes_same : (later earlier : Pass) → later ≡ earlier → GoesOn later earlier
+goes_same later earlier e = subst (λ (s : Pass). GoesOn s earlier) (sym e) (record { id = refl; shape = refl; actor = refl; log = ([], refl) })
+
+pub goes_entry : (later earlier : Pass) (entry : Entry) → later ≡ with_entry earlier entry → GoesOn later earlier
+goes_entry later earlier entry e =
+    subst (λ (s : Pass). GoesOn s earlier) (sym e) (record { id = refl; shape = refl; actor = refl; log = (entry ∷ [], refl) })
+
+pub goes_further : (last later earlier : Pass) → GoesOn last later → GoesOn later earlier → GoesOn last earlier
+goes_further last later earlier more was = record {
+  id = more.id ∙ was.id;
+  shape = more.shape ∙ was.shape;
+  actor = more.actor ∙ was.actor;
+  log = (more.log.0 ++ was.log.0, more.log.1 ∙ (ap (λ l. more.log.0 ++ l) was.log.1 ∙ sym (append_assoc more.log.0 was.log.0 earlier.log)));
+}
+
+pub goes_at : (mail : SharedBoxes) (later earlier : Pass) → GoesOn later earlier → IsPassOf mail earlier → IsPassOf mail later
+goes_at mail later earlier goes at = (goes.id ∙ at.0, goes.shape ∙ at.1)
+
+-- ---- refusals
+
+some_is : {A : Type 0} (o : Option A) → IsSome o → is_none o ≡ false
+some_is None h = elim h [ ]
+some_is (Some x) h = refl
+
+either : (a b : Bool) → (a || b) ≡ true → (a ≡ true) ⊎ (b ≡ true)
+either true b e = inl refl
+either false b e = inr e
+
+spent_is : (log : List Entry) (to : Actor) → is_spent log to ≡ true → ¬ HasPostsLeft log to
+spent_is log to e left = at_end (suc (length (posted_to to log))) (2 ^ 40) e left
+  where
+    at_end : (a b : ℕ) → not (nat_lt a b) ≡ true → a < b → ⊥
+    at_end a b e less = grind (arith, nat_tests)
+
+some_same : {A : Type 0} (x y : A) → Some x ≡ Some y → x ≡ y
+some_same x y e = cc
+
+-- a test that refuses only by a limit
+only_limit : (a b n x : Bool) (e : Refusal) → a ≡ true → b ≡ false → n ≡ false
+    → (if not a then Some NoActor else if b then Some WrongRole else if n then Some NotDue else if x then Some Exhausted else None) ≡ Some e
+    → (x ≡ true) × (Exhausted ≡ e)
+only_limit true false false true e is role due by = (refl, some_same Exhausted e by)
+only_limit true false false false e is role due by = absurd (none-some e by)
+only_limit true false true x e is role due by = absurd (true≢false due)
+only_limit true true n x e is role due by = absurd (true≢false role)
+only_limit false b n x e is role due by = absurd (false≢true is)
+
+none_refuses : (a b n : Bool) (e : Refusal) → a ≡ true → b ≡ false → n ≡ false
+    → (if not a then Some NoActor else if b then Some WrongRole else if n then Some NotDue else None) ≡ Some e → ⊥
+none_refuses true false false e is role due by = none-some e by
+none_refuses true false true e is role due by = absurd (true≢false due)
+none_refuses true true n e is role due by = absurd (true≢false role)
+none_refuses false b n e is role due by = absurd (false≢true is)
+
+plant_limit : (a x : Bool) (e : Refusal) → a ≡ true → (if not a then Some NoActor else if x then Some Exhausted else None) ≡ Some e
+    → (x ≡ true) × (Exhausted ≡ e)
+plant_limit true true e is by = (refl, some_same Exhausted e by)
+plant_limit true false e is by = absurd (none-some e by)
+plant_limit false x e is by = absurd (false≢true is)
+
+actor_test : (shape : Shape) (a : Actor) → IsActor shape a → is_actor shape a ≡ true
+actor_test shape (Replica p) inside = grind (arith, nat_tests)
+actor_test shape (Client c) inside = grind (arith, nat_tests)
+
+module _ (may : Actor → Type 0) (seat : Pass) (to : Actor) (pick : Pick) where
+  -- a refused post of a loyal actor ends its host by a limit or for want of memory
+  pub post_ends : (e : Refusal) → is_traitor_of seat.shape seat.actor ≡ false → IsActor seat.shape to → are_clients seat.actor to ≡ false
+      → IsSome (post_of seat.shape seat.log seat.actor to pick)
+      → IsRefusedBy (post_refused seat.shape seat.actor seat.log to pick) BoxFull e → e ≢ BoxFull → HostRefusal may seat e
+  post_ends e loyal inside role given by other = elim by [
+    | inl own ↦
+      let limit = only_limit (is_actor seat.shape to) (are_clients seat.actor to) (is_none (post_of seat.shape seat.log seat.actor to pick))
+          (is_exhausted seat.shape seat.log seat.actor to pick || is_spent seat.log to) e (actor_test seat.shape to inside) role
+          (some_is (post_of seat.shape seat.log seat.actor to pick) given) own in
+      subst (HostRefusal may seat) limit.1 (record {
+        to = to;
+        pick = pick;
+        inside = inside;
+        next = λ honest. given;
+        past = elim (either (is_exhausted seat.shape seat.log seat.actor to pick) (is_spent seat.log to) limit.0) [
+          | inl counter ↦ inl (loyal, counter)
+          | inr spent ↦ inr (spent_is seat.log to spent)
+        ];
+      })
+    | inr rest ↦ elim rest.1 [
+      | inl box ↦ absurd (other box)
+      | inr memory ↦ subst (HostRefusal may seat) (sym memory) tt
+    ]
+  ]
+
+-- a refused take ends a host for want of memory
+pub take_ends : (may : Actor → Type 0) (seat : Pass) (from : Actor) (e : Refusal) → IsActor seat.shape from → is_own_client seat.actor from ≡ false
+    → is_undue seat.shape seat.log seat.actor from ≡ false
+    → IsRefusedBy (take_refused seat.shape seat.actor seat.log from) BoxEmpty e → e ≢ BoxEmpty → HostRefusal may seat e
+take_ends may seat from e inside role due by other = elim by [
+  | inl own ↦ absurd (none_refuses (is_actor seat.shape from) (is_own_client seat.actor from) (is_undue seat.shape seat.log seat.actor from) e
+      (actor_test seat.shape from inside) role due own)
+  | inr rest ↦ elim rest.1 [
+    | inl box ↦ absurd (other box)
+    | inr memory ↦ subst (HostRefusal may seat) (sym memory) tt
+  ]
+]
+
+-- a refused post of a traitor ends its host by a limit or for want of memory
+pub plant_ends : (may : Actor → Type 0) (seat : Pass) (to : Actor) (e : Refusal) → is_traitor_of seat.shape seat.actor ≡ true → IsActor seat.shape to
+    → IsRefusedBy (plant_refused seat.shape seat.log to) BoxFull e → e ≢ BoxFull → HostRefusal may seat e
+plant_ends may seat to e traitor inside by other = elim by [
+  | inl own ↦
+    let limit = plant_limit (is_actor seat.shape to) (is_spent seat.log to) e (actor_test seat.shape to inside) own in
+    subst (HostRefusal may seat) limit.1 (record {
+      to = to;
+      pick = Plain;
+      inside = inside;
+      next = λ honest. absurd (true≢false (sym traitor ∙ honest));
+      past = inr (spent_is seat.log to limit.0);
+    })
+  | inr rest ↦ elim rest.1 [
+    | inl box ↦ absurd (other box)
+    | inr memory ↦ subst (HostRefusal may seat) (sym memory) tt
+  ]
+]

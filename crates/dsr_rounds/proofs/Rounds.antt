@@ -1,0 +1,129 @@
+-- How the rounds of a replica close.
+use Rattle.std.proofs.Common.{◌≡◌, ℕ, zero, suc, ◌+◌, ◌-◌, ◌<◌, ◌≤◌, ◌==◌, ◌⊎◌, inl, inr, Bool, true, false, List, [], ◌∷◌, ◌++◌, length, Option, None, Some, if◌then◌else◌, refl, ap, sym, ◌∙◌, subst, arith}
+use Rattle.std.specs.Prelude.{IsSome}
+use Rattle.std.proofs.lemmas.Bool.Decides.{nat_tests, Decides-eqb}
+use Rattle.std.proofs.lemmas.List.{length-append}
+use Rattle.dsr_names.specs.Shape.{Shape}
+use Rattle.dsr_names.specs.declared.actor.Actor.{Actor}
+use Rattle.dsr_names.specs.declared.actor.Actor.TheVariants.{Replica, Client}
+use Rattle.dsr_names.specs.Support.ActorEquality.{actor_eq}
+use Rattle.dsr_envelope.specs.declared.envelope.Envelope.{Envelope}
+use Rattle.dsr_envelope.specs.declared.entry.Entry.{Entry}
+use Rattle.dsr_envelope.specs.declared.entry.Entry.TheVariants.{Post, Take}
+use Rattle.dsr_envelope.specs.declared.due.Due.{Due}
+use Rattle.dsr_envelope.specs.declared.due.Due.TheVariants.{Post as PostTo, Take as TakeFrom}
+use Rattle.dsr_envelope.specs.Log.{due, rounds, taken_from}
+use Rattle.dsr_boxes.specs.Pass.{Pass, with_entry}
+use Rattle.dsr_rounds.specs.Ends.{GoesOn}
+use Rattle.dsr_rounds.specs.Replicas.{HasClosed, KeepsRound, IsAtPost, IsTaking, IsAtTake}
+use Rattle.dsr_rounds.proofs.Going.{goes_same, goes_entry, goes_further}
+
+-- ---- what clients send and get leaves the round as it is
+
+pub keeps_same : (later earlier : Pass) → later ≡ earlier → KeepsRound later earlier
+keeps_same later earlier e = record {
+  goes_on = goes_same later earlier e;
+  due = ap (λ (s : Pass). due s.shape s.log) e;
+  rounds = ap (λ (s : Pass). rounds s.shape s.log) e;
+}
+
+pub keeps_take : (later earlier : Pass) (c : ℕ) (x : Envelope) → later ≡ with_entry earlier (Take (Client c) x) → KeepsRound later earlier
+keeps_take later earlier c x e = record {
+  goes_on = goes_entry later earlier (Take (Client c) x) e;
+  due = ap (λ (s : Pass). due s.shape s.log) e;
+  rounds = ap (λ (s : Pass). rounds s.shape s.log) e;
+}
+
+pub keeps_post : (later earlier : Pass) (c : ℕ) (x : Envelope) → later ≡ with_entry earlier (Post (Client c) x) → KeepsRound later earlier
+keeps_post later earlier c x e = record {
+  goes_on = goes_entry later earlier (Post (Client c) x) e;
+  due = ap (λ (s : Pass). due s.shape s.log) e;
+  rounds = ap (λ (s : Pass). rounds s.shape s.log) e;
+}
+
+pub keeps_further : (last later earlier : Pass) → KeepsRound last later → KeepsRound later earlier → KeepsRound last earlier
+keeps_further last later earlier more was = record {
+  goes_on = goes_further last later earlier more.goes_on was.goes_on;
+  due = more.due ∙ was.due;
+  rounds = more.rounds ∙ was.rounds;
+}
+
+-- ---- posts
+
+pub post_rounds : (later earlier : Pass) (q : ℕ) (x : Envelope) → later ≡ with_entry earlier (Post (Replica q) x)
+    → rounds later.shape later.log ≡ rounds earlier.shape earlier.log
+post_rounds later earlier q x e = ap (λ (s : Pass). rounds s.shape s.log) e
+
+at_next_post : (n q : ℕ) (b : Bool) → b ≡ (suc q == n) → IsAtPost n (suc q) (if b then TakeFrom 0 else PostTo (suc q))
+at_next_post n q true e = (Decides-eqb (suc q) n).0 (sym e)
+at_next_post n q false e = refl
+
+pub post_at : (later earlier : Pass) (n q : ℕ) (x : Envelope) → n ≡ earlier.shape.n → later ≡ with_entry earlier (Post (Replica q) x)
+    → IsAtPost n (suc q) (due later.shape later.log)
+post_at later earlier n q x is e =
+    subst (λ (s : Pass). IsAtPost n (suc q) (due s.shape s.log)) (sym e)
+    (subst (λ k. IsAtPost n (suc q) (if suc q == k then TakeFrom 0 else PostTo (suc q))) is (at_next_post n q (suc q == n) refl))
+
+pub due_at_post : (n q : ℕ) (d : Due) → q < n → IsAtPost n q d → d ≡ PostTo q
+due_at_post n q (PostTo to) less at = ap PostTo at
+due_at_post n q (TakeFrom from) less at = absurd (omega (arith, less, at))
+
+pub taking_at : (n : ℕ) (d : Due) (q : ℕ) → n ≤ q → IsAtPost n q d → ((to : ℕ) → d ≡ PostTo to → to < n) → IsTaking d
+taking_at n (PostTo to) q most at inside = let less = inside to refl in absurd (omega (arith, most, at, less))
+taking_at n (TakeFrom from) q most at inside = tt
+
+-- ---- takes
+
+length_if : {A : Type 0} (b : Bool) (xs : List A) (x : A) → length (if b then xs ++ x ∷ [] else xs) ≡ (if b then suc (length xs) else length xs)
+length_if true xs x = omega (arith, length-append xs (x ∷ []))
+length_if false xs x = refl
+
+closes : (n p c : ℕ) → p < n → (if p == n - 1 then suc c else c) ≡ (if suc p == n then suc c else c)
+closes n p c less = grind (arith, nat_tests)
+
+take_rounds : (shape : Shape) (log : List Entry) (p : ℕ) (x : Envelope) → p < shape.n
+    → rounds shape (Take (Replica p) x ∷ log) ≡ (if suc p == shape.n then suc (rounds shape log) else rounds shape log)
+take_rounds shape log p x less =
+    length_if (p == shape.n - 1) (taken_from (Replica (shape.n - 1)) log) x ∙ closes shape.n p (rounds shape log) less
+
+at_next_take : (n p closed k : ℕ) (d : Due) (b : Bool) → b ≡ (suc p == n) → p < n → d ≡ (if b then PostTo 0 else TakeFrom (suc p))
+    → k ≡ (if b then suc closed else closed) → ((suc p < n) × (d ≡ TakeFrom (suc p)) × (k ≡ closed)) ⊎ ((suc p ≡ n) × (k ≡ suc closed))
+at_next_take n p closed k d true e less due_is rounds_is = inr ((Decides-eqb (suc p) n).0 (sym e), rounds_is)
+at_next_take n p closed k d false e less due_is rounds_is = inl (below n p e less, due_is, rounds_is)
+  where
+    below : (n p : ℕ) → false ≡ (suc p == n) → p < n → suc p < n
+    below n p e less = grind (arith, nat_tests)
+
+-- a take from replica p that is due, with so many rounds closed, moves on
+pub take_at : (later earlier : Pass) (n p closed : ℕ) (x : Envelope) → n ≡ earlier.shape.n → p < n → rounds earlier.shape earlier.log ≡ closed
+    → later ≡ with_entry earlier (Take (Replica p) x) → IsAtTake later n (suc p) closed
+take_at later earlier n p closed x is less was e =
+    subst (λ (s : Pass). IsAtTake s n (suc p) closed) (sym e)
+    (subst (λ k. IsAtTake (with_entry earlier (Take (Replica p) x)) k (suc p) closed) (sym is)
+    (at_next_take earlier.shape.n p closed (rounds earlier.shape (Take (Replica p) x ∷ earlier.log)) (due earlier.shape (Take (Replica p) x ∷ earlier.log))
+    (suc p == earlier.shape.n) refl (subst (λ k. p < k) is less) refl
+    (take_rounds earlier.shape earlier.log p x (subst (λ k. p < k) is less) ∙ ap (λ c. if suc p == earlier.shape.n then suc c else c) was)))
+
+pub due_at_take : (seat : Pass) (n p closed : ℕ) → p < n → IsAtTake seat n p closed → (due seat.shape seat.log ≡ TakeFrom p) × (rounds seat.shape seat.log ≡ closed)
+due_at_take seat n p closed less at = elim at [
+  | inl more ↦ (more.1, more.2)
+  | inr done ↦ let e = done.0 in absurd (omega (arith, less, e))
+]
+
+pub closed_at : (seat : Pass) (n p closed : ℕ) → n ≤ p → IsAtTake seat n p closed → rounds seat.shape seat.log ≡ suc closed
+closed_at seat n p closed most at = elim at [
+  | inl more ↦ let less = more.0 in absurd (omega (arith, less, most))
+  | inr done ↦ done.1
+]
+
+-- ---- rounds add up
+
+pub none_closed : (seat : Pass) → HasClosed seat seat 0
+none_closed seat = omega arith
+
+pub more_closed : (first later last : Pass) (count : ℕ) → HasClosed first later count → HasClosed later last 1 → HasClosed first last (suc count)
+more_closed first later last count was one =
+    one ∙ (ap (λ k. k + 1) was ∙ plus (rounds first.shape first.log) count)
+  where
+    plus : (a b : ℕ) → a + b + 1 ≡ a + suc b
+    plus a b = omega arith

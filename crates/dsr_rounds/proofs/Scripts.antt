@@ -1,0 +1,196 @@
+-- How a traitor's seat follows a script.
+use Rattle.std.proofs.Common.{◌≡◌, ℕ, zero, suc, ◌<◌, ◌≤◌, ◌==◌, nat_lt, ◌⊎◌, inl, inr, Bool, true, false, List, [], ◌∷◌, ◌++◌, length, Option, None, Some, if◌then◌else◌, refl, ap, sym, ◌∙◌, subst, arith}
+use Rattle.std.proofs.lemmas.Bool.Decides.{nat_tests}
+use Rattle.std.proofs.lemmas.List.{length-append}
+use Rattle.dsr_names.specs.Shape.{Shape, is_traitor}
+use Rattle.dsr_names.specs.declared.actor.Actor.{Actor}
+use Rattle.dsr_names.specs.declared.actor.Actor.TheVariants.{Replica, Client}
+use Rattle.dsr_desk.specs.Signature.{Signature}
+use Rattle.dsr_envelope.specs.declared.envelope.Envelope.{Envelope}
+use Rattle.dsr_envelope.specs.declared.envelope.Envelope.TheVariants.{Empty}
+use Rattle.dsr_envelope.specs.declared.entry.Entry.{Entry}
+use Rattle.dsr_envelope.specs.declared.entry.Entry.TheVariants.{Post, Take}
+use Rattle.dsr_envelope.specs.Envelope.{Carries}
+use Rattle.dsr_envelope.specs.Log.{posted_to, taken_from}
+use Rattle.dsr_script.specs.Script.{Script}
+use Rattle.dsr_run.specs.OwnStep.{ForgesNone}
+use Rattle.dsr_boxes.specs.Pass.{Pass, with_entry}
+use Rattle.dsr_rounds.specs.Ends.{GoesOn}
+use Rattle.dsr_rounds.specs.Traitors.{FollowsScript, RanScript, IsPlanned, ArePlanned, KeepsCounts, PostsDrafts, TakesFromAll, MakesRound, count_at}
+use Rattle.dsr_rounds.proofs.Going.{goes_same, goes_entry, goes_further}
+
+-- ---- the empty envelope
+
+pub empty_forges_none : (shape : Shape) (me : Actor) (log : List Entry) → ForgesNone shape me log Empty
+empty_forges_none shape (Replica p) log = λ traitor s carried. absurd carried
+empty_forges_none shape (Client c) log = tt
+
+-- ---- nothing with replicas
+
+pub keeps_same : (earlier later : Pass) → later ≡ earlier → KeepsCounts earlier later
+keeps_same earlier later e = record {
+  goes_on = goes_same later earlier e;
+  keeps = λ script first posts takes follows. subst (λ (s : Pass). FollowsScript script first s posts takes) (sym e) follows;
+}
+
+pub keeps_take : (earlier later : Pass) (c : ℕ) (x : Envelope) → later ≡ with_entry earlier (Take (Client c) x) → KeepsCounts earlier later
+keeps_take earlier later c x e = record {
+  goes_on = goes_entry later earlier (Take (Client c) x) e;
+  keeps = λ script first posts takes follows. subst (λ (s : Pass). FollowsScript script first s posts takes) (sym e) (record {
+    id = follows.id;
+    shape = follows.shape;
+    actor = follows.actor;
+    added = Take (Client c) x ∷ follows.added;
+    log = ap (λ l. Take (Client c) x ∷ l) follows.log;
+    posted = follows.posted;
+    taken = follows.taken;
+    planned = follows.planned;
+  });
+}
+
+pub keeps_post : (earlier later : Pass) (c : ℕ) (x : Envelope) → later ≡ with_entry earlier (Post (Client c) x) → KeepsCounts earlier later
+keeps_post earlier later c x e = record {
+  goes_on = goes_entry later earlier (Post (Client c) x) e;
+  keeps = λ script first posts takes follows. subst (λ (s : Pass). FollowsScript script first s posts takes) (sym e) (record {
+    id = follows.id;
+    shape = follows.shape;
+    actor = follows.actor;
+    added = Post (Client c) x ∷ follows.added;
+    log = ap (λ l. Post (Client c) x ∷ l) follows.log;
+    posted = follows.posted;
+    taken = follows.taken;
+    planned = follows.planned;
+  });
+}
+
+pub keeps_further : (first later last : Pass) → KeepsCounts first later → KeepsCounts later last → KeepsCounts first last
+keeps_further first later last was more = record {
+  goes_on = goes_further last later first more.goes_on was.goes_on;
+  keeps = λ script start posts takes follows. more.keeps script start posts takes (was.keeps script start posts takes follows);
+}
+
+-- ---- counts
+
+length_if : {A : Type 0} (b : Bool) (xs : List A) (x : A) → length (if b then xs ++ x ∷ [] else xs) ≡ (if b then suc (length xs) else length xs)
+length_if true xs x = omega (arith, length-append xs (x ∷ []))
+length_if false xs x = refl
+
+next_count : (t p q c : ℕ) → c ≡ count_at t p q → (if p == q then suc c else c) ≡ count_at t (suc p) q
+next_count t p q c is = grind (arith, nat_tests)
+
+own_count : (t p : ℕ) → count_at t p p ≡ t
+own_count t p = grind (arith, nat_tests)
+
+all_counted : (t n q : ℕ) → q < n → count_at t n q ≡ count_at (suc t) 0 q
+all_counted t n q less = grind (arith, nat_tests)
+
+no_count : (t q : ℕ) → count_at t 0 q ≡ t
+no_count t q = grind (arith, nat_tests)
+
+-- the counts may be said in another way
+pub counted : (script : Script) (first later : Pass) (posts takes posts_too takes_too : ℕ → ℕ)
+    → ((q : ℕ) → q < first.shape.n → posts q ≡ posts_too q) → ((q : ℕ) → q < first.shape.n → takes q ≡ takes_too q)
+    → FollowsScript script first later posts takes → FollowsScript script first later posts_too takes_too
+counted script first later posts takes posts_too takes_too post_same take_same follows = record {
+  id = follows.id;
+  shape = follows.shape;
+  actor = follows.actor;
+  added = follows.added;
+  log = follows.log;
+  posted = λ q less. follows.posted q less ∙ post_same q less;
+  taken = λ q less. follows.taken q less ∙ take_same q less;
+  planned = follows.planned;
+}
+
+pub none_yet : (script : Script) (seat : Pass) → FollowsScript script seat seat (count_at 0 0) (count_at 0 0)
+none_yet script seat = record {
+  id = refl;
+  shape = refl;
+  actor = refl;
+  added = [];
+  log = refl;
+  posted = λ q less. sym (no_count 0 q);
+  taken = λ q less. sym (no_count 0 q);
+  planned = tt;
+}
+
+pub ran : (script : Script) (count : ℕ) (first last : Pass) → FollowsScript script first last (count_at count 0) (count_at count 0) → RanScript script count first last
+ran script count first last follows =
+    counted script first last (count_at count 0) (count_at count 0) (λ q. count) (λ q. count) (λ q less. no_count count q) (λ q less. no_count count q) follows
+
+-- ---- a post by the script
+
+pub one_post : (script : Script) (t p : ℕ) (earlier later : Pass) (x : Envelope) (takes : ℕ → ℕ) (first : Pass) → p < earlier.shape.n
+    → later ≡ with_entry earlier (Post (Replica p) x) → IsPlanned script earlier.shape earlier.actor earlier.log t p x
+    → FollowsScript script first earlier (count_at t p) takes → FollowsScript script first later (count_at t (suc p)) takes
+one_post script t p earlier later x takes first less e planned follows =
+    let inside : p < first.shape.n = subst (λ (s : Shape). p < s.n) follows.shape less in
+    let round : t ≡ length (posted_to (Replica p) follows.added) = sym (follows.posted p inside ∙ own_count t p) in
+    let by_shape : IsPlanned script first.shape earlier.actor earlier.log t p x =
+        subst (λ s. IsPlanned script s earlier.actor earlier.log t p x) follows.shape planned in
+    let by_actor : IsPlanned script first.shape first.actor earlier.log t p x =
+        subst (λ a. IsPlanned script first.shape a earlier.log t p x) follows.actor by_shape in
+    let by_log : IsPlanned script first.shape first.actor (follows.added ++ first.log) t p x =
+        subst (λ l. IsPlanned script first.shape first.actor l t p x) follows.log by_actor in
+    let by_round : IsPlanned script first.shape first.actor (follows.added ++ first.log) (length (posted_to (Replica p) follows.added)) p x =
+        subst (λ k. IsPlanned script first.shape first.actor (follows.added ++ first.log) k p x) round by_log in
+    subst (λ (s : Pass). FollowsScript script first s (count_at t (suc p)) takes) (sym e) (record {
+      id = follows.id;
+      shape = follows.shape;
+      actor = follows.actor;
+      added = Post (Replica p) x ∷ follows.added;
+      log = ap (λ l. Post (Replica p) x ∷ l) follows.log;
+      posted = λ q within. length_if (p == q) (posted_to (Replica q) follows.added) x
+          ∙ next_count t p q (length (posted_to (Replica q) follows.added)) (follows.posted q within);
+      taken = follows.taken;
+      planned = (follows.planned, by_round);
+    })
+
+pub posts_on : (script : Script) (t p : ℕ) (first earlier later : Pass) (x : Envelope) → p < earlier.shape.n
+    → later ≡ with_entry earlier (Post (Replica p) x) → IsPlanned script earlier.shape earlier.actor earlier.log t p x
+    → PostsDrafts script t p first earlier → PostsDrafts script t (suc p) first later
+posts_on script t p first earlier later x less e planned was = λ start takes follows.
+    one_post script t p earlier later x takes start less e planned (was start takes follows)
+
+pub no_posts : (script : Script) (t : ℕ) (seat : Pass) → PostsDrafts script t 0 seat seat
+no_posts script t seat = λ start takes follows. follows
+
+-- ---- a take
+
+pub one_take : (t p : ℕ) (earlier later : Pass) (x : Envelope) → later ≡ with_entry earlier (Take (Replica p) x)
+    → (script : Script) (posts : ℕ → ℕ) (first : Pass) → FollowsScript script first earlier posts (count_at t p)
+    → FollowsScript script first later posts (count_at t (suc p))
+one_take t p earlier later x e script posts first follows =
+    subst (λ (s : Pass). FollowsScript script first s posts (count_at t (suc p))) (sym e) (record {
+      id = follows.id;
+      shape = follows.shape;
+      actor = follows.actor;
+      added = Take (Replica p) x ∷ follows.added;
+      log = ap (λ l. Take (Replica p) x ∷ l) follows.log;
+      posted = follows.posted;
+      taken = λ q within. length_if (p == q) (taken_from (Replica q) follows.added) x
+          ∙ next_count t p q (length (taken_from (Replica q) follows.added)) (follows.taken q within);
+      planned = follows.planned;
+    })
+
+pub takes_on : (t p : ℕ) (first earlier later : Pass) (x : Envelope) → later ≡ with_entry earlier (Take (Replica p) x)
+    → TakesFromAll t p first earlier → TakesFromAll t (suc p) first later
+takes_on t p first earlier later x e was = λ script start posts follows. one_take t p earlier later x e script posts start (was script start posts follows)
+
+pub no_takes : (t : ℕ) (seat : Pass) → TakesFromAll t 0 seat seat
+no_takes t seat = λ script start posts follows. follows
+
+-- ---- a round
+
+pub round_made : (script : Script) (t n : ℕ) (a b c d e : Pass) → KeepsCounts a b → PostsDrafts script t n b c → KeepsCounts c d → TakesFromAll t n d e
+    → n ≡ a.shape.n → MakesRound script t a e
+round_made script t n a b c d e first posts second takes is = λ start follows.
+    let done = takes script start (count_at t n)
+        (second.keeps script start (count_at t n) (count_at t 0) (posts start (count_at t 0) (first.keeps script start (count_at t 0) (count_at t 0) follows))) in
+    let same : n ≡ start.shape.n = is ∙ ap (λ (s : Shape). s.n) follows.shape in
+    counted script start e (count_at t n) (count_at t n) (count_at (suc t) 0) (count_at (suc t) 0)
+    (λ q less. all_counted t n q (subst (λ k. q < k) (sym same) less)) (λ q less. all_counted t n q (subst (λ k. q < k) (sym same) less)) done
+
+pub round_after : (script : Script) (t : ℕ) (first earlier later : Pass) → FollowsScript script first earlier (count_at t 0) (count_at t 0)
+    → MakesRound script t earlier later → FollowsScript script first later (count_at (suc t) 0) (count_at (suc t) 0)
+round_after script t first earlier later was more = more first was

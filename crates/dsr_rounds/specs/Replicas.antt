@@ -1,0 +1,33 @@
+-- What a replica's host has done (this project).
+use Rattle.std.specs.Prelude.{◌≡◌, ◌⊎◌, ℕ, suc, ◌+◌, ◌<◌}
+use Rattle.dsr_envelope.specs.Log.{due, rounds}
+use Rattle.dsr_envelope.specs.declared.due.Due.{Due}
+use Rattle.dsr_envelope.specs.declared.due.Due.TheVariants.{Post as PostTo, Take as TakeFrom}
+use Rattle.dsr_boxes.specs.Pass.{Pass}
+use Rattle.dsr_rounds.specs.Ends.{GoesOn}
+
+-- so many more rounds are closed in the later log
+abbrev pub HasClosed : Pass → Pass → ℕ → Type 0
+HasClosed earlier later count = rounds later.shape later.log ≡ rounds earlier.shape earlier.log + count
+
+-- the later seat goes on from the earlier one, and nothing between replicas was done
+pub record KeepsRound (later earlier : Pass) : Type 0 where
+  pub goes_on : GoesOn later earlier
+  pub due : due later.shape later.log ≡ due earlier.shape earlier.log
+  pub rounds : rounds later.shape later.log ≡ rounds earlier.shape earlier.log
+
+-- the next post is to replica q, or all posts of the round are made and q is n
+abbrev pub IsAtPost : ℕ → ℕ → Due → Type 0
+IsAtPost n q (PostTo to) = to ≡ q
+IsAtPost n q (TakeFrom from) = q ≡ n
+
+-- the takes of the round are due
+abbrev pub IsTaking : Due → Type 0
+IsTaking (PostTo to) = ⊥
+IsTaking (TakeFrom from) = Unit {0}
+
+-- the next take is from replica p, with so many rounds closed; or all takes of the round are made, p is n, and one more round is closed
+abbrev pub IsAtTake : Pass → ℕ → ℕ → ℕ → Type 0
+IsAtTake seat n p closed =
+    ((p < n) × (due seat.shape seat.log ≡ TakeFrom p) × (rounds seat.shape seat.log ≡ closed))
+    ⊎ ((p ≡ n) × (rounds seat.shape seat.log ≡ suc closed))

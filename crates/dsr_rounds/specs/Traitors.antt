@@ -1,0 +1,87 @@
+-- What a traitor's host has done (this project).
+use Rattle.std.specs.Prelude.{◌≡◌, ◌⊎◌, ℕ, suc, ◌<◌, ◌++◌, nat_lt, Unit, Bool, true, false, List, [], ◌∷◌, Option, None, Some, length, if◌then◌else◌}
+use Rattle.dsr_names.specs.Shape.{Shape}
+use Rattle.dsr_names.specs.declared.actor.Actor.{Actor}
+use Rattle.dsr_names.specs.declared.actor.Actor.TheVariants.{Replica, Client}
+use Rattle.dsr_envelope.specs.declared.envelope.Envelope.{Envelope}
+use Rattle.dsr_envelope.specs.declared.envelope.Envelope.TheVariants.{Empty}
+use Rattle.dsr_envelope.specs.declared.entry.Entry.{Entry}
+use Rattle.dsr_envelope.specs.declared.entry.Entry.TheVariants.{Post, Take}
+use Rattle.dsr_envelope.specs.Log.{posted_to, taken_from}
+use Rattle.dsr_script.specs.Script.{Script, draft_at, place_of}
+use Rattle.dsr_run.specs.OwnStep.{ForgesNone}
+use Rattle.dsr_boxes.specs.Pass.{Pass, with_entry}
+use Rattle.dsr_rounds.specs.Ends.{GoesOn}
+
+-- the replica's number; 0 of a client, which no traitor is
+abbrev pub number_of : Actor → ℕ
+number_of (Replica p) = p
+number_of (Client c) = 0
+
+-- the script has no draft there, or one that would be forged
+abbrev pub IsNoDraft : Script → Shape → Actor → List Entry → ℕ → ℕ → Type 0
+IsNoDraft script shape me log round q =
+    (draft_at script (place_of (number_of me) round (Replica q)) ≡ None)
+    ⊎ ((draft : Envelope) × (draft_at script (place_of (number_of me) round (Replica q)) ≡ Some draft) × ¬ ForgesNone shape me log draft)
+
+-- what the script has the traitor post to a replica in a round, where it has this log: the draft, or the empty envelope where there is no draft or
+-- it would be forged
+abbrev pub IsPlanned : Script → Shape → Actor → List Entry → ℕ → ℕ → Envelope → Type 0
+IsPlanned script shape me log round q envelope =
+    ((draft_at script (place_of (number_of me) round (Replica q)) ≡ Some envelope) × ForgesNone shape me log envelope)
+    ⊎ ((envelope ≡ Empty) × IsNoDraft script shape me log round q)
+
+-- each post to a replica among what was added to a log is the script's: the t-th to this replica, counted from 0, is that of round t
+abbrev pub ArePlanned : Script → Shape → Actor → List Entry → List Entry → Type 0
+ArePlanned script shape me base [] = Unit {0}
+ArePlanned script shape me base (Post (Replica q) envelope ∷ added) =
+    ArePlanned script shape me base added × IsPlanned script shape me (added ++ base) (length (posted_to (Replica q) added)) q envelope
+ArePlanned script shape me base (Post (Client c) envelope ∷ added) = ArePlanned script shape me base added
+ArePlanned script shape me base (Take from envelope ∷ added) = ArePlanned script shape me base added
+
+-- the later seat is that of the same actor at the same mail; its log extends the earlier one, by posts to replicas and takes from them, as many as
+-- these say of each, and all posts to replicas are the script's
+pub record FollowsScript (script : Script) (earlier later : Pass) (posts takes : ℕ → ℕ) : Type 0 where
+  pub id : later.id ≡ earlier.id
+  pub shape : later.shape ≡ earlier.shape
+  pub actor : later.actor ≡ earlier.actor
+  pub added : List Entry
+  pub log : later.log ≡ added ++ earlier.log
+  pub posted : (q : ℕ) → q < earlier.shape.n → length (posted_to (Replica q) added) ≡ posts q
+  pub taken : (p : ℕ) → p < earlier.shape.n → length (taken_from (Replica p) added) ≡ takes p
+  pub planned : ArePlanned script earlier.shape earlier.actor earlier.log added
+
+-- the traitor's host made all rounds: to each replica it posted once a round what the script says, and took from each once a round
+abbrev pub RanScript : Script → ℕ → Pass → Pass → Type 0
+RanScript script count earlier later = FollowsScript script earlier later (λ q. count) (λ p. count)
+
+-- how many posts or takes replica q has had, when in round t those to the replicas below p were made
+abbrev pub count_at : ℕ → ℕ → ℕ → ℕ
+count_at t p q = if nat_lt q p then suc t else t
+
+-- what came of a planned post to a replica: it was made, and forges none; or it would be forged, and nothing changed
+abbrev pub IsPlanting : Pass → Pass → ℕ → Envelope → Bool → Type 0
+IsPlanting old new to envelope true =
+    (new ≡ with_entry old (Post (Replica to) envelope)) × ForgesNone old.shape old.actor old.log envelope
+IsPlanting old new to envelope false = (new ≡ old) × ¬ ForgesNone old.shape old.actor old.log envelope
+
+-- nothing was done with replicas: the later seat follows each script as far as the earlier did
+pub record KeepsCounts (earlier later : Pass) : Type 0 where
+  pub goes_on : GoesOn later earlier
+  pub keeps : (script : Script) (first : Pass) (posts takes : ℕ → ℕ) → FollowsScript script first earlier posts takes
+      → FollowsScript script first later posts takes
+
+-- the posts of round t to the replicas below p were made
+abbrev pub PostsDrafts : Script → ℕ → ℕ → Pass → Pass → Type 0
+PostsDrafts script t p earlier later = (first : Pass) (takes : ℕ → ℕ)
+    → FollowsScript script first earlier (count_at t 0) takes → FollowsScript script first later (count_at t p) takes
+
+-- the takes of round t from the replicas below p were made
+abbrev pub TakesFromAll : ℕ → ℕ → Pass → Pass → Type 0
+TakesFromAll t p earlier later = (script : Script) (first : Pass) (posts : ℕ → ℕ)
+    → FollowsScript script first earlier posts (count_at t 0) → FollowsScript script first later posts (count_at t p)
+
+-- the posts and takes of round t were made
+abbrev pub MakesRound : Script → ℕ → Pass → Pass → Type 0
+MakesRound script t earlier later = (first : Pass) → FollowsScript script first earlier (count_at t 0) (count_at t 0)
+    → FollowsScript script first later (count_at (suc t) 0) (count_at (suc t) 0)

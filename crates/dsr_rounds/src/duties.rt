@@ -1,0 +1,167 @@
+//! What a replica owes its clients, and whose requests it proposes next.
+
+ghost use Rattle.std.specs.Prelude.{◌≡◌, IsSome, IsTrue};
+ghost use Rattle.dsr_names.specs.declared.actor.Actor.TheVariants.{Replica};
+ghost use Rattle.dsr_envelope.specs.declared.due.Due.TheVariants.{Post as PostTo};
+ghost use Rattle.dsr_envelope.specs.Log.{due};
+ghost use Rattle.dsr_replica.specs.Conduct.{reply_to};
+ghost use Rattle.dsr_node.specs.Conduct.{post_of};
+
+use dsr_envelope::{Clients, Envelope, Pick};
+use dsr_mail::ReplicaSeat;
+use dsr_names::{ClientId, ReplicaId};
+
+/// The most clients of a shape.
+const MOST_CLIENTS: usize = 32;
+
+/// The most clients whose requests one slot carries.
+const MOST_PICKED: usize = 8;
+
+/// Which clients a replica has not answered since it took something of them, and whose request it proposed last.
+pub(crate) struct Duties {
+    /// How many clients there are.
+    clients: u8,
+    /// The client after which the ring of clients begins.
+    last: u8,
+    /// Whether something of the client was taken and not answered, by the client's number.
+    unanswered: [bool; MOST_CLIENTS],
+}
+
+impl Duties {
+    /// Nobody is owed anything, and client 0 is the first of the ring. Requires at least one client, and at most 32.
+    pub(crate) fn none(clients: u8) -> Duties {
+        Duties {
+            clients,
+            last: clients.saturating_sub(1),
+            unanswered: [false; MOST_CLIENTS],
+        }
+    }
+
+    /// Something of the client was taken.
+    pub(crate) fn note_take(&mut self, client: ClientId) {
+        self.unanswered[client.number() as usize] = true;
+    }
+
+    /// The client was answered.
+    pub(crate) fn note_answer(&mut self, client: ClientId) {
+        self.unanswered[client.number() as usize] = false;
+    }
+
+    /// Whether the client is owed its reply: something of it was taken since it was answered, and the request that is held of it is the one that
+    /// the reply is for.
+    pub(crate) fn owes(&self, seat: &ReplicaSeat, client: ClientId) -> bool
+        ensures { IsTrue result → IsSome (reply_to seat.now.shape seat.now.log client) }
+    {
+        if !self.unanswered[client.number() as usize] {
+            return false;
+        }
+        match (seat.held(client), replied_number(seat, client)) {
+            (Some(held), Some(number)) => held.number() == number,
+            _ => false,
+        }
+    }
+
+    /// The choice for the post to replica 0, which must be due: the first 8 clients in the ring whose held requests would act, where the slot is
+    /// the replica's own and there are any; else nothing in particular. The ring begins after the client that was proposed last.
+    pub(crate) fn proposal(&mut self, seat: &ReplicaSeat) -> Pick
+        requires { due seat.now.shape seat.now.log ≡ PostTo 0 }
+        ensures { IsSome (post_of seat.now.shape seat.now.log seat.now.actor (Replica 0) result) }
+    {
+        // For the proof: that it is a replica, whose conduct has a post.
+        let _replica = seat.replica();
+        let _due = seat.due();
+        let waiting = self.waiting(seat);
+        let Some(clients) = waiting.clients() else {
+            return Pick::Plain;
+        };
+        let pick = Pick::From(clients);
+        if !is_allowed(seat, &pick) {
+            return Pick::Plain;
+        }
+        self.last = waiting.last;
+        pick
+    }
+
+    /// The first 8 clients in the ring whose held requests would act.
+    fn waiting(&self, seat: &ReplicaSeat) -> Waiting {
+        let mut waiting = Waiting::none();
+        let mut number = self.last;
+        for _ in 0..self.clients {
+            number = self.after(number);
+            if let Ok(client) = ClientId::new(number) {
+                waiting.add_if_held(seat, client);
+            }
+        }
+        waiting
+    }
+
+    /// The number of the next client in the ring.
+    fn after(&self, number: u8) -> u8 {
+        if number < self.clients.saturating_sub(1) {
+            number + 1
+        } else {
+            0
+        }
+    }
+}
+
+/// Some clients, in the order of the ring.
+struct Waiting {
+    list: [ClientId; MOST_PICKED],
+    count: usize,
+    /// The number of the last.
+    last: u8,
+}
+
+impl Waiting {
+    /// No clients.
+    fn none() -> Waiting {
+        Waiting {
+            list: [ClientId::FIRST; MOST_PICKED],
+            count: 0,
+            last: 0,
+        }
+    }
+
+    /// Adds the client if the request that is held of it would act, and there is room.
+    fn add_if_held(&mut self, seat: &ReplicaSeat, client: ClientId) {
+        if self.count < MOST_PICKED && acts(seat, client) {
+            self.list[self.count] = client;
+            self.count += 1;
+            self.last = client.number();
+        }
+    }
+
+    /// The clients, if there are any.
+    fn clients(&self) -> Option<Clients> {
+        Clients::of(self.list.get(..self.count)?)
+    }
+}
+
+/// Whether the request that is held of the client would act: its number is above that of the last that did.
+fn acts(seat: &ReplicaSeat, client: ClientId) -> bool {
+    match (seat.held(client), replied_number(seat, client)) {
+        (Some(held), Some(number)) => held.number() > number,
+        (Some(_), None) => true,
+        (None, _) => false,
+    }
+}
+
+/// The number of the client's last request that acted, if one did.
+fn replied_number(seat: &ReplicaSeat, client: ClientId) -> Option<u64>
+    ensures { IsSome result → IsSome (reply_to seat.now.shape seat.now.log client) }
+{
+    match seat.reply_for(client) {
+        Some(Envelope::Reply(reply)) => Some(reply.number),
+        _ => None,
+    }
+}
+
+/// Whether the replica may post to replica 0 by this choice.
+fn is_allowed(seat: &ReplicaSeat, pick: &Pick) -> bool
+    ensures { IsTrue result → IsSome (post_of seat.now.shape seat.now.log seat.now.actor (Replica 0) pick.now) }
+{
+    // For the proof: that it is a replica.
+    let _replica = seat.replica();
+    seat.allows(ReplicaId::FIRST, *pick)
+}

@@ -1,0 +1,56 @@
+//! What hosts share, and a host's single tries.
+
+ghost use Rattle.std.specs.Prelude.{◌≡◌, Ok, Err, IfOk, IfErr, IsTrue, MatchBool};
+ghost use Rattle.dsr_names.specs.declared.actor.Actor.{Actor};
+ghost use Rattle.dsr_names.specs.declared.refusal.Refusal.{Refusal};
+ghost use Rattle.dsr_rounds.specs.Ends.{IsPassEnd, IsTried};
+
+use crate::end::End;
+use crate::gate::Gate;
+use crate::stop::Stop;
+use crate::turn::Turn;
+use dsr_mail::Mail;
+use dsr_names::{Actor, Refusal};
+use std::alloc::Global;
+use std::sync::Wait;
+
+/// What a host works with beside its seat: the runtime, memory, the mail, the gate that it asks, and whether it was told to stop.
+pub struct Host<'a, R, G> {
+    /// The runtime, in which it waits.
+    pub rt: &'a R,
+    /// Where it allocates.
+    pub alloc: Global,
+    /// The mail of its seat.
+    pub mail: &'a Mail,
+    /// What lets it go on.
+    pub gate: &'a G,
+    /// Whether it was told to stop.
+    pub stop: &'a Stop,
+}
+
+impl<'a, R: Wait, G: Gate> Host<'a, R, G> {
+    /// Asks whether the actor goes on: not where it was told to stop, nor where the gate refuses it.
+    pub fn pass(&self, actor: Actor, turn: &mut Turn) -> Result<(), End>
+        ensures { IfErr result (IsPassEnd (G.may_refuse self.now.gate.now) self.now.stop.now actor) }
+    {
+        if self.stop.is_told() {
+            return Err(End::Told);
+        }
+        if !self.gate.pass(actor, turn.count()) {
+            return Err(End::Fault(Refusal::Stopped));
+        }
+        Ok(())
+    }
+}
+
+/// Whether the try succeeded: not where the box was full or empty, after which it can be made again. Any other refusal ends the host.
+pub(crate) fn was_made(tried: Result<(), Refusal>) -> Result<bool, End>
+    ensures { IsTried tried result }
+{
+    match tried {
+        Ok(()) => Ok(true),
+        Err(Refusal::BoxFull) => Ok(false),
+        Err(Refusal::BoxEmpty) => Ok(false),
+        Err(refusal) => Err(End::Fault(refusal)),
+    }
+}

@@ -1,0 +1,262 @@
+//! The rounds of a replica.
+
+ghost use Rattle.std.specs.Prelude.{◌≡◌, ◌<◌, suc, IfErr, OnOk, OnErr, IsSome, Ok};
+ghost use Rattle.dsr_names.specs.declared.actor.Actor.TheVariants.{Replica, Client};
+ghost use Rattle.dsr_envelope.specs.declared.entry.Entry.TheVariants.{Post, Take};
+ghost use Rattle.dsr_envelope.specs.declared.due.Due.TheVariants.{Post as PostTo, Take as TakeFrom};
+ghost use Rattle.dsr_envelope.specs.declared.envelope.Envelope.{Envelope};
+ghost use Rattle.dsr_envelope.specs.Log.{due, rounds};
+ghost use Rattle.dsr_node.specs.Conduct.{post_of};
+ghost use Rattle.dsr_boxes.specs.Pass.{IsPassOf, with_entry};
+ghost use Rattle.dsr_rounds.specs.Ends.{GoesOn, HostEnd};
+ghost use Rattle.dsr_rounds.specs.Replicas.{HasClosed, KeepsRound, IsAtPost, IsTaking};
+
+use crate::duties::Duties;
+use crate::end::End;
+use crate::gate::Gate;
+use crate::host::{Host, was_made};
+use crate::turn::Turn;
+use dsr_envelope::{Due, Pick};
+use dsr_mail::ReplicaSeat;
+use dsr_names::{Actor, ClientId, ReplicaId};
+use std::sync::Wait;
+
+impl<'a, R: Wait, G: Gate> Host<'a, R, G> {
+    /// Has the replica make so many rounds: in each it takes once from each client, posts to all replicas, takes from all, and posts once to each
+    /// client that is owed its reply. A round that was begun before is the first.
+    pub fn run_replica(&self, seat: &mut ReplicaSeat, rounds: u64) -> Result<(), End>
+        requires mail { IsPassOf self.now.mail.now seat.old }
+        ensures closed { OnOk result (HasClosed seat.old seat.new rounds) }
+        ensures log { GoesOn seat.new seat.old }
+        ensures end { IfErr result (HostEnd (G.may_refuse self.now.gate.now) self.now.stop.now seat.new) }
+    {
+        let mut turn = Turn::first();
+        let mut duties = Duties::none(self.mail.shape().m());
+        for _ in 0..rounds {
+            self.make_round(seat, &mut turn, &mut duties)?;
+        }
+        Ok(())
+    }
+
+    /// One round.
+    fn make_round(
+        &self,
+        seat: &mut ReplicaSeat,
+        turn: &mut Turn,
+        duties: &mut Duties,
+    ) -> Result<(), End>
+        requires mail { IsPassOf self.now.mail.now seat.old }
+        ensures closed { OnOk result (HasClosed seat.old seat.new 1) }
+        ensures log { GoesOn seat.new seat.old }
+        ensures end { IfErr result (HostEnd (G.may_refuse self.now.gate.now) self.now.stop.now seat.new) }
+    {
+        self.take_from_clients(seat, turn, duties)?;
+        self.post_all(seat, turn, duties)?;
+        self.take_all(seat, turn)?;
+        self.answer_clients(seat, turn, duties)
+    }
+
+    /// Takes once from each client.
+    fn take_from_clients(
+        &self,
+        seat: &mut ReplicaSeat,
+        turn: &mut Turn,
+        duties: &mut Duties,
+    ) -> Result<(), End>
+        requires mail { IsPassOf self.now.mail.now seat.old }
+        ensures kept { KeepsRound seat.new seat.old }
+        ensures end { IfErr result (HostEnd (G.may_refuse self.now.gate.now) self.now.stop.now seat.new) }
+    {
+        for number in 0..self.mail.shape().m() {
+            self.take_from_client(seat, turn, duties, ClientId::of(number))?;
+        }
+        Ok(())
+    }
+
+    /// Takes once from a client.
+    fn take_from_client(
+        &self,
+        seat: &mut ReplicaSeat,
+        turn: &mut Turn,
+        duties: &mut Duties,
+        client: ClientId,
+    ) -> Result<(), End>
+        requires mail { IsPassOf self.now.mail.now seat.old }
+        requires inside { client < seat.old.shape.m }
+        ensures kept { KeepsRound seat.new seat.old }
+        ensures end { IfErr result (HostEnd (G.may_refuse self.now.gate.now) self.now.stop.now seat.new) }
+    {
+        self.pass(seat.actor(), turn)?;
+        let tried = seat.try_take(self.mail, Actor::Client(client));
+        if was_made(tried)? {
+            duties.note_take(client);
+        }
+        Ok(())
+    }
+
+    /// Posts to all replicas to which it has not posted in this round.
+    fn post_all(
+        &self,
+        seat: &mut ReplicaSeat,
+        turn: &mut Turn,
+        duties: &mut Duties,
+    ) -> Result<(), End>
+        requires mail { IsPassOf self.now.mail.now seat.old }
+        ensures posted { OnOk result (IsTaking (due seat.new.shape seat.new.log)) }
+        ensures rounds { OnOk result (rounds seat.new.shape seat.new.log ≡ rounds seat.old.shape seat.old.log) }
+        ensures log { GoesOn seat.new seat.old }
+        ensures end { IfErr result (HostEnd (G.may_refuse self.now.gate.now) self.now.stop.now seat.new) }
+    {
+        let n = self.mail.shape().n();
+        let first = match seat.due() {
+            Due::Post(to) => to.number(),
+            Due::Take(_) => n,
+        };
+        for number in first..n {
+            self.post_next(seat, turn, duties, ReplicaId::of(number))?;
+        }
+        Ok(())
+    }
+
+    /// Makes the post to a replica that is due.
+    fn post_next(
+        &self,
+        seat: &mut ReplicaSeat,
+        turn: &mut Turn,
+        duties: &mut Duties,
+        to: ReplicaId,
+    ) -> Result<(), End>
+        requires mail { IsPassOf self.now.mail.now seat.old }
+        requires inside { to < seat.old.shape.n }
+        requires due { due seat.old.shape seat.old.log ≡ PostTo to }
+        ensures posted { OnOk result ((envelope : Envelope) × (seat.new ≡ with_entry seat.old (Post (Replica to) envelope))) }
+        ensures unchanged { OnErr result (seat.new ≡ seat.old) }
+        ensures end { IfErr result (HostEnd (G.may_refuse self.now.gate.now) self.now.stop.now seat.new) }
+    {
+        let pick = choice(seat, duties, to);
+        self.post_to(seat, turn, to, &pick)
+    }
+
+    /// Posts to a replica by a choice, as soon as the box is empty. The choice must be one by which it may post there.
+    fn post_to(
+        &self,
+        seat: &mut ReplicaSeat,
+        turn: &mut Turn,
+        to: ReplicaId,
+        pick: &Pick,
+    ) -> Result<(), End>
+        requires mail { IsPassOf self.now.mail.now seat.old }
+        requires inside { to < seat.old.shape.n }
+        requires given { IsSome (post_of seat.old.shape seat.old.log seat.old.actor (Replica to) pick.now) }
+        ensures posted { OnOk result ((envelope : Envelope) × (seat.new ≡ with_entry seat.old (Post (Replica to) envelope))) }
+        ensures unchanged { OnErr result (seat.new ≡ seat.old) }
+        ensures end { IfErr result (HostEnd (G.may_refuse self.now.gate.now) self.now.stop.now seat.new) }
+    {
+        for _ in self.rt.forever() {
+            self.pass(seat.actor(), turn)?;
+            let tried = seat.try_post(self.alloc, self.mail, Actor::Replica(to), *pick);
+            if was_made(tried)? {
+                return Ok(());
+            }
+            let _ = seat.wait_to(self.rt, self.mail, Actor::Replica(to));
+        }
+        unreachable!()
+    }
+
+    /// Takes from all replicas from which it has not taken in this round.
+    fn take_all(&self, seat: &mut ReplicaSeat, turn: &mut Turn) -> Result<(), End>
+        requires mail { IsPassOf self.now.mail.now seat.old }
+        requires taking { IsTaking (due seat.old.shape seat.old.log) }
+        ensures closed { OnOk result (HasClosed seat.old seat.new 1) }
+        ensures log { GoesOn seat.new seat.old }
+        ensures end { IfErr result (HostEnd (G.may_refuse self.now.gate.now) self.now.stop.now seat.new) }
+    {
+        let Due::Take(first) = seat.due() else {
+            unreachable!()
+        };
+        for number in first.number()..self.mail.shape().n() {
+            self.take_from(seat, turn, ReplicaId::of(number))?;
+        }
+        Ok(())
+    }
+
+    /// Takes from a replica, as soon as there is something in the box. The take must be due.
+    fn take_from(
+        &self,
+        seat: &mut ReplicaSeat,
+        turn: &mut Turn,
+        from: ReplicaId,
+    ) -> Result<(), End>
+        requires mail { IsPassOf self.now.mail.now seat.old }
+        requires inside { from < seat.old.shape.n }
+        requires due { due seat.old.shape seat.old.log ≡ TakeFrom from }
+        ensures taken { OnOk result ((envelope : Envelope) × (seat.new ≡ with_entry seat.old (Take (Replica from) envelope))) }
+        ensures unchanged { OnErr result (seat.new ≡ seat.old) }
+        ensures end { IfErr result (HostEnd (G.may_refuse self.now.gate.now) self.now.stop.now seat.new) }
+    {
+        for _ in self.rt.forever() {
+            self.pass(seat.actor(), turn)?;
+            let tried = seat.try_take(self.mail, Actor::Replica(from));
+            if was_made(tried)? {
+                return Ok(());
+            }
+            let _ = seat.wait_from(self.rt, self.mail, Actor::Replica(from));
+        }
+        unreachable!()
+    }
+
+    /// Posts once to each client that is owed its reply.
+    fn answer_clients(
+        &self,
+        seat: &mut ReplicaSeat,
+        turn: &mut Turn,
+        duties: &mut Duties,
+    ) -> Result<(), End>
+        requires mail { IsPassOf self.now.mail.now seat.old }
+        ensures kept { KeepsRound seat.new seat.old }
+        ensures end { IfErr result (HostEnd (G.may_refuse self.now.gate.now) self.now.stop.now seat.new) }
+    {
+        for number in 0..self.mail.shape().m() {
+            self.answer_client(seat, turn, duties, ClientId::of(number))?;
+        }
+        Ok(())
+    }
+
+    /// Posts once to a client, if it is owed its reply.
+    fn answer_client(
+        &self,
+        seat: &mut ReplicaSeat,
+        turn: &mut Turn,
+        duties: &mut Duties,
+        client: ClientId,
+    ) -> Result<(), End>
+        requires mail { IsPassOf self.now.mail.now seat.old }
+        requires inside { client < seat.old.shape.m }
+        ensures kept { KeepsRound seat.new seat.old }
+        ensures end { IfErr result (HostEnd (G.may_refuse self.now.gate.now) self.now.stop.now seat.new) }
+    {
+        if !duties.owes(seat, client) {
+            return Ok(());
+        }
+        self.pass(seat.actor(), turn)?;
+        let tried = seat.try_post(self.alloc, self.mail, Actor::Client(client), Pick::Plain);
+        if was_made(tried)? {
+            duties.note_answer(client);
+        }
+        Ok(())
+    }
+}
+
+/// The choice for the post to a replica that is due.
+fn choice(seat: &ReplicaSeat, duties: &mut Duties, to: ReplicaId) -> Pick
+    requires { due seat.now.shape seat.now.log ≡ PostTo to }
+    ensures { IsSome (post_of seat.now.shape seat.now.log seat.now.actor (Replica to) result) }
+{
+    if to.number() == 0 {
+        return duties.proposal(seat);
+    }
+    // For the proof: that it is a replica, whose conduct has a post.
+    let _replica = seat.replica();
+    let _due = seat.due();
+    Pick::Plain
+}
