@@ -6,11 +6,12 @@ use Rattle.std.proofs.lemmas.Bool.{true≢false, false≢true}
 use Rattle.std.proofs.lemmas.Bool.Decides.{nat_tests}
 use Rattle.std.proofs.lemmas.List.{append_assoc}
 use Rattle.std.proofs.lemmas.Option.{none-some}
-use Rattle.dsr_names.specs.Shape.{Shape, IsActor}
+use Rattle.dsr_names.specs.Shape.{Shape, IsActor, IsLoyal}
 use Rattle.dsr_names.specs.declared.actor.Actor.{Actor}
 use Rattle.dsr_names.specs.declared.actor.Actor.TheVariants.{Replica, Client}
 use Rattle.dsr_names.specs.declared.refusal.Refusal.{Refusal}
 use Rattle.dsr_names.specs.declared.refusal.Refusal.TheVariants.{NoActor, WrongRole, NotDue, Exhausted, NoMemory, BoxFull, BoxEmpty}
+use Rattle.dsr_envelope.specs.declared.envelope.Envelope.{Envelope}
 use Rattle.dsr_envelope.specs.declared.entry.Entry.{Entry}
 use Rattle.dsr_envelope.specs.declared.pick.Pick.{Pick}
 use Rattle.dsr_envelope.specs.declared.pick.Pick.TheVariants.{Plain}
@@ -20,7 +21,7 @@ use Rattle.dsr_run.specs.OwnStep.{HasPostsLeft}
 use Rattle.dsr_boxes.specs.Pass.{SharedBoxes, Pass, IsPassOf, with_entry}
 use Rattle.dsr_mail.specs.Refusals.{IsRefusedBy, is_spent, post_refused, take_refused, plant_refused}
 use Rattle.dsr_rounds.specs.Ends.{GoesOn, HostRefusal}
-use Rattle.dsr_rounds.specs.Limits.{IsExhausted}
+use Rattle.dsr_rounds.specs.Limits.{IsExhausted, IsAtLimit}
 
 -- ---- seats go on
 
@@ -45,18 +46,8 @@ goes_at mail later earlier goes at = (goes.id ∙ at.0, goes.shape ∙ at.1)
 -- ---- refusals
 
 some_is : {A : Type 0} (o : Option A) → IsSome o → is_none o ≡ false
-some_is None h = elim h [ ]
+some_is None h = absurd (false≢true h)
 some_is (Some x) h = refl
-
-either : (a b : Bool) → (a || b) ≡ true → (a ≡ true) ⊎ (b ≡ true)
-either true b e = inl refl
-either false b e = inr e
-
-spent_is : (log : List Entry) (to : Actor) → is_spent log to ≡ true → ¬ HasPostsLeft log to
-spent_is log to e left = at_end (suc (length (posted_to to log))) (2 ^ 40) e left
-  where
-    at_end : (a b : ℕ) → not (nat_lt a b) ≡ true → a < b → ⊥
-    at_end a b e less = grind (arith, nat_tests)
 
 some_same : {A : Type 0} (x y : A) → Some x ≡ Some y → x ≡ y
 some_same x y e = cc
@@ -89,25 +80,25 @@ actor_test shape (Replica p) inside = grind (arith, nat_tests)
 actor_test shape (Client c) inside = grind (arith, nat_tests)
 
 module _ (may : Actor → Type 0) (seat : Pass) (to : Actor) (pick : Pick) where
+  by_given : (o : Option Envelope) → o ≡ post_of seat.shape seat.log seat.actor to pick → IsSome o
+      → post_refused seat.shape seat.actor seat.log to pick ≡ Some Exhausted → IsExhausted seat
+  by_given None e given past = absurd (false≢true given)
+  by_given (Some x) e given past = record { to = to; pick = pick; envelope = x; due = sym e; past = past }
+
   -- a refused post of a loyal actor ends its host by a limit or for want of memory
   pub post_ends : (e : Refusal) → is_traitor_of seat.shape seat.actor ≡ false → IsActor seat.shape to → are_clients seat.actor to ≡ false
       → IsSome (post_of seat.shape seat.log seat.actor to pick)
       → IsRefusedBy (post_refused seat.shape seat.actor seat.log to pick) BoxFull e → e ≢ BoxFull → HostRefusal may seat e
   post_ends e loyal inside role given by other = elim by [
     | inl own ↦
-      let limit = only_limit (is_actor seat.shape to) (are_clients seat.actor to) (is_none (post_of seat.shape seat.log seat.actor to pick))
-          (is_exhausted seat.shape seat.log seat.actor to pick || is_spent seat.log to) e (actor_test seat.shape to inside) role
-          (some_is (post_of seat.shape seat.log seat.actor to pick) given) own in
-      subst (HostRefusal may seat) limit.1 (record {
-        to = to;
-        pick = pick;
-        inside = inside;
-        next = λ honest. given;
-        past = elim (either (is_exhausted seat.shape seat.log seat.actor to pick) (is_spent seat.log to) limit.0) [
-          | inl counter ↦ inl (loyal, counter)
-          | inr spent ↦ inr (spent_is seat.log to spent)
-        ];
-      })
+        let limit = only_limit (is_actor seat.shape to) (are_clients seat.actor to) (is_none (post_of seat.shape seat.log seat.actor to pick))
+        (is_exhausted seat.shape seat.log seat.actor to pick || is_spent seat.log to) e (actor_test seat.shape to inside) role
+        (some_is (post_of seat.shape seat.log seat.actor to pick) given) own in
+        subst (HostRefusal may seat) limit.1 (inl (
+          loyal,
+          by_given (post_of seat.shape seat.log seat.actor to pick) refl given
+              (own ∙ ap Some (sym limit.1)),
+        ))
     | inr rest ↦ elim rest.1 [
       | inl box ↦ absurd (other box)
       | inr memory ↦ subst (HostRefusal may seat) (sym memory) tt
@@ -132,16 +123,23 @@ pub plant_ends : (may : Actor → Type 0) (seat : Pass) (to : Actor) (e : Refusa
     → IsRefusedBy (plant_refused seat.shape seat.log to) BoxFull e → e ≢ BoxFull → HostRefusal may seat e
 plant_ends may seat to e traitor inside by other = elim by [
   | inl own ↦
-    let limit = plant_limit (is_actor seat.shape to) (is_spent seat.log to) e (actor_test seat.shape to inside) own in
-    subst (HostRefusal may seat) limit.1 (record {
-      to = to;
-      pick = Plain;
-      inside = inside;
-      next = λ honest. absurd (true≢false (sym traitor ∙ honest));
-      past = inr (spent_is seat.log to limit.0);
-    })
+      let limit = plant_limit (is_actor seat.shape to) (is_spent seat.log to) e (actor_test seat.shape to inside) own in
+      subst (HostRefusal may seat) limit.1 (inr (traitor, record { to = to; past = own ∙ ap Some (sym limit.1) }))
   | inr rest ↦ elim rest.1 [
     | inl box ↦ absurd (other box)
     | inr memory ↦ subst (HostRefusal may seat) (sym memory) tt
   ]
 ]
+
+-- ---- the same by what a seat tells of its actor
+
+loyal_is : (shape : Shape) (a : Actor) → IsLoyal shape a → is_traitor_of shape a ≡ false
+loyal_is shape (Replica p) loyal = loyal.1
+loyal_is shape (Client c) loyal = refl
+
+pub replica_post_ends : (may : Actor → Type 0) (seat later : Pass) (to : Actor) (pick : Pick) (e : Refusal) (me : ℕ) → later ≡ seat → seat.actor ≡ Replica me
+    → IsLoyal seat.shape seat.actor → IsActor seat.shape to → IsSome (post_of seat.shape seat.log seat.actor to pick)
+    → IsRefusedBy (post_refused seat.shape seat.actor seat.log to pick) BoxFull e → e ≢ BoxFull → HostRefusal may later e
+replica_post_ends may seat later to pick e me same is loyal inside given by other =
+    subst (λ s. HostRefusal may s e) (sym same)
+    (post_ends may seat to pick e (loyal_is seat.shape seat.actor loyal) inside (ap (λ a. are_clients a to) is) given by other)

@@ -1,9 +1,7 @@
-//! What hosts share, and a host's single tries.
+//! What hosts share.
 
-ghost use Rattle.std.specs.Prelude.{◌≡◌, Ok, Err, IfOk, IfErr, IsTrue, MatchBool};
-ghost use Rattle.dsr_names.specs.declared.actor.Actor.{Actor};
-ghost use Rattle.dsr_names.specs.declared.refusal.Refusal.{Refusal};
-ghost use Rattle.dsr_rounds.specs.Ends.{IsPassEnd, IsTried};
+ghost use Rattle.std.specs.Prelude.{IfErr};
+ghost use Rattle.dsr_rounds.specs.Ends.{IsPassEnd};
 
 use crate::end::End;
 use crate::gate::Gate;
@@ -15,6 +13,7 @@ use std::alloc::Global;
 use std::sync::Wait;
 
 /// What a host works with beside its seat: the runtime, memory, the mail, the gate that it asks, and whether it was told to stop.
+#[derive(Drop)]
 pub struct Host<'a, R, G> {
     /// The runtime, in which it waits.
     pub rt: &'a R,
@@ -40,17 +39,5 @@ impl<'a, R: Wait, G: Gate> Host<'a, R, G> {
             return Err(End::Fault(Refusal::Stopped));
         }
         Ok(())
-    }
-}
-
-/// Whether the try succeeded: not where the box was full or empty, after which it can be made again. Any other refusal ends the host.
-pub(crate) fn was_made(tried: Result<(), Refusal>) -> Result<bool, End>
-    ensures { IsTried tried result }
-{
-    match tried {
-        Ok(()) => Ok(true),
-        Err(Refusal::BoxFull) => Ok(false),
-        Err(Refusal::BoxEmpty) => Ok(false),
-        Err(refusal) => Err(End::Fault(refusal)),
     }
 }
