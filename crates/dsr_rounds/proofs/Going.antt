@@ -1,6 +1,6 @@
 -- How seats go on, and which refusals of a try end a host.
 use Rattle.std.proofs.Common.{◌≡◌, ◌≢◌, ℕ, suc, ◌<◌, ◌^◌, ◌||◌, not, nat_lt, ◌⊎◌, inl, inr, Bool, true, false, List, [], ◌∷◌, ◌++◌, Option, None, Some, length, if◌then◌else◌, refl, ap, sym, ◌∙◌, subst, arith}
-use Rattle.std.specs.Prelude.{IsSome}
+use Rattle.std.specs.Prelude.{Result, Ok, Err, IsSome, IfOk, IfErr, OnOk, OnErr}
 use Rattle.std.specs.Option.{is_none}
 use Rattle.std.proofs.lemmas.Bool.{true≢false, false≢true}
 use Rattle.std.proofs.lemmas.Bool.Decides.{nat_tests}
@@ -20,7 +20,9 @@ use Rattle.dsr_node.specs.Conduct.{post_of, is_exhausted, is_undue, is_actor, is
 use Rattle.dsr_run.specs.OwnStep.{HasPostsLeft}
 use Rattle.dsr_boxes.specs.Pass.{SharedBoxes, Pass, IsPassOf, with_entry}
 use Rattle.dsr_mail.specs.Refusals.{IsRefusedBy, is_spent, post_refused, take_refused, plant_refused}
-use Rattle.dsr_rounds.specs.Ends.{GoesOn, HostRefusal}
+use Rattle.dsr_rounds.specs.Ends.{GoesOn, HostRefusal, HostEnd, IsTried}
+use Rattle.dsr_rounds.specs.declared.end.End.{End}
+use Rattle.dsr_rounds.specs.declared.end.End.TheVariants.{Told, Fault}
 use Rattle.dsr_rounds.specs.Limits.{IsExhausted, IsAtLimit}
 
 -- ---- seats go on
@@ -143,3 +145,29 @@ pub replica_post_ends : (may : Actor → Type 0) (seat later : Pass) (to : Actor
 replica_post_ends may seat later to pick e me same is loyal inside given by other =
     subst (λ s. HostRefusal may s e) (sym same)
     (post_ends may seat to pick e (loyal_is seat.shape seat.actor loyal) inside (ap (λ a. are_clients a to) is) given by other)
+
+-- ---- tries
+
+module _ (tried : Result (Unit {0}) Refusal) where
+  pub if_tried : (result : Result Bool End) (Made Kept : Type 0) (P : Bool → Type 0) → IsTried tried result → OnOk tried Made → OnErr tried Kept
+      → (Made → P true) → (Kept → P false) → IfOk result P
+  if_tried (Ok true) Made Kept P is ok err with_made with_kept = with_made (subst (λ t. OnOk t Made) is ok)
+  if_tried (Ok false) Made Kept P is ok err with_made with_kept = with_kept (elim is [
+    | inl full ↦ subst (λ t. OnErr t Kept) full err
+    | inr empty ↦ subst (λ t. OnErr t Kept) empty err
+  ])
+  if_tried (Err Told) Made Kept P is ok err with_made with_kept = elim is [ ]
+  if_tried (Err (Fault e)) Made Kept P is ok err with_made with_kept = tt
+
+  pub err_tried : (result : Result Bool End) (Kept : Type 0) → IsTried tried result → OnErr tried Kept → OnErr result Kept
+  err_tried (Ok true) Kept is err = tt
+  err_tried (Ok false) Kept is err = tt
+  err_tried (Err Told) Kept is err = elim is [ ]
+  err_tried (Err (Fault e)) Kept is err = subst (λ t. OnErr t Kept) is.0 err
+
+  pub end_tried : (result : Result Bool End) (may : Actor → Type 0) (serves : Bool) (seat : Pass) (P : Refusal → Type 0) → IsTried tried result → IfErr tried P
+      → ((e : Refusal) → P e → e ≢ BoxFull → e ≢ BoxEmpty → HostRefusal may seat e) → IfErr result (HostEnd may serves seat)
+  end_tried (Ok true) may serves seat P is by ends = tt
+  end_tried (Ok false) may serves seat P is by ends = tt
+  end_tried (Err Told) may serves seat P is by ends = elim is [ ]
+  end_tried (Err (Fault e)) may serves seat P is by ends = ends e (subst (λ t. IfErr t P) is.0 by) is.1 is.2

@@ -157,19 +157,21 @@ first_take seat from p allowed loyal is same =
 
 pub take_step : (first earlier later : Pass) (p closed : ℕ) (x : Envelope) → GoesOn earlier first → p < first.shape.n → IsAtTake earlier first.shape.n p closed
     → later ≡ with_entry earlier (Take (Replica p) x) → GoesOn later first × IsAtTake later first.shape.n (p + 1) closed
-take_step first earlier later p closed x goes less at e =
-    (goes_further later earlier first (goes_entry later earlier (Take (Replica p) x) e) goes,
-    subst (λ k. IsAtTake later first.shape.n k closed) (one_more p)
-    (take_at later earlier first.shape.n p closed x (sym (ap (λ (s : Shape). s.n) goes.shape)) less (due_at_take earlier first.shape.n p closed less at).1 e))
+take_step first earlier later p closed x goes less at e = (
+  goes_further later earlier first (goes_entry later earlier (Take (Replica p) x) e) goes,
+  subst (λ k. IsAtTake later first.shape.n k closed) (one_more p)
+      (take_at later earlier first.shape.n p closed x (sym (ap (λ (s : Shape). s.n) goes.shape)) less (due_at_take earlier first.shape.n p closed less at).1 e),
+)
 
 pub post_step : (first earlier later : Pass) (q : ℕ) (x : Envelope) → GoesOn earlier first → rounds earlier.shape earlier.log ≡ rounds first.shape first.log
     → later ≡ with_entry earlier (Post (Replica q) x)
     → GoesOn later first × IsAtPost first.shape.n (q + 1) (due later.shape later.log) × (rounds later.shape later.log ≡ rounds first.shape first.log)
-post_step first earlier later q x goes same e =
-    (goes_further later earlier first (goes_entry later earlier (Post (Replica q) x) e) goes,
-    subst (λ k. IsAtPost first.shape.n k (due later.shape later.log)) (one_more q)
-    (post_at later earlier first.shape.n q x (sym (ap (λ (s : Shape). s.n) goes.shape)) e),
-    post_rounds later earlier q x e ∙ same)
+post_step first earlier later q x goes same e = (
+  goes_further later earlier first (goes_entry later earlier (Post (Replica q) x) e) goes,
+  subst (λ k. IsAtPost first.shape.n k (due later.shape later.log)) (one_more q)
+      (post_at later earlier first.shape.n q x (sym (ap (λ (s : Shape). s.n) goes.shape)) e),
+  post_rounds later earlier q x e ∙ same,
+)
 
 -- ---- a post that is due
 

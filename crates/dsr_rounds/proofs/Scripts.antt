@@ -213,23 +213,26 @@ one_more k = omega arith
 pub post_step : (script : Script) (t p : ℕ) (first earlier later : Pass) (x : Envelope) → GoesOn earlier first → p < first.shape.n
     → later ≡ with_entry earlier (Post (Replica p) x) → IsPlanned script earlier.shape earlier.actor earlier.log t p x
     → PostsDrafts script t p first earlier → GoesOn later first × PostsDrafts script t (p + 1) first later
-post_step script t p first earlier later x goes less e planned was =
-    (goes_further later earlier first (goes_entry later earlier (Post (Replica p) x) e) goes,
-    subst (λ k. PostsDrafts script t k first later) (one_more p)
-    (posts_on script t p first earlier later x (subst (λ (s : Shape). p < s.n) (sym goes.shape) less) e planned was))
+post_step script t p first earlier later x goes less e planned was = (
+  goes_further later earlier first (goes_entry later earlier (Post (Replica p) x) e) goes,
+  subst (λ k. PostsDrafts script t k first later) (one_more p)
+      (posts_on script t p first earlier later x (subst (λ (s : Shape). p < s.n) (sym goes.shape) less) e planned was),
+)
 
 pub take_step : (t p : ℕ) (first earlier later : Pass) (x : Envelope) → GoesOn earlier first → later ≡ with_entry earlier (Take (Replica p) x)
     → TakesFromAll t p first earlier → GoesOn later first × TakesFromAll t (p + 1) first later
-take_step t p first earlier later x goes e was =
-    (goes_further later earlier first (goes_entry later earlier (Take (Replica p) x) e) goes,
-    subst (λ k. TakesFromAll t k first later) (one_more p) (takes_on t p first earlier later x e was))
+take_step t p first earlier later x goes e was = (
+  goes_further later earlier first (goes_entry later earlier (Take (Replica p) x) e) goes,
+  subst (λ k. TakesFromAll t k first later) (one_more p) (takes_on t p first earlier later x e was),
+)
 
 pub round_step : (script : Script) (t : ℕ) (first earlier later : Pass) → GoesOn earlier first → GoesOn later earlier
     → FollowsScript script first earlier (count_at t 0) (count_at t 0) → MakesRound script t earlier later
     → GoesOn later first × FollowsScript script first later (count_at (t + 1) 0) (count_at (t + 1) 0)
-round_step script t first earlier later goes more was made =
-    (goes_further later earlier first more goes,
-    subst (λ k. FollowsScript script first later (count_at k 0) (count_at k 0)) (one_more t) (made first was))
+round_step script t first earlier later goes more was made = (
+  goes_further later earlier first more goes,
+  subst (λ k. FollowsScript script first later (count_at k 0) (count_at k 0)) (one_more t) (made first was),
+)
 
 -- ---- what the script says of one post
 

@@ -1,5 +1,5 @@
 -- How a host's seat goes on, and why a host ends (this project).
-use Rattle.std.specs.Prelude.{◌≡◌, ℕ, suc, ◌-◌, ◌^◌, nat_lt, Bool, true, false, if◌then◌else◌}
+use Rattle.std.specs.Prelude.{◌≡◌, ◌≢◌, ◌⊎◌, Result, Ok, Err, ℕ, suc, ◌-◌, ◌^◌, nat_lt, Bool, true, false, if◌then◌else◌}
 use Rattle.dsr_base.specs.Growth.{Extends}
 use Rattle.dsr_names.specs.declared.actor.Actor.{Actor}
 use Rattle.dsr_names.specs.declared.refusal.Refusal.{Refusal}
@@ -58,3 +58,10 @@ HostEnd may serves seat (Fault refusal) = HostRefusal may seat refusal
 abbrev pub HasTried : (Envelope → Entry) → Pass → Pass → Bool → Type 0
 HasTried entry old new true = (x : Envelope) × (new ≡ with_entry old (entry x))
 HasTried entry old new false = new ≡ old
+
+-- what came of a try: it was made, or the box was in the way, or it was refused with what ends the host
+abbrev pub IsTried : Result (Unit {0}) Refusal → Result Bool End → Type 0
+IsTried tried (Ok true) = tried ≡ Ok tt
+IsTried tried (Ok false) = (tried ≡ Err BoxFull) ⊎ (tried ≡ Err BoxEmpty)
+IsTried tried (Err Told) = ⊥
+IsTried tried (Err (Fault refusal)) = (tried ≡ Err refusal) × (refusal ≢ BoxFull) × (refusal ≢ BoxEmpty)

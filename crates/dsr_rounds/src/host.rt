@@ -1,7 +1,7 @@
 //! What hosts share.
 
 ghost use Rattle.std.specs.Prelude.{IfErr};
-ghost use Rattle.dsr_rounds.specs.Ends.{IsPassEnd};
+ghost use Rattle.dsr_rounds.specs.Ends.{IsPassEnd, IsTried};
 
 use crate::end::End;
 use crate::gate::Gate;
@@ -39,5 +39,17 @@ impl<'a, R: Wait, G: Gate> Host<'a, R, G> {
             return Err(End::Fault(Refusal::Stopped));
         }
         Ok(())
+    }
+}
+
+/// Whether the try succeeded: not where the box was full or empty, after which it can be made again. Any other refusal ends the host.
+pub(crate) fn was_made(tried: Result<(), Refusal>) -> Result<bool, End>
+    ensures { IsTried tried result }
+{
+    match tried {
+        Ok(()) => Ok(true),
+        Err(Refusal::BoxFull) => Ok(false),
+        Err(Refusal::BoxEmpty) => Ok(false),
+        Err(refusal) => Err(End::Fault(refusal)),
     }
 }

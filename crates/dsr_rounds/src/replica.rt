@@ -15,11 +15,11 @@ ghost use Rattle.dsr_rounds.specs.Replicas.{HasClosed, KeepsRound, IsAtPost, IsT
 use crate::duties::Duties;
 use crate::end::End;
 use crate::gate::Gate;
-use crate::host::Host;
+use crate::host::{Host, was_made};
 use crate::turn::Turn;
 use dsr_envelope::{Due, Pick};
 use dsr_mail::ReplicaSeat;
-use dsr_names::{Actor, ClientId, Refusal, ReplicaId};
+use dsr_names::{Actor, ClientId, ReplicaId};
 use std::sync::Wait;
 
 impl<'a, R: Wait, G: Gate> Host<'a, R, G> {
@@ -241,7 +241,6 @@ impl<'a, R: Wait, G: Gate> Host<'a, R, G> {
     }
 
     /// Asks whether to go on, and tries to post to an actor by a choice. The choice must be one by which the replica may post there.
-    #[tactic(auto, using(crate::proofs::Going::replica_post_ends))]
     fn try_post(
         &self,
         seat: &mut ReplicaSeat,
@@ -259,11 +258,7 @@ impl<'a, R: Wait, G: Gate> Host<'a, R, G> {
         // For the proof: that it is a loyal replica.
         let _replica = seat.replica();
         self.pass(seat.actor(), turn)?;
-        match seat.try_post(self.alloc, self.mail, *to, *pick) {
-            Ok(()) => Ok(true),
-            Err(Refusal::BoxFull) => Ok(false),
-            Err(refusal) => Err(End::Fault(refusal)),
-        }
+        was_made(seat.try_post(self.alloc, self.mail, *to, *pick))
     }
 
     /// Asks whether to go on, and tries to take from an actor. A take from a replica must be due.
@@ -278,11 +273,7 @@ impl<'a, R: Wait, G: Gate> Host<'a, R, G> {
         // For the proof: that it is a loyal replica.
         let _replica = seat.replica();
         self.pass(seat.actor(), turn)?;
-        match seat.try_take(self.mail, *from) {
-            Ok(()) => Ok(true),
-            Err(Refusal::BoxEmpty) => Ok(false),
-            Err(refusal) => Err(End::Fault(refusal)),
-        }
+        was_made(seat.try_take(self.mail, *from))
     }
 }
 

@@ -12,7 +12,7 @@ ghost use Rattle.dsr_rounds.specs.Traitors.{RanScript, IsPlanned, IsPlanting, Is
 
 use crate::end::End;
 use crate::gate::Gate;
-use crate::host::Host;
+use crate::host::{Host, was_made};
 use crate::turn::Turn;
 use dsr_mail::TraitorSeat;
 use dsr_names::{Actor, ClientId, Refusal, ReplicaId};
@@ -162,12 +162,7 @@ impl<'a, R: Wait, G: Gate> Host<'a, R, G> {
     }
 
     /// Posts the empty envelope to a replica, as soon as the box is empty.
-    fn post_empty(
-        &self,
-        seat: &mut TraitorSeat,
-        turn: &mut Turn,
-        to: ReplicaId,
-    ) -> Result<(), End>
+    fn post_empty(&self, seat: &mut TraitorSeat, turn: &mut Turn, to: ReplicaId) -> Result<(), End>
         requires mail { IsPassOf self.now.mail.now seat.old }
         requires inside { to < seat.old.shape.n }
         ensures posted { OnOk result (seat.new ≡ with_entry seat.old (Post (Replica to) Empty)) }
@@ -316,10 +311,6 @@ impl<'a, R: Wait, G: Gate> Host<'a, R, G> {
         // For the proof: that it is a traitor.
         let _replica = seat.replica();
         self.pass(seat.actor(), turn)?;
-        match seat.try_take(self.mail, *from) {
-            Ok(()) => Ok(true),
-            Err(Refusal::BoxEmpty) => Ok(false),
-            Err(refusal) => Err(End::Fault(refusal)),
-        }
+        was_made(seat.try_take(self.mail, *from))
     }
 }

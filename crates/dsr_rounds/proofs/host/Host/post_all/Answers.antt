@@ -1,21 +1,17 @@
-use Rattle.std.proofs.Common.{rules, ◌≡◌, ◌<◌, false, IfOk, IfErr, OnOk, OnErr, IsSome, ℕ, ◌+◌, ◌-◌, ◌*◌, ◌≤◌, length, ◌/◌, ◌%◌, Bool, true, nat_eq, nat_lt, List, [], ◌∷◌, ◌++◌, slice_index_or, slice_set, bit_and, bit_or, Fits, w8, w32, w64, Bor, MutBor}
-use Rattle.dsr_names.specs.Shape.{IsActor}
+use Rattle.std.proofs.Common.{◌≡◌, ◌<◌, subst, ap, sym, ◌∙◌}
+use Rattle.dsr_names.specs.Shape.{Shape}
 use Rattle.dsr_names.specs.declared.actor.Actor.TheVariants.{Replica}
-use Rattle.dsr_envelope.specs.declared.entry.Entry.TheVariants.{Post, Take}
-use Rattle.dsr_envelope.specs.declared.due.Due.TheVariants.{Post as PostTo}
-use Rattle.dsr_envelope.specs.declared.due.Due.TheVariants.{Take as TakeFrom}
-use Rattle.dsr_envelope.specs.declared.envelope.Envelope.{Envelope}
-use Rattle.dsr_envelope.specs.Log.{due, rounds}
-use Rattle.dsr_node.specs.Conduct.{post_of, is_undue}
-use Rattle.dsr_boxes.specs.Pass.{IsPassOf, with_entry}
-use Rattle.dsr_rounds.specs.Ends.{GoesOn, HostEnd, HasTried}
-use Rattle.dsr_rounds.specs.Replicas.{HasClosed, KeepsRound, IsAtPost, IsTaking}
+use Rattle.dsr_envelope.specs.declared.entry.Entry.TheVariants.{Post}
+use Rattle.dsr_boxes.specs.Pass.{with_entry}
+use Rattle.dsr_rounds.proofs.Rounds.{post_step}
 use Rattle.dsr_rounds.proofs.host.Host.post_all.Goals as goal
 
--- src/replica.rt:116:9
 pub loop-number-preserved : goal.loop-number-preserved
-loop-number-preserved g c = ?
+loop-number-preserved g c =
+    let x = c.in_ok-post_next.ensures.posted.0 in
+    post_step c.args.seat.now c.loop-number.seat c.post_next.new.seat c.loop-number.number x c.loop-number.invariant.0 c.loop-number.invariant.2
+    (subst (λ p. c.post_next.new.seat ≡ with_entry c.loop-number.seat (Post (Replica p) x)) c.of.ensures c.in_ok-post_next.ensures.posted.1)
 
--- src/replica.rt:99:5
 pub returns-clause-posted : goal.returns-clause-posted
-returns-clause-posted g c = ?
+returns-clause-posted g c =
+    ?

@@ -3,4 +3,4 @@ use Rattle.dsr_rounds.proofs.host.Host.take_once.Goals as goal
 
 pub returns-clause-kept : goal.returns-clause-kept
 returns-clause-kept g c =
-    take_keeps c.args.client c.args.seat.now c.try_take_of.new.seat c.in_ok-_taken.field-0 c.in_ok-_taken.ensures.tried
+    take_keeps c.args.client c.args.seat.now c.try_take_of.new.seat c.in_ok-_taken._taken c.in_ok-_taken.ensures.tried

@@ -1,17 +1,17 @@
-use Rattle.std.proofs.Common.{rules, ◌≡◌, ◌<◌, false, IfOk, IfErr, OnOk, OnErr, IsSome, ℕ, ◌+◌, ◌-◌, ◌*◌, ◌≤◌, length, ◌/◌, ◌%◌, Bool, true, nat_eq, nat_lt, List, [], ◌∷◌, ◌++◌, slice_index_or, slice_set, bit_and, bit_or, Fits, w8, w32, w64, Bor, MutBor}
-use Rattle.dsr_names.specs.Shape.{IsActor}
-use Rattle.dsr_names.specs.declared.actor.Actor.TheVariants.{Replica}
-use Rattle.dsr_envelope.specs.declared.entry.Entry.TheVariants.{Post, Take}
-use Rattle.dsr_envelope.specs.declared.due.Due.TheVariants.{Post as PostTo}
-use Rattle.dsr_envelope.specs.declared.due.Due.TheVariants.{Take as TakeFrom}
-use Rattle.dsr_envelope.specs.declared.envelope.Envelope.{Envelope}
-use Rattle.dsr_envelope.specs.Log.{due, rounds}
-use Rattle.dsr_node.specs.Conduct.{post_of, is_undue}
-use Rattle.dsr_boxes.specs.Pass.{IsPassOf, with_entry}
-use Rattle.dsr_rounds.specs.Ends.{GoesOn, HostEnd, HasTried}
-use Rattle.dsr_rounds.specs.Replicas.{HasClosed, KeepsRound, IsAtPost, IsTaking}
+use Rattle.std.proofs.Common.{ap}
+use Rattle.dsr_node.specs.Conduct.{are_clients}
+use Rattle.dsr_mail.specs.Refusals.{post_refused}
+use Rattle.dsr_rounds.proofs.Going.{if_tried, err_tried, end_tried, replica_post_ends}
 use Rattle.dsr_rounds.proofs.host.Host.try_post.Goals as goal
 
--- src/replica.rt:244:5
-pub returns-in-Err : goal.returns-in-Err
-returns-in-Err g c = ?
+pub returns-clause-tried : goal.returns-clause-tried
+returns-clause-tried g c =
+    ?
+
+pub returns-clause-unchanged : goal.returns-clause-unchanged
+returns-clause-unchanged g c =
+    ?
+
+pub returns-clause-end : goal.returns-clause-end
+returns-clause-end g c =
+    ?
