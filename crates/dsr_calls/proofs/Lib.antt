@@ -1,0 +1,2 @@
+mod Awaiting
+pub mod Turns
