@@ -81,7 +81,7 @@ module _ (shape : Shape) (me : ℕ) where
       → IsUnbegun shape number log log
   unbegun_before log number loyal none is =
       let front = subst (λ k. issue_front shape k log ≡ None) (sym is)
-          (no_front shape (next_number shape log) log (next_unasked shape me log loyal none)) in
+      (no_front shape (next_number shape log) log (next_unasked shape me log loyal none)) in
       record { was = none; none = none; same = refl; seen_is = refl; first = front; unissued = front }
 
   pub awaited_first : (log : List Entry) (op : Option Op) (ask : SignedRequest) → IsClientLog shape me log → awaited shape me log op ≡ Some ask

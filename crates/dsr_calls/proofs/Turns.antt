@@ -1,6 +1,6 @@
 -- What the turns of a call do with the seat.
-use Rattle.std.proofs.Common.{◌≡◌, ℕ, ◌<◌, true, false, not, Bool, List, [], ◌∷◌, ◌++◌, Option, None, Some, if◌then◌else◌, ◌||◌, append_assoc, ◌⊎◌, inl, inr, refl, ap, sym, ◌∙◌, subst, arith}
-use Rattle.std.specs.Prelude.{IsSome, is_some}
+use Rattle.std.proofs.Common.{◌≡◌, ℕ, ◌<◌, ◌≤◌, true, false, not, Bool, List, [], ◌∷◌, ◌++◌, Option, None, Some, if◌then◌else◌, ◌||◌, append_assoc, ◌⊎◌, inl, inr, refl, ap, sym, ◌∙◌, subst, arith}
+use Rattle.std.specs.Prelude.{IsSome, is_some, Result, Err, IfErr}
 use Rattle.std.specs.Option.{is_none, option_map, option_or}
 use Rattle.std.proofs.lemmas.Bool.{true≢false, false≢true}
 use Rattle.std.proofs.lemmas.Bool.Decides.{nat_tests}
@@ -18,14 +18,15 @@ use Rattle.dsr_envelope.specs.declared.envelope.Envelope.TheVariants.{Ask}
 use Rattle.dsr_envelope.specs.declared.entry.Entry.{Entry}
 use Rattle.dsr_envelope.specs.declared.entry.Entry.TheVariants.{Post, Take}
 use Rattle.dsr_envelope.specs.declared.pick.Pick.{Pick}
+use Rattle.dsr_envelope.specs.declared.pick.Pick.TheVariants.{Plain}
 use Rattle.dsr_client.specs.Conduct.{IsClientLog}
 use Rattle.dsr_client.specs.State.{outstanding, accepted}
 use Rattle.dsr_node.specs.Conduct.{post_of, is_exhausted, is_actor, are_clients, AcceptsBy}
-use Rattle.dsr_boxes.specs.Pass.{Pass, with_entry}
+use Rattle.dsr_boxes.specs.Pass.{SharedBoxes, Pass, IsPassOf, with_entry}
 use Rattle.dsr_mail.specs.Refusals.{is_spent, post_refused, take_refused, IsRefusedBy}
 use Rattle.dsr_calls.specs.Calls.{GoesOn, number_of, awaited, IsAwaited, IsAnswered, Awaits, Answers}
 use Rattle.dsr_calls.specs.Limits.{IsExhausted, CallRefusal}
-use Rattle.dsr_calls.specs.Visits.{pick_beside, Keeps, Brings, Becomes}
+use Rattle.dsr_calls.specs.Visits.{pick_beside, HasAskTurn, HasTakeTurn, Keeps, Brings, Becomes}
 use Rattle.dsr_calls.proofs.Awaiting.{given_is, still_awaited, awaited_first, awaited_posted, awaited_taken, answered_taken}
 
 -- ---- seats that go on
@@ -52,6 +53,9 @@ goes_with new old entry made = record {
 pub goes_is : (new old : Pass) → new ≡ old → GoesOn new old
 goes_is new old same = subst (λ s. GoesOn s old) (sym same) (goes_same old)
 
+pub still_own : (boxes : SharedBoxes) (new old : Pass) → GoesOn new old → IsPassOf boxes old → IsPassOf boxes new
+still_own boxes new old goes own = (goes.id ∙ own.0, goes.shape ∙ own.1)
+
 -- ---- what is awaited
 
 pub some_of : {A : Type 0} (o : Option A) → IsSome o → (x : A) × (o ≡ Some x)
@@ -66,6 +70,33 @@ still_due first seat op goes waits due =
     let same = still_awaited first.shape (number_of first.actor) first.log seat.log op ask.0 ask.1 (waits ask.0 ask.1) in
     subst (λ s. IsSome (awaited s (number_of seat.actor) seat.log op)) (sym goes.shape)
     (subst (λ a. IsSome (awaited first.shape (number_of a) seat.log op)) (sym goes.actor) (ap (λ o. is_some o) same))
+
+-- what is awaited where a request is outstanding, or an operation is given
+pub due_old : (o p : Option SignedRequest) → IsSome o → IsSome (option_or o p)
+due_old None p some = absurd (false≢true some)
+due_old (Some ask) p some = refl
+
+pub due_new : (o : Option SignedRequest) (ask : SignedRequest) → IsSome (option_or o (Some ask))
+due_new None ask = refl
+due_new (Some other) ask = refl
+
+-- ---- what the number of the outstanding request tells
+
+pub some_as : (o : Option SignedRequest) (told : Option ℕ) (b : Bool) → told ≡ option_map (λ ask. ask.request.number) o → is_some told ≡ b → is_some o ≡ b
+some_as None told b is e = sym (ap is_some is) ∙ e
+some_as (Some ask) told b is e = sym (ap is_some is) ∙ e
+
+pub none_of : {A : Type 0} (o : Option A) → is_some o ≡ false → o ≡ None
+none_of None e = refl
+none_of (Some x) e = absurd (true≢false e)
+
+pub plain_beside : (o : Option SignedRequest) (op : Option Op) → is_some o ≡ true → Plain ≡ pick_beside o op
+plain_beside (Some ask) op some = refl
+plain_beside None op some = absurd (false≢true some)
+
+pub new_beside : (o : Option SignedRequest) (op : Option Op) → is_some o ≡ false → pick_beside None op ≡ pick_beside o op
+new_beside None op none = refl
+new_beside (Some ask) op none = absurd (true≢false none)
 
 -- ---- at first
 
@@ -100,7 +131,7 @@ keeps_posted op seat new me q x is given made first goes waits ask e =
     let before = waits ask e in
     let now = still_awaited first.shape me first.log seat.log op ask due before in
     let post = subst (λ a. post_of first.shape seat.log a (Replica q) (pick_beside (outstanding first.shape seat.log) op) ≡ Some x) is
-        (subst (λ s. post_of s seat.log seat.actor (Replica q) (pick_beside (outstanding s seat.log) op) ≡ Some x) goes.shape given) in
+    (subst (λ s. post_of s seat.log seat.actor (Replica q) (pick_beside (outstanding s seat.log) op) ≡ Some x) goes.shape given) in
     let asks = posted_is first.shape me seat.log q op x ask post now in
     subst (λ s. IsAwaited first.shape ask first.log s.log) (sym made)
     (subst (λ y. IsAwaited first.shape ask first.log (Post (Replica q) y ∷ seat.log)) (sym asks)
@@ -119,6 +150,30 @@ becomes_taken op seat new p x (Some reply) made by first goes waits ask e =
     (answered_taken first.shape ask first.log seat.log p x reply
     (subst (λ s. accepted s (Take (Replica p) x ∷ seat.log) ≡ reply ∷ accepted s seat.log) goes.shape
     (subst (λ s. accepted s.shape s.log ≡ reply ∷ accepted seat.shape seat.log) made by)) (waits ask e))
+
+pub goes_asked : (op : Option Op) (q : ℕ) (seat new : Pass) → HasAskTurn op q seat new → GoesOn new seat
+goes_asked op q seat new turn = elim turn [
+  | inl same ↦ goes_is new seat same
+  | inr posted ↦ goes_with new seat (Post (Replica q) posted.0) posted.2
+]
+
+pub goes_taken : (p : ℕ) (seat new : Pass) (reply : Option AReply) → HasTakeTurn p seat new reply → GoesOn new seat
+goes_taken p seat new reply turn = elim turn [
+  | inl same ↦ goes_is new seat same.0
+  | inr taken ↦ goes_with new seat (Take (Replica p) taken.0) taken.1
+]
+
+pub keeps_asked : (op : Option Op) (me q : ℕ) (seat new : Pass) → seat.actor ≡ Client me → HasAskTurn op q seat new → Keeps op seat new
+keeps_asked op me q seat new is turn = elim turn [
+  | inl same ↦ keeps_same op seat new same
+  | inr posted ↦ keeps_posted op seat new me q posted.0 is posted.1 posted.2
+]
+
+pub becomes_by_turn : (op : Option Op) (p : ℕ) (seat new : Pass) (reply : Option AReply) → HasTakeTurn p seat new reply → Becomes op seat new reply
+becomes_by_turn op p seat new reply turn = elim turn [
+  | inl same ↦ subst (Becomes op seat new) (sym same.1) (keeps_same op seat new same.0)
+  | inr taken ↦ becomes_taken op seat new p taken.0 reply taken.1 taken.2
+]
 
 -- one after the other
 pub becomes_then : (op : Option Op) (seat mid new : Pass) (reply : Option AReply) → GoesOn mid seat → Keeps op seat mid → Becomes op mid new reply
@@ -151,15 +206,18 @@ pub post_ends : (seat : Pass) (me q : ℕ) (op : Option Op) (refusal : Refusal) 
 post_ends seat me q op refusal is inside due by other = elim by [
   | inl own ↦
       let past = limit_alone (is_actor seat.shape (Replica q)) (are_clients seat.actor (Replica q))
-          (post_of seat.shape seat.log seat.actor (Replica q) pick)
-          (is_exhausted seat.shape seat.log seat.actor (Replica q) pick) (is_spent seat.log (Replica q)) refusal there no_client given.1 own in
-      inl (past, record {
-        to = Replica q;
-        pick = pick;
-        envelope = given.0;
-        due = given.1;
-        past = own ∙ ap Some past;
-      })
+      (post_of seat.shape seat.log seat.actor (Replica q) pick)
+      (is_exhausted seat.shape seat.log seat.actor (Replica q) pick) (is_spent seat.log (Replica q)) refusal there no_client given.1 own in
+      inl (
+        past,
+        record {
+          to = Replica q;
+          pick = pick;
+          envelope = given.0;
+          due = given.1;
+          past = own ∙ ap Some past;
+        },
+      )
   | inr box ↦ elim box.1 [
     | inl full ↦ absurd (other full)
     | inr memory ↦ inr (inr memory)
@@ -177,10 +235,12 @@ post_ends seat me q op refusal is inside due by other = elim by [
 
     given : (x : Envelope) × (post_of seat.shape seat.log seat.actor (Replica q) pick ≡ Some x)
     given =
-        let ask = some_of (awaited seat.shape (number_of seat.actor) seat.log op) due in
-        (Ask ask.0, ap (λ a. post_of seat.shape seat.log a (Replica q) pick) is
-        ∙ ap (option_map Ask) (given_is (outstanding seat.shape seat.log) me _ op
-        ∙ subst (λ a. awaited seat.shape (number_of a) seat.log op ≡ Some ask.0) is ask.1))
+        let ask = some_of (awaited seat.shape (number_of seat.actor) seat.log op) due in (
+          Ask ask.0,
+          ap (λ a. post_of seat.shape seat.log a (Replica q) pick) is
+              ∙ ap (option_map Ask) (given_is (outstanding seat.shape seat.log) me _ op
+              ∙ subst (λ a. awaited seat.shape (number_of a) seat.log op ≡ Some ask.0) is ask.1),
+        )
 
     limit_alone : (a b : Bool) (o : Option Envelope) (x s : Bool) (e : Refusal) → a ≡ true → b ≡ false → o ≡ Some given.0
         → (if not a then Some NoActor else if b then Some WrongRole else if is_none o then Some NotDue else if x || s then Some Exhausted else None) ≡ Some e
@@ -247,3 +307,20 @@ not_idle seat refusal ends idle = elim ends [
 
     apart_memory : NoMemory ≡ NotDue → ⊥
     apart_memory e = cc
+
+pub not_busy_by : (seat : Pass) (result : Result AReply Refusal) → IfErr result (CallRefusal seat) → result ≡ Err Busy → ⊥
+not_busy_by seat result ends busy = not_busy seat Busy (subst (λ r. IfErr r (CallRefusal seat)) busy ends) refl
+
+pub not_idle_by : (seat : Pass) (result : Result AReply Refusal) → IfErr result (CallRefusal seat) → result ≡ Err NotDue → ⊥
+not_idle_by seat result ends idle = not_idle seat NotDue (subst (λ r. IfErr r (CallRefusal seat)) idle ends) refl
+
+-- ---- the loop of a call
+
+-- the seat is on the way: what the call waits for is not answered, and the next replica is one of the shape
+pub record IsOnTheWay (boxes : SharedBoxes) (first seat : Pass) (op : Option Op) (number n : ℕ) : Type 0 where
+  pub goes : GoesOn seat first
+  pub waits : Awaits first op seat
+  pub own : IsPassOf boxes seat
+  pub all : n ≡ seat.shape.n
+  pub few : n ≤ 16
+  pub inside : number < n

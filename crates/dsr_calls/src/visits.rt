@@ -1,10 +1,10 @@
-ghost use Rattle.std.specs.Prelude.{◌≡◌, ◌<◌, ◌≤◌, ◌-◌, IsSome, IfOk, IfErr, OnErr, Option};
-ghost use Rattle.dsr_request.specs.declared.op.Op.{Op as AnOp};
+ghost use Rattle.std.specs.Prelude.{◌≡◌, ◌<◌, ◌≤◌, ◌-◌, IsSome, IfOk, IfErr, OnOk, OnErr};
 ghost use Rattle.dsr_client.specs.State.{outstanding};
 ghost use Rattle.dsr_boxes.specs.Pass.{IsPassOf};
+ghost use Rattle.dsr_mail.specs.Refusals.{HasAsked};
 ghost use Rattle.dsr_calls.specs.Calls.{GoesOn, number_of, awaited};
 ghost use Rattle.dsr_calls.specs.Limits.{CallRefusal};
-ghost use Rattle.dsr_calls.specs.Visits.{pick_beside, Keeps, Becomes};
+ghost use Rattle.dsr_calls.specs.Visits.{pick_beside, HasAskTurn, HasTakeTurn, Keeps, Becomes};
 
 use dsr_envelope::Pick;
 use dsr_ledger::Reply;
@@ -40,7 +40,7 @@ pub(crate) fn visit(
     take_turn(mail, seat, replica, left)
 }
 
-/// Asks the replica, unless it was asked already. A full box uses up the turn.
+/// Asks the replica, unless it was asked already, which takes no turn. A full box uses up the turn.
 fn post_turn(
     alloc: Global,
     mail: &Mail,
@@ -53,9 +53,10 @@ fn post_turn(
     requires inside { replica < seat.old.shape.n }
     requires due { IsSome (awaited seat.old.shape (number_of seat.old.actor) seat.old.log op.now) }
     requires turn { 0 < left.old }
-    ensures log { GoesOn seat.new seat.old }
-    ensures keeps { Keeps op.now seat.old seat.new }
-    ensures refused { IfErr result (CallRefusal seat.new) }
+    ensures ok { OnOk result (HasAskTurn op.now replica seat.old seat.new) }
+    ensures asked { HasAsked seat.old.shape seat.old.log replica → (seat.new ≡ seat.old) × (left.new ≡ left.old) }
+    ensures err { OnErr result (seat.new ≡ seat.old) }
+    ensures refused { IfErr result (CallRefusal seat.old) }
     ensures turns { left.new ≤ left.old }
 {
     // For the proof: what its contract says.
@@ -94,10 +95,9 @@ fn take_turn(
 ) -> Result<Option<Reply>, Refusal>
     requires mail { IsPassOf mail.now seat.old }
     requires inside { replica < seat.old.shape.n }
-    ensures log { GoesOn seat.new seat.old }
-    ensures ok { (op : Option AnOp) → IfOk result (Becomes op seat.old seat.new) }
+    ensures ok { IfOk result (HasTakeTurn replica seat.old seat.new) }
     ensures err { OnErr result (seat.new ≡ seat.old) }
-    ensures refused { IfErr result (CallRefusal seat.new) }
+    ensures refused { IfErr result (CallRefusal seat.old) }
     ensures turns { left.new ≡ left.old - 1 }
 {
     // For the proof: what its contract says.
