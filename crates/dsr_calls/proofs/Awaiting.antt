@@ -1,10 +1,10 @@
 -- What one entry of a client's log does with the request that a call waits for.
-use Rattle.std.proofs.Common.{◌≡◌, ℕ, suc, List, [], ◌∷◌, Option, None, Some, length, max, ◌⊎◌, inl, inr, refl, ap, sym, ◌∙◌, subst, arith}
+use Rattle.std.proofs.Common.{◌≡◌, ℕ, suc, List, [], ◌∷◌, Option, None, Some, length, max, inl, inr, refl, ap, sym, ◌∙◌, subst, arith}
 use Rattle.std.specs.Option.{option_map, option_or}
 use Rattle.std.proofs.lemmas.Option.{none-some, same_Some}
 use Rattle.dsr_base.specs.Member.{In, here, there}
 use Rattle.dsr_names.specs.Shape.{Shape}
-use Rattle.dsr_names.specs.declared.actor.Actor.TheVariants.{Replica, Client}
+use Rattle.dsr_names.specs.declared.actor.Actor.TheVariants.{Replica}
 use Rattle.dsr_request.specs.declared.op.Op.{Op}
 use Rattle.dsr_ledger.specs.declared.reply.Reply.{Reply as AReply}
 use Rattle.dsr_chain.specs.declared.signed_request.SignedRequest.{SignedRequest}
@@ -12,10 +12,10 @@ use Rattle.dsr_envelope.specs.declared.envelope.Envelope.{Envelope}
 use Rattle.dsr_envelope.specs.declared.envelope.Envelope.TheVariants.{Ask}
 use Rattle.dsr_envelope.specs.declared.entry.Entry.{Entry}
 use Rattle.dsr_envelope.specs.declared.entry.Entry.TheVariants.{Post, Take}
-use Rattle.dsr_client.specs.Accepted.{WasPosted, AcceptsNone, Accepts}
+use Rattle.dsr_client.specs.Accepted.{AcceptsNone}
 use Rattle.dsr_client.specs.Conduct.{IsClientLog, ask_of, next_number, chosen_beside}
 use Rattle.dsr_client.specs.Issue.{issue_front}
-use Rattle.dsr_client.specs.State.{state_after, outstanding, accepted, front_of, told, seen}
+use Rattle.dsr_client.specs.State.{outstanding, accepted, front_of, told, seen}
 use Rattle.dsr_client.proofs.Lemmas.{was_posted, accept_cases, take_quiet, ask_begins, post_none, unasked, no_front, first_front, front_stays, next_unasked}
 use Rattle.dsr_calls.specs.Calls.{awaited, front_beside, IsUnbegun, WasBegun, IsBegun, IsAwaited, IsAnswered}
 use Rattle.dsr_calls.specs.Visits.{pick_beside}

@@ -31,8 +31,10 @@ pub(crate) fn visit(
     ensures ok { IfOk result (Becomes op.now seat.old seat.new) }
     ensures err { OnErr result (Keeps op.now seat.old seat.new) }
     ensures refused { IfErr result (CallRefusal seat.new) }
-    ensures turns { left.new < left.old }
+    ensures turns { OnOk result (left.new < left.old) }
 {
+    // For the proof: what its contract says.
+    let _client = seat.client();
     match post_turn(alloc, mail, seat, replica, op, left) {
         Ok(()) => {}
         Err(refusal) => return Err(refusal),
