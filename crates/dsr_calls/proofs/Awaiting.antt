@@ -43,6 +43,9 @@ module _ (shape : Shape) (me : ℕ) where
   new_number number None ask e = absurd (none-some ask e)
 
   -- a log that has begun the request awaits it, whatever the operation
+  pub begun_awaited : (older log : List Entry) (op : Option Op) (ask : SignedRequest) → IsBegun shape ask older log → awaited shape me log op ≡ Some ask
+  begun_awaited older log op ask begun = ap (λ o. option_or o (option_map (ask_of me (next_number shape log)) op)) begun.is
+
   pub still_awaited : (older log : List Entry) (op : Option Op) (ask : SignedRequest) → awaited shape me older op ≡ Some ask
       → IsAwaited shape ask older log → awaited shape me log op ≡ Some ask
   still_awaited older log op ask e h = elim h [
@@ -50,7 +53,7 @@ module _ (shape : Shape) (me : ℕ) where
         ap (λ o. option_or o (option_map (ask_of me (next_number shape log)) op)) un.none
         ∙ (ap (λ l. option_map (ask_of me (suc (length l))) op) un.same
         ∙ (sym (ap (λ o. option_or o (option_map (ask_of me (next_number shape older)) op)) un.was) ∙ e))
-    | inr begun ↦ ap (λ o. option_or o (option_map (ask_of me (next_number shape log)) op)) begun.is
+    | inr begun ↦ begun_awaited older log op ask begun
   ]
 
   -- ---- at first

@@ -2,6 +2,8 @@
 #![tactic(auto)]
 
 mod calls;
+mod laws;
 mod visits;
 
 pub use calls::{ask, go_on};
+pub use laws::calls_follow_each_other;
