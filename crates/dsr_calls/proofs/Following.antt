@@ -1,12 +1,11 @@
 -- Calls that follow each other are as one.
-use Rattle.std.proofs.Common.{◌≡◌, ℕ, List, ◌∷◌, Option, None, Some, ◌⊎◌, inl, inr, ap, sym, ◌∙◌, subst}
-use Rattle.std.proofs.lemmas.Option.{none-some, same_Some}
+use Rattle.std.proofs.Common.{◌≡◌, List, ◌∷◌, Some, inl, inr, ap, sym, ◌∙◌}
+use Rattle.std.proofs.lemmas.Option.{none-some}
 use Rattle.dsr_names.specs.Shape.{Shape}
 use Rattle.dsr_ledger.specs.declared.reply.Reply.{Reply as AReply}
 use Rattle.dsr_chain.specs.declared.signed_request.SignedRequest.{SignedRequest}
 use Rattle.dsr_envelope.specs.declared.entry.Entry.{Entry}
-use Rattle.dsr_client.specs.Issue.{issue_front}
-use Rattle.dsr_client.specs.State.{outstanding, accepted, seen}
+use Rattle.dsr_client.specs.State.{accepted}
 use Rattle.dsr_calls.specs.Calls.{front_beside, IsUnbegun, WasBegun, IsBegun, IsAwaited, IsAnswered}
 
 module _ (shape : Shape) (ask : SignedRequest) (older log later : List Entry) where

@@ -1,9 +1,10 @@
 -- What the turns of a call do with the seat.
-use Rattle.std.proofs.Common.{◌≡◌, ℕ, ◌<◌, ◌≤◌, List, [], ◌∷◌, ◌++◌, Option, None, Some, append_assoc, inl, inr, refl, ap, sym, ◌∙◌, subst}
+use Rattle.std.proofs.Common.{◌≡◌, ℕ, ◌<◌, ◌≤◌, ◌+◌, length, List, [], ◌∷◌, ◌++◌, Option, None, Some, append_assoc, inl, inr, refl, ap, sym, ◌∙◌, subst}
 use Rattle.std.specs.Prelude.{IsSome, is_some, Result, Ok, Err, IfOk, OnErr}
 use Rattle.std.specs.Option.{option_map}
 use Rattle.std.proofs.lemmas.Bool.{false≢true}
 use Rattle.std.proofs.lemmas.Option.{same_Some}
+use Rattle.dsr_base.proofs.MemberLemmas.{In-one, In-append_cases}
 use Rattle.dsr_names.specs.Shape.{Shape}
 use Rattle.dsr_names.specs.declared.actor.Actor.TheVariants.{Replica, Client}
 use Rattle.dsr_names.specs.declared.refusal.Refusal.{Refusal}
@@ -18,7 +19,7 @@ use Rattle.dsr_client.specs.Conduct.{IsClientLog}
 use Rattle.dsr_client.specs.State.{outstanding, accepted}
 use Rattle.dsr_node.specs.Conduct.{post_of, AcceptsBy}
 use Rattle.dsr_boxes.specs.Pass.{SharedBoxes, Pass, IsPassOf, with_entry}
-use Rattle.dsr_calls.specs.Calls.{GoesOn, number_of, awaited, IsAwaited, IsAnswered, Awaits}
+use Rattle.dsr_calls.specs.Calls.{GoesOn, number_of, awaited, IsAwaited, IsAnswered, IsTurn, IsByTurns, Awaits, AddsTurns}
 use Rattle.dsr_calls.specs.Visits.{pick_beside, HasAskTurn, HasTakeTurn, Keeps, Becomes}
 use Rattle.dsr_calls.proofs.Awaiting.{given_is, still_awaited, awaited_first, awaited_posted, awaited_taken, answered_taken}
 
@@ -159,6 +160,61 @@ pub visit_goes : (q : ℕ) (seat mid new : Pass) (result : Result (Option AReply
 visit_goes q seat mid new (Ok reply) on turn same = goes_then new mid seat (goes_taken q mid new reply turn) on
 visit_goes q seat mid new (Err refusal) on turn same = goes_then new mid seat (goes_is new mid same) on
 
+-- ---- what is added
+
+by_none : (ask : SignedRequest) (log : List Entry) → IsByTurns ask log log
+by_none ask log = record { newer = []; is = refl; each = λ entry inside. elim inside [ ] }
+
+by_one : (ask : SignedRequest) (log : List Entry) (entry : Entry) → IsTurn ask entry → IsByTurns ask log (entry ∷ log)
+by_one ask log entry turn = record {
+  newer = entry ∷ [];
+  is = refl;
+  each = λ other inside. subst (IsTurn ask) (In-one other entry inside) turn;
+}
+
+by_both : (ask : SignedRequest) (older mid log : List Entry) → IsByTurns ask older mid → IsByTurns ask mid log → IsByTurns ask older log
+by_both ask older mid log first second = record {
+  newer = second.newer ++ first.newer;
+  is = second.is ∙ (ap (λ l. second.newer ++ l) first.is ∙ sym (append_assoc second.newer first.newer older));
+  each = λ entry inside. elim (In-append_cases entry second.newer first.newer inside) [
+    | inl late ↦ second.each entry late
+    | inr early ↦ first.each entry early
+  ];
+}
+
+pub adds_none : (op : Option Op) (seat new : Pass) → new ≡ seat → AddsTurns seat op new
+adds_none op seat new same ask e = subst (λ s. IsByTurns ask seat.log s.log) (sym same) (by_none ask seat.log)
+
+pub adds_asked : (op : Option Op) (me q : ℕ) (seat new : Pass) → seat.actor ≡ Client me → HasAskTurn op q seat new → AddsTurns seat op new
+adds_asked op me q seat new is turn ask e = elim turn [
+  | inl same ↦ adds_none op seat new same ask e
+  | inr posted ↦
+      let given = subst (λ a. post_of seat.shape seat.log a (Replica q) (pick_beside (outstanding seat.shape seat.log) op) ≡ Some posted.0) is posted.1 in
+      let due = subst (λ a. awaited seat.shape (number_of a) seat.log op ≡ Some ask) is e in
+      subst (λ s. IsByTurns ask seat.log s.log) (sym posted.2)
+      (by_one ask seat.log (Post (Replica q) posted.0) (posted_is seat.shape me seat.log q op posted.0 ask given due))
+]
+
+adds_taken : (op : Option Op) (p : ℕ) (seat new : Pass) (reply : Option AReply) → HasTakeTurn p seat new reply → AddsTurns seat op new
+adds_taken op p seat new reply turn ask e = elim turn [
+  | inl same ↦ adds_none op seat new same.0 ask e
+  | inr taken ↦ subst (λ s. IsByTurns ask seat.log s.log) (sym taken.1) (by_one ask seat.log (Take (Replica p) taken.0) tt)
+]
+
+-- one call's turns after another's
+pub adds_then : (op : Option Op) (first seat new : Pass) → GoesOn seat first → Awaits first op seat → AddsTurns first op seat → AddsTurns seat op new
+    → AddsTurns first op new
+adds_then op first seat new goes waits early late ask e =
+    let same = still_awaited first.shape (number_of first.actor) first.log seat.log op ask e (waits ask e) in
+    let now = subst (λ s. awaited s (number_of seat.actor) seat.log op ≡ Some ask) (sym goes.shape)
+    (subst (λ a. awaited first.shape (number_of a) seat.log op ≡ Some ask) (sym goes.actor) same) in
+    by_both ask first.log seat.log new.log (early ask e) (late ask now)
+
+pub visit_adds : (op : Option Op) (q : ℕ) (seat mid new : Pass) (result : Result (Option AReply) Refusal) → GoesOn mid seat → Awaits seat op mid
+    → AddsTurns seat op mid → IfOk result (HasTakeTurn q mid new) → OnErr result (new ≡ mid) → AddsTurns seat op new
+visit_adds op q seat mid new (Ok reply) on waits early turn same = adds_then op seat mid new on waits early (adds_taken op q mid new reply turn)
+visit_adds op q seat mid new (Err refusal) on waits early turn same = adds_then op seat mid new on waits early (adds_none op mid new same)
+
 -- ---- the end of a call
 
 -- nothing more is accepted where what was awaited still is
@@ -174,9 +230,11 @@ accepted_same first new op goes due waits =
 -- ---- the loop of a call
 
 -- the seat is on the way: what the call waits for is not answered, and the next replica is one of the shape
-pub record IsOnTheWay (boxes : SharedBoxes) (first seat : Pass) (op : Option Op) (number n : ℕ) : Type 0 where
+pub record IsOnTheWay (boxes : SharedBoxes) (first seat : Pass) (op : Option Op) (number n left turns : ℕ) : Type 0 where
   pub goes : GoesOn seat first
   pub waits : Awaits first op seat
+  pub added : AddsTurns first op seat
+  pub short : length seat.log + left ≤ length first.log + turns
   pub own : IsPassOf boxes seat
   pub all : n ≡ seat.shape.n
   pub few : n ≤ 16

@@ -1,5 +1,5 @@
 -- What a client's calls do with the request that they wait for (this project). Logs and accepted replies stand newest first.
-use Rattle.std.specs.Prelude.{◌≡◌, ◌⊎◌, ℕ, List, ◌∷◌, Option, None, Some}
+use Rattle.std.specs.Prelude.{◌≡◌, ◌⊎◌, ℕ, List, ◌∷◌, ◌++◌, Option, None, Some}
 use Rattle.std.specs.Option.{option_map, option_or}
 use Rattle.dsr_base.specs.Growth.{Extends}
 use Rattle.dsr_base.specs.Member.{In}
@@ -11,7 +11,7 @@ use Rattle.dsr_ledger.specs.declared.reply.Reply.{Reply as AReply}
 use Rattle.dsr_chain.specs.declared.signed_request.SignedRequest.{SignedRequest}
 use Rattle.dsr_envelope.specs.declared.envelope.Envelope.TheVariants.{Ask}
 use Rattle.dsr_envelope.specs.declared.entry.Entry.{Entry}
-use Rattle.dsr_envelope.specs.declared.entry.Entry.TheVariants.{Post}
+use Rattle.dsr_envelope.specs.declared.entry.Entry.TheVariants.{Post, Take}
 use Rattle.dsr_client.specs.Conduct.{ask_of, next_number}
 use Rattle.dsr_client.specs.Issue.{issue_front}
 use Rattle.dsr_client.specs.State.{outstanding, accepted, seen}
@@ -75,9 +75,26 @@ pub record IsAnswered (shape : Shape) (ask : SignedRequest) (older log : List En
   pub done : outstanding shape log ≡ None
   pub number : reply.number ≡ ask.request.number
 
+-- a turn at a replica, by which a call for this request adds an entry: it asks for it, or takes
+abbrev pub IsTurn : SignedRequest → Entry → Type 0
+IsTurn ask (Post (Replica q) envelope) = envelope ≡ Ask ask
+IsTurn ask (Post (Client c) envelope) = ⊥
+IsTurn ask (Take (Replica p) envelope) = Unit {0}
+IsTurn ask (Take (Client c) envelope) = ⊥
+
+-- the log is the older one with entries of such turns alone
+pub record IsByTurns (ask : SignedRequest) (older log : List Entry) : Type 0 where
+  pub newer : List Entry
+  pub is : log ≡ newer ++ older
+  pub each : (entry : Entry) → In entry newer → IsTurn ask entry
+
 -- what the call waits for, by the old seat and the operation, is not answered in the new seat
 abbrev pub Awaits : Pass → Option Op → Pass → Type 0
 Awaits old op new = (ask : SignedRequest) → awaited old.shape (number_of old.actor) old.log op ≡ Some ask → IsAwaited old.shape ask old.log new.log
+
+-- all that is newer in the new seat's log are turns for it
+abbrev pub AddsTurns : Pass → Option Op → Pass → Type 0
+AddsTurns old op new = (ask : SignedRequest) → awaited old.shape (number_of old.actor) old.log op ≡ Some ask → IsByTurns ask old.log new.log
 
 -- it is answered there by this reply
 abbrev pub Answers : Pass → Option Op → Pass → AReply → Type 0

@@ -1,8 +1,8 @@
-ghost use Rattle.std.specs.Prelude.{◌≡◌, ◌⊎◌, ◌↔◌, ◌<◌, ◌==◌, suc, None, Some, if◌then◌else◌, IsSome, IsNone, IfOk, IfErr, OnErr, IsErrOf};
+ghost use Rattle.std.specs.Prelude.{◌≡◌, ◌⊎◌, ◌↔◌, ◌+◌, ◌<◌, ◌≤◌, ◌==◌, suc, length, None, Some, if◌then◌else◌, IsSome, IsNone, IfOk, IfErr, OnErr, IsErrOf};
 ghost use Rattle.dsr_names.specs.declared.refusal.Refusal.{Refusal};
 ghost use Rattle.dsr_client.specs.State.{accepted, outstanding};
 ghost use Rattle.dsr_boxes.specs.Pass.{IsPassOf};
-ghost use Rattle.dsr_calls.specs.Calls.{GoesOn, number_of, awaited, Awaits, Answers};
+ghost use Rattle.dsr_calls.specs.Calls.{GoesOn, number_of, awaited, Awaits, AddsTurns, Answers};
 ghost use Rattle.dsr_calls.specs.Limits.{CallRefusal};
 
 use crate::visits::visit;
@@ -14,8 +14,8 @@ use std::alloc::Global;
 use std::thread;
 
 /// Asks for an operation, and returns the reply that the client accepts to it. It goes through the replicas again and again, from replica 0
-/// on: of each one turn goes to a post, but for a replica that was asked already, and one to a take. The first post that succeeds
-/// begins the request. `Busy` exactly where a request is outstanding: then nothing changed. `Unanswered` where the turns ran out: the request may
+/// on: of each one turn goes to a post, but for a replica that was asked already, and one to a take. Each turn adds at most its entry to
+/// the log, and nothing else does. The first post that succeeds begins the request. `Busy` exactly where a request is outstanding: then nothing changed. `Unanswered` where the turns ran out: the request may
 /// have begun, and then it is outstanding, for `go_on`. `Exhausted` where a counter of the client would pass its limit; `NoMemory`. After each
 /// of them nothing more is accepted than before. Requires a seat of this mail.
 pub fn ask(
@@ -27,6 +27,8 @@ pub fn ask(
 ) -> Result<Reply, Refusal>
     requires mail { IsPassOf mail.now seat.old }
     ensures log { GoesOn seat.new seat.old }
+    ensures turns { AddsTurns seat.old (Some op) seat.new }
+    ensures few { length seat.new.log ≤ length seat.old.log + turns }
     ensures busy { IsErrOf result Refusal.Busy ↔ IsSome (outstanding seat.old.shape seat.old.log) }
     ensures unchanged { IsErrOf result Refusal.Busy → seat.new ≡ seat.old }
     ensures answered { IfOk result (Answers seat.old (Some op) seat.new) }
@@ -53,6 +55,8 @@ pub fn go_on(
 ) -> Result<Reply, Refusal>
     requires mail { IsPassOf mail.now seat.old }
     ensures log { GoesOn seat.new seat.old }
+    ensures turns { AddsTurns seat.old None seat.new }
+    ensures few { length seat.new.log ≤ length seat.old.log + turns }
     ensures idle { IsErrOf result Refusal.NotDue ↔ IsNone (outstanding seat.old.shape seat.old.log) }
     ensures unchanged { IsErrOf result Refusal.NotDue → seat.new ≡ seat.old }
     ensures answered { IfOk result (Answers seat.old None seat.new) }
@@ -78,6 +82,8 @@ fn go_round(
     requires mail { IsPassOf mail.now seat.old }
     requires due { IsSome (awaited seat.old.shape (number_of seat.old.actor) seat.old.log op.now) }
     ensures log { GoesOn seat.new seat.old }
+    ensures turns { AddsTurns seat.old op.now seat.new }
+    ensures few { length seat.new.log ≤ length seat.old.log + turns }
     ensures answered { IfOk result (Answers seat.old op.now seat.new) }
     ensures awaited { OnErr result (Awaits seat.old op.now seat.new) }
     ensures same { OnErr result (accepted seat.new.shape seat.new.log ≡ accepted seat.old.shape seat.old.log) }

@@ -1,8 +1,8 @@
-ghost use Rattle.std.specs.Prelude.{◌≡◌, ◌<◌, ◌≤◌, ◌-◌, IsSome, IfOk, IfErr, OnOk, OnErr};
+ghost use Rattle.std.specs.Prelude.{◌≡◌, ◌<◌, ◌≤◌, ◌+◌, ◌-◌, length, IsSome, IfOk, IfErr, OnOk, OnErr};
 ghost use Rattle.dsr_client.specs.State.{outstanding};
 ghost use Rattle.dsr_boxes.specs.Pass.{IsPassOf};
 ghost use Rattle.dsr_mail.specs.Refusals.{HasAsked};
-ghost use Rattle.dsr_calls.specs.Calls.{GoesOn, number_of, awaited};
+ghost use Rattle.dsr_calls.specs.Calls.{GoesOn, number_of, awaited, AddsTurns};
 ghost use Rattle.dsr_calls.specs.Limits.{CallRefusal};
 ghost use Rattle.dsr_calls.specs.Visits.{pick_beside, HasAskTurn, HasTakeTurn, Keeps, Becomes};
 
@@ -31,6 +31,8 @@ pub(crate) fn visit(
     ensures ok { IfOk result (Becomes op.now seat.old seat.new) }
     ensures err { OnErr result (Keeps op.now seat.old seat.new) }
     ensures refused { IfErr result (CallRefusal seat.new) }
+    ensures added { AddsTurns seat.old op.now seat.new }
+    ensures few { length seat.new.log + left.new ≤ length seat.old.log + left.old }
     ensures turns { OnOk result (left.new < left.old) }
 {
     // For the proof: what its contract says.
@@ -59,6 +61,7 @@ fn post_turn(
     ensures asked { HasAsked seat.old.shape seat.old.log replica → (seat.new ≡ seat.old) × (left.new ≡ left.old) }
     ensures err { OnErr result (seat.new ≡ seat.old) }
     ensures refused { IfErr result (CallRefusal seat.old) }
+    ensures few { length seat.new.log + left.new ≤ length seat.old.log + left.old }
     ensures turns { left.new ≤ left.old }
 {
     // For the proof: what its contract says.
@@ -100,6 +103,7 @@ fn take_turn(
     ensures ok { IfOk result (HasTakeTurn replica seat.old seat.new) }
     ensures err { OnErr result (seat.new ≡ seat.old) }
     ensures refused { IfErr result (CallRefusal seat.old) }
+    ensures few { length seat.new.log + left.new ≤ length seat.old.log + left.old }
     ensures turns { left.new ≡ left.old - 1 }
 {
     // For the proof: what its contract says.

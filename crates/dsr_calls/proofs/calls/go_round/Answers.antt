@@ -1,6 +1,6 @@
-use Rattle.std.proofs.Common.{sym, ap, ◌∙◌, subst, arith}
+use Rattle.std.proofs.Common.{refl, sym, ap, ◌∙◌, subst, arith}
 use Rattle.dsr_calls.specs.Visits.{Becomes}
-use Rattle.dsr_calls.proofs.Turns.{goes_same, goes_then, still_own, still_due, waits_first, accepted_same}
+use Rattle.dsr_calls.proofs.Turns.{goes_same, goes_then, still_own, still_due, waits_first, adds_none, adds_then, accepted_same}
 use Rattle.dsr_calls.proofs.calls.go_round.Goals as goal
 
 pub loop-left-init : goal.loop-left-init
@@ -14,6 +14,8 @@ loop-left-init c =
     record {
       goes = goes_same seat;
       waits = waits_first seat c.client-client.result c.args.op.now client.same client.conduct;
+      added = adds_none c.args.op.now seat seat refl;
+      short = omega arith;
       own = c.requires.mail;
       all = same ∙ ap (λ s. s.n) (c.shape.ensures ∙ sym c.requires.mail.1);
       few = omega (arith, same, few);
@@ -55,6 +57,8 @@ loop-left-preserved c =
     record {
       goes = goes_then new seat first on way.goes;
       waits = subst (Becomes c.args.op.now seat new) c.in-Ok-None.field-0-is c.in-Ok-None.ensures.ok first way.goes way.waits;
+      added = adds_then c.args.op.now first seat new way.goes way.waits way.added c.in-Ok-None.ensures.added;
+      short = let was = way.short in let more = c.in-Ok-None.ensures.few in omega (arith, was, more);
       own = still_own c.args.mail.now new seat on way.own;
       all = way.all ∙ ap (λ s. s.n) (sym on.shape);
       few = way.few;
@@ -65,3 +69,19 @@ pub returns-clause-same : goal.returns-clause-same
 returns-clause-same c =
     let way = c.loop-left.invariant in
     accepted_same c.args.seat.now c.loop-left.seat c.args.op.now way.goes c.requires.due way.waits
+
+pub returns-in-Ok-Some-clause-turns : goal.returns-in-Ok-Some-clause-turns
+returns-in-Ok-Some-clause-turns c =
+    let way = c.loop-left.invariant in
+    adds_then c.args.op.now c.args.seat.now c.loop-left.seat c.visit.new.seat way.goes way.waits way.added c.in-Ok-Some.ensures.added
+
+pub returns-in-Ok-Some-clause-few : goal.returns-in-Ok-Some-clause-few
+returns-in-Ok-Some-clause-few c = let was = c.loop-left.invariant.short in let more = c.in-Ok-Some.ensures.few in omega (arith, was, more)
+
+pub returns-in-Err-clause-turns : goal.returns-in-Err-clause-turns
+returns-in-Err-clause-turns c =
+    let way = c.loop-left.invariant in
+    adds_then c.args.op.now c.args.seat.now c.loop-left.seat c.visit.new.seat way.goes way.waits way.added c.in-Err.ensures.added
+
+pub returns-in-Err-clause-few : goal.returns-in-Err-clause-few
+returns-in-Err-clause-few c = let was = c.loop-left.invariant.short in let more = c.in-Err.ensures.few in omega (arith, was, more)
