@@ -14,10 +14,11 @@ use std::alloc::Global;
 use std::thread;
 
 /// Asks for an operation, and returns the reply that the client accepts to it. It goes through the replicas again and again, from replica 0
-/// on: of each one turn goes to a post, but for a replica that was asked already, and one to a take. Each turn adds at most its entry to
-/// the log, and nothing else does. The first post that succeeds begins the request. `Busy` exactly where a request is outstanding: then nothing changed. `Unanswered` where the turns ran out: the request may
-/// have begun, and then it is outstanding, for `go_on`. `Exhausted` where a counter of the client would pass its limit; `NoMemory`. After each
-/// of them nothing more is accepted than before. Requires a seat of this mail.
+/// on: of each one turn goes to a post, but for a replica that was asked already, and one to a take. A turn adds its entry to the log, or
+/// nothing. The first post that succeeds begins the request. `Busy` exactly where a request is outstanding: then nothing changed.
+/// `Unanswered` where the turns ran out: the request may have begun, and then it is outstanding, for `go_on`. `Exhausted` where a
+/// counter of the client would pass its limit; `NoMemory`. After each of them nothing more is accepted than before. Requires a seat of
+/// this mail.
 pub fn ask(
     alloc: Global,
     mail: &Mail,
