@@ -20,10 +20,12 @@ use Rattle.dsr_node.specs.Conduct.{post_of, is_exhausted, is_undue, is_actor, is
 use Rattle.dsr_run.specs.OwnStep.{HasPostsLeft}
 use Rattle.dsr_boxes.specs.Pass.{SharedBoxes, Pass, IsPassOf, with_entry}
 use Rattle.dsr_mail.specs.Refusals.{IsRefusedBy, is_spent, post_refused, take_refused, plant_refused}
-use Rattle.dsr_rounds.specs.Ends.{GoesOn, HostRefusal, HostEnd, IsTried}
+use Rattle.dsr_calls.specs.Calls.{GoesOn}
+use Rattle.dsr_rounds.specs.Ends.{HostRefusal, HostEnd, IsTried}
 use Rattle.dsr_rounds.specs.declared.end.End.{End}
 use Rattle.dsr_rounds.specs.declared.end.End.TheVariants.{Told, Fault}
-use Rattle.dsr_rounds.specs.Limits.{IsExhausted, IsAtLimit}
+use Rattle.dsr_calls.specs.Limits.{IsExhausted}
+use Rattle.dsr_rounds.specs.Limits.{IsAtLimit}
 
 -- ---- seats go on
 

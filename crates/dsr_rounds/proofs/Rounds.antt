@@ -19,7 +19,8 @@ use Rattle.dsr_replica.proofs.Lemmas.{counts, plain_possible}
 use Rattle.dsr_node.specs.Conduct.{post_of}
 use Rattle.dsr_envelope.specs.declared.pick.Pick.TheVariants.{Plain}
 use Rattle.dsr_boxes.specs.Pass.{Pass, with_entry}
-use Rattle.dsr_rounds.specs.Ends.{GoesOn, HasTried}
+use Rattle.dsr_calls.specs.Calls.{GoesOn}
+use Rattle.dsr_rounds.specs.Ends.{HasTried}
 use Rattle.dsr_rounds.specs.Replicas.{HasClosed, KeepsRound, IsAtPost, IsTaking, IsAtTake}
 use Rattle.dsr_rounds.proofs.Going.{goes_same, goes_entry, goes_further}
 

@@ -13,7 +13,8 @@ use Rattle.dsr_envelope.specs.Log.{posted_to, taken_from}
 use Rattle.dsr_script.specs.Script.{Script}
 use Rattle.dsr_run.specs.OwnStep.{ForgesNone}
 use Rattle.dsr_boxes.specs.Pass.{Pass, with_entry}
-use Rattle.dsr_rounds.specs.Ends.{GoesOn, HasTried}
+use Rattle.dsr_calls.specs.Calls.{GoesOn}
+use Rattle.dsr_rounds.specs.Ends.{HasTried}
 use Rattle.dsr_rounds.specs.declared.traitor.Planting.{Planting}
 use Rattle.dsr_rounds.specs.declared.traitor.Planting.TheVariants.{Made, Forged, Full}
 use Rattle.dsr_rounds.specs.Traitors.{FollowsScript, RanScript, IsPlanned, ArePlanned, HasPlanted, IsScripted, KeepsCounts, PostsDrafts, TakesFromAll, MakesRound, count_at}

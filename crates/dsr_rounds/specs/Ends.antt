@@ -1,6 +1,5 @@
--- How a host's seat goes on, and why a host ends (this project).
+-- Why a host ends (this project).
 use Rattle.std.specs.Prelude.{◌≡◌, ◌≢◌, ◌⊎◌, Result, Ok, Err, ℕ, suc, ◌-◌, ◌^◌, nat_lt, Bool, true, false, if◌then◌else◌}
-use Rattle.dsr_base.specs.Growth.{Extends}
 use Rattle.dsr_names.specs.declared.actor.Actor.{Actor}
 use Rattle.dsr_names.specs.declared.refusal.Refusal.{Refusal}
 use Rattle.dsr_names.specs.declared.refusal.Refusal.TheVariants.{BadShape, BadName, BadNumber, Busy, NotDue, BoxFull, BoxEmpty, Forged, Exhausted, Stopped, Unanswered, NoMemory, BadText, NotARun, NoActor, WrongRole, ReadFailed, WriteFailed, NoThread}
@@ -14,13 +13,6 @@ use Rattle.dsr_rounds.specs.declared.end.End.TheVariants.{Told, Fault}
 -- the turn after this one: turns stay at 2^40-1 once they are there
 abbrev pub turn_after : ℕ → ℕ
 turn_after turn = if nat_lt turn (2 ^ 40 - 1) then suc turn else turn
-
--- the later seat is that of the same actor at the same mail, and its log extends the earlier one
-pub record GoesOn (later earlier : Pass) : Type 0 where
-  pub id : later.id ≡ earlier.id
-  pub shape : later.shape ≡ earlier.shape
-  pub actor : later.actor ≡ earlier.actor
-  pub log : Extends later.log earlier.log
 
 -- what ends a host before a try: it was told, which happens in a service alone; or the gate refused it, which it may refuse
 abbrev pub IsPassEnd : (Actor → Type 0) → Bool → Actor → End → Type 0

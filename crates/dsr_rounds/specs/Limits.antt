@@ -2,19 +2,10 @@
 use Rattle.std.specs.Prelude.{◌≡◌, ◌⊎◌, true, false, Some}
 use Rattle.dsr_names.specs.declared.actor.Actor.{Actor}
 use Rattle.dsr_names.specs.declared.refusal.Refusal.TheVariants.{Exhausted}
-use Rattle.dsr_envelope.specs.declared.envelope.Envelope.{Envelope}
-use Rattle.dsr_envelope.specs.declared.pick.Pick.{Pick}
-use Rattle.dsr_node.specs.Conduct.{post_of, is_traitor_of}
+use Rattle.dsr_node.specs.Conduct.{is_traitor_of}
 use Rattle.dsr_boxes.specs.Pass.{Pass}
-use Rattle.dsr_mail.specs.Refusals.{post_refused, plant_refused}
-
--- a counter is at its limit: a post that is due would pass it, and the seat's own log refuses that post for it
-pub record IsExhausted (seat : Pass) : Type 0 where
-  pub to : Actor
-  pub pick : Pick
-  pub envelope : Envelope
-  pub due : post_of seat.shape seat.log seat.actor to pick ≡ Some envelope
-  pub past : post_refused seat.shape seat.actor seat.log to pick ≡ Some Exhausted
+use Rattle.dsr_mail.specs.Refusals.{plant_refused}
+use Rattle.dsr_calls.specs.Limits.{IsExhausted}
 
 -- a traitor's box to some actor has had all its posts, and its own log refuses any post there
 pub record IsSpent (seat : Pass) : Type 0 where

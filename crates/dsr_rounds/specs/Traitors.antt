@@ -11,7 +11,7 @@ use Rattle.dsr_envelope.specs.Log.{posted_to, taken_from}
 use Rattle.dsr_script.specs.Script.{Script, draft_at, place_of}
 use Rattle.dsr_run.specs.OwnStep.{ForgesNone}
 use Rattle.dsr_boxes.specs.Pass.{Pass, with_entry}
-use Rattle.dsr_rounds.specs.Ends.{GoesOn}
+use Rattle.dsr_calls.specs.Calls.{GoesOn}
 use Rattle.dsr_rounds.specs.declared.traitor.Planting.{Planting}
 use Rattle.dsr_rounds.specs.declared.traitor.Planting.TheVariants.{Made, Forged, Full}
 

@@ -9,7 +9,8 @@ ghost use Rattle.dsr_envelope.specs.declared.envelope.Envelope.{Envelope};
 ghost use Rattle.dsr_envelope.specs.Log.{due, rounds};
 ghost use Rattle.dsr_node.specs.Conduct.{post_of, is_undue};
 ghost use Rattle.dsr_boxes.specs.Pass.{IsPassOf, with_entry};
-ghost use Rattle.dsr_rounds.specs.Ends.{GoesOn, HostEnd, HasTried};
+ghost use Rattle.dsr_calls.specs.Calls.{GoesOn};
+ghost use Rattle.dsr_rounds.specs.Ends.{HostEnd, HasTried};
 ghost use Rattle.dsr_rounds.specs.Replicas.{HasClosed, KeepsRound, IsAtPost, IsTaking};
 
 use crate::duties::Duties;

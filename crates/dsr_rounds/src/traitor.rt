@@ -7,7 +7,8 @@ ghost use Rattle.dsr_envelope.specs.declared.entry.Entry.TheVariants.{Post, Take
 ghost use Rattle.dsr_envelope.specs.declared.envelope.Envelope.{Envelope};
 ghost use Rattle.dsr_envelope.specs.declared.envelope.Envelope.TheVariants.{Empty};
 ghost use Rattle.dsr_boxes.specs.Pass.{IsPassOf, with_entry};
-ghost use Rattle.dsr_rounds.specs.Ends.{GoesOn, HostEnd, HasTried};
+ghost use Rattle.dsr_calls.specs.Calls.{GoesOn};
+ghost use Rattle.dsr_rounds.specs.Ends.{HostEnd, HasTried};
 ghost use Rattle.dsr_rounds.specs.Traitors.{RanScript, IsPlanned, IsPlanting, IsScripted, HasPlanted, KeepsCounts, PostsDrafts, TakesFromAll, MakesRound};
 
 use crate::end::End;

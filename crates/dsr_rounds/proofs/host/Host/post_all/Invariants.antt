@@ -1,6 +1,6 @@
 use Rattle.std.proofs.Common.{◌≡◌, ◌≤◌}
 use Rattle.dsr_envelope.specs.Log.{due, rounds}
-use Rattle.dsr_rounds.specs.Ends.{GoesOn}
+use Rattle.dsr_calls.specs.Calls.{GoesOn}
 use Rattle.dsr_rounds.specs.Replicas.{IsAtPost}
 use Rattle.dsr_rounds.proofs.host.Host.post_all.Given as goal
 

@@ -1,4 +1,4 @@
-use Rattle.dsr_rounds.specs.Ends.{GoesOn}
+use Rattle.dsr_calls.specs.Calls.{GoesOn}
 use Rattle.dsr_rounds.specs.Traitors.{PostsDrafts}
 use Rattle.dsr_rounds.proofs.host.Host.post_drafts.Given as goal
 

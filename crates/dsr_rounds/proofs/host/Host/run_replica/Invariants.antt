@@ -1,4 +1,4 @@
-use Rattle.dsr_rounds.specs.Ends.{GoesOn}
+use Rattle.dsr_calls.specs.Calls.{GoesOn}
 use Rattle.dsr_rounds.specs.Replicas.{HasClosed}
 use Rattle.dsr_rounds.proofs.host.Host.run_replica.Given as goal
 

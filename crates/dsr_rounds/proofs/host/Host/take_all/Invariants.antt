@@ -1,6 +1,6 @@
 use Rattle.std.proofs.Common.{◌≡◌}
 use Rattle.dsr_envelope.specs.Log.{rounds}
-use Rattle.dsr_rounds.specs.Ends.{GoesOn}
+use Rattle.dsr_calls.specs.Calls.{GoesOn}
 use Rattle.dsr_rounds.specs.Replicas.{IsAtTake}
 use Rattle.dsr_rounds.proofs.host.Host.take_all.Given as goal
 

@@ -1,4 +1,4 @@
-use Rattle.dsr_rounds.specs.Ends.{GoesOn}
+use Rattle.dsr_calls.specs.Calls.{GoesOn}
 use Rattle.dsr_rounds.specs.Traitors.{TakesFromAll}
 use Rattle.dsr_rounds.proofs.host.Host.take_from_each.Given as goal
 
