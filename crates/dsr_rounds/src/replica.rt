@@ -20,7 +20,7 @@ use crate::host::{Host, was_made};
 use crate::turn::Turn;
 use dsr_envelope::{Due, Pick};
 use dsr_mail::ReplicaSeat;
-use dsr_names::{Actor, ClientId, ReplicaId};
+use dsr_names::{Actor, ClientId, ReplicaId, Shape};
 use std::sync::Wait;
 
 impl<'a, R: Wait, G: Gate> Host<'a, R, G> {
@@ -109,12 +109,9 @@ impl<'a, R: Wait, G: Gate> Host<'a, R, G> {
         ensures log { GoesOn seat.new seat.old }
         ensures end { IfErr result (HostEnd (G.may_refuse self.now.gate.now) self.now.stop.now seat.new) }
     {
-        let n = self.mail.shape().n();
-        let first = match seat.due() {
-            Due::Post(to) => to.number(),
-            Due::Take(_) => n,
-        };
-        for number in first..n {
+        let shape = self.mail.shape();
+        let first = next_post(seat, shape);
+        for number in first..shape.n() {
             self.post_next(seat, turn, duties, ReplicaId::of(number))?;
         }
         Ok(())
@@ -290,4 +287,16 @@ fn choice(seat: &ReplicaSeat, duties: &mut Duties, to: ReplicaId) -> Pick
     let _replica = seat.replica();
     let _due = seat.due();
     Pick::Plain
+}
+
+/// The number of the replica to which the next post of the round is; the number of replicas where all are made.
+fn next_post(seat: &ReplicaSeat, shape: &Shape) -> u8
+    requires { shape.now ≡ seat.now.shape }
+    ensures { IsAtPost seat.now.shape.n result (due seat.now.shape seat.now.log) }
+{
+    let n = shape.n();
+    match seat.due() {
+        Due::Post(to) => to.number(),
+        Due::Take(_) => n,
+    }
 }
