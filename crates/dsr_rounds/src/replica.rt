@@ -22,6 +22,7 @@ use dsr_envelope::{Due, Pick};
 use dsr_mail::ReplicaSeat;
 use dsr_names::{Actor, ClientId, ReplicaId, Shape};
 use std::sync::Wait;
+use std::thread;
 
 impl<'a, R: Wait, G: Gate> Host<'a, R, G> {
     /// Has the replica make so many rounds: in each it takes once from each client, posts to all replicas, takes from all, and posts once to each
@@ -52,7 +53,9 @@ impl<'a, R: Wait, G: Gate> Host<'a, R, G> {
         ensures log { GoesOn seat.new seat.old }
         ensures end { IfErr result (HostEnd (G.may_refuse self.now.gate.now) self.now.stop.now seat.new) }
     {
+        duties.begin_round();
         self.take_from_clients(seat, turn, duties)?;
+        yield_without_news(duties);
         self.post_all(seat, turn, duties)?;
         self.take_all(seat, turn)?;
         self.answer_clients(seat, turn, duties)
@@ -272,6 +275,13 @@ impl<'a, R: Wait, G: Gate> Host<'a, R, G> {
         let _replica = seat.replica();
         self.pass(seat.actor(), turn)?;
         was_made(seat.try_take(self.mail, *from))
+    }
+}
+
+/// Lets others run first where no client sent anything: slow clients have more time until the rounds of a host are used up.
+fn yield_without_news(duties: &Duties) {
+    if !duties.has_news() {
+        thread::yield_now();
     }
 }
 
