@@ -155,7 +155,7 @@ impl Office {
         to: &Actor,
         pick: &Pick,
     ) -> Result<(), Refusal> {
-        let Some(place) = replica_place(self.replicas(), replica) else {
+        let Some(place) = replica_place(self.seats.replicas.as_slice(), replica) else {
             return Err(Refusal::NoActor);
         };
         post(&mut self.seats.replicas[place], alloc, &self.mail, to, pick)
@@ -163,7 +163,7 @@ impl Office {
 
     /// A take of a loyal replica.
     fn replica_take(&mut self, replica: &ReplicaId, from: &Actor) -> Result<(), Refusal> {
-        let Some(place) = replica_place(self.replicas(), replica) else {
+        let Some(place) = replica_place(self.seats.replicas.as_slice(), replica) else {
             return Err(Refusal::NoActor);
         };
         take(&mut self.seats.replicas[place], &self.mail, from)
@@ -177,7 +177,7 @@ impl Office {
         to: &Actor,
         draft: &Draft,
     ) -> Result<(), Refusal> {
-        let Some(place) = traitor_place(self.traitors(), from) else {
+        let Some(place) = traitor_place(self.seats.traitors.as_slice(), from) else {
             return Err(Refusal::NoActor);
         };
         plant(
@@ -191,7 +191,8 @@ impl Office {
 
     /// A take of a traitor.
     fn traitor_take(&mut self, replica: &ReplicaId, from: &Actor) -> Result<(), Refusal> {
-        let Some(place) = traitor_place(self.traitors(), &Actor::Replica(*replica)) else {
+        let Some(place) = traitor_place(self.seats.traitors.as_slice(), &Actor::Replica(*replica))
+        else {
             return Err(Refusal::NoActor);
         };
         traitor_take(&mut self.seats.traitors[place], &self.mail, from)
@@ -205,7 +206,7 @@ impl Office {
         to: &Actor,
         pick: &Pick,
     ) -> Result<(), Refusal> {
-        let Some(place) = client_place(self.clients(), client) else {
+        let Some(place) = client_place(self.seats.clients.as_slice(), client) else {
             return Err(Refusal::NoActor);
         };
         ask(&mut self.seats.clients[place], alloc, &self.mail, to, pick)
@@ -217,7 +218,7 @@ impl Office {
         client: &ClientId,
         from: &Actor,
     ) -> Result<Option<Reply>, Refusal> {
-        let Some(place) = client_place(self.clients(), client) else {
+        let Some(place) = client_place(self.seats.clients.as_slice(), client) else {
             return Err(Refusal::NoActor);
         };
         hear(&mut self.seats.clients[place], &self.mail, from)
@@ -243,7 +244,7 @@ impl Office {
         let Actor::Client(client) = from else {
             return Err(Refusal::NoActor);
         };
-        let Some(place) = client_place(self.clients(), client) else {
+        let Some(place) = client_place(self.seats.clients.as_slice(), client) else {
             return Err(Refusal::NoActor);
         };
         tell(&mut self.seats.clients[place], alloc, &self.mail, to)
@@ -419,7 +420,7 @@ impl Office {
         side: Side,
         other: &Actor,
     ) -> Result<(), Refusal> {
-        let Some(place) = replica_place(self.replicas(), replica) else {
+        let Some(place) = replica_place(self.seats.replicas.as_slice(), replica) else {
             return Err(Refusal::NotDue);
         };
         replica_wait(rt, &self.seats.replicas[place], &self.mail, side, other)
@@ -433,7 +434,7 @@ impl Office {
         side: Side,
         other: &Actor,
     ) -> Result<(), Refusal> {
-        let Some(place) = traitor_place(self.traitors(), at) else {
+        let Some(place) = traitor_place(self.seats.traitors.as_slice(), at) else {
             return Err(Refusal::NotDue);
         };
         traitor_wait(rt, &self.seats.traitors[place], &self.mail, side, other)

@@ -112,11 +112,11 @@ fn both_go_through<R: Threads + Wait + Sync>(
         rt,
         &mut || -> Result<(), Refusal>
             requires { IsSync R.row × IsPassOf mail.now first.now }
-            ensures { IsPassOf mail.now first.exit.now }
+            ensures { IsPassOf mail.entry.now first.exit.now }
         { go_through(rt, alloc, mail, first, rounds) },
         &mut || -> Result<(), Refusal>
             requires { IsSync R.row × IsPassOf mail.now second.now }
-            ensures { IsPassOf mail.now second.exit.now }
+            ensures { IsPassOf mail.entry.now second.exit.now }
         { go_through(rt, alloc, mail, second, rounds) },
     )
 }
@@ -226,11 +226,11 @@ fn wake_by_post<R: Threads + Wait + Sync>(
         rt,
         &mut || -> Result<(), Refusal>
             requires { IsSync R.row × IsPassOf mail.now first.now }
-            ensures { IsPassOf mail.now first.exit.now }
+            ensures { IsPassOf mail.entry.now first.exit.now }
         { post_late(rt, alloc, mail, first, sleeps) },
         &mut || -> (bool, Result<(), Refusal>)
             requires { IsSync R.row × IsPassOf mail.now second.now }
-            ensures { IsPassOf mail.now second.exit.now }
+            ensures { IsPassOf mail.entry.now second.exit.now }
         { take_early(rt, alloc, mail, second, sleeps) },
     )
 }
@@ -318,11 +318,11 @@ fn wake_by_hand<R: Threads + Wait + Sync>(
         rt,
         &mut ||
             requires { IsSync R.row × IsPassOf mail.now first.now }
-            ensures { IsPassOf mail.now first.exit.now }
+            ensures { IsPassOf mail.entry.now first.exit.now }
         { wake_until(rt, mail, first, ended) },
         &mut || -> Result<(), Refusal>
             requires { IsSync R.row × IsPassOf mail.now second.now }
-            ensures { IsPassOf mail.now second.exit.now }
+            ensures { IsPassOf mail.entry.now second.exit.now }
         { sleep_once(rt, mail, second, ended) },
     )
 }
