@@ -15,7 +15,7 @@ pub seats_stay : (mail : SharedBoxes) (kind : Shape → Actor → Bool) (xs : Li
 seats_stay mail kind xs place old new are below at same =
     let pass : IsPassOf mail (get_or xs place old) = are.0 place old below in (
       All-set (IsPassOf mail) xs place new
-      (same.0 ∙ (ap (λ (seat : Pass). seat.id) at ∙ pass.0), same.1 ∙ (ap (λ (seat : Pass). seat.shape) at ∙ pass.1)) are.0,
+          (same.0 ∙ (ap (λ (seat : Pass). seat.id) at ∙ pass.0), same.1 ∙ (ap (λ (seat : Pass). seat.shape) at ∙ pass.1)) are.0,
       map-set_same (λ (seat : Pass). seat.actor) xs place new old (same.2 ∙ ap (λ (seat : Pass). seat.actor) at) ∙ are.1,
     )
 
