@@ -1,0 +1,189 @@
+//! What seats tell.
+
+use crate::office::{Office, go_on, stage};
+use dsr_envelope::{Clients, Due, Envelope, Pick};
+use dsr_ledger::Reply;
+use dsr_mail::{ClientSeat, ReplicaSeat};
+use dsr_names::{Actor, ClientId, ReplicaId, Shape};
+use dsr_request::{Answer, Name, Op, Request};
+use std::process::Abort;
+use std::test::Fail;
+
+/// The reply to the first request of a history, which is a write.
+const WRITTEN: Reply = Reply {
+    number: 1,
+    place: 0,
+    answer: Answer::Written,
+};
+
+/// The seat of the first client.
+fn client(office: &Office) -> Result<&ClientSeat, Fail> {
+    Ok(office.clients().first().ok_or("no client")?)
+}
+
+/// The seat of the first loyal replica.
+fn replica(office: &Office) -> Result<&ReplicaSeat, Fail> {
+    Ok(office.replicas().first().ok_or("no replica")?)
+}
+
+/// The request of client 0 to write 7 to `a`, under number 1.
+fn first_request() -> Result<Request, Fail> {
+    let op = Op::Write {
+        name: Name::read(b"a")?,
+        value: 7,
+    };
+    Ok(Request::new(ClientId::FIRST, 1, op)?)
+}
+
+/// Compares what is outstanding with the client, which of the first two replicas it asked, and what it has seen.
+fn client_is<R: Abort>(
+    rt: &R,
+    seat: &ClientSeat,
+    outstanding: Option<u64>,
+    asked: (bool, bool),
+    seen: u64,
+) {
+    assert_eq!(rt; seat.outstanding(), outstanding);
+    assert_eq!(rt; seat.asked(ReplicaId::FIRST), asked.0);
+    assert_eq!(rt; seat.asked(ReplicaId::of(1)), asked.1);
+    assert_eq!(rt; seat.seen(), seen);
+}
+
+#[test]
+fn seats_stand_by_kind_and_number(rt: HostRuntime) -> Result<(), Fail> {
+    let office = Office::open(rt.alloc(), Shape::new(3, 1, 2, 0b010)?)?;
+    assert_eq!(rt; *office.shape(), Shape::new(3, 1, 2, 0b010)?);
+    let counts = (
+        office.replicas().len(),
+        office.traitors().len(),
+        office.clients().len(),
+    );
+    assert_eq!(rt; counts, (2, 1, 2));
+    let last = office.replicas().last().ok_or("no replica")?;
+    assert_eq!(rt; last.actor(), Actor::Replica(ReplicaId::of(2)));
+    assert_eq!(rt; last.replica(), ReplicaId::of(2));
+    let traitor = office.traitors().last().ok_or("no traitor")?;
+    assert_eq!(rt; traitor.actor(), Actor::Replica(ReplicaId::of(1)));
+    assert_eq!(rt; traitor.replica(), ReplicaId::of(1));
+    let last = office.clients().last().ok_or("no client")?;
+    assert_eq!(rt; last.actor(), Actor::Client(ClientId::of(1)));
+    assert_eq!(rt; last.client(), ClientId::of(1));
+    Ok(())
+}
+
+#[test]
+fn a_client_tells_whom_it_asked(rt: HostRuntime) -> Result<(), Fail> {
+    let mut office = stage(&rt, rt.alloc(), "dsr-play 1 2 0 1 -\n", &[])?;
+    client_is(&rt, client(&office)?, None, (false, false), 0);
+    let text = "dsr-play 1 2 0 1 -\npost c0 r1 begin write a 7\n";
+    go_on(&rt, rt.alloc(), &mut office, text, &[Ok(())])?;
+    client_is(&rt, client(&office)?, Some(1), (false, true), 0);
+    let text = "dsr-play 1 2 0 1 -\npost c0 r0\n";
+    go_on(&rt, rt.alloc(), &mut office, text, &[Ok(())])?;
+    client_is(&rt, client(&office)?, Some(1), (true, true), 0);
+    Ok(())
+}
+
+#[test]
+fn a_client_accepts_a_reply(rt: HostRuntime) -> Result<(), Fail> {
+    let text = "dsr-play 1 1 0 1 -\n\
+        post c0 r0 begin write a 7\n\
+        take r0 c0\n\
+        post r0 r0 from c0\n\
+        take r0 r0\n\
+        post r0 c0\n";
+    let mut office = stage(&rt, rt.alloc(), text, &[Ok(()); 5])?;
+    client_is(&rt, client(&office)?, Some(1), (true, false), 0);
+    let first = Actor::Replica(ReplicaId::FIRST);
+    assert_eq!(rt;
+        office.client_take(&ClientId::FIRST, &first),
+        Ok(Some(WRITTEN))
+    );
+    client_is(&rt, client(&office)?, None, (false, false), 1);
+    assert_eq!(rt; client(&office)?.accepted(), [WRITTEN].as_slice());
+    let again = "dsr-play 1 1 0 1 -\npost r0 c0\n";
+    go_on(&rt, rt.alloc(), &mut office, again, &[Ok(())])?;
+    assert_eq!(rt; office.client_take(&ClientId::FIRST, &first), Ok(None));
+    assert_eq!(rt; client(&office)?.accepted().len(), 1);
+    Ok(())
+}
+
+#[test]
+fn a_told_front_is_seen(rt: HostRuntime) -> Result<(), Fail> {
+    let text = "dsr-play 1 1 0 2 -\n\
+        asks c0 begin write a 1\nhears c0\nposts r0 from c0\ntakes r0\nreplies c0\ntakes c0\n\
+        asks c0 begin write a 2\nhears c0\nposts r0 from c0\ntakes r0\nreplies c0\ntakes c0\n\
+        asks c0 begin write a 3\nhears c0\nposts r0 from c0\ntakes r0\nreplies c0\ntakes c0\n\
+        tell c0 c1\ntake c1 c0\n\
+        asks c1 begin read a\nhears c1\nposts r0 from c1\ntakes r0\nreplies c1\n";
+    let mut office = stage(&rt, rt.alloc(), text, &[Ok(()); 25])?;
+    assert_eq!(rt; client(&office)?.seen(), 3);
+    let other = office.clients().last().ok_or("no client")?;
+    assert_eq!(rt; other.seen(), 3);
+    let reply = Reply {
+        number: 1,
+        place: 3,
+        answer: Answer::Held(Some(3)),
+    };
+    let first = Actor::Replica(ReplicaId::FIRST);
+    assert_eq!(rt;
+        office.client_take(&ClientId::of(1), &first),
+        Ok(Some(reply))
+    );
+    let other = office.clients().last().ok_or("no client")?;
+    assert_eq!(rt; other.seen(), 4);
+    Ok(())
+}
+
+/// Compares what is due at the replica, whether the asks of client 0 may be its choice for replica 0, and whether nothing may.
+fn replica_is<R: Abort>(
+    rt: &R,
+    seat: &ReplicaSeat,
+    due: Due,
+    ask: bool,
+    nothing: bool,
+) -> Result<(), Fail> {
+    let clients = Clients::of(&[ClientId::FIRST]).ok_or("no list")?;
+    assert_eq!(rt; seat.due(), due);
+    assert_eq!(rt; seat.allows(ReplicaId::FIRST, Pick::From(clients)), ask);
+    assert_eq!(rt; seat.allows(ReplicaId::FIRST, Pick::Plain), nothing);
+    Ok(())
+}
+
+#[test]
+fn a_replica_tells_what_it_may_post(rt: HostRuntime) -> Result<(), Fail> {
+    let first = ReplicaId::FIRST;
+    let mut office = stage(&rt, rt.alloc(), "dsr-play 1 1 0 1 -\n", &[])?;
+    replica_is(&rt, replica(&office)?, Due::Post(first), false, true)?;
+    let text = "dsr-play 1 1 0 1 -\npost c0 r0 begin write a 7\ntake r0 c0\n";
+    go_on(&rt, rt.alloc(), &mut office, text, &[Ok(()); 2])?;
+    replica_is(&rt, replica(&office)?, Due::Post(first), true, true)?;
+    let text = "dsr-play 1 1 0 1 -\npost r0 r0 from c0\n";
+    go_on(&rt, rt.alloc(), &mut office, text, &[Ok(())])?;
+    replica_is(&rt, replica(&office)?, Due::Take(first), false, false)?;
+    let text = "dsr-play 1 1 0 1 -\ntake r0 r0\n";
+    go_on(&rt, rt.alloc(), &mut office, text, &[Ok(())])?;
+    replica_is(&rt, replica(&office)?, Due::Post(first), true, true)?;
+    Ok(())
+}
+
+#[test]
+fn a_replica_tells_what_it_holds_and_replies(rt: HostRuntime) -> Result<(), Fail> {
+    let text = "dsr-play 1 1 0 1 -\npost c0 r0 begin write a 7\n";
+    let mut office = stage(&rt, rt.alloc(), text, &[Ok(())])?;
+    assert_eq!(rt; replica(&office)?.held(ClientId::FIRST), None);
+    let text = "dsr-play 1 1 0 1 -\ntake r0 c0\npost r0 r0 from c0\n";
+    go_on(&rt, rt.alloc(), &mut office, text, &[Ok(()); 2])?;
+    assert_eq!(rt;
+        replica(&office)?.held(ClientId::FIRST),
+        Some(first_request()?)
+    );
+    assert!(rt; replica(&office)?.reply_for(ClientId::FIRST).is_none());
+    let text = "dsr-play 1 1 0 1 -\ntake r0 r0\n";
+    go_on(&rt, rt.alloc(), &mut office, text, &[Ok(())])?;
+    let reply = replica(&office)?
+        .reply_for(ClientId::FIRST)
+        .ok_or("no reply")?;
+    assert!(rt; reply.same(&Envelope::Reply(WRITTEN)));
+    Ok(())
+}
