@@ -1,2 +1,3 @@
 mod Backs
+mod Closing
 mod Runs
