@@ -1,0 +1,3 @@
+mod Awaiting
+mod Following
+pub mod Turns
