@@ -17,6 +17,7 @@ use Rattle.dsr_boxes.specs.Pass.{SharedBoxes, Pass, IsPassOf, new_pass}
 use Rattle.dsr_mail.specs.Logs.{Logs, logs_of}
 use Rattle.dsr_mail.specs.Seats.{is_loyal_replica, is_traitor_replica, is_client, actor_if, actors_below, actors_of, AreSeatsOf}
 use Rattle.dsr_mail.specs.declared.seats.Seats.{Seats}
+use Rattle.dsr_calls.specs.Calls.{number_of}
 use Rattle.dsr_rounds.specs.Ends.{HostRefusal}
 use Rattle.dsr_hosts.specs.declared.ends.Fault.{Fault}
 use Rattle.dsr_hosts.specs.declared.ran.Ran.{Ran}
@@ -24,7 +25,7 @@ use Rattle.dsr_hosts.specs.Causes.{CauseOf, HasPastLimit}
 use Rattle.dsr_hosts.specs.Hosted.{IsServed}
 use Rattle.dsr_hosts.specs.Returns.{WasRefused, HaveRun}
 use Rattle.dsr_hosts.specs.Seats.{IsNewSeat, IsSeatOf, AreNew, AreAgain, all_of}
-use Rattle.dsr_hosts.specs.Served.{HasAll, client_of}
+use Rattle.dsr_hosts.specs.Served.{HasAll}
 
 abbrev actor_of : Pass → Actor
 actor_of seat = seat.actor
@@ -105,7 +106,7 @@ all_served mail script seats logs are served same own c inside =
     let log : seat.log ≡ logs_of logs (Client c) = sym (own seat among) ∙ ap (logs_of logs) found.2 in
     subst (λ s. HasAll s c (logs_of logs (Client c)) (ops_of script c)) (here_is.1 ∙ sym same)
     (subst (λ l. HasAll seat.shape c l (ops_of script c)) log
-    (subst (λ a. HasAll seat.shape (client_of a) seat.log (ops_of script (client_of a))) found.2 all))
+    (subst (λ a. HasAll seat.shape (number_of a) seat.log (ops_of script (number_of a))) found.2 all))
 
 -- what refused a host is a cause, by the logs
 host_cause : (may : Actor → Type 0) (logs : Logs) (seat : Pass) (refusal : Refusal) → seat.shape ≡ logs.shape → IsActor logs.shape seat.actor

@@ -1,3 +1,4 @@
 mod Backs
 mod Closing
+mod Making
 mod Runs

@@ -3,6 +3,7 @@ use Rattle.std.specs.Prelude.{◌≡◌, Option, None, Some}
 use Rattle.dsr_names.specs.declared.actor.Actor.{Actor}
 use Rattle.dsr_script.specs.Script.{Script, ops_of}
 use Rattle.dsr_boxes.specs.Pass.{SharedBoxes, Pass}
+use Rattle.dsr_calls.specs.Calls.{number_of}
 use Rattle.dsr_rounds.specs.declared.end.End.{End}
 use Rattle.dsr_rounds.specs.declared.end.End.TheVariants.{Told, Fault}
 use Rattle.dsr_hosts.specs.declared.any_seat.AnySeat.{AnySeat}
@@ -10,11 +11,11 @@ use Rattle.dsr_hosts.specs.declared.any_seat.AnySeat.TheVariants.{Loyal, Traitor
 use Rattle.dsr_hosts.specs.declared.back.Back.{Back}
 use Rattle.dsr_hosts.specs.Causes.{ClientRefusal, SeatRefusal}
 use Rattle.dsr_hosts.specs.Seats.{pass_of, IsBack}
-use Rattle.dsr_hosts.specs.Served.{HasAll, client_of}
+use Rattle.dsr_hosts.specs.Served.{HasAll}
 
 -- the client has the replies to all operations that the script gives it
 abbrev pub IsServed : Script → Pass → Type 0
-IsServed script seat = HasAll seat.shape (client_of seat.actor) seat.log (ops_of script (client_of seat.actor))
+IsServed script seat = HasAll seat.shape (number_of seat.actor) seat.log (ops_of script (number_of seat.actor))
 
 -- why a host's work at a client's seat ended: it was told; or it was refused
 abbrev pub ClientEnd : (Actor → Type 0) → Pass → End → Type 0

@@ -2,8 +2,7 @@
 use Rattle.std.specs.Prelude.{◌≡◌, ℕ, suc, List, [], ◌∷◌, None, length, reverse}
 use Rattle.dsr_base.specs.Member.{In}
 use Rattle.dsr_names.specs.Shape.{Shape}
-use Rattle.dsr_names.specs.declared.actor.Actor.{Actor}
-use Rattle.dsr_names.specs.declared.actor.Actor.TheVariants.{Replica, Client}
+use Rattle.dsr_names.specs.declared.actor.Actor.TheVariants.{Replica}
 use Rattle.dsr_request.specs.declared.op.Op.{Op}
 use Rattle.dsr_ledger.specs.declared.reply.Reply.{Reply as AReply}
 use Rattle.dsr_envelope.specs.declared.envelope.Envelope.TheVariants.{Ask}
@@ -29,8 +28,3 @@ AreRepliesTo me log (reply ∷ replies) (op ∷ ops) = IsReplyTo me log (suc (le
 pub record HasAll (shape : Shape) (me : ℕ) (log : List Entry) (ops : List Op) : Type 0 where
   pub none : outstanding shape log ≡ None
   pub replies : AreRepliesTo me log (accepted shape log) (reverse ops)
-
--- a client's number; 0 of a replica, which no client is
-abbrev pub client_of : Actor → ℕ
-client_of (Replica p) = 0
-client_of (Client c) = c

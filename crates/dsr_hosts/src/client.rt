@@ -1,15 +1,24 @@
 //! The operations of a client.
 
-ghost use Rattle.std.specs.Prelude.{◌≡◌, [], IfErr, OnOk};
+ghost use Rattle.std.specs.Prelude.{◌≡◌, None, OnOk, OnErr, IfErr};
+ghost use Rattle.dsr_client.specs.State.{outstanding};
+ghost use Rattle.dsr_boxes.specs.Pass.{IsPassOf};
 ghost use Rattle.dsr_rounds.specs.Ends.{GoesOn};
+ghost use Rattle.dsr_hosts.specs.Causes.{ClientRefusal};
 ghost use Rattle.dsr_hosts.specs.Hosted.{ClientEnd, IsServed};
+ghost use Rattle.dsr_hosts.specs.Requests.{HasMade, Answers, Keeps};
 ghost use Rattle.dsr_hosts.specs.Seats.{IsNewSeat};
 
 use crate::service::Service;
+use dsr_calls::{ask, calls_follow_each_other, go_on};
 use dsr_mail::ClientSeat;
 use dsr_names::Refusal;
-use dsr_rounds::{End, Gate};
+use dsr_request::Op;
+use dsr_rounds::{End, Gate, Turn};
 use std::sync::Wait;
+
+/// How many turns a call of a client has.
+const TURNS: u64 = 1000;
 
 impl<'a, R: Wait, G: Gate> Service<'a, R, G> {
     /// Makes all operations of the client, in the script's order. Requires a seat of the service's mail, at which nothing was done.
@@ -19,7 +28,57 @@ impl<'a, R: Wait, G: Gate> Service<'a, R, G> {
         ensures served { OnOk result (IsServed self.now.script.now seat.new) }
         ensures end { IfErr result (ClientEnd (G.may_refuse self.now.host.gate.now) seat.new) }
     {
-        let _ = seat;
-        Err(End::Fault(Refusal::Unanswered))
+        let mut turn = Turn::first();
+        for op in self.script.ops(seat.client()) {
+            self.make(seat, &mut turn, op)?;
+        }
+        Ok(())
+    }
+
+    /// Makes one operation: asks again and again until the reply is accepted. Where the replicas and traitors have all ended it asks once more, and
+    /// ends if that brings no reply. Requires a seat of the service's mail, with nothing outstanding.
+    fn make(&self, seat: &mut ClientSeat, turn: &mut Turn, op: &Op) -> Result<(), End>
+        requires mail { IsPassOf self.now.host.mail.now seat.old }
+        requires idle { outstanding seat.old.shape seat.old.log ≡ None }
+        ensures log { GoesOn seat.new seat.old }
+        ensures made { OnOk result (HasMade op.now seat.old seat.new) }
+        ensures end { IfErr result (ClientEnd (G.may_refuse self.now.host.gate.now) seat.new) }
+    {
+        for _ in self.host.rt.forever() {
+            let over = self.have_all_ended();
+            self.host.pass(seat.actor(), turn)?;
+            match self.call(seat, op) {
+                Ok(()) => return Ok(()),
+                Err(Refusal::Unanswered) => {
+                    if over {
+                        return Err(End::Fault(Refusal::Unanswered));
+                    }
+                }
+                Err(refusal) => return Err(End::Fault(refusal)),
+            }
+        }
+        unreachable!()
+    }
+
+    /// Makes one call for the operation: goes on where a request is outstanding, else asks. Requires a seat of the service's mail.
+    fn call(&self, seat: &mut ClientSeat, op: &Op) -> Result<(), Refusal>
+        requires { IsPassOf self.now.host.mail.now seat.old }
+        ensures log { GoesOn seat.new seat.old }
+        ensures answered { OnOk result (Answers op.now seat.old seat.new) }
+        ensures awaited { OnErr result (Keeps op.now seat.old seat.new) }
+        ensures refused { IfErr result (ClientRefusal (G.may_refuse self.now.host.gate.now) seat.new) }
+    {
+        // For the proof: what their contracts say.
+        calls_follow_each_other();
+        let _client = seat.client();
+        let made = if seat.outstanding().is_some() {
+            go_on(self.host.alloc, self.host.mail, seat, TURNS)
+        } else {
+            ask(self.host.alloc, self.host.mail, seat, *op, TURNS)
+        };
+        match made {
+            Ok(_) => Ok(()),
+            Err(refusal) => Err(refusal),
+        }
     }
 }
