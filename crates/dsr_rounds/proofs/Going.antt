@@ -1,16 +1,17 @@
 -- How seats go on, and which refusals of a try end a host.
 use Rattle.std.proofs.Common.{◌≡◌, ◌≢◌, ℕ, suc, ◌<◌, ◌^◌, ◌||◌, not, nat_lt, ◌⊎◌, inl, inr, Bool, true, false, List, [], ◌∷◌, ◌++◌, Option, None, Some, length, if◌then◌else◌, refl, ap, sym, ◌∙◌, subst, arith}
-use Rattle.std.specs.Prelude.{IsSome}
+use Rattle.std.specs.Prelude.{Result, Ok, Err, IsSome, IfOk, IfErr, OnOk, OnErr}
 use Rattle.std.specs.Option.{is_none}
 use Rattle.std.proofs.lemmas.Bool.{true≢false, false≢true}
 use Rattle.std.proofs.lemmas.Bool.Decides.{nat_tests}
 use Rattle.std.proofs.lemmas.List.{append_assoc}
 use Rattle.std.proofs.lemmas.Option.{none-some}
-use Rattle.dsr_names.specs.Shape.{Shape, IsActor}
+use Rattle.dsr_names.specs.Shape.{Shape, IsActor, IsLoyal}
 use Rattle.dsr_names.specs.declared.actor.Actor.{Actor}
 use Rattle.dsr_names.specs.declared.actor.Actor.TheVariants.{Replica, Client}
 use Rattle.dsr_names.specs.declared.refusal.Refusal.{Refusal}
 use Rattle.dsr_names.specs.declared.refusal.Refusal.TheVariants.{NoActor, WrongRole, NotDue, Exhausted, NoMemory, BoxFull, BoxEmpty}
+use Rattle.dsr_envelope.specs.declared.envelope.Envelope.{Envelope}
 use Rattle.dsr_envelope.specs.declared.entry.Entry.{Entry}
 use Rattle.dsr_envelope.specs.declared.pick.Pick.{Pick}
 use Rattle.dsr_envelope.specs.declared.pick.Pick.TheVariants.{Plain}
@@ -19,8 +20,12 @@ use Rattle.dsr_node.specs.Conduct.{post_of, is_exhausted, is_undue, is_actor, is
 use Rattle.dsr_run.specs.OwnStep.{HasPostsLeft}
 use Rattle.dsr_boxes.specs.Pass.{SharedBoxes, Pass, IsPassOf, with_entry}
 use Rattle.dsr_mail.specs.Refusals.{IsRefusedBy, is_spent, post_refused, take_refused, plant_refused}
-use Rattle.dsr_rounds.specs.Ends.{GoesOn, HostRefusal}
-use Rattle.dsr_rounds.specs.Limits.{IsExhausted}
+use Rattle.dsr_calls.specs.Calls.{GoesOn}
+use Rattle.dsr_rounds.specs.Ends.{HostRefusal, HostEnd, IsTried}
+use Rattle.dsr_rounds.specs.declared.end.End.{End}
+use Rattle.dsr_rounds.specs.declared.end.End.TheVariants.{Told, Fault}
+use Rattle.dsr_calls.specs.Limits.{IsExhausted}
+use Rattle.dsr_rounds.specs.Limits.{IsAtLimit}
 
 -- ---- seats go on
 
@@ -45,18 +50,8 @@ goes_at mail later earlier goes at = (goes.id ∙ at.0, goes.shape ∙ at.1)
 -- ---- refusals
 
 some_is : {A : Type 0} (o : Option A) → IsSome o → is_none o ≡ false
-some_is None h = elim h [ ]
+some_is None h = absurd (false≢true h)
 some_is (Some x) h = refl
-
-either : (a b : Bool) → (a || b) ≡ true → (a ≡ true) ⊎ (b ≡ true)
-either true b e = inl refl
-either false b e = inr e
-
-spent_is : (log : List Entry) (to : Actor) → is_spent log to ≡ true → ¬ HasPostsLeft log to
-spent_is log to e left = at_end (suc (length (posted_to to log))) (2 ^ 40) e left
-  where
-    at_end : (a b : ℕ) → not (nat_lt a b) ≡ true → a < b → ⊥
-    at_end a b e less = grind (arith, nat_tests)
 
 some_same : {A : Type 0} (x y : A) → Some x ≡ Some y → x ≡ y
 some_same x y e = cc
@@ -89,25 +84,25 @@ actor_test shape (Replica p) inside = grind (arith, nat_tests)
 actor_test shape (Client c) inside = grind (arith, nat_tests)
 
 module _ (may : Actor → Type 0) (seat : Pass) (to : Actor) (pick : Pick) where
+  by_given : (o : Option Envelope) → o ≡ post_of seat.shape seat.log seat.actor to pick → IsSome o
+      → post_refused seat.shape seat.actor seat.log to pick ≡ Some Exhausted → IsExhausted seat
+  by_given None e given past = absurd (false≢true given)
+  by_given (Some x) e given past = record { to = to; pick = pick; envelope = x; due = sym e; past = past }
+
   -- a refused post of a loyal actor ends its host by a limit or for want of memory
   pub post_ends : (e : Refusal) → is_traitor_of seat.shape seat.actor ≡ false → IsActor seat.shape to → are_clients seat.actor to ≡ false
       → IsSome (post_of seat.shape seat.log seat.actor to pick)
       → IsRefusedBy (post_refused seat.shape seat.actor seat.log to pick) BoxFull e → e ≢ BoxFull → HostRefusal may seat e
   post_ends e loyal inside role given by other = elim by [
     | inl own ↦
-      let limit = only_limit (is_actor seat.shape to) (are_clients seat.actor to) (is_none (post_of seat.shape seat.log seat.actor to pick))
-          (is_exhausted seat.shape seat.log seat.actor to pick || is_spent seat.log to) e (actor_test seat.shape to inside) role
-          (some_is (post_of seat.shape seat.log seat.actor to pick) given) own in
-      subst (HostRefusal may seat) limit.1 (record {
-        to = to;
-        pick = pick;
-        inside = inside;
-        next = λ honest. given;
-        past = elim (either (is_exhausted seat.shape seat.log seat.actor to pick) (is_spent seat.log to) limit.0) [
-          | inl counter ↦ inl (loyal, counter)
-          | inr spent ↦ inr (spent_is seat.log to spent)
-        ];
-      })
+        let limit = only_limit (is_actor seat.shape to) (are_clients seat.actor to) (is_none (post_of seat.shape seat.log seat.actor to pick))
+        (is_exhausted seat.shape seat.log seat.actor to pick || is_spent seat.log to) e (actor_test seat.shape to inside) role
+        (some_is (post_of seat.shape seat.log seat.actor to pick) given) own in
+        subst (HostRefusal may seat) limit.1 (inl (
+          loyal,
+          by_given (post_of seat.shape seat.log seat.actor to pick) refl given
+              (own ∙ ap Some (sym limit.1)),
+        ))
     | inr rest ↦ elim rest.1 [
       | inl box ↦ absurd (other box)
       | inr memory ↦ subst (HostRefusal may seat) (sym memory) tt
@@ -132,16 +127,49 @@ pub plant_ends : (may : Actor → Type 0) (seat : Pass) (to : Actor) (e : Refusa
     → IsRefusedBy (plant_refused seat.shape seat.log to) BoxFull e → e ≢ BoxFull → HostRefusal may seat e
 plant_ends may seat to e traitor inside by other = elim by [
   | inl own ↦
-    let limit = plant_limit (is_actor seat.shape to) (is_spent seat.log to) e (actor_test seat.shape to inside) own in
-    subst (HostRefusal may seat) limit.1 (record {
-      to = to;
-      pick = Plain;
-      inside = inside;
-      next = λ honest. absurd (true≢false (sym traitor ∙ honest));
-      past = inr (spent_is seat.log to limit.0);
-    })
+      let limit = plant_limit (is_actor seat.shape to) (is_spent seat.log to) e (actor_test seat.shape to inside) own in
+      subst (HostRefusal may seat) limit.1 (inr (traitor, record { to = to; past = own ∙ ap Some (sym limit.1) }))
   | inr rest ↦ elim rest.1 [
     | inl box ↦ absurd (other box)
     | inr memory ↦ subst (HostRefusal may seat) (sym memory) tt
   ]
 ]
+
+-- ---- the same by what a seat tells of its actor
+
+loyal_is : (shape : Shape) (a : Actor) → IsLoyal shape a → is_traitor_of shape a ≡ false
+loyal_is shape (Replica p) loyal = loyal.1
+loyal_is shape (Client c) loyal = refl
+
+pub replica_post_ends : (may : Actor → Type 0) (seat later : Pass) (to : Actor) (pick : Pick) (e : Refusal) (me : ℕ) → later ≡ seat → seat.actor ≡ Replica me
+    → IsLoyal seat.shape seat.actor → IsActor seat.shape to → IsSome (post_of seat.shape seat.log seat.actor to pick)
+    → IsRefusedBy (post_refused seat.shape seat.actor seat.log to pick) BoxFull e → e ≢ BoxFull → HostRefusal may later e
+replica_post_ends may seat later to pick e me same is loyal inside given by other =
+    subst (λ s. HostRefusal may s e) (sym same)
+    (post_ends may seat to pick e (loyal_is seat.shape seat.actor loyal) inside (ap (λ a. are_clients a to) is) given by other)
+
+-- ---- tries
+
+module _ (tried : Result (Unit {0}) Refusal) where
+  pub if_tried : (result : Result Bool End) (Made Kept : Type 0) (P : Bool → Type 0) → IsTried tried result → OnOk tried Made → OnErr tried Kept
+      → (Made → P true) → (Kept → P false) → IfOk result P
+  if_tried (Ok true) Made Kept P is ok err with_made with_kept = with_made (subst (λ t. OnOk t Made) is ok)
+  if_tried (Ok false) Made Kept P is ok err with_made with_kept = with_kept (elim is [
+    | inl full ↦ subst (λ t. OnErr t Kept) full err
+    | inr empty ↦ subst (λ t. OnErr t Kept) empty err
+  ])
+  if_tried (Err Told) Made Kept P is ok err with_made with_kept = elim is [ ]
+  if_tried (Err (Fault e)) Made Kept P is ok err with_made with_kept = tt
+
+  pub err_tried : (result : Result Bool End) (Kept : Type 0) → IsTried tried result → OnErr tried Kept → OnErr result Kept
+  err_tried (Ok true) Kept is err = tt
+  err_tried (Ok false) Kept is err = tt
+  err_tried (Err Told) Kept is err = elim is [ ]
+  err_tried (Err (Fault e)) Kept is err = subst (λ t. OnErr t Kept) is.0 err
+
+  pub end_tried : (result : Result Bool End) (may : Actor → Type 0) (serves : Bool) (seat : Pass) (P : Refusal → Type 0) → IsTried tried result → IfErr tried P
+      → ((e : Refusal) → P e → e ≢ BoxFull → e ≢ BoxEmpty → HostRefusal may seat e) → IfErr result (HostEnd may serves seat)
+  end_tried (Ok true) may serves seat P is by ends = tt
+  end_tried (Ok false) may serves seat P is by ends = tt
+  end_tried (Err Told) may serves seat P is by ends = elim is [ ]
+  end_tried (Err (Fault e)) may serves seat P is by ends = ends e (subst (λ t. IfErr t P) is.0 by) is.1 is.2

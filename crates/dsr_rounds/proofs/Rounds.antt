@@ -3,7 +3,7 @@ use Rattle.std.proofs.Common.{◌≡◌, ℕ, zero, suc, ◌+◌, ◌-◌, ◌<�
 use Rattle.std.specs.Prelude.{IsSome}
 use Rattle.std.proofs.lemmas.Bool.Decides.{nat_tests, Decides-eqb}
 use Rattle.std.proofs.lemmas.List.{length-append}
-use Rattle.dsr_names.specs.Shape.{Shape}
+use Rattle.dsr_names.specs.Shape.{Shape, IsAllowed, IsLoyal}
 use Rattle.dsr_names.specs.declared.actor.Actor.{Actor}
 use Rattle.dsr_names.specs.declared.actor.Actor.TheVariants.{Replica, Client}
 use Rattle.dsr_names.specs.Support.ActorEquality.{actor_eq}
@@ -13,8 +13,14 @@ use Rattle.dsr_envelope.specs.declared.entry.Entry.TheVariants.{Post, Take}
 use Rattle.dsr_envelope.specs.declared.due.Due.{Due}
 use Rattle.dsr_envelope.specs.declared.due.Due.TheVariants.{Post as PostTo, Take as TakeFrom}
 use Rattle.dsr_envelope.specs.Log.{due, rounds, taken_from}
+use Rattle.dsr_replica.specs.Conduct.{IsLoyalLog}
+use Rattle.dsr_replica.specs.Counts.{IsInside}
+use Rattle.dsr_replica.proofs.Lemmas.{counts, plain_possible}
+use Rattle.dsr_node.specs.Conduct.{post_of}
+use Rattle.dsr_envelope.specs.declared.pick.Pick.TheVariants.{Plain}
 use Rattle.dsr_boxes.specs.Pass.{Pass, with_entry}
-use Rattle.dsr_rounds.specs.Ends.{GoesOn}
+use Rattle.dsr_calls.specs.Calls.{GoesOn}
+use Rattle.dsr_rounds.specs.Ends.{HasTried}
 use Rattle.dsr_rounds.specs.Replicas.{HasClosed, KeepsRound, IsAtPost, IsTaking, IsAtTake}
 use Rattle.dsr_rounds.proofs.Going.{goes_same, goes_entry, goes_further}
 
@@ -47,6 +53,14 @@ keeps_further last later earlier more was = record {
   due = more.due ∙ was.due;
   rounds = more.rounds ∙ was.rounds;
 }
+
+pub take_keeps : (c : ℕ) (earlier later : Pass) (made : Bool) → HasTried (Take (Client c)) earlier later made → KeepsRound later earlier
+take_keeps c earlier later true tried = keeps_take later earlier c tried.0 tried.1
+take_keeps c earlier later false tried = keeps_same later earlier tried
+
+pub post_keeps : (c : ℕ) (earlier later : Pass) (made : Bool) → HasTried (Post (Client c)) earlier later made → KeepsRound later earlier
+post_keeps c earlier later true tried = keeps_post later earlier c tried.0 tried.1
+post_keeps c earlier later false tried = keeps_same later earlier tried
 
 -- ---- posts
 
@@ -127,3 +141,49 @@ more_closed first later last count was one =
   where
     plus : (a b : ℕ) → a + b + 1 ≡ a + suc b
     plus a b = omega arith
+
+-- ---- where a loop begins and how it goes on
+
+one_more : (k : ℕ) → suc k ≡ k + 1
+one_more k = omega arith
+
+pub inside : (seat : Pass) (d : Due) → IsAllowed seat.shape → IsLoyalLog seat.shape seat.actor seat.log → d ≡ due seat.shape seat.log → IsInside seat.shape.n d
+inside seat d allowed loyal is =
+    subst (IsInside seat.shape.n) (sym is) (counts seat.shape seat.actor allowed.some_replica seat.log loyal).inside
+
+pub first_take : (seat : Pass) (from p : ℕ) → IsAllowed seat.shape → IsLoyalLog seat.shape seat.actor seat.log → TakeFrom from ≡ due seat.shape seat.log → p ≡ from
+    → IsAtTake seat seat.shape.n p (rounds seat.shape seat.log)
+first_take seat from p allowed loyal is same =
+    subst (λ k. IsAtTake seat seat.shape.n k (rounds seat.shape seat.log)) (sym same) (inl (inside seat (TakeFrom from) allowed loyal is, sym is, refl))
+
+pub take_step : (first earlier later : Pass) (p closed : ℕ) (x : Envelope) → GoesOn earlier first → p < first.shape.n → IsAtTake earlier first.shape.n p closed
+    → later ≡ with_entry earlier (Take (Replica p) x) → GoesOn later first × IsAtTake later first.shape.n (p + 1) closed
+take_step first earlier later p closed x goes less at e = (
+  goes_further later earlier first (goes_entry later earlier (Take (Replica p) x) e) goes,
+  subst (λ k. IsAtTake later first.shape.n k closed) (one_more p)
+      (take_at later earlier first.shape.n p closed x (sym (ap (λ (s : Shape). s.n) goes.shape)) less (due_at_take earlier first.shape.n p closed less at).1 e),
+)
+
+pub post_step : (first earlier later : Pass) (q : ℕ) (x : Envelope) → GoesOn earlier first → rounds earlier.shape earlier.log ≡ rounds first.shape first.log
+    → later ≡ with_entry earlier (Post (Replica q) x)
+    → GoesOn later first × IsAtPost first.shape.n (q + 1) (due later.shape later.log) × (rounds later.shape later.log ≡ rounds first.shape first.log)
+post_step first earlier later q x goes same e = (
+  goes_further later earlier first (goes_entry later earlier (Post (Replica q) x) e) goes,
+  subst (λ k. IsAtPost first.shape.n k (due later.shape later.log)) (one_more q)
+      (post_at later earlier first.shape.n q x (sym (ap (λ (s : Shape). s.n) goes.shape)) e),
+  post_rounds later earlier q x e ∙ same,
+)
+
+-- ---- a post that is due
+
+pub plain_post : (seat : Pass) (me q : ℕ) → seat.actor ≡ Replica me → IsLoyal seat.shape seat.actor → IsLoyalLog seat.shape seat.actor seat.log → due seat.shape seat.log ≡ PostTo q
+    → IsSome (post_of seat.shape seat.log seat.actor (Replica q) Plain)
+plain_post seat me q is honest loyal due_is =
+    let less = (subst (IsLoyal seat.shape) is honest).0 in
+    subst (λ a. IsSome (post_of seat.shape seat.log a (Replica q) Plain)) (sym is)
+    (plain_possible seat.shape (Replica me) seat.log (omega (arith, less)) (subst (λ a. IsLoyalLog seat.shape a seat.log) is loyal) q due_is)
+
+pub round_step : (first earlier later : Pass) (count : ℕ) → GoesOn earlier first → GoesOn later earlier → HasClosed first earlier count → HasClosed earlier later 1
+    → GoesOn later first × HasClosed first later (count + 1)
+round_step first earlier later count goes more was one =
+    (goes_further later earlier first more goes, subst (HasClosed first later) (one_more count) (more_closed first earlier later count was one))

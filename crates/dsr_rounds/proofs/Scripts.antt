@@ -1,22 +1,23 @@
 -- How a traitor's seat follows a script.
-use Rattle.std.proofs.Common.{◌≡◌, ℕ, zero, suc, ◌<◌, ◌≤◌, ◌==◌, nat_lt, ◌⊎◌, inl, inr, Bool, true, false, List, [], ◌∷◌, ◌++◌, length, Option, None, Some, if◌then◌else◌, refl, ap, sym, ◌∙◌, subst, arith}
+use Rattle.std.proofs.Common.{◌≡◌, ℕ, zero, suc, ◌+◌, ◌<◌, ◌≤◌, ◌==◌, nat_lt, ◌⊎◌, inl, inr, Bool, true, false, List, [], ◌∷◌, ◌++◌, length, Option, None, Some, if◌then◌else◌, refl, ap, sym, ◌∙◌, subst, arith}
 use Rattle.std.proofs.lemmas.Bool.Decides.{nat_tests}
 use Rattle.std.proofs.lemmas.List.{length-append}
 use Rattle.dsr_names.specs.Shape.{Shape, is_traitor}
 use Rattle.dsr_names.specs.declared.actor.Actor.{Actor}
 use Rattle.dsr_names.specs.declared.actor.Actor.TheVariants.{Replica, Client}
-use Rattle.dsr_desk.specs.Signature.{Signature}
 use Rattle.dsr_envelope.specs.declared.envelope.Envelope.{Envelope}
 use Rattle.dsr_envelope.specs.declared.envelope.Envelope.TheVariants.{Empty}
 use Rattle.dsr_envelope.specs.declared.entry.Entry.{Entry}
 use Rattle.dsr_envelope.specs.declared.entry.Entry.TheVariants.{Post, Take}
-use Rattle.dsr_envelope.specs.Envelope.{Carries}
 use Rattle.dsr_envelope.specs.Log.{posted_to, taken_from}
 use Rattle.dsr_script.specs.Script.{Script}
 use Rattle.dsr_run.specs.OwnStep.{ForgesNone}
 use Rattle.dsr_boxes.specs.Pass.{Pass, with_entry}
-use Rattle.dsr_rounds.specs.Ends.{GoesOn}
-use Rattle.dsr_rounds.specs.Traitors.{FollowsScript, RanScript, IsPlanned, ArePlanned, KeepsCounts, PostsDrafts, TakesFromAll, MakesRound, count_at}
+use Rattle.dsr_calls.specs.Calls.{GoesOn}
+use Rattle.dsr_rounds.specs.Ends.{HasTried}
+use Rattle.dsr_rounds.specs.declared.traitor.Planting.{Planting}
+use Rattle.dsr_rounds.specs.declared.traitor.Planting.TheVariants.{Made, Forged, Full}
+use Rattle.dsr_rounds.specs.Traitors.{FollowsScript, RanScript, IsPlanned, ArePlanned, HasPlanted, IsScripted, KeepsCounts, PostsDrafts, TakesFromAll, MakesRound, count_at}
 use Rattle.dsr_rounds.proofs.Going.{goes_same, goes_entry, goes_further}
 
 -- ---- the empty envelope
@@ -62,6 +63,16 @@ keeps_post earlier later c x e = record {
     planned = follows.planned;
   });
 }
+
+pub take_keeps : (c : ℕ) (earlier later : Pass) (made : Bool) → HasTried (Take (Client c)) earlier later made → KeepsCounts earlier later
+take_keeps c earlier later true tried = keeps_take earlier later c tried.0 tried.1
+take_keeps c earlier later false tried = keeps_same earlier later tried
+
+pub plant_keeps : (c : ℕ) (draft : Envelope) (earlier later : Pass) (planting : Planting) → HasPlanted earlier later (Client c) draft planting
+    → KeepsCounts earlier later
+plant_keeps c draft earlier later Made planted = keeps_post earlier later c draft planted.0
+plant_keeps c draft earlier later Forged planted = keeps_same earlier later planted.0
+plant_keeps c draft earlier later Full planted = keeps_same earlier later planted
 
 pub keeps_further : (first later last : Pass) → KeepsCounts first later → KeepsCounts later last → KeepsCounts first last
 keeps_further first later last was more = record {
@@ -127,13 +138,13 @@ one_post script t p earlier later x takes first less e planned follows =
     let inside : p < first.shape.n = subst (λ (s : Shape). p < s.n) follows.shape less in
     let round : t ≡ length (posted_to (Replica p) follows.added) = sym (follows.posted p inside ∙ own_count t p) in
     let by_shape : IsPlanned script first.shape earlier.actor earlier.log t p x =
-        subst (λ s. IsPlanned script s earlier.actor earlier.log t p x) follows.shape planned in
+    subst (λ s. IsPlanned script s earlier.actor earlier.log t p x) follows.shape planned in
     let by_actor : IsPlanned script first.shape first.actor earlier.log t p x =
-        subst (λ a. IsPlanned script first.shape a earlier.log t p x) follows.actor by_shape in
+    subst (λ a. IsPlanned script first.shape a earlier.log t p x) follows.actor by_shape in
     let by_log : IsPlanned script first.shape first.actor (follows.added ++ first.log) t p x =
-        subst (λ l. IsPlanned script first.shape first.actor l t p x) follows.log by_actor in
+    subst (λ l. IsPlanned script first.shape first.actor l t p x) follows.log by_actor in
     let by_round : IsPlanned script first.shape first.actor (follows.added ++ first.log) (length (posted_to (Replica p) follows.added)) p x =
-        subst (λ k. IsPlanned script first.shape first.actor (follows.added ++ first.log) k p x) round by_log in
+    subst (λ k. IsPlanned script first.shape first.actor (follows.added ++ first.log) k p x) round by_log in
     subst (λ (s : Pass). FollowsScript script first s (count_at t (suc p)) takes) (sym e) (record {
       id = follows.id;
       shape = follows.shape;
@@ -186,7 +197,7 @@ pub round_made : (script : Script) (t n : ℕ) (a b c d e : Pass) → KeepsCount
     → n ≡ a.shape.n → MakesRound script t a e
 round_made script t n a b c d e first posts second takes is = λ start follows.
     let done = takes script start (count_at t n)
-        (second.keeps script start (count_at t n) (count_at t 0) (posts start (count_at t 0) (first.keeps script start (count_at t 0) (count_at t 0) follows))) in
+    (second.keeps script start (count_at t n) (count_at t 0) (posts start (count_at t 0) (first.keeps script start (count_at t 0) (count_at t 0) follows))) in
     let same : n ≡ start.shape.n = is ∙ ap (λ (s : Shape). s.n) follows.shape in
     counted script start e (count_at t n) (count_at t n) (count_at (suc t) 0) (count_at (suc t) 0)
     (λ q less. all_counted t n q (subst (λ k. q < k) (sym same) less)) (λ q less. all_counted t n q (subst (λ k. q < k) (sym same) less)) done
@@ -194,3 +205,44 @@ round_made script t n a b c d e first posts second takes is = λ start follows.
 pub round_after : (script : Script) (t : ℕ) (first earlier later : Pass) → FollowsScript script first earlier (count_at t 0) (count_at t 0)
     → MakesRound script t earlier later → FollowsScript script first later (count_at (suc t) 0) (count_at (suc t) 0)
 round_after script t first earlier later was more = more first was
+
+-- ---- how a loop goes on
+
+one_more : (k : ℕ) → suc k ≡ k + 1
+one_more k = omega arith
+
+pub post_step : (script : Script) (t p : ℕ) (first earlier later : Pass) (x : Envelope) → GoesOn earlier first → p < first.shape.n
+    → later ≡ with_entry earlier (Post (Replica p) x) → IsPlanned script earlier.shape earlier.actor earlier.log t p x
+    → PostsDrafts script t p first earlier → GoesOn later first × PostsDrafts script t (p + 1) first later
+post_step script t p first earlier later x goes less e planned was = (
+  goes_further later earlier first (goes_entry later earlier (Post (Replica p) x) e) goes,
+  subst (λ k. PostsDrafts script t k first later) (one_more p)
+      (posts_on script t p first earlier later x (subst (λ (s : Shape). p < s.n) (sym goes.shape) less) e planned was),
+)
+
+pub take_step : (t p : ℕ) (first earlier later : Pass) (x : Envelope) → GoesOn earlier first → later ≡ with_entry earlier (Take (Replica p) x)
+    → TakesFromAll t p first earlier → GoesOn later first × TakesFromAll t (p + 1) first later
+take_step t p first earlier later x goes e was = (
+  goes_further later earlier first (goes_entry later earlier (Take (Replica p) x) e) goes,
+  subst (λ k. TakesFromAll t k first later) (one_more p) (takes_on t p first earlier later x e was),
+)
+
+pub round_step : (script : Script) (t : ℕ) (first earlier later : Pass) → GoesOn earlier first → GoesOn later earlier
+    → FollowsScript script first earlier (count_at t 0) (count_at t 0) → MakesRound script t earlier later
+    → GoesOn later first × FollowsScript script first later (count_at (t + 1) 0) (count_at (t + 1) 0)
+round_step script t first earlier later goes more was made = (
+  goes_further later earlier first more goes,
+  subst (λ k. FollowsScript script first later (count_at k 0) (count_at k 0)) (one_more t) (made first was),
+)
+
+-- ---- what the script says of one post
+
+pub scripted_planned : (script : Script) (round to : ℕ) (old new : Pass) → IsScripted script round old new to true
+    → (x : Envelope) × (new ≡ with_entry old (Post (Replica to) x)) × IsPlanned script old.shape old.actor old.log round to x
+scripted_planned script round to old new is = (is.0, is.2, inl (is.1, is.3))
+
+pub empty_planned : (script : Script) (round to : ℕ) (old between new : Pass) → IsScripted script round old between to false
+    → new ≡ with_entry between (Post (Replica to) Empty)
+    → (x : Envelope) × (new ≡ with_entry old (Post (Replica to) x)) × IsPlanned script old.shape old.actor old.log round to x
+empty_planned script round to old between new is e =
+    (Empty, e ∙ ap (λ (s : Pass). with_entry s (Post (Replica to) Empty)) is.0, inr (refl, is.1))

@@ -1,24 +1,18 @@
--- How a host's seat goes on, and why a host ends (this project).
-use Rattle.std.specs.Prelude.{◌≡◌, ◌≢◌, ℕ, suc, ◌-◌, ◌^◌, nat_lt, Unit, Bool, true, false, Result, Ok, Err, if◌then◌else◌}
-use Rattle.dsr_base.specs.Growth.{Extends}
+-- Why a host ends (this project).
+use Rattle.std.specs.Prelude.{◌≡◌, ◌≢◌, ◌⊎◌, Result, Ok, Err, ℕ, suc, ◌-◌, ◌^◌, nat_lt, Bool, true, false, if◌then◌else◌}
 use Rattle.dsr_names.specs.declared.actor.Actor.{Actor}
 use Rattle.dsr_names.specs.declared.refusal.Refusal.{Refusal}
 use Rattle.dsr_names.specs.declared.refusal.Refusal.TheVariants.{BadShape, BadName, BadNumber, Busy, NotDue, BoxFull, BoxEmpty, Forged, Exhausted, Stopped, Unanswered, NoMemory, BadText, NotARun, NoActor, WrongRole, ReadFailed, WriteFailed, NoThread}
-use Rattle.dsr_boxes.specs.Pass.{Pass}
-use Rattle.dsr_rounds.specs.Limits.{IsExhausted}
+use Rattle.dsr_envelope.specs.declared.envelope.Envelope.{Envelope}
+use Rattle.dsr_envelope.specs.declared.entry.Entry.{Entry}
+use Rattle.dsr_boxes.specs.Pass.{Pass, with_entry}
+use Rattle.dsr_rounds.specs.Limits.{IsAtLimit}
 use Rattle.dsr_rounds.specs.declared.end.End.{End}
 use Rattle.dsr_rounds.specs.declared.end.End.TheVariants.{Told, Fault}
 
 -- the turn after this one: turns stay at 2^40-1 once they are there
 abbrev pub turn_after : ℕ → ℕ
 turn_after turn = if nat_lt turn (2 ^ 40 - 1) then suc turn else turn
-
--- the later seat is that of the same actor at the same mail, and its log extends the earlier one
-pub record GoesOn (later earlier : Pass) : Type 0 where
-  pub id : later.id ≡ earlier.id
-  pub shape : later.shape ≡ earlier.shape
-  pub actor : later.actor ≡ earlier.actor
-  pub log : Extends later.log earlier.log
 
 -- what ends a host before a try: it was told, which happens in a service alone; or the gate refused it, which it may refuse
 abbrev pub IsPassEnd : (Actor → Type 0) → Bool → Actor → End → Type 0
@@ -27,7 +21,7 @@ IsPassEnd may serves actor (Fault refusal) = (refusal ≡ Stopped) × may actor
 
 -- what a host is refused with: a next post of its seat is past a limit, its gate may refuse it, or memory ran out
 abbrev pub HostRefusal : (Actor → Type 0) → Pass → Refusal → Type 0
-HostRefusal may seat Exhausted = IsExhausted seat
+HostRefusal may seat Exhausted = IsAtLimit seat
 HostRefusal may seat Stopped = may seat.actor
 HostRefusal may seat NoMemory = Unit {0}
 HostRefusal may seat BadShape = ⊥
@@ -51,6 +45,11 @@ HostRefusal may seat NoThread = ⊥
 abbrev pub HostEnd : (Actor → Type 0) → Bool → Pass → End → Type 0
 HostEnd may serves seat Told = serves ≡ true
 HostEnd may serves seat (Fault refusal) = HostRefusal may seat refusal
+
+-- what came of a try: it was made, with such an entry; or the box was in the way, and nothing changed
+abbrev pub HasTried : (Envelope → Entry) → Pass → Pass → Bool → Type 0
+HasTried entry old new true = (x : Envelope) × (new ≡ with_entry old (entry x))
+HasTried entry old new false = new ≡ old
 
 -- what came of a try: it was made, or the box was in the way, or it was refused with what ends the host
 abbrev pub IsTried : Result (Unit {0}) Refusal → Result Bool End → Type 0

@@ -1,26 +1,18 @@
--- When the next post of an actor is past a limit (this project).
-use Rattle.std.specs.Prelude.{◌≡◌, ◌⊎◌, true, false}
-use Rattle.std.specs.Prelude.{IsSome}
-use Rattle.dsr_names.specs.Shape.{IsActor}
+-- When a host's next post is past a limit (this project).
+use Rattle.std.specs.Prelude.{◌≡◌, ◌⊎◌, true, false, Some}
 use Rattle.dsr_names.specs.declared.actor.Actor.{Actor}
-use Rattle.dsr_envelope.specs.declared.pick.Pick.{Pick}
-use Rattle.dsr_node.specs.Conduct.{post_of, is_exhausted, is_traitor_of}
-use Rattle.dsr_run.specs.OwnStep.{HasPostsLeft}
+use Rattle.dsr_names.specs.declared.refusal.Refusal.TheVariants.{Exhausted}
+use Rattle.dsr_node.specs.Conduct.{is_traitor_of}
 use Rattle.dsr_boxes.specs.Pass.{Pass}
+use Rattle.dsr_mail.specs.Refusals.{plant_refused}
+use Rattle.dsr_calls.specs.Limits.{IsExhausted}
 
--- the actor may post to the other by this choice next: a traitor always, any other where its conduct has such a post
-abbrev pub IsNextPost : Pass → Actor → Pick → Type 0
-IsNextPost seat to pick = is_traitor_of seat.shape seat.actor ≡ false → IsSome (post_of seat.shape seat.log seat.actor to pick)
-
--- that post is past a limit: a counter of a loyal actor, or the number of posts in the box
-abbrev pub IsPastLimit : Pass → Actor → Pick → Type 0
-IsPastLimit seat to pick =
-    ((is_traitor_of seat.shape seat.actor ≡ false) × (is_exhausted seat.shape seat.log seat.actor to pick ≡ true)) ⊎ ¬ HasPostsLeft seat.log to
-
--- some next post of the actor is past a limit
-pub record IsExhausted (seat : Pass) : Type 0 where
+-- a traitor's box to some actor has had all its posts, and its own log refuses any post there
+pub record IsSpent (seat : Pass) : Type 0 where
   pub to : Actor
-  pub pick : Pick
-  pub inside : IsActor seat.shape to
-  pub next : IsNextPost seat to pick
-  pub past : IsPastLimit seat to pick
+  pub past : plant_refused seat.shape seat.log to ≡ Some Exhausted
+
+-- the next post of the actor is past a limit: a loyal actor's that is due, or any of a traitor
+abbrev pub IsAtLimit : Pass → Type 0
+IsAtLimit seat =
+    ((is_traitor_of seat.shape seat.actor ≡ false) × IsExhausted seat) ⊎ ((is_traitor_of seat.shape seat.actor ≡ true) × IsSpent seat)

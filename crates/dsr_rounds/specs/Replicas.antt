@@ -4,7 +4,7 @@ use Rattle.dsr_envelope.specs.Log.{due, rounds}
 use Rattle.dsr_envelope.specs.declared.due.Due.{Due}
 use Rattle.dsr_envelope.specs.declared.due.Due.TheVariants.{Post as PostTo, Take as TakeFrom}
 use Rattle.dsr_boxes.specs.Pass.{Pass}
-use Rattle.dsr_rounds.specs.Ends.{GoesOn}
+use Rattle.dsr_calls.specs.Calls.{GoesOn}
 
 -- so many more rounds are closed in the later log
 abbrev pub HasClosed : Pass → Pass → ℕ → Type 0

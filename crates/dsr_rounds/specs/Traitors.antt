@@ -1,5 +1,5 @@
 -- What a traitor's host has done (this project).
-use Rattle.std.specs.Prelude.{◌≡◌, ◌⊎◌, ℕ, suc, ◌<◌, ◌++◌, nat_lt, Unit, Bool, true, false, List, [], ◌∷◌, Option, None, Some, length, if◌then◌else◌}
+use Rattle.std.specs.Prelude.{◌≡◌, ◌⊎◌, ℕ, suc, ◌<◌, ◌++◌, nat_lt, Bool, true, false, List, [], ◌∷◌, Option, None, Some, length, if◌then◌else◌}
 use Rattle.dsr_names.specs.Shape.{Shape}
 use Rattle.dsr_names.specs.declared.actor.Actor.{Actor}
 use Rattle.dsr_names.specs.declared.actor.Actor.TheVariants.{Replica, Client}
@@ -11,7 +11,9 @@ use Rattle.dsr_envelope.specs.Log.{posted_to, taken_from}
 use Rattle.dsr_script.specs.Script.{Script, draft_at, place_of}
 use Rattle.dsr_run.specs.OwnStep.{ForgesNone}
 use Rattle.dsr_boxes.specs.Pass.{Pass, with_entry}
-use Rattle.dsr_rounds.specs.Ends.{GoesOn}
+use Rattle.dsr_calls.specs.Calls.{GoesOn}
+use Rattle.dsr_rounds.specs.declared.traitor.Planting.{Planting}
+use Rattle.dsr_rounds.specs.declared.traitor.Planting.TheVariants.{Made, Forged, Full}
 
 -- the replica's number; 0 of a client, which no traitor is
 abbrev pub number_of : Actor → ℕ
@@ -59,11 +61,22 @@ RanScript script count earlier later = FollowsScript script earlier later (λ q.
 abbrev pub count_at : ℕ → ℕ → ℕ → ℕ
 count_at t p q = if nat_lt q p then suc t else t
 
--- what came of a planned post to a replica: it was made, and forges none; or it would be forged, and nothing changed
+-- what came of a try to post a draft: it was posted, and forges none; or it would be forged; or the box was in the way: then nothing changed
+abbrev pub HasPlanted : Pass → Pass → Actor → Envelope → Planting → Type 0
+HasPlanted old new to draft Made = (new ≡ with_entry old (Post to draft)) × ForgesNone old.shape old.actor old.log draft
+HasPlanted old new to draft Forged = (new ≡ old) × ¬ ForgesNone old.shape old.actor old.log draft
+HasPlanted old new to draft Full = new ≡ old
+
+-- what came of posting a draft to a replica: it was posted, and forges none; or it would be forged, and nothing changed
 abbrev pub IsPlanting : Pass → Pass → ℕ → Envelope → Bool → Type 0
-IsPlanting old new to envelope true =
-    (new ≡ with_entry old (Post (Replica to) envelope)) × ForgesNone old.shape old.actor old.log envelope
-IsPlanting old new to envelope false = (new ≡ old) × ¬ ForgesNone old.shape old.actor old.log envelope
+IsPlanting old new to draft true = (new ≡ with_entry old (Post (Replica to) draft)) × ForgesNone old.shape old.actor old.log draft
+IsPlanting old new to draft false = (new ≡ old) × ¬ ForgesNone old.shape old.actor old.log draft
+
+-- what came of the round's draft for a replica: it was posted, and forges none; or there is none, or it would be forged, and nothing changed
+abbrev pub IsScripted : Script → ℕ → Pass → Pass → ℕ → Bool → Type 0
+IsScripted script round old new to true = (draft : Envelope) × (draft_at script (place_of (number_of old.actor) round (Replica to)) ≡ Some draft)
+    × (new ≡ with_entry old (Post (Replica to) draft)) × ForgesNone old.shape old.actor old.log draft
+IsScripted script round old new to false = (new ≡ old) × IsNoDraft script old.shape old.actor old.log round to
 
 -- nothing was done with replicas: the later seat follows each script as far as the earlier did
 pub record KeepsCounts (earlier later : Pass) : Type 0 where

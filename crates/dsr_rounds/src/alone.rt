@@ -2,7 +2,8 @@
 
 ghost use Rattle.std.specs.Prelude.{IfErr, OnOk};
 ghost use Rattle.dsr_boxes.specs.Pass.{IsPassOf};
-ghost use Rattle.dsr_rounds.specs.Ends.{GoesOn, HostRefusal};
+ghost use Rattle.dsr_calls.specs.Calls.{GoesOn};
+ghost use Rattle.dsr_rounds.specs.Ends.{HostRefusal};
 ghost use Rattle.dsr_rounds.specs.Replicas.{HasClosed};
 ghost use Rattle.dsr_rounds.specs.Traitors.{RanScript};
 

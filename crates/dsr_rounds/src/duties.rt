@@ -18,6 +18,7 @@ const MOST_CLIENTS: usize = 32;
 const MOST_PICKED: usize = 8;
 
 /// Which clients a replica has not answered since it took something of them, and whose request it proposed last.
+#[derive(Drop)]
 pub(crate) struct Duties {
     /// How many clients there are.
     clients: u8,
@@ -106,6 +107,7 @@ impl Duties {
 }
 
 /// Some clients, in the order of the ring.
+#[derive(Drop)]
 struct Waiting {
     list: [ClientId; MOST_PICKED],
     count: usize,

@@ -1,8 +1,6 @@
-//! What hosts share, and a host's single tries.
+//! What hosts share.
 
-ghost use Rattle.std.specs.Prelude.{◌≡◌, Ok, Err, IfOk, IfErr, IsTrue, MatchBool};
-ghost use Rattle.dsr_names.specs.declared.actor.Actor.{Actor};
-ghost use Rattle.dsr_names.specs.declared.refusal.Refusal.{Refusal};
+ghost use Rattle.std.specs.Prelude.{IfErr};
 ghost use Rattle.dsr_rounds.specs.Ends.{IsPassEnd, IsTried};
 
 use crate::end::End;
@@ -15,6 +13,7 @@ use std::alloc::Global;
 use std::sync::Wait;
 
 /// What a host works with beside its seat: the runtime, memory, the mail, the gate that it asks, and whether it was told to stop.
+#[derive(Drop)]
 pub struct Host<'a, R, G> {
     /// The runtime, in which it waits.
     pub rt: &'a R,

@@ -1,14 +1,16 @@
 //! The rounds of a replica.
 
-ghost use Rattle.std.specs.Prelude.{◌≡◌, ◌<◌, suc, IfErr, OnOk, OnErr, IsSome, Ok};
-ghost use Rattle.dsr_names.specs.declared.actor.Actor.TheVariants.{Replica, Client};
+ghost use Rattle.std.specs.Prelude.{◌≡◌, ◌<◌, false, IfOk, IfErr, OnOk, OnErr, IsSome};
+ghost use Rattle.dsr_names.specs.Shape.{IsActor};
+ghost use Rattle.dsr_names.specs.declared.actor.Actor.TheVariants.{Replica};
 ghost use Rattle.dsr_envelope.specs.declared.entry.Entry.TheVariants.{Post, Take};
 ghost use Rattle.dsr_envelope.specs.declared.due.Due.TheVariants.{Post as PostTo, Take as TakeFrom};
 ghost use Rattle.dsr_envelope.specs.declared.envelope.Envelope.{Envelope};
 ghost use Rattle.dsr_envelope.specs.Log.{due, rounds};
-ghost use Rattle.dsr_node.specs.Conduct.{post_of};
+ghost use Rattle.dsr_node.specs.Conduct.{post_of, is_undue};
 ghost use Rattle.dsr_boxes.specs.Pass.{IsPassOf, with_entry};
-ghost use Rattle.dsr_rounds.specs.Ends.{GoesOn, HostEnd};
+ghost use Rattle.dsr_calls.specs.Calls.{GoesOn};
+ghost use Rattle.dsr_rounds.specs.Ends.{HostEnd, HasTried};
 ghost use Rattle.dsr_rounds.specs.Replicas.{HasClosed, KeepsRound, IsAtPost, IsTaking};
 
 use crate::duties::Duties;
@@ -32,7 +34,7 @@ impl<'a, R: Wait, G: Gate> Host<'a, R, G> {
     {
         let mut turn = Turn::first();
         let mut duties = Duties::none(self.mail.shape().m());
-        for _ in 0..rounds {
+        for round in 0..rounds {
             self.make_round(seat, &mut turn, &mut duties)?;
         }
         Ok(())
@@ -86,9 +88,9 @@ impl<'a, R: Wait, G: Gate> Host<'a, R, G> {
         ensures kept { KeepsRound seat.new seat.old }
         ensures end { IfErr result (HostEnd (G.may_refuse self.now.gate.now) self.now.stop.now seat.new) }
     {
-        self.pass(seat.actor(), turn)?;
-        let tried = seat.try_take(self.mail, Actor::Client(client));
-        if was_made(tried)? {
+        // For the proof: that it is a replica.
+        let _replica = seat.replica();
+        if self.try_take(seat, turn, &Actor::Client(client))? {
             duties.note_take(client);
         }
         Ok(())
@@ -153,9 +155,7 @@ impl<'a, R: Wait, G: Gate> Host<'a, R, G> {
         ensures end { IfErr result (HostEnd (G.may_refuse self.now.gate.now) self.now.stop.now seat.new) }
     {
         for _ in self.rt.forever() {
-            self.pass(seat.actor(), turn)?;
-            let tried = seat.try_post(self.alloc, self.mail, Actor::Replica(to), *pick);
-            if was_made(tried)? {
+            if self.try_post(seat, turn, &Actor::Replica(to), pick)? {
                 return Ok(());
             }
             let _ = seat.wait_to(self.rt, self.mail, Actor::Replica(to));
@@ -181,12 +181,7 @@ impl<'a, R: Wait, G: Gate> Host<'a, R, G> {
     }
 
     /// Takes from a replica, as soon as there is something in the box. The take must be due.
-    fn take_from(
-        &self,
-        seat: &mut ReplicaSeat,
-        turn: &mut Turn,
-        from: ReplicaId,
-    ) -> Result<(), End>
+    fn take_from(&self, seat: &mut ReplicaSeat, turn: &mut Turn, from: ReplicaId) -> Result<(), End>
         requires mail { IsPassOf self.now.mail.now seat.old }
         requires inside { from < seat.old.shape.n }
         requires due { due seat.old.shape seat.old.log ≡ TakeFrom from }
@@ -194,10 +189,10 @@ impl<'a, R: Wait, G: Gate> Host<'a, R, G> {
         ensures unchanged { OnErr result (seat.new ≡ seat.old) }
         ensures end { IfErr result (HostEnd (G.may_refuse self.now.gate.now) self.now.stop.now seat.new) }
     {
+        // For the proof: that it is a loyal replica.
+        let _replica = seat.replica();
         for _ in self.rt.forever() {
-            self.pass(seat.actor(), turn)?;
-            let tried = seat.try_take(self.mail, Actor::Replica(from));
-            if was_made(tried)? {
+            if self.try_take(seat, turn, &Actor::Replica(from))? {
                 return Ok(());
             }
             let _ = seat.wait_from(self.rt, self.mail, Actor::Replica(from));
@@ -238,12 +233,48 @@ impl<'a, R: Wait, G: Gate> Host<'a, R, G> {
         if !duties.owes(seat, client) {
             return Ok(());
         }
-        self.pass(seat.actor(), turn)?;
-        let tried = seat.try_post(self.alloc, self.mail, Actor::Client(client), Pick::Plain);
-        if was_made(tried)? {
+        // For the proof: that it is a replica.
+        let _replica = seat.replica();
+        if self.try_post(seat, turn, &Actor::Client(client), &Pick::Plain)? {
             duties.note_answer(client);
         }
         Ok(())
+    }
+
+    /// Asks whether to go on, and tries to post to an actor by a choice. The choice must be one by which the replica may post there.
+    fn try_post(
+        &self,
+        seat: &mut ReplicaSeat,
+        turn: &mut Turn,
+        to: &Actor,
+        pick: &Pick,
+    ) -> Result<bool, End>
+        requires mail { IsPassOf self.now.mail.now seat.old }
+        requires inside { IsActor seat.old.shape to.now }
+        requires given { IsSome (post_of seat.old.shape seat.old.log seat.old.actor to.now pick.now) }
+        ensures tried { IfOk result (HasTried (Post to.now) seat.old seat.new) }
+        ensures unchanged { OnErr result (seat.new ≡ seat.old) }
+        ensures end { IfErr result (HostEnd (G.may_refuse self.now.gate.now) self.now.stop.now seat.new) }
+    {
+        // For the proof: that it is a loyal replica.
+        let _replica = seat.replica();
+        self.pass(seat.actor(), turn)?;
+        was_made(seat.try_post(self.alloc, self.mail, *to, *pick))
+    }
+
+    /// Asks whether to go on, and tries to take from an actor. A take from a replica must be due.
+    fn try_take(&self, seat: &mut ReplicaSeat, turn: &mut Turn, from: &Actor) -> Result<bool, End>
+        requires mail { IsPassOf self.now.mail.now seat.old }
+        requires inside { IsActor seat.old.shape from.now }
+        requires due { is_undue seat.old.shape seat.old.log seat.old.actor from.now ≡ false }
+        ensures tried { IfOk result (HasTried (Take from.now) seat.old seat.new) }
+        ensures unchanged { OnErr result (seat.new ≡ seat.old) }
+        ensures end { IfErr result (HostEnd (G.may_refuse self.now.gate.now) self.now.stop.now seat.new) }
+    {
+        // For the proof: that it is a loyal replica.
+        let _replica = seat.replica();
+        self.pass(seat.actor(), turn)?;
+        was_made(seat.try_take(self.mail, *from))
     }
 }
 

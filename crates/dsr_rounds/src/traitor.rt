@@ -1,12 +1,15 @@
 //! The rounds of a traitor.
 
 ghost use Rattle.std.specs.Prelude.{◌≡◌, ◌<◌, IfOk, IfErr, OnOk, OnErr};
+ghost use Rattle.dsr_names.specs.Shape.{IsActor};
 ghost use Rattle.dsr_names.specs.declared.actor.Actor.TheVariants.{Replica};
 ghost use Rattle.dsr_envelope.specs.declared.entry.Entry.TheVariants.{Post, Take};
 ghost use Rattle.dsr_envelope.specs.declared.envelope.Envelope.{Envelope};
+ghost use Rattle.dsr_envelope.specs.declared.envelope.Envelope.TheVariants.{Empty};
 ghost use Rattle.dsr_boxes.specs.Pass.{IsPassOf, with_entry};
-ghost use Rattle.dsr_rounds.specs.Ends.{GoesOn, HostEnd};
-ghost use Rattle.dsr_rounds.specs.Traitors.{RanScript, IsPlanned, IsPlanting, KeepsCounts, PostsDrafts, TakesFromAll, MakesRound};
+ghost use Rattle.dsr_calls.specs.Calls.{GoesOn};
+ghost use Rattle.dsr_rounds.specs.Ends.{HostEnd, HasTried};
+ghost use Rattle.dsr_rounds.specs.Traitors.{RanScript, IsPlanned, IsPlanting, IsScripted, HasPlanted, KeepsCounts, PostsDrafts, TakesFromAll, MakesRound};
 
 use crate::end::End;
 use crate::gate::Gate;
@@ -16,6 +19,17 @@ use dsr_mail::TraitorSeat;
 use dsr_names::{Actor, ClientId, Refusal, ReplicaId};
 use dsr_script::{Draft, Script};
 use std::sync::Wait;
+
+/// What came of a try to post a draft.
+#[derive(Clone, Copy, Debug, PartialEq, Eq)]
+pub(crate) enum Planting {
+    /// It was posted.
+    Made,
+    /// It would be forged.
+    Forged,
+    /// The box was full.
+    Full,
+}
 
 impl<'a, R: Wait, G: Gate> Host<'a, R, G> {
     /// Has the traitor make so many rounds by the script, the first of which is its round 0: in each it takes once from each client, posts to all
@@ -82,8 +96,7 @@ impl<'a, R: Wait, G: Gate> Host<'a, R, G> {
         ensures kept { KeepsCounts seat.old seat.new }
         ensures end { IfErr result (HostEnd (G.may_refuse self.now.gate.now) self.now.stop.now seat.new) }
     {
-        self.pass(seat.actor(), turn)?;
-        was_made(seat.try_take(self.mail, Actor::Client(client)))?;
+        let _taken = self.try_take_of(seat, turn, &Actor::Client(client))?;
         Ok(())
     }
 
@@ -122,15 +135,46 @@ impl<'a, R: Wait, G: Gate> Host<'a, R, G> {
         ensures unchanged { OnErr result (seat.new ≡ seat.old) }
         ensures end { IfErr result (HostEnd (G.may_refuse self.now.gate.now) self.now.stop.now seat.new) }
     {
-        if let Some(draft) = script.draft(seat.replica(), round, Actor::Replica(to)) {
-            if self.post_draft(seat, turn, to, draft)? {
-                return Ok(());
-            }
+        if self.post_scripted(seat, turn, script, round, to)? {
+            return Ok(());
         }
-        if !self.post_draft(seat, turn, to, &Draft::empty())? {
-            unreachable!()
+        self.post_empty(seat, turn, to)
+    }
+
+    /// Posts the draft of the round to a replica, as soon as the box is empty. Says whether it did: not where there is none or it would be forged.
+    fn post_scripted(
+        &self,
+        seat: &mut TraitorSeat,
+        turn: &mut Turn,
+        script: &Script,
+        round: u64,
+        to: ReplicaId,
+    ) -> Result<bool, End>
+        requires mail { IsPassOf self.now.mail.now seat.old }
+        requires inside { to < seat.old.shape.n }
+        ensures posted { IfOk result (IsScripted script.now round seat.old seat.new to) }
+        ensures unchanged { OnErr result (seat.new ≡ seat.old) }
+        ensures end { IfErr result (HostEnd (G.may_refuse self.now.gate.now) self.now.stop.now seat.new) }
+    {
+        match script.draft(seat.replica(), round, Actor::Replica(to)) {
+            Some(draft) => self.post_draft(seat, turn, to, draft),
+            None => Ok(false),
         }
-        Ok(())
+    }
+
+    /// Posts the empty envelope to a replica, as soon as the box is empty.
+    fn post_empty(&self, seat: &mut TraitorSeat, turn: &mut Turn, to: ReplicaId) -> Result<(), End>
+        requires mail { IsPassOf self.now.mail.now seat.old }
+        requires inside { to < seat.old.shape.n }
+        ensures posted { OnOk result (seat.new ≡ with_entry seat.old (Post (Replica to) Empty)) }
+        ensures unchanged { OnErr result (seat.new ≡ seat.old) }
+        ensures end { IfErr result (HostEnd (G.may_refuse self.now.gate.now) self.now.stop.now seat.new) }
+    {
+        match self.post_draft(seat, turn, to, &Draft::empty()) {
+            Ok(true) => Ok(()),
+            Ok(false) => unreachable!(),
+            Err(end) => Err(end),
+        }
     }
 
     /// Posts what the draft describes to a replica, as soon as the box is empty. Says whether it did: not where it would be forged.
@@ -148,12 +192,10 @@ impl<'a, R: Wait, G: Gate> Host<'a, R, G> {
         ensures end { IfErr result (HostEnd (G.may_refuse self.now.gate.now) self.now.stop.now seat.new) }
     {
         for _ in self.rt.forever() {
-            self.pass(seat.actor(), turn)?;
-            match seat.try_post(self.alloc, self.mail, Actor::Replica(to), draft) {
-                Ok(()) => return Ok(true),
-                Err(Refusal::Forged) => return Ok(false),
-                Err(Refusal::BoxFull) => {}
-                Err(refusal) => return Err(End::Fault(refusal)),
+            match self.try_plant(seat, turn, &Actor::Replica(to), draft)? {
+                Planting::Made => return Ok(true),
+                Planting::Forged => return Ok(false),
+                Planting::Full => {}
             }
             let _ = seat.wait_to(self.rt, self.mail, Actor::Replica(to));
         }
@@ -195,13 +237,8 @@ impl<'a, R: Wait, G: Gate> Host<'a, R, G> {
         let Some(draft) = script.draft(seat.replica(), round, Actor::Client(client)) else {
             return Ok(());
         };
-        self.pass(seat.actor(), turn)?;
-        match seat.try_post(self.alloc, self.mail, Actor::Client(client), draft) {
-            Ok(()) => Ok(()),
-            Err(Refusal::Forged) => Ok(()),
-            Err(Refusal::BoxFull) => Ok(()),
-            Err(refusal) => Err(End::Fault(refusal)),
-        }
+        let _planting = self.try_plant(seat, turn, &Actor::Client(client), draft)?;
+        Ok(())
     }
 
     /// Takes from all replicas.
@@ -218,12 +255,7 @@ impl<'a, R: Wait, G: Gate> Host<'a, R, G> {
     }
 
     /// Takes from a replica, as soon as there is something in the box.
-    fn take_sent(
-        &self,
-        seat: &mut TraitorSeat,
-        turn: &mut Turn,
-        from: ReplicaId,
-    ) -> Result<(), End>
+    fn take_sent(&self, seat: &mut TraitorSeat, turn: &mut Turn, from: ReplicaId) -> Result<(), End>
         requires mail { IsPassOf self.now.mail.now seat.old }
         requires inside { from < seat.old.shape.n }
         ensures taken { OnOk result ((envelope : Envelope) × (seat.new ≡ with_entry seat.old (Take (Replica from) envelope))) }
@@ -231,12 +263,55 @@ impl<'a, R: Wait, G: Gate> Host<'a, R, G> {
         ensures end { IfErr result (HostEnd (G.may_refuse self.now.gate.now) self.now.stop.now seat.new) }
     {
         for _ in self.rt.forever() {
-            self.pass(seat.actor(), turn)?;
-            if was_made(seat.try_take(self.mail, Actor::Replica(from)))? {
+            if self.try_take_of(seat, turn, &Actor::Replica(from))? {
                 return Ok(());
             }
             let _ = seat.wait_from(self.rt, self.mail, Actor::Replica(from));
         }
         unreachable!()
+    }
+
+    /// Asks whether to go on, and tries to post what the draft describes to an actor.
+    fn try_plant(
+        &self,
+        seat: &mut TraitorSeat,
+        turn: &mut Turn,
+        to: &Actor,
+        draft: &Draft,
+    ) -> Result<Planting, End>
+        requires mail { IsPassOf self.now.mail.now seat.old }
+        requires inside { IsActor seat.old.shape to.now }
+        ensures tried { IfOk result (HasPlanted seat.old seat.new to.now draft.now) }
+        ensures unchanged { OnErr result (seat.new ≡ seat.old) }
+        ensures end { IfErr result (HostEnd (G.may_refuse self.now.gate.now) self.now.stop.now seat.new) }
+    {
+        // For the proof: that it is a traitor.
+        let _replica = seat.replica();
+        self.pass(seat.actor(), turn)?;
+        match seat.try_post(self.alloc, self.mail, *to, draft) {
+            Ok(()) => Ok(Planting::Made),
+            Err(Refusal::Forged) => Ok(Planting::Forged),
+            Err(Refusal::BoxFull) => Ok(Planting::Full),
+            Err(refusal) => Err(End::Fault(refusal)),
+        }
+    }
+
+    /// Asks whether to go on, and tries to take from an actor.
+    fn try_take_of(
+        &self,
+        seat: &mut TraitorSeat,
+        turn: &mut Turn,
+        from: &Actor,
+    ) -> Result<bool, End>
+        requires mail { IsPassOf self.now.mail.now seat.old }
+        requires inside { IsActor seat.old.shape from.now }
+        ensures tried { IfOk result (HasTried (Take from.now) seat.old seat.new) }
+        ensures unchanged { OnErr result (seat.new ≡ seat.old) }
+        ensures end { IfErr result (HostEnd (G.may_refuse self.now.gate.now) self.now.stop.now seat.new) }
+    {
+        // For the proof: that it is a traitor.
+        let _replica = seat.replica();
+        self.pass(seat.actor(), turn)?;
+        was_made(seat.try_take(self.mail, *from))
     }
 }

@@ -4,6 +4,7 @@ ghost use Rattle.dsr_rounds.specs.Ends.{turn_after};
 use dsr_names::NUMBER_END;
 
 /// The number of a host's next turn, which its gate is told.
+#[derive(Drop)]
 pub struct Turn {
     number: u64,
 }

@@ -1,0 +1,22 @@
+use Rattle.std.proofs.Common.{◌≡◌, ◌<◌, refl, ap, ◌∙◌, sym, subst}
+use Rattle.dsr_names.specs.Shape.{Shape, IsAllowed}
+use Rattle.dsr_names.specs.declared.actor.Actor.TheVariants.{Replica}
+use Rattle.dsr_envelope.specs.declared.entry.Entry.TheVariants.{Take}
+use Rattle.dsr_envelope.specs.Log.{rounds}
+use Rattle.dsr_boxes.specs.Pass.{with_entry}
+use Rattle.dsr_rounds.proofs.Going.{goes_same}
+use Rattle.dsr_rounds.proofs.Rounds.{first_take, take_step}
+use Rattle.dsr_rounds.proofs.host.Host.take_all.Goals as goal
+
+pub loop-number-init : goal.loop-number-init
+loop-number-init g c = (
+  goes_same c.args.seat.now c.args.seat.now refl,
+  first_take c.args.seat.now c.in-Take.first c.number-number.result
+      (subst IsAllowed (c.shape.ensures ∙ sym c.requires.mail.1) c.n-number-end.ensures.allowed) c.in-Take.ensures.conduct c.in-Take.ensures.same c.number-number.ensures.same,
+)
+
+pub loop-number-preserved : goal.loop-number-preserved
+loop-number-preserved g c =
+    take_step c.args.seat.now c.loop-number.seat c.take_from.new.seat c.loop-number.number (rounds c.args.seat.now.shape c.args.seat.now.log)
+    c.in_ok-take_from.ensures.taken.0 c.loop-number.invariant.0 (subst (λ k. c.loop-number.number < k) (c.n-number-end.ensures.same ∙ ap (λ (s : Shape). s.n) (c.shape.ensures ∙ sym c.requires.mail.1)) c.loop-number-test.true)
+    c.loop-number.invariant.1 (subst (λ p. c.take_from.new.seat ≡ with_entry c.loop-number.seat (Take (Replica p) c.in_ok-take_from.ensures.taken.0)) c.of.ensures c.in_ok-take_from.ensures.taken.1)

@@ -1,0 +1,10 @@
+use Rattle.dsr_rounds.proofs.Rounds.{keeps_further}
+use Rattle.dsr_rounds.proofs.host.Host.take_from_clients.Goals as goal
+
+pub returns-in_err-take_from_client-clause-kept : goal.returns-in_err-take_from_client-clause-kept
+returns-in_err-take_from_client-clause-kept g c =
+    keeps_further c.take_from_client.new.seat c.loop-number.seat c.args.seat.now c.take_from_client.ensures.kept c.loop-number.invariant
+
+pub loop-number-preserved : goal.loop-number-preserved
+loop-number-preserved g c =
+    keeps_further c.take_from_client.new.seat c.loop-number.seat c.args.seat.now c.take_from_client.ensures.kept c.loop-number.invariant

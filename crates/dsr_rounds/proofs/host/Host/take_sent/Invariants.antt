@@ -1,0 +1,6 @@
+use Rattle.std.proofs.Common.{◌≡◌}
+use Rattle.dsr_rounds.proofs.host.Host.take_sent.Given as goal
+
+-- no try has succeeded
+abbrev pub invariant-loop : goal.invariant-loop
+invariant-loop g l = l.seat ≡ l.fn.seat
