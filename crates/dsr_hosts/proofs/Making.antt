@@ -15,10 +15,10 @@ use Rattle.dsr_client.specs.Conduct.{ask_of, next_number}
 use Rattle.dsr_client.specs.State.{outstanding}
 use Rattle.dsr_node.specs.Conduct.{is_traitor_of}
 use Rattle.dsr_boxes.specs.Pass.{Pass}
-use Rattle.dsr_calls.specs.Calls.{number_of, awaited, IsAwaited, IsAnswered, Awaits}
+use Rattle.dsr_calls.specs.Calls.{GoesOn, number_of, awaited, IsAwaited, IsAnswered, Awaits}
 use Rattle.dsr_calls.specs.Calls.{Answers as CallAnswers}
 use Rattle.dsr_calls.specs.Limits.{CallRefusal}
-use Rattle.dsr_rounds.specs.Ends.{GoesOn, HostRefusal}
+use Rattle.dsr_rounds.specs.Ends.{HostRefusal}
 use Rattle.dsr_hosts.specs.Causes.{ClientRefusal}
 use Rattle.dsr_hosts.specs.Requests.{next_ask, IsOnItsWay, HasMade, IsMaking, Answers, Keeps}
 
@@ -88,7 +88,7 @@ pub refuses_client : (may : Actor → Type 0) (seat : Pass) (client : ℕ) (refu
     → ClientRefusal may seat refusal
 refuses_client may seat client refusal is (inl past) = inl (subst (HostRefusal may seat) (sym past.0) (inl (
   ap (is_traitor_of seat.shape) is,
-  record { to = past.1.to; pick = past.1.pick; envelope = past.1.envelope; due = past.1.due; past = past.1.past },
+  past.1,
 )))
 refuses_client may seat client refusal is (inr (inl unanswered)) = inr unanswered
 refuses_client may seat client refusal is (inr (inr memory)) = inl (subst (HostRefusal may seat) (sym memory) tt)

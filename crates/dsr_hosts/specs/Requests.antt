@@ -7,7 +7,7 @@ use Rattle.dsr_client.specs.Conduct.{ask_of, next_number}
 use Rattle.dsr_client.specs.State.{outstanding}
 use Rattle.dsr_boxes.specs.Pass.{Pass}
 use Rattle.dsr_calls.specs.Calls.{number_of, IsAwaited, IsAnswered}
-use Rattle.dsr_rounds.specs.Ends.{GoesOn}
+use Rattle.dsr_calls.specs.Calls.{GoesOn}
 
 -- the client's next request, by its log, where it is for this operation
 abbrev pub next_ask : Pass → Op → SignedRequest

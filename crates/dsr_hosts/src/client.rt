@@ -1,9 +1,9 @@
 //! The operations of a client.
 
-ghost use Rattle.std.specs.Prelude.{◌≡◌, None, OnOk, OnErr, IfErr};
+ghost use Rattle.std.specs.Prelude.{◌≡◌, None, OnOk, OnErr, IfErr, IsSome, IsNone};
 ghost use Rattle.dsr_client.specs.State.{outstanding};
 ghost use Rattle.dsr_boxes.specs.Pass.{IsPassOf};
-ghost use Rattle.dsr_rounds.specs.Ends.{GoesOn};
+ghost use Rattle.dsr_calls.specs.Calls.{GoesOn};
 ghost use Rattle.dsr_hosts.specs.Causes.{ClientRefusal};
 ghost use Rattle.dsr_hosts.specs.Hosted.{ClientEnd, IsServed};
 ghost use Rattle.dsr_hosts.specs.Requests.{HasMade, Answers, Keeps};
@@ -68,15 +68,45 @@ impl<'a, R: Wait, G: Gate> Service<'a, R, G> {
         ensures awaited { OnErr result (Keeps op.now seat.old seat.new) }
         ensures refused { IfErr result (ClientRefusal (G.may_refuse self.now.host.gate.now) seat.new) }
     {
+        if seat.outstanding().is_some() {
+            self.go_on_for(seat, op)
+        } else {
+            self.ask_for(seat, op)
+        }
+    }
+
+    /// Goes on with the outstanding request. Requires a seat of the service's mail, and that one is outstanding.
+    fn go_on_for(&self, seat: &mut ClientSeat, op: &Op) -> Result<(), Refusal>
+        requires mail { IsPassOf self.now.host.mail.now seat.old }
+        requires outstanding { IsSome (outstanding seat.old.shape seat.old.log) }
+        ensures log { GoesOn seat.new seat.old }
+        ensures answered { OnOk result (Answers op.now seat.old seat.new) }
+        ensures awaited { OnErr result (Keeps op.now seat.old seat.new) }
+        ensures refused { IfErr result (ClientRefusal (G.may_refuse self.now.host.gate.now) seat.new) }
+    {
+        let _ = op;
         // For the proof: what their contracts say.
         calls_follow_each_other();
         let _client = seat.client();
-        let made = if seat.outstanding().is_some() {
-            go_on(self.host.alloc, self.host.mail, seat, TURNS)
-        } else {
-            ask(self.host.alloc, self.host.mail, seat, *op, TURNS)
-        };
-        match made {
+        match go_on(self.host.alloc, self.host.mail, seat, TURNS) {
+            Ok(_) => Ok(()),
+            Err(refusal) => Err(refusal),
+        }
+    }
+
+    /// Asks for the operation. Requires a seat of the service's mail, and that nothing is outstanding.
+    fn ask_for(&self, seat: &mut ClientSeat, op: &Op) -> Result<(), Refusal>
+        requires mail { IsPassOf self.now.host.mail.now seat.old }
+        requires idle { IsNone (outstanding seat.old.shape seat.old.log) }
+        ensures log { GoesOn seat.new seat.old }
+        ensures answered { OnOk result (Answers op.now seat.old seat.new) }
+        ensures awaited { OnErr result (Keeps op.now seat.old seat.new) }
+        ensures refused { IfErr result (ClientRefusal (G.may_refuse self.now.host.gate.now) seat.new) }
+    {
+        // For the proof: what their contracts say.
+        calls_follow_each_other();
+        let _client = seat.client();
+        match ask(self.host.alloc, self.host.mail, seat, *op, TURNS) {
             Ok(_) => Ok(()),
             Err(refusal) => Err(refusal),
         }
