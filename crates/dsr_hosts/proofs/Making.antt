@@ -1,6 +1,7 @@
 -- How calls make an operation.
 use Rattle.std.proofs.Common.{◌≡◌, ℕ, Bool, true, false, List, ◌∷◌, Option, None, Some, ◌⊎◌, inl, inr, refl, sym, subst, ap, ap₂, ◌∙◌}
 use Rattle.std.specs.Prelude.{IsSome}
+use Rattle.std.proofs.lemmas.Bool.{false≢true}
 use Rattle.std.specs.Option.{option_map, option_or}
 use Rattle.dsr_names.specs.Shape.{Shape}
 use Rattle.dsr_names.specs.declared.actor.Actor.{Actor}
@@ -42,6 +43,7 @@ awaits_next seat op idle = ap (λ o. option_or o (Some (next_ask seat op))) idle
 
 -- the outstanding request is awaited by any call
 any_call : (o a b : Option SignedRequest) (ask : SignedRequest) → option_or o a ≡ Some ask → IsSome o → option_or o b ≡ Some ask
+any_call None a b ask is some = absurd (false≢true some)
 any_call (Some x) a b ask is some = is
 
 -- what is awaited is the request of the operation, which is on its way
