@@ -1,5 +1,5 @@
 -- How seats go on, and which refusals of a try end a host.
-use Rattle.std.proofs.Common.{◌≡◌, ◌≢◌, ℕ, suc, ◌<◌, ◌^◌, ◌||◌, not, nat_lt, ◌⊎◌, inl, inr, Bool, true, false, List, [], ◌∷◌, ◌++◌, Option, None, Some, length, if◌then◌else◌, refl, ap, sym, ◌∙◌, subst, arith}
+use Rattle.std.proofs.Common.{◌≡◌, ◌≢◌, ℕ, ◌||◌, not, inl, inr, Bool, true, false, [], ◌∷◌, ◌++◌, Option, None, Some, if◌then◌else◌, refl, ap, sym, ◌∙◌, subst, arith}
 use Rattle.std.specs.Prelude.{Result, Ok, Err, IsSome, IfOk, IfErr, OnOk, OnErr}
 use Rattle.std.specs.Option.{is_none}
 use Rattle.std.proofs.lemmas.Bool.{true≢false, false≢true}
@@ -10,14 +10,11 @@ use Rattle.dsr_names.specs.Shape.{Shape, IsActor, IsLoyal}
 use Rattle.dsr_names.specs.declared.actor.Actor.{Actor}
 use Rattle.dsr_names.specs.declared.actor.Actor.TheVariants.{Replica, Client}
 use Rattle.dsr_names.specs.declared.refusal.Refusal.{Refusal}
-use Rattle.dsr_names.specs.declared.refusal.Refusal.TheVariants.{NoActor, WrongRole, NotDue, Exhausted, NoMemory, BoxFull, BoxEmpty}
+use Rattle.dsr_names.specs.declared.refusal.Refusal.TheVariants.{NoActor, WrongRole, NotDue, Exhausted, BoxFull, BoxEmpty}
 use Rattle.dsr_envelope.specs.declared.envelope.Envelope.{Envelope}
 use Rattle.dsr_envelope.specs.declared.entry.Entry.{Entry}
 use Rattle.dsr_envelope.specs.declared.pick.Pick.{Pick}
-use Rattle.dsr_envelope.specs.declared.pick.Pick.TheVariants.{Plain}
-use Rattle.dsr_envelope.specs.Log.{posted_to}
 use Rattle.dsr_node.specs.Conduct.{post_of, is_exhausted, is_undue, is_actor, is_traitor_of, are_clients, is_own_client}
-use Rattle.dsr_run.specs.OwnStep.{HasPostsLeft}
 use Rattle.dsr_boxes.specs.Pass.{SharedBoxes, Pass, IsPassOf, with_entry}
 use Rattle.dsr_mail.specs.Refusals.{IsRefusedBy, is_spent, post_refused, take_refused, plant_refused}
 use Rattle.dsr_calls.specs.Calls.{GoesOn}
@@ -25,7 +22,6 @@ use Rattle.dsr_rounds.specs.Ends.{HostRefusal, HostEnd, IsTried}
 use Rattle.dsr_rounds.specs.declared.end.End.{End}
 use Rattle.dsr_rounds.specs.declared.end.End.TheVariants.{Told, Fault}
 use Rattle.dsr_calls.specs.Limits.{IsExhausted}
-use Rattle.dsr_rounds.specs.Limits.{IsAtLimit}
 
 -- ---- seats go on
 
@@ -151,15 +147,15 @@ replica_post_ends may seat later to pick e me same is loyal inside given by othe
 -- ---- tries
 
 module _ (tried : Result (Unit {0}) Refusal) where
-  pub if_tried : (result : Result Bool End) (Made Kept : Type 0) (P : Bool → Type 0) → IsTried tried result → OnOk tried Made → OnErr tried Kept
+  pub if_tried : {Made Kept : Type 0} (result : Result Bool End) (P : Bool → Type 0) → IsTried tried result → OnOk tried Made → OnErr tried Kept
       → (Made → P true) → (Kept → P false) → IfOk result P
-  if_tried (Ok true) Made Kept P is ok err with_made with_kept = with_made (subst (λ t. OnOk t Made) is ok)
-  if_tried (Ok false) Made Kept P is ok err with_made with_kept = with_kept (elim is [
+  if_tried {Made} {Kept} (Ok true) P is ok err with_made with_kept = with_made (subst (λ t. OnOk t Made) is ok)
+  if_tried {Made} {Kept} (Ok false) P is ok err with_made with_kept = with_kept (elim is [
     | inl full ↦ subst (λ t. OnErr t Kept) full err
     | inr empty ↦ subst (λ t. OnErr t Kept) empty err
   ])
-  if_tried (Err Told) Made Kept P is ok err with_made with_kept = elim is [ ]
-  if_tried (Err (Fault e)) Made Kept P is ok err with_made with_kept = tt
+  if_tried {Made} {Kept} (Err Told) P is ok err with_made with_kept = elim is [ ]
+  if_tried {Made} {Kept} (Err (Fault e)) P is ok err with_made with_kept = tt
 
   pub err_tried : (result : Result Bool End) (Kept : Type 0) → IsTried tried result → OnErr tried Kept → OnErr result Kept
   err_tried (Ok true) Kept is err = tt
@@ -167,9 +163,9 @@ module _ (tried : Result (Unit {0}) Refusal) where
   err_tried (Err Told) Kept is err = elim is [ ]
   err_tried (Err (Fault e)) Kept is err = subst (λ t. OnErr t Kept) is.0 err
 
-  pub end_tried : (result : Result Bool End) (may : Actor → Type 0) (serves : Bool) (seat : Pass) (P : Refusal → Type 0) → IsTried tried result → IfErr tried P
-      → ((e : Refusal) → P e → e ≢ BoxFull → e ≢ BoxEmpty → HostRefusal may seat e) → IfErr result (HostEnd may serves seat)
-  end_tried (Ok true) may serves seat P is by ends = tt
-  end_tried (Ok false) may serves seat P is by ends = tt
-  end_tried (Err Told) may serves seat P is by ends = elim is [ ]
-  end_tried (Err (Fault e)) may serves seat P is by ends = ends e (subst (λ t. IfErr t P) is.0 by) is.1 is.2
+  pub end_tried : {Kept : Type 0} (result : Result Bool End) (may : Actor → Type 0) (serves : Bool) (seat : Pass) (P : Refusal → Type 0) → IsTried tried result → OnErr tried Kept → IfErr tried P
+      → ((e : Refusal) → Kept → P e → e ≢ BoxFull → e ≢ BoxEmpty → HostRefusal may seat e) → IfErr result (HostEnd may serves seat)
+  end_tried {Kept} (Ok true) may serves seat P is err by ends = tt
+  end_tried {Kept} (Ok false) may serves seat P is err by ends = tt
+  end_tried {Kept} (Err Told) may serves seat P is err by ends = elim is [ ]
+  end_tried {Kept} (Err (Fault e)) may serves seat P is err by ends = ends e (subst (λ t. OnErr t Kept) is.0 err) (subst (λ t. IfErr t P) is.0 by) is.1 is.2

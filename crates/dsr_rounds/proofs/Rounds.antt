@@ -1,12 +1,10 @@
 -- How the rounds of a replica close.
-use Rattle.std.proofs.Common.{◌≡◌, ℕ, zero, suc, ◌+◌, ◌-◌, ◌<◌, ◌≤◌, ◌==◌, ◌⊎◌, inl, inr, Bool, true, false, List, [], ◌∷◌, ◌++◌, length, Option, None, Some, if◌then◌else◌, refl, ap, sym, ◌∙◌, subst, arith}
+use Rattle.std.proofs.Common.{◌≡◌, ℕ, suc, ◌+◌, ◌-◌, ◌<◌, ◌≤◌, ◌==◌, ◌⊎◌, inl, inr, Bool, true, false, List, [], ◌∷◌, ◌++◌, length, if◌then◌else◌, refl, ap, sym, ◌∙◌, subst, arith}
 use Rattle.std.specs.Prelude.{IsSome}
 use Rattle.std.proofs.lemmas.Bool.Decides.{nat_tests, Decides-eqb}
 use Rattle.std.proofs.lemmas.List.{length-append}
 use Rattle.dsr_names.specs.Shape.{Shape, IsAllowed, IsLoyal}
-use Rattle.dsr_names.specs.declared.actor.Actor.{Actor}
 use Rattle.dsr_names.specs.declared.actor.Actor.TheVariants.{Replica, Client}
-use Rattle.dsr_names.specs.Support.ActorEquality.{actor_eq}
 use Rattle.dsr_envelope.specs.declared.envelope.Envelope.{Envelope}
 use Rattle.dsr_envelope.specs.declared.entry.Entry.{Entry}
 use Rattle.dsr_envelope.specs.declared.entry.Entry.TheVariants.{Post, Take}
@@ -68,23 +66,26 @@ pub post_rounds : (later earlier : Pass) (q : ℕ) (x : Envelope) → later ≡ 
     → rounds later.shape later.log ≡ rounds earlier.shape earlier.log
 post_rounds later earlier q x e = ap (λ (s : Pass). rounds s.shape s.log) e
 
-at_next_post : (n q : ℕ) (b : Bool) → b ≡ (suc q == n) → IsAtPost n (suc q) (if b then TakeFrom 0 else PostTo (suc q))
-at_next_post n q true e = (Decides-eqb (suc q) n).0 (sym e)
-at_next_post n q false e = refl
+at_next_post : (n q : ℕ) (b : Bool) → b ≡ (suc q == n) → q < n → IsAtPost n (suc q) (if b then TakeFrom 0 else PostTo (suc q))
+at_next_post n q true e less = (Decides-eqb (suc q) n).0 (sym e)
+at_next_post n q false e less = (refl, below n q e less)
+  where
+    below : (n q : ℕ) → false ≡ (suc q == n) → q < n → suc q < n
+    below n q e less = grind (arith, nat_tests)
 
-pub post_at : (later earlier : Pass) (n q : ℕ) (x : Envelope) → n ≡ earlier.shape.n → later ≡ with_entry earlier (Post (Replica q) x)
+pub post_at : (later earlier : Pass) (n q : ℕ) (x : Envelope) → n ≡ earlier.shape.n → q < n → later ≡ with_entry earlier (Post (Replica q) x)
     → IsAtPost n (suc q) (due later.shape later.log)
-post_at later earlier n q x is e =
+post_at later earlier n q x is less e =
     subst (λ (s : Pass). IsAtPost n (suc q) (due s.shape s.log)) (sym e)
-    (subst (λ k. IsAtPost n (suc q) (if suc q == k then TakeFrom 0 else PostTo (suc q))) is (at_next_post n q (suc q == n) refl))
+    (subst (λ k. IsAtPost n (suc q) (if suc q == k then TakeFrom 0 else PostTo (suc q))) is (at_next_post n q (suc q == n) refl less))
 
 pub due_at_post : (n q : ℕ) (d : Due) → q < n → IsAtPost n q d → d ≡ PostTo q
-due_at_post n q (PostTo to) less at = ap PostTo at
+due_at_post n q (PostTo to) less at = ap PostTo at.0
 due_at_post n q (TakeFrom from) less at = absurd (omega (arith, less, at))
 
-pub taking_at : (n : ℕ) (d : Due) (q : ℕ) → n ≤ q → IsAtPost n q d → ((to : ℕ) → d ≡ PostTo to → to < n) → IsTaking d
-taking_at n (PostTo to) q most at inside = let less = inside to refl in absurd (omega (arith, most, at, less))
-taking_at n (TakeFrom from) q most at inside = tt
+pub taking_at : (n q : ℕ) (d : Due) → n ≤ q → IsAtPost n q d → IsTaking d
+taking_at n q (PostTo to) most at = let less = at.1 in absurd (omega (arith, most, less))
+taking_at n q (TakeFrom from) most at = tt
 
 -- ---- takes
 
@@ -156,6 +157,14 @@ pub first_take : (seat : Pass) (from p : ℕ) → IsAllowed seat.shape → IsLoy
 first_take seat from p allowed loyal is same =
     subst (λ k. IsAtTake seat seat.shape.n k (rounds seat.shape seat.log)) (sym same) (inl (inside seat (TakeFrom from) allowed loyal is, sym is, refl))
 
+pub post_here : (seat : Pass) (to p : ℕ) → IsAllowed seat.shape → IsLoyalLog seat.shape seat.actor seat.log → PostTo to ≡ due seat.shape seat.log → p ≡ to
+    → IsAtPost seat.shape.n p (due seat.shape seat.log)
+post_here seat to p allowed loyal is same =
+    subst (IsAtPost seat.shape.n p) is (sym same, subst (λ k. k < seat.shape.n) (sym same) (inside seat (PostTo to) allowed loyal is))
+
+pub take_here : (seat : Pass) (from p : ℕ) → TakeFrom from ≡ due seat.shape seat.log → p ≡ seat.shape.n → IsAtPost seat.shape.n p (due seat.shape seat.log)
+take_here seat from p is same = subst (IsAtPost seat.shape.n p) is same
+
 pub take_step : (first earlier later : Pass) (p closed : ℕ) (x : Envelope) → GoesOn earlier first → p < first.shape.n → IsAtTake earlier first.shape.n p closed
     → later ≡ with_entry earlier (Take (Replica p) x) → GoesOn later first × IsAtTake later first.shape.n (p + 1) closed
 take_step first earlier later p closed x goes less at e = (
@@ -164,13 +173,13 @@ take_step first earlier later p closed x goes less at e = (
       (take_at later earlier first.shape.n p closed x (sym (ap (λ (s : Shape). s.n) goes.shape)) less (due_at_take earlier first.shape.n p closed less at).1 e),
 )
 
-pub post_step : (first earlier later : Pass) (q : ℕ) (x : Envelope) → GoesOn earlier first → rounds earlier.shape earlier.log ≡ rounds first.shape first.log
+pub post_step : (first earlier later : Pass) (q : ℕ) (x : Envelope) → GoesOn earlier first → q < first.shape.n → rounds earlier.shape earlier.log ≡ rounds first.shape first.log
     → later ≡ with_entry earlier (Post (Replica q) x)
     → GoesOn later first × IsAtPost first.shape.n (q + 1) (due later.shape later.log) × (rounds later.shape later.log ≡ rounds first.shape first.log)
-post_step first earlier later q x goes same e = (
+post_step first earlier later q x goes less same e = (
   goes_further later earlier first (goes_entry later earlier (Post (Replica q) x) e) goes,
   subst (λ k. IsAtPost first.shape.n k (due later.shape later.log)) (one_more q)
-      (post_at later earlier first.shape.n q x (sym (ap (λ (s : Shape). s.n) goes.shape)) e),
+      (post_at later earlier first.shape.n q x (sym (ap (λ (s : Shape). s.n) goes.shape)) less e),
   post_rounds later earlier q x e ∙ same,
 )
 

@@ -1,8 +1,8 @@
 -- How a traitor's seat follows a script.
-use Rattle.std.proofs.Common.{◌≡◌, ℕ, zero, suc, ◌+◌, ◌<◌, ◌≤◌, ◌==◌, nat_lt, ◌⊎◌, inl, inr, Bool, true, false, List, [], ◌∷◌, ◌++◌, length, Option, None, Some, if◌then◌else◌, refl, ap, sym, ◌∙◌, subst, arith}
+use Rattle.std.proofs.Common.{◌≡◌, ℕ, suc, ◌+◌, ◌<◌, ◌==◌, inl, inr, Bool, true, false, List, [], ◌∷◌, ◌++◌, length, if◌then◌else◌, refl, ap, sym, ◌∙◌, subst, arith}
 use Rattle.std.proofs.lemmas.Bool.Decides.{nat_tests}
 use Rattle.std.proofs.lemmas.List.{length-append}
-use Rattle.dsr_names.specs.Shape.{Shape, is_traitor}
+use Rattle.dsr_names.specs.Shape.{Shape}
 use Rattle.dsr_names.specs.declared.actor.Actor.{Actor}
 use Rattle.dsr_names.specs.declared.actor.Actor.TheVariants.{Replica, Client}
 use Rattle.dsr_envelope.specs.declared.envelope.Envelope.{Envelope}
@@ -17,7 +17,7 @@ use Rattle.dsr_calls.specs.Calls.{GoesOn}
 use Rattle.dsr_rounds.specs.Ends.{HasTried}
 use Rattle.dsr_rounds.specs.declared.traitor.Planting.{Planting}
 use Rattle.dsr_rounds.specs.declared.traitor.Planting.TheVariants.{Made, Forged, Full}
-use Rattle.dsr_rounds.specs.Traitors.{FollowsScript, RanScript, IsPlanned, ArePlanned, HasPlanted, IsScripted, KeepsCounts, PostsDrafts, TakesFromAll, MakesRound, count_at}
+use Rattle.dsr_rounds.specs.Traitors.{FollowsScript, RanScript, IsPlanned, HasPlanted, IsScripted, KeepsCounts, PostsDrafts, TakesFromAll, MakesRound, count_at}
 use Rattle.dsr_rounds.proofs.Going.{goes_same, goes_entry, goes_further}
 
 -- ---- the empty envelope

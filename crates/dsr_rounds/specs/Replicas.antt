@@ -16,9 +16,9 @@ pub record KeepsRound (later earlier : Pass) : Type 0 where
   pub due : due later.shape later.log ≡ due earlier.shape earlier.log
   pub rounds : rounds later.shape later.log ≡ rounds earlier.shape earlier.log
 
--- the next post is to replica q, or all posts of the round are made and q is n
+-- the next post of the round is to replica q; or all are made, and q is n
 abbrev pub IsAtPost : ℕ → ℕ → Due → Type 0
-IsAtPost n q (PostTo to) = to ≡ q
+IsAtPost n q (PostTo to) = (to ≡ q) × (q < n)
 IsAtPost n q (TakeFrom from) = q ≡ n
 
 -- the takes of the round are due

@@ -1,5 +1,5 @@
 -- What a traitor's host has done (this project).
-use Rattle.std.specs.Prelude.{◌≡◌, ◌⊎◌, ℕ, suc, ◌<◌, ◌++◌, nat_lt, Bool, true, false, List, [], ◌∷◌, Option, None, Some, length, if◌then◌else◌}
+use Rattle.std.specs.Prelude.{◌≡◌, ◌⊎◌, ℕ, suc, ◌<◌, ◌++◌, nat_lt, Bool, true, false, List, [], ◌∷◌, None, Some, length, if◌then◌else◌}
 use Rattle.dsr_names.specs.Shape.{Shape}
 use Rattle.dsr_names.specs.declared.actor.Actor.{Actor}
 use Rattle.dsr_names.specs.declared.actor.Actor.TheVariants.{Replica, Client}

@@ -26,6 +26,8 @@ pub(crate) struct Duties {
     last: u8,
     /// Whether something of the client was taken and not answered, by the client's number.
     unanswered: [bool; MOST_CLIENTS],
+    /// Whether something of a client was taken in this round.
+    has_news: bool,
 }
 
 impl Duties {
@@ -35,12 +37,24 @@ impl Duties {
             clients,
             last: clients.saturating_sub(1),
             unanswered: [false; MOST_CLIENTS],
+            has_news: false,
         }
+    }
+
+    /// A round begins: nothing was taken in it.
+    pub(crate) fn begin_round(&mut self) {
+        self.has_news = false;
+    }
+
+    /// Whether something of a client was taken in this round.
+    pub(crate) fn has_news(&self) -> bool {
+        self.has_news
     }
 
     /// Something of the client was taken.
     pub(crate) fn note_take(&mut self, client: ClientId) {
         self.unanswered[client.number() as usize] = true;
+        self.has_news = true;
     }
 
     /// The client was answered.

@@ -20,8 +20,9 @@ use crate::host::{Host, was_made};
 use crate::turn::Turn;
 use dsr_envelope::{Due, Pick};
 use dsr_mail::ReplicaSeat;
-use dsr_names::{Actor, ClientId, ReplicaId};
+use dsr_names::{Actor, ClientId, ReplicaId, Shape};
 use std::sync::Wait;
+use std::thread;
 
 impl<'a, R: Wait, G: Gate> Host<'a, R, G> {
     /// Has the replica make so many rounds: in each it takes once from each client, posts to all replicas, takes from all, and posts once to each
@@ -52,7 +53,9 @@ impl<'a, R: Wait, G: Gate> Host<'a, R, G> {
         ensures log { GoesOn seat.new seat.old }
         ensures end { IfErr result (HostEnd (G.may_refuse self.now.gate.now) self.now.stop.now seat.new) }
     {
+        duties.begin_round();
         self.take_from_clients(seat, turn, duties)?;
+        yield_without_news(duties);
         self.post_all(seat, turn, duties)?;
         self.take_all(seat, turn)?;
         self.answer_clients(seat, turn, duties)
@@ -109,12 +112,9 @@ impl<'a, R: Wait, G: Gate> Host<'a, R, G> {
         ensures log { GoesOn seat.new seat.old }
         ensures end { IfErr result (HostEnd (G.may_refuse self.now.gate.now) self.now.stop.now seat.new) }
     {
-        let n = self.mail.shape().n();
-        let first = match seat.due() {
-            Due::Post(to) => to.number(),
-            Due::Take(_) => n,
-        };
-        for number in first..n {
+        let shape = self.mail.shape();
+        let first = next_post(seat, shape);
+        for number in first..shape.n() {
             self.post_next(seat, turn, duties, ReplicaId::of(number))?;
         }
         Ok(())
@@ -278,6 +278,13 @@ impl<'a, R: Wait, G: Gate> Host<'a, R, G> {
     }
 }
 
+/// Lets others run first where no client sent anything: slow clients have more time until the rounds of a host are used up.
+fn yield_without_news(duties: &Duties) {
+    if !duties.has_news() {
+        thread::yield_now();
+    }
+}
+
 /// The choice for the post to a replica that is due.
 fn choice(seat: &ReplicaSeat, duties: &mut Duties, to: ReplicaId) -> Pick
     requires { due seat.now.shape seat.now.log ≡ PostTo to }
@@ -290,4 +297,16 @@ fn choice(seat: &ReplicaSeat, duties: &mut Duties, to: ReplicaId) -> Pick
     let _replica = seat.replica();
     let _due = seat.due();
     Pick::Plain
+}
+
+/// The number of the replica to which the next post of the round is; the number of replicas where all are made.
+fn next_post(seat: &ReplicaSeat, shape: &Shape) -> u8
+    requires { shape.now ≡ seat.now.shape }
+    ensures { IsAtPost seat.now.shape.n result (due seat.now.shape seat.now.log) }
+{
+    let n = shape.n();
+    match seat.due() {
+        Due::Post(to) => to.number(),
+        Due::Take(_) => n,
+    }
 }

@@ -1,17 +1,21 @@
-use Rattle.std.proofs.Common.{◌≡◌, ◌<◌, subst, ap, sym, ◌∙◌}
+use Rattle.std.proofs.Common.{◌≡◌, ◌<◌, ◌≤◌, subst, ap, sym, ◌∙◌}
 use Rattle.dsr_names.specs.Shape.{Shape}
 use Rattle.dsr_names.specs.declared.actor.Actor.TheVariants.{Replica}
 use Rattle.dsr_envelope.specs.declared.entry.Entry.TheVariants.{Post}
+use Rattle.dsr_envelope.specs.Log.{due}
 use Rattle.dsr_boxes.specs.Pass.{with_entry}
-use Rattle.dsr_rounds.proofs.Rounds.{post_step}
+use Rattle.dsr_rounds.proofs.Rounds.{post_step, taking_at}
 use Rattle.dsr_rounds.proofs.host.Host.post_all.Goals as goal
 
 pub loop-number-preserved : goal.loop-number-preserved
 loop-number-preserved g c =
     let x = c.in_ok-post_next.ensures.posted.0 in
-    post_step c.args.seat.now c.loop-number.seat c.post_next.new.seat c.loop-number.number x c.loop-number.invariant.0 c.loop-number.invariant.2
+    post_step c.args.seat.now c.loop-number.seat c.post_next.new.seat c.loop-number.number x c.loop-number.invariant.0
+    (subst (λ k. c.loop-number.number < k) (c.n-number-end.ensures.same ∙ ap (λ (s : Shape). s.n) (c.shape-shape.ensures ∙ sym c.requires.mail.1)) c.loop-number-test.true) c.loop-number.invariant.2
     (subst (λ p. c.post_next.new.seat ≡ with_entry c.loop-number.seat (Post (Replica p) x)) c.of.ensures c.in_ok-post_next.ensures.posted.1)
 
 pub returns-clause-posted : goal.returns-clause-posted
 returns-clause-posted g c =
-    ?
+    taking_at c.args.seat.now.shape.n c.loop-number.number (due c.loop-number.seat.shape c.loop-number.seat.log)
+    (subst (λ k. k ≤ c.loop-number.number) (c.n-number-end.ensures.same ∙ ap (λ (s : Shape). s.n) (c.shape-shape.ensures ∙ sym c.requires.mail.1)) c.loop-number-test.false)
+    c.loop-number.invariant.1

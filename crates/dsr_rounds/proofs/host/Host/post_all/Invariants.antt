@@ -1,4 +1,4 @@
-use Rattle.std.proofs.Common.{◌≡◌, ◌≤◌}
+use Rattle.std.proofs.Common.{◌≡◌}
 use Rattle.dsr_envelope.specs.Log.{due, rounds}
 use Rattle.dsr_calls.specs.Calls.{GoesOn}
 use Rattle.dsr_rounds.specs.Replicas.{IsAtPost}
