@@ -1,7 +1,7 @@
 -- How a client's operations are made one after another.
-use Rattle.std.proofs.Common.{◌≡◌, ℕ, suc, ◌++◌, List, [], ◌∷◌, refl, sym, subst, ap, ◌∙◌}
+use Rattle.std.proofs.Common.{◌≡◌, ℕ, suc, ◌+◌, ◌<◌, ◌++◌, List, [], ◌∷◌, get_or, take, length, refl, sym, subst, ap, ◌∙◌}
 use Rattle.std.specs.Prelude.{reverse}
-use Rattle.std.proofs.lemmas.List.{append_assoc, reverse-append}
+use Rattle.std.proofs.lemmas.List.{append_assoc, reverse-append, take_more}
 use Rattle.dsr_base.specs.Growth.{Extends}
 use Rattle.dsr_base.specs.Member.{In}
 use Rattle.dsr_base.proofs.MemberLemmas.{In-append_right}
@@ -65,3 +65,14 @@ goes_on later seat first second one = record {
 
 pub goes_same : (seat : Pass) → GoesOn seat seat
 goes_same seat = record { id = refl; shape = refl; actor = refl; log = ([], refl) }
+
+-- and over the operations of a list up to a place
+pub makes_next : (first old new : Pass) (items : List Op) (i : ℕ) (op : Op) → i < length items → op ≡ get_or items i op
+    → GoesOn old first × HasAll old.shape (number_of old.actor) old.log (take i items) → GoesOn new old → HasMade op old new
+    → GoesOn new first × HasAll new.shape (number_of new.actor) new.log (take (i + 1) items)
+makes_next first old new items i op inside is before goes made =
+    let next : take i items ++ op ∷ [] ≡ take (i + 1) items =
+    ap (λ y. take i items ++ y ∷ []) is ∙ sym (take_more items i op inside) in (
+      goes_on new old first goes before.0,
+      subst (HasAll new.shape (number_of new.actor) new.log) next (makes_more old new (take i items) op before.1 goes made),
+    )
