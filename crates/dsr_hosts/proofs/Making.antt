@@ -70,7 +70,7 @@ answers_it answered op first seat new reply making is = elim making.way [
   | inr before ↦ (
     reply,
     answered first.shape (next_ask first op) first.log seat.log new.log reply before
-    (subst (λ s. IsAnswered s (next_ask first op) seat.log new.log reply) making.goes.shape is),
+        (subst (λ s. IsAnswered s (next_ask first op) seat.log new.log reply) making.goes.shape is),
   )
 ]
 
@@ -80,9 +80,9 @@ pub keeps_it : AwaitedLaw → (op : Op) (first seat new : Pass) → IsMaking op 
 keeps_it follows op first seat new making is = elim making.way [
   | inl same ↦ inr (subst (λ s. IsAwaited s.shape (next_ask first op) s.log new.log) same is)
   | inr before ↦ inr (
-    follows first.shape (next_ask first op) first.log seat.log new.log before
-    (subst (λ s. IsAwaited s (next_ask first op) seat.log new.log) making.goes.shape is)
-  )
+      follows first.shape (next_ask first op) first.log seat.log new.log before
+      (subst (λ s. IsAwaited s (next_ask first op) seat.log new.log) making.goes.shape is)
+      )
 ]
 
 -- what refuses a call of a client refuses its host

@@ -37,9 +37,10 @@ served_more : (shape : Shape) (me : ℕ) (old new : List Entry) (ops : List Op) 
 served_more shape me old new ops op reply all longer is = record {
   none = is.done;
   replies = subst (λ replies. AreRepliesTo me new replies (reverse (ops ++ op ∷ []))) (sym is.last)
-    (subst (AreRepliesTo me new (reply ∷ accepted shape old)) (sym (reverse-append ops (op ∷ [])))
-    (record { number_is = is.number; replica = is.begun.replica; posted = is.begun.posted },
-    replies_stay me old new longer (accepted shape old) (reverse ops) all.replies));
+      (subst (AreRepliesTo me new (reply ∷ accepted shape old)) (sym (reverse-append ops (op ∷ []))) (
+        record { number_is = is.number; replica = is.begun.replica; posted = is.begun.posted },
+        replies_stay me old new longer (accepted shape old) (reverse ops) all.replies,
+      ));
 }
 
 -- the same over seats

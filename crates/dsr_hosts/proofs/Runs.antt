@@ -38,8 +38,8 @@ again_more : (mail : SharedBoxes) (olds news xs ys : List Pass) (seat again : Pa
 again_more mail olds news xs ys seat again are is xs_are ys_are = (
   All-more (IsSeatOf mail) news ys again are.0 is.0 ys_are,
   ap (map actor_of) ys_are ∙ (map-append actor_of news (again ∷ [])
-  ∙ (ap₂ (λ l a. l ++ a ∷ []) are.1 is.1
-  ∙ (sym (map-append actor_of olds (seat ∷ [])) ∙ sym (ap (map actor_of) xs_are)))),
+      ∙ (ap₂ (λ l a. l ++ a ∷ []) are.1 is.1
+      ∙ (sym (map-append actor_of olds (seat ∷ [])) ∙ sym (ap (map actor_of) xs_are)))),
 )
 
 again_same : (mail : SharedBoxes) (olds news xs ys : List Pass) → AreAgain mail olds news → xs ≡ olds → ys ≡ news → AreAgain mail xs ys
@@ -111,9 +111,9 @@ come_on may mail script all others ran after (Loyal seat) (Loyal again) end last
   room = room_on all others ran.seats after.seats room run.room room';
   served = λ is. subst (All (IsServed script)) (sym last'.2) (run.served (served is));
   refused = refused_on may script (Loyal again) end (all_of ran.seats) (all_of after.seats) after.ends.first ran.ends.first
-    (in_longer ran.seats.replicas.items ran.seats.traitors.items ran.seats.clients.items after.seats.replicas.items after.seats.traitors.items after.seats.clients.items
-        (in_more _ _ again last'.0) (in_same _ _ last'.1) (in_same _ _ last'.2))
-    (in_first again after.seats.replicas.items after.seats.traitors.items after.seats.clients.items (in_last _ _ again last'.0)) ends run.refused from;
+      (in_longer ran.seats.replicas.items ran.seats.traitors.items ran.seats.clients.items after.seats.replicas.items after.seats.traitors.items after.seats.clients.items
+      (in_more _ _ again last'.0) (in_same _ _ last'.1) (in_same _ _ last'.2))
+      (in_first again after.seats.replicas.items after.seats.traitors.items after.seats.clients.items (in_last _ _ again last'.0)) ends run.refused from;
 }
 come_on may mail script all others ran after (Loyal seat) (Traitor again) end last room run same ends last' room' from served done = absurd same
 come_on may mail script all others ran after (Loyal seat) (OfClient again) end last room run same ends last' room' from served done = absurd same
@@ -125,9 +125,9 @@ come_on may mail script all others ran after (Traitor seat) (Traitor again) end 
   room = room_on all others ran.seats after.seats room run.room room';
   served = λ is. subst (All (IsServed script)) (sym last'.2) (run.served (served is));
   refused = refused_on may script (Traitor again) end (all_of ran.seats) (all_of after.seats) after.ends.first ran.ends.first
-    (in_longer ran.seats.replicas.items ran.seats.traitors.items ran.seats.clients.items after.seats.replicas.items after.seats.traitors.items after.seats.clients.items
-        (in_same _ _ last'.1) (in_more _ _ again last'.0) (in_same _ _ last'.2))
-    (in_second again after.seats.replicas.items after.seats.traitors.items after.seats.clients.items (in_last _ _ again last'.0)) ends run.refused from;
+      (in_longer ran.seats.replicas.items ran.seats.traitors.items ran.seats.clients.items after.seats.replicas.items after.seats.traitors.items after.seats.clients.items
+      (in_same _ _ last'.1) (in_more _ _ again last'.0) (in_same _ _ last'.2))
+      (in_second again after.seats.replicas.items after.seats.traitors.items after.seats.clients.items (in_last _ _ again last'.0)) ends run.refused from;
 }
 come_on may mail script all others ran after (Traitor seat) (OfClient again) end last room run same ends last' room' from served done = absurd same
 come_on may mail script all others ran after (OfClient seat) (Loyal again) end last room run same ends last' room' from served done = absurd same
@@ -138,11 +138,11 @@ come_on may mail script all others ran after (OfClient seat) (OfClient again) en
   clients = again_more mail others.clients.items ran.seats.clients.items _ _ seat again run.clients same last.0 last'.0;
   room = room_on all others ran.seats after.seats room run.room room';
   served = λ is. All-more (IsServed script) ran.seats.clients.items _ again (run.served (served is))
-    (subst (IsEnding may script (OfClient again)) (done is refl) ends) last'.0;
+      (subst (IsEnding may script (OfClient again)) (done is refl) ends) last'.0;
   refused = refused_on may script (OfClient again) end (all_of ran.seats) (all_of after.seats) after.ends.first ran.ends.first
-    (in_longer ran.seats.replicas.items ran.seats.traitors.items ran.seats.clients.items after.seats.replicas.items after.seats.traitors.items after.seats.clients.items
-        (in_same _ _ last'.1) (in_same _ _ last'.2) (in_more _ _ again last'.0))
-    (in_third again after.seats.replicas.items after.seats.traitors.items after.seats.clients.items (in_last _ _ again last'.0)) ends run.refused from;
+      (in_longer ran.seats.replicas.items ran.seats.traitors.items ran.seats.clients.items after.seats.replicas.items after.seats.traitors.items after.seats.clients.items
+      (in_same _ _ last'.1) (in_same _ _ last'.2) (in_more _ _ again last'.0))
+      (in_third again after.seats.replicas.items after.seats.traitors.items after.seats.clients.items (in_last _ _ again last'.0)) ends run.refused from;
 }
 
 -- as many seats came back as there were

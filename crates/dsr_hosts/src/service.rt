@@ -53,7 +53,10 @@ impl<'a, R: Wait, G: Gate> Service<'a, R, G> {
         // For the proof: what its contract says.
         let _actor = seat.actor();
         let seat = AnySeat::Loyal(seat);
-        Back { seat, end: done.err() }
+        Back {
+            seat,
+            end: done.err(),
+        }
     }
 
     /// Hosts the seat of a traitor.
@@ -65,7 +68,10 @@ impl<'a, R: Wait, G: Gate> Service<'a, R, G> {
         // For the proof: what its contract says.
         let _actor = seat.actor();
         let seat = AnySeat::Traitor(seat);
-        Back { seat, end: done.err() }
+        Back {
+            seat,
+            end: done.err(),
+        }
     }
 
     /// Hosts the seat of a client, at which nothing was done.
@@ -77,7 +83,10 @@ impl<'a, R: Wait, G: Gate> Service<'a, R, G> {
         // For the proof: what its contract says.
         let _actor = seat.actor();
         let seat = AnySeat::OfClient(seat);
-        Back { seat, end: done.err() }
+        Back {
+            seat,
+            end: done.err(),
+        }
     }
 
     /// The host of the seat has ended. A refusal tells all others to stop, and so does the last client's work when it is done.

@@ -53,8 +53,18 @@ pub(crate) fn run_all<R: Threads + Wait + Sync, G: Gate + Sync>(
             requires { AreNew mail.now seats }
             ensures { HaveRun (G.may_refuse gate.entry.now) mail.entry.now script.entry.now seats result }
         {
-            let host = Host { rt, alloc, mail, gate, stop };
-            let service = Service { host, script, clients };
+            let host = Host {
+                rt,
+                alloc,
+                mail,
+                gate,
+                stop,
+            };
+            let service = Service {
+                host,
+                script,
+                clients,
+            };
             run_each(scope, &service, seats)
         },
     )
@@ -106,14 +116,27 @@ fn start<'s, E, R: Wait + Sync, G: Gate + Sync>(
         script: Snapshot::of(script),
         seat: Snapshot::of(&seat),
     };
-    match scope.spawn_with(promise, move || -> Back
-        requires { IsNewSeat mail.now (pass_of seat) }
-        ensures { ComesBack (G.may_refuse gate.entry.now) mail.entry.now script.entry.now seat result }
-    {
-        let host = Host { rt, alloc, mail, gate, stop };
-        let service = Service { host, script, clients };
-        service.run(seat)
-    }) {
+    match scope.spawn_with(
+        promise,
+        move || -> Back
+            requires { IsNewSeat mail.now (pass_of seat) }
+            ensures { ComesBack (G.may_refuse gate.entry.now) mail.entry.now script.entry.now seat result }
+        {
+            let host = Host {
+                rt,
+                alloc,
+                mail,
+                gate,
+                stop,
+            };
+            let service = Service {
+                host,
+                script,
+                clients,
+            };
+            service.run(seat)
+        },
+    ) {
         Ok(handle) => Started::Runs(handle),
         Err(refused) => {
             service.host.stop.tell();
@@ -128,11 +151,18 @@ fn refused_back(back: Back) -> Back
     ensures end { result.end ≡ Some (Fault NoThread) }
 {
     let end = Some(End::Fault(Refusal::NoThread));
-    Back { seat: back.seat, end }
+    Back {
+        seat: back.seat,
+        end,
+    }
 }
 
 /// Waits until the host has ended, and gives what comes back from it. One that has ended before all were started first sees the others end.
-fn finish<R: Threads + Wait, G: Gate>(service: &Service<R, G>, started: Started<G>, was: Snapshot<AnySeat>) -> Back
+fn finish<R: Threads + Wait, G: Gate>(
+    service: &Service<R, G>,
+    started: Started<G>,
+    was: Snapshot<AnySeat>,
+) -> Back
     requires runs { (h : _) → started ≡ Started.Runs h → (h.promise.gate.value ≡ service.now.host.gate.now)
         × (h.promise.mail.value ≡ service.now.host.mail.now) × (h.promise.script.value ≡ service.now.script.now) × (h.promise.seat.value ≡ was.value) }
     requires ended { (b : Back) → started ≡ Started.Ended b

@@ -25,8 +25,8 @@ finish-back-requires-clause-ended g t c b is =
 pub with-requires : goal.with-requires
 with-requires g t c = record {
   room = room_left (g.G.Gate.may_refuse c.args.service.now.host.gate.now) c.args.service.now.host.mail.now c.args.service.now.script.now c.args.seats
-    c.take_last.new.seats c.run_each-ran.result c.in-Some.seat c.finish-back.result.seat c.in-Some.ensures.some c.take_last.ensures.room
-    c.run_each-ran.ensures (subst (λ s. IsBack c.args.service.now.host.mail.now s c.finish-back.result.seat) c.of-was.ensures c.finish-back.ensures.same);
+      c.take_last.new.seats c.run_each-ran.result c.in-Some.seat c.finish-back.result.seat c.in-Some.ensures.some c.take_last.ensures.room
+      c.run_each-ran.ensures (subst (λ s. IsBack c.args.service.now.host.mail.now s c.finish-back.result.seat) c.of-was.ensures c.finish-back.ensures.same);
 }
 
 pub returns : goal.returns
