@@ -1,0 +1,5 @@
+mod Backs
+mod Closing
+mod Making
+mod Operations
+mod Runs

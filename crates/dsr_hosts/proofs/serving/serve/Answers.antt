@@ -1,0 +1,36 @@
+use Rattle.std.proofs.Common.{◌≡◌, refl, sym, subst}
+use Rattle.dsr_mail.specs.Seats.{is_loyal_replica, is_traitor_replica, is_client}
+use Rattle.dsr_hosts.proofs.Closing.{are_new, are_seats_of, all_served, cause_from, some_cause}
+use Rattle.dsr_hosts.proofs.serving.serve.Goals as goal
+
+pub run_all-ran-requires-after_bounds : goal.run_all-ran-requires-after_bounds
+run_all-ran-requires-after_bounds g c κs within =
+    let opened = c.in-Ok.opened in
+    are_new opened.0 opened.1 c.in-Ok.ensures.replicas c.in-Ok.ensures.traitors c.in-Ok.ensures.clients
+
+pub close-logs-requires-clause-replicas : goal.close-logs-requires-clause-replicas
+close-logs-requires-clause-replicas g c =
+    are_seats_of c.in-Ok.opened.0 is_loyal_replica c.in-Ok.opened.1.replicas.items c.run_all-ran.result.seats.replicas.items
+    c.in-Ok.ensures.replicas c.run_all-ran.ensures.replicas
+
+pub close-logs-requires-clause-traitors : goal.close-logs-requires-clause-traitors
+close-logs-requires-clause-traitors g c =
+    are_seats_of c.in-Ok.opened.0 is_traitor_replica c.in-Ok.opened.1.traitors.items c.run_all-ran.result.seats.traitors.items
+    c.in-Ok.ensures.traitors c.run_all-ran.ensures.traitors
+
+pub close-logs-requires-clause-clients : goal.close-logs-requires-clause-clients
+close-logs-requires-clause-clients g c =
+    are_seats_of c.in-Ok.opened.0 is_client c.in-Ok.opened.1.clients.items c.run_all-ran.result.seats.clients.items
+    c.in-Ok.ensures.clients c.run_all-ran.ensures.clients
+
+pub returns-in-None-clause-served : goal.returns-in-None-clause-served
+returns-in-None-clause-served g c =
+    all_served c.in-Ok.opened.0 c.args.script.now c.run_all-ran.result.seats c.close-logs.result
+    (are_seats_of c.in-Ok.opened.0 is_client c.in-Ok.opened.1.clients.items c.run_all-ran.result.seats.clients.items
+    c.in-Ok.ensures.clients c.run_all-ran.ensures.clients)
+    (c.run_all-ran.ensures.served c.in-None.ensures.none) c.close-logs.ensures.shape c.close-logs.ensures.own
+
+pub returns-in-Some-clause-cause : goal.returns-in-Some-clause-cause
+returns-in-Some-clause-cause g c =
+    some_cause (g.G.Gate.may_refuse c.args.gate.now) c.in-Ok.opened.0 c.args.script.now c.in-Ok.opened.1 c.run_all-ran.result c.close-logs.result
+    c.in-Some.cause c.run_all-ran.ensures c.close-logs.ensures.shape c.close-logs.ensures.own c.in-Some.ensures.some

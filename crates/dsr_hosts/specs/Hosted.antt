@@ -1,0 +1,40 @@
+-- What comes back from the host of a seat. No public contract cites this.
+use Rattle.std.specs.Prelude.{◌≡◌, Option, None, Some}
+use Rattle.dsr_names.specs.declared.actor.Actor.{Actor}
+use Rattle.dsr_script.specs.Script.{Script, ops_of}
+use Rattle.dsr_boxes.specs.Pass.{SharedBoxes, Pass}
+use Rattle.dsr_calls.specs.Calls.{number_of}
+use Rattle.dsr_rounds.specs.declared.end.End.{End}
+use Rattle.dsr_rounds.specs.declared.end.End.TheVariants.{Told, Fault}
+use Rattle.dsr_hosts.specs.declared.any_seat.AnySeat.{AnySeat}
+use Rattle.dsr_hosts.specs.declared.any_seat.AnySeat.TheVariants.{Loyal, Traitor, OfClient}
+use Rattle.dsr_hosts.specs.declared.back.Back.{Back}
+use Rattle.dsr_hosts.specs.Causes.{ClientRefusal, SeatRefusal}
+use Rattle.dsr_hosts.specs.Seats.{pass_of, IsBack}
+use Rattle.dsr_hosts.specs.Served.{HasAll}
+
+-- the client has the replies to all operations that the script gives it
+abbrev pub IsServed : Script → Pass → Type 0
+IsServed script seat = HasAll seat.shape (number_of seat.actor) seat.log (ops_of script (number_of seat.actor))
+
+-- why a host's work at a client's seat ended: it was told; or it was refused
+abbrev pub ClientEnd : (Actor → Type 0) → Pass → End → Type 0
+ClientEnd may seat Told = Unit {0}
+ClientEnd may seat (Fault refusal) = ClientRefusal may seat refusal
+
+-- a client whose host has done its work is served
+abbrev pub IsDone : Script → AnySeat → Type 0
+IsDone script (Loyal seat) = Unit {0}
+IsDone script (Traitor seat) = Unit {0}
+IsDone script (OfClient seat) = IsServed script seat
+
+-- how the host of a seat ended: its work was done, or it was told to stop, or it was refused
+abbrev pub IsEnding : (Actor → Type 0) → Script → AnySeat → Option End → Type 0
+IsEnding may script seat None = IsDone script seat
+IsEnding may script seat (Some Told) = Unit {0}
+IsEnding may script seat (Some (Fault refusal)) = SeatRefusal may (pass_of seat) refusal
+
+-- what comes back from the host of a seat
+pub record ComesBack (may : Actor → Type 0) (mail : SharedBoxes) (script : Script) (seat : AnySeat) (back : Back) : Type 0 where
+  pub same : IsBack mail seat back.seat
+  pub ends : IsEnding may script back.seat back.end

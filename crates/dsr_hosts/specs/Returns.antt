@@ -1,0 +1,25 @@
+-- What comes back from the hosts of all seats. No public contract cites this.
+use Rattle.std.specs.Prelude.{◌≡◌, true, List, All, IfSome}
+use Rattle.dsr_base.specs.Member.{In}
+use Rattle.dsr_names.specs.declared.actor.Actor.{Actor}
+use Rattle.dsr_names.specs.declared.refusal.Refusal.{Refusal}
+use Rattle.dsr_script.specs.Script.{Script}
+use Rattle.dsr_boxes.specs.Pass.{SharedBoxes, Pass}
+use Rattle.dsr_mail.specs.declared.seats.Seats.{Seats}
+use Rattle.dsr_hosts.specs.declared.ran.Ran.{Ran}
+use Rattle.dsr_hosts.specs.Causes.{SeatRefusal}
+use Rattle.dsr_hosts.specs.Hosted.{IsServed}
+use Rattle.dsr_hosts.specs.Seats.{AreAgain, SameRoom, all_of}
+
+-- the host of one of the seats was refused with this
+abbrev pub WasRefused : (Actor → Type 0) → List Pass → Refusal → Type 0
+WasRefused may seats refusal = (seat : Pass) × In seat seats × SeatRefusal may seat refusal
+
+-- what comes back from the hosts of all seats
+pub record HaveRun (may : Actor → Type 0) (mail : SharedBoxes) (script : Script) (seats : Seats) (ran : Ran) : Type 0 where
+  pub replicas : AreAgain mail seats.replicas.items ran.seats.replicas.items
+  pub traitors : AreAgain mail seats.traitors.items ran.seats.traitors.items
+  pub clients : AreAgain mail seats.clients.items ran.seats.clients.items
+  pub room : SameRoom seats ran.seats
+  pub served : ran.ends.served ≡ true → All (IsServed script) ran.seats.clients.items
+  pub refused : IfSome ran.ends.first (λ fault. WasRefused may (all_of ran.seats) fault.refusal)

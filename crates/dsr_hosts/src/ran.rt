@@ -1,0 +1,79 @@
+//! The seats that came back from their hosts.
+
+ghost use Rattle.std.specs.Prelude.{◌≡◌, ◌⊎◌, ◌<◌, true, None, Some, IfSome, IfNone};
+ghost use Rattle.dsr_rounds.specs.declared.end.End.TheVariants.{Fault as EndFault};
+ghost use Rattle.dsr_hosts.specs.Seats.{pass_of, is_of_client, HasLast, HasRoomFor, SameRoom, AreNone, seat_count};
+
+use crate::any_seat::AnySeat;
+use crate::back::Back;
+use crate::ends::Ends;
+use dsr_mail::Seats;
+use dsr_names::{Refusal, Shape};
+use dsr_rounds::End;
+
+/// The seats that came back, and how their hosts ended.
+#[derive(Drop)]
+pub(crate) struct Ran {
+    /// The seats.
+    pub(crate) seats: Seats,
+    /// How their hosts ended.
+    pub(crate) ends: Ends,
+}
+
+impl Ran {
+    /// With one seat more, after those of its kind. Requires room for it.
+    pub(crate) fn with(self, shape: &Shape, back: Back) -> Ran
+        requires room { HasRoomFor self.seats back.seat }
+        ensures seats { HasLast result.seats back.seat self.seats }
+        ensures room { SameRoom self.seats result.seats }
+        ensures first { IfSome result.ends.first (λ fault. (self.ends.first ≡ Some fault) ⊎ (back.end ≡ Some (EndFault fault.refusal))) }
+        ensures served { result.ends.served ≡ true → self.ends.served ≡ true }
+        ensures done { result.ends.served ≡ true → is_of_client back.seat ≡ true → back.end ≡ None }
+    {
+        let rank = rank_of(shape, &back);
+        let ends = self.ends.with(rank, back.seat.is_of_client(), &back.end);
+        let mut seats = self.seats;
+        put_last(&mut seats, back.seat);
+        Ran { seats, ends }
+    }
+}
+
+/// The rank of a host's fault: that of a thread that could not be started comes first, then the place of the actor counts.
+fn rank_of(shape: &Shape, back: &Back) -> usize {
+    if let Some(End::Fault(Refusal::NoThread)) = &back.end {
+        return 0;
+    }
+    shape.place(&back.seat.actor()).saturating_add(1)
+}
+
+/// Takes out the last seat: of the clients, else of the traitors, else of the replicas. `None` where there is none.
+pub(crate) fn take_last(seats: &mut Seats) -> Option<AnySeat>
+    ensures some { IfSome result (λ seat. HasLast seats.old seat seats.new) }
+    ensures fewer { IfSome result (λ seat. seat_count seats.new < seat_count seats.old) }
+    ensures room { SameRoom seats.old seats.new }
+    ensures none { IfNone result (AreNone seats.old seats.new) }
+{
+    if let Some(seat) = seats.clients.pop() {
+        return Some(AnySeat::OfClient(seat));
+    }
+    if let Some(seat) = seats.traitors.pop() {
+        return Some(AnySeat::Traitor(seat));
+    }
+    if let Some(seat) = seats.replicas.pop() {
+        return Some(AnySeat::Loyal(seat));
+    }
+    None
+}
+
+/// Puts a seat back after those of its kind. Requires room for it.
+fn put_last(seats: &mut Seats, seat: AnySeat)
+    requires { HasRoomFor seats.old seat }
+    ensures last { HasLast seats.new seat seats.old }
+    ensures room { SameRoom seats.old seats.new }
+{
+    match seat {
+        AnySeat::Loyal(seat) => seats.replicas.push_reserved(seat),
+        AnySeat::Traitor(seat) => seats.traitors.push_reserved(seat),
+        AnySeat::OfClient(seat) => seats.clients.push_reserved(seat),
+    }
+}

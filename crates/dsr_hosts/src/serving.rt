@@ -1,0 +1,84 @@
+//! A service of a script.
+
+ghost use Rattle.std.specs.Prelude.{◌≡◌, ℕ, ◌<◌, map, IfOk, IfErr, IsOkUnless};
+ghost use Rattle.dsr_names.specs.declared.actor.Actor.TheVariants.{Client as ClientNumber};
+ghost use Rattle.dsr_script.specs.Script.{ops_of};
+ghost use Rattle.dsr_run.specs.Run.{AreLogs};
+ghost use Rattle.dsr_boxes.specs.Pass.{new_pass};
+ghost use Rattle.dsr_mail.specs.Logs.{logs_of};
+ghost use Rattle.dsr_mail.specs.Seats.{is_loyal_replica, is_traitor_replica, is_client, actors_of};
+ghost use Rattle.dsr_hosts.specs.Causes.{CauseOf};
+ghost use Rattle.dsr_hosts.specs.Served.{HasAll};
+
+use crate::threads::run_all;
+use dsr_desk::Keys;
+use dsr_mail::{Logs, Mail, Seats};
+use dsr_names::{Refusal, Shape};
+use dsr_rounds::Gate;
+use dsr_script::Script;
+use std::alloc::Global;
+use std::sync::Wait;
+use std::thread::Threads;
+
+/// Why a service ended before all clients were served, with the logs until then.
+#[derive(Drop)]
+pub struct ServeFault {
+    /// The refusal that ended it.
+    pub cause: Refusal,
+    /// The logs of all actors.
+    pub logs: Logs,
+}
+
+/// Opens a mail, runs a host for each replica, traitor and client of the script, each in a thread of its own, and gives the logs of all actors
+/// once they have ended.
+///
+/// A client makes its operations in the script's order, and asks again where it was not answered. When all are served the replicas and
+/// traitors are told to stop; they also end after 4,096 rounds. Until then they wait for each other.
+///
+/// With `Ok` each client accepted the replies to exactly its operations, in order. Else the service was ended by a host: `Exhausted` where its next
+/// post is past a limit, `Stopped` where the gate answered false, `Unanswered` where a client had no reply and the replicas had ended,
+/// `NoMemory` where memory ran out; or by `NoThread`, where a thread could not be started. The logs until then come with the cause; there are no entries in them where
+/// the mail could not be opened. They are always the logs of a run.
+pub fn serve<R: Threads + Wait + Sync, G: Gate + Sync>(
+    rt: &R,
+    alloc: Global,
+    script: &Script,
+    gate: &G,
+) -> Result<Logs, ServeFault>
+    ensures shape { IfOk result (λ logs. logs.shape ≡ script.now.shape) }
+    ensures run { IfOk result (λ logs. AreLogs logs.shape (logs_of logs)) }
+    ensures served { IfOk result (λ logs. (c : ℕ) → c < logs.shape.m → HasAll logs.shape c (logs_of logs (ClientNumber c)) (ops_of script.now c)) }
+    ensures fault_shape { IfErr result (λ fault. fault.logs.shape ≡ script.now.shape) }
+    ensures fault_run { IfErr result (λ fault. AreLogs fault.logs.shape (logs_of fault.logs)) }
+    ensures cause { IfErr result (λ fault. CauseOf (G.may_refuse gate.now) fault.logs fault.cause) }
+{
+    let shape = script.shape();
+    let (mail, seats) = match open(alloc, shape) {
+        Ok(opened) => opened,
+        Err(cause) => {
+            let logs = Logs::empty(shape);
+            // For the proof: what its contract says.
+            let _shape = logs.shape();
+            return Err(ServeFault { cause, logs });
+        }
+    };
+    let ran = run_all(rt, alloc, &mail, script, gate, seats);
+    let cause = ran.ends.cause();
+    let logs = mail.close(ran.seats);
+    match cause {
+        None => Ok(logs),
+        Some(cause) => Err(ServeFault { cause, logs }),
+    }
+}
+
+/// Opens a mail of the shape. `NoMemory` where memory runs out.
+fn open(alloc: Global, shape: Shape) -> Result<(Mail, Seats), Refusal>
+    ensures shape { IfOk result (λ opened. opened.0.shape ≡ shape) }
+    ensures replicas { IfOk result (λ opened. opened.1.replicas.items ≡ map (new_pass opened.0) (actors_of is_loyal_replica opened.0.shape)) }
+    ensures traitors { IfOk result (λ opened. opened.1.traitors.items ≡ map (new_pass opened.0) (actors_of is_traitor_replica opened.0.shape)) }
+    ensures clients { IfOk result (λ opened. opened.1.clients.items ≡ map (new_pass opened.0) (actors_of is_client opened.0.shape)) }
+    ensures refusal { IsOkUnless result Refusal.NoMemory }
+{
+    let keys = Keys::new(alloc, shape)?;
+    Mail::open(alloc, shape, keys)
+}
