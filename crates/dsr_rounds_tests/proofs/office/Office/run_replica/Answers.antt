@@ -4,7 +4,7 @@ use Rattle.dsr_rounds_tests.proofs.SeatLemmas.{seats_stay}
 use Rattle.dsr_rounds_tests.proofs.office.Office.run_replica.Goals as goal
 
 pub invariant_of-self-2 : goal.invariant_of-self-2
-invariant_of-self-2 c =
+invariant_of-self-2 g c =
     let old = c.args.self.now in
     record {
       replicas =
