@@ -1,0 +1,63 @@
+//! The gates of the tests.
+
+ghost use Rattle.std.specs.Prelude.{◌≡◌};
+
+use dsr_names::Actor;
+use dsr_rounds::Gate;
+use std::sync::atomic::AtomicU64;
+use std::sync::atomic::Ordering::SeqCst;
+
+/// Lets everybody go on.
+#[derive(Drop)]
+pub(crate) struct Open;
+
+impl Gate for Open {
+    ghost may_refuse = { λ _ _. ⊥ };
+
+    fn pass(&self, _actor: Actor, _turn: u64) -> bool {
+        true
+    }
+}
+
+/// Lets everybody make so many turns.
+#[derive(Drop)]
+pub(crate) struct Until {
+    /// The number of the turn that it refuses first.
+    pub(crate) turns: u64,
+}
+
+impl Gate for Until {
+    ghost may_refuse = { λ _ _. Unit {0} };
+
+    fn pass(&self, _actor: Actor, turn: u64) -> bool {
+        turn < self.turns
+    }
+}
+
+/// Counts what it is asked, and refuses a turn of another number than its own count.
+#[derive(Drop)]
+pub(crate) struct Counting {
+    turns: AtomicU64,
+}
+
+impl Counting {
+    /// A gate that was not asked yet.
+    pub(crate) fn new() -> Counting {
+        Counting {
+            turns: AtomicU64::new(0),
+        }
+    }
+
+    /// How often it was asked.
+    pub(crate) fn turns(&self) -> u64 {
+        self.turns.load(SeqCst)
+    }
+}
+
+impl Gate for Counting {
+    ghost may_refuse = { λ _ _. Unit {0} };
+
+    fn pass(&self, _actor: Actor, turn: u64) -> bool {
+        turn == self.turns.fetch_add(1, SeqCst)
+    }
+}

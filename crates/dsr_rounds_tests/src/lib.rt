@@ -1,0 +1,14 @@
+//! The tests of the calls of clients, and of the hosts of replicas and traitors. They stand apart from the code, since a crate with tests is
+//! proved twice.
+#![tactic(auto)]
+
+#[cfg(test)]
+mod calls;
+#[cfg(test)]
+mod gates;
+#[cfg(test)]
+mod office;
+#[cfg(test)]
+mod replicas;
+#[cfg(test)]
+mod traitors;

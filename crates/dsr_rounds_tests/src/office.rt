@@ -1,0 +1,247 @@
+//! A mail, with the seats of all its actors.
+
+ghost use Rattle.std.specs.Prelude.{◌≡◌, ◌<◌, length, IfSome};
+ghost use Rattle.dsr_boxes.specs.Pass.{IsPassOf};
+ghost use Rattle.dsr_mail.specs.Seats.{is_loyal_replica, is_traitor_replica, is_client, AreSeatsOf};
+ghost use Rattle.dsr_rounds_tests.specs.Same.{IsSameSeat};
+
+use dsr_calls::{ask, go_on};
+use dsr_desk::Keys;
+use dsr_envelope::{Due, Pick};
+use dsr_ledger::Reply;
+use dsr_mail::{ClientSeat, Logs, Mail, ReplicaSeat, Seats, TraitorSeat};
+use dsr_names::{Actor, ClientId, Outside, Refusal, ReplicaId, Shape};
+use dsr_record::{Record, write};
+use dsr_request::Op;
+use dsr_rounds::{Gate, run_replica, run_traitor};
+use dsr_script::Script;
+use std::alloc::Global;
+use std::sync::Wait;
+
+/// A mail, and the seats of all its actors.
+#[derive(Drop)]
+pub(crate) struct Office {
+    mail: Mail,
+    seats: Seats,
+    ghost replicas: { AreSeatsOf mail is_loyal_replica seats.replicas.items },
+    ghost traitors: { AreSeatsOf mail is_traitor_replica seats.traitors.items },
+    ghost clients: { AreSeatsOf mail is_client seats.clients.items },
+}
+
+impl Office {
+    /// The open mail of this shape. `NoMemory` where memory runs out.
+    pub(crate) fn open(alloc: Global, shape: Shape) -> Result<Office, Refusal> {
+        let keys = Keys::new(alloc, shape)?;
+        let (mail, seats) = Mail::open(alloc, shape, keys)?;
+        Ok(Office { mail, seats })
+    }
+
+    /// Closes the mail, to which all seats come back.
+    pub(crate) fn close(self) -> Logs {
+        let Office { mail, seats } = self;
+        mail.close(seats)
+    }
+
+    /// What is due at the first loyal replica.
+    pub(crate) fn due(&self) -> Option<Due> {
+        match self.seats.replicas.first() {
+            Some(seat) => Some(seat.due()),
+            None => None,
+        }
+    }
+
+    /// The number of the first client's outstanding request.
+    pub(crate) fn outstanding(&self) -> Option<u64> {
+        match self.seats.clients.first() {
+            Some(seat) => seat.outstanding(),
+            None => None,
+        }
+    }
+
+    /// A loyal replica posts to another, without a proposal. `NoActor` where it has no seat.
+    pub(crate) fn post(
+        &mut self,
+        alloc: Global,
+        replica: &ReplicaId,
+        to: &Actor,
+    ) -> Result<(), Refusal> {
+        let Some(place) = replica_place(self.seats.replicas.as_slice(), replica) else {
+            return Err(Refusal::NoActor);
+        };
+        post_plain(&mut self.seats.replicas[place], alloc, &self.mail, to)
+    }
+
+    /// The first client asks. `NoActor` where there is none.
+    pub(crate) fn ask(&mut self, alloc: Global, op: &Op, turns: u64) -> Result<Reply, Refusal> {
+        let Some(place) = client_place(self.seats.clients.as_slice(), &ClientId::FIRST) else {
+            return Err(Refusal::NoActor);
+        };
+        client_asks(&mut self.seats.clients[place], alloc, &self.mail, op, turns)
+    }
+
+    /// The first client goes on. `NoActor` where there is none.
+    pub(crate) fn go_on(&mut self, alloc: Global, turns: u64) -> Result<Reply, Refusal> {
+        let Some(place) = client_place(self.seats.clients.as_slice(), &ClientId::FIRST) else {
+            return Err(Refusal::NoActor);
+        };
+        client_goes_on(&mut self.seats.clients[place], alloc, &self.mail, turns)
+    }
+
+    /// Replica 0 makes rounds. `NoActor` where it has no seat.
+    pub(crate) fn run_replica<R: Wait, G: Gate>(
+        &mut self,
+        rt: &R,
+        alloc: Global,
+        gate: &G,
+        rounds: u64,
+    ) -> Result<(), Refusal> {
+        let Some(place) = replica_place(self.seats.replicas.as_slice(), &ReplicaId::FIRST) else {
+            return Err(Refusal::NoActor);
+        };
+        replica_runs(
+            rt,
+            alloc,
+            &self.mail,
+            &mut self.seats.replicas[place],
+            gate,
+            rounds,
+        )
+    }
+
+    /// A traitor makes rounds by a script. `NoActor` where it has no seat.
+    pub(crate) fn run_traitor<R: Wait, G: Gate>(
+        &mut self,
+        rt: &R,
+        alloc: Global,
+        traitor: &Actor,
+        script: &Script,
+        gate: &G,
+        rounds: u64,
+    ) -> Result<(), Refusal> {
+        let Some(place) = traitor_place(self.seats.traitors.as_slice(), traitor) else {
+            return Err(Refusal::NoActor);
+        };
+        traitor_runs(
+            rt,
+            alloc,
+            &self.mail,
+            &mut self.seats.traitors[place],
+            script,
+            gate,
+            rounds,
+        )
+    }
+}
+
+/// The transcript of the logs.
+pub(crate) fn transcript(alloc: Global, logs: &Logs) -> Result<Vec<u8>, Refusal> {
+    let recorded = Record::of_logs(alloc, logs)?;
+    let mut text = Outside(Vec::new(alloc));
+    write(alloc, &recorded, &mut text)?;
+    Ok(text.0)
+}
+
+/// The place of a loyal replica's seat.
+fn replica_place(seats: &[ReplicaSeat], replica: &ReplicaId) -> Option<usize>
+    ensures { IfSome result (λ place. place < length seats.now) }
+{
+    for place in 0..seats.len() {
+        if seats[place].replica().number() == replica.number() {
+            return Some(place);
+        }
+    }
+    None
+}
+
+/// The place of a traitor's seat.
+fn traitor_place(seats: &[TraitorSeat], actor: &Actor) -> Option<usize>
+    ensures { IfSome result (λ place. place < length seats.now) }
+{
+    for place in 0..seats.len() {
+        if seats[place].actor() == *actor {
+            return Some(place);
+        }
+    }
+    None
+}
+
+/// The place of a client's seat.
+fn client_place(seats: &[ClientSeat], client: &ClientId) -> Option<usize>
+    ensures { IfSome result (λ place. place < length seats.now) }
+{
+    for place in 0..seats.len() {
+        if seats[place].client().number() == client.number() {
+            return Some(place);
+        }
+    }
+    None
+}
+
+/// A loyal replica posts without a proposal.
+fn post_plain(seat: &mut ReplicaSeat, alloc: Global, mail: &Mail, to: &Actor) -> Result<(), Refusal>
+    requires { IsPassOf mail.now seat.old }
+    ensures { IsSameSeat seat.old seat.new }
+{
+    match seat.try_post(alloc, mail, *to, Pick::Plain) {
+        Ok(()) => Ok(()),
+        Err(refusal) => Err(refusal),
+    }
+}
+
+/// A client asks.
+fn client_asks(
+    seat: &mut ClientSeat,
+    alloc: Global,
+    mail: &Mail,
+    op: &Op,
+    turns: u64,
+) -> Result<Reply, Refusal>
+    requires { IsPassOf mail.now seat.old }
+    ensures { IsSameSeat seat.old seat.new }
+{
+    ask(alloc, mail, seat, *op, turns)
+}
+
+/// A client goes on.
+fn client_goes_on(
+    seat: &mut ClientSeat,
+    alloc: Global,
+    mail: &Mail,
+    turns: u64,
+) -> Result<Reply, Refusal>
+    requires { IsPassOf mail.now seat.old }
+    ensures { IsSameSeat seat.old seat.new }
+{
+    go_on(alloc, mail, seat, turns)
+}
+
+/// A loyal replica makes rounds.
+fn replica_runs<R: Wait, G: Gate>(
+    rt: &R,
+    alloc: Global,
+    mail: &Mail,
+    seat: &mut ReplicaSeat,
+    gate: &G,
+    rounds: u64,
+) -> Result<(), Refusal>
+    requires { IsPassOf mail.now seat.old }
+    ensures { IsSameSeat seat.old seat.new }
+{
+    run_replica(rt, alloc, mail, seat, gate, rounds)
+}
+
+/// A traitor makes rounds by a script.
+fn traitor_runs<R: Wait, G: Gate>(
+    rt: &R,
+    alloc: Global,
+    mail: &Mail,
+    seat: &mut TraitorSeat,
+    script: &Script,
+    gate: &G,
+    rounds: u64,
+) -> Result<(), Refusal>
+    requires { IsPassOf mail.now seat.old }
+    ensures { IsSameSeat seat.old seat.new }
+{
+    run_traitor(rt, alloc, mail, seat, script, gate, rounds)
+}

@@ -1,0 +1,113 @@
+//! The host of a traitor, which posts by a script.
+
+use crate::gates::{Open, Until};
+use crate::office::{Office, transcript};
+use dsr_names::{Actor, Refusal, ReplicaId, Shape};
+use dsr_script::Script;
+use std::alloc::Global;
+use std::process::Abort;
+use std::sync::Wait;
+use std::test::Fail;
+
+/// The loyal replica posts to all three replicas, as is due.
+fn post_all<R: Abort>(rt: &R, alloc: Global, office: &mut Office, replica: &ReplicaId) {
+    for number in 0..3 {
+        let to = Actor::Replica(ReplicaId::of(number));
+        assert_eq!(rt; office.post(alloc, replica, &to), Ok(()));
+    }
+}
+
+/// A mail of three replicas, of which r2 is a traitor, and a client. The loyal ones posted in round 0.
+fn posted<R: Abort>(rt: &R, alloc: Global) -> Result<Office, Refusal> {
+    let shape = Shape::new(3, 1, 1, 0b100)?;
+    let mut office = Office::open(alloc, shape)?;
+    post_all(rt, alloc, &mut office, &ReplicaId::FIRST);
+    post_all(rt, alloc, &mut office, &ReplicaId::of(1));
+    Ok(office)
+}
+
+/// The traitor makes a round by the script of this text. Compares the transcript.
+fn is_told<R: Abort + Wait>(rt: &R, alloc: Global, script: &str, text: &str) -> Result<(), Fail> {
+    let script = Script::read(alloc, script.as_bytes())?;
+    let mut office = posted(rt, alloc)?;
+    let traitor = Actor::Replica(ReplicaId::of(2));
+    let ran = office.run_traitor(rt, alloc, &traitor, &script, &Open, 1);
+    assert_eq!(rt; ran, Ok(()));
+    let logs = office.close();
+    let told = transcript(alloc, &logs)?;
+    assert_eq!(rt; told.as_slice(), text.as_bytes());
+    Ok(())
+}
+
+#[test]
+fn a_traitor_posts_by_its_script(rt: HostRuntime) -> Result<(), Fail> {
+    let script = "dsr-serve 1 3 1 1 r2\nscript r2 0 r0 round 0 2/idle/r2\n";
+    let text = "dsr-transcript 1 3 1 1 r2\n\
+        r0 post r0 round 0 0/idle/r0\n\
+        r0 post r1 round 0 0/idle/r0\n\
+        r0 post r2 round 0 0/idle/r0\n\
+        r1 post r0 empty\n\
+        r1 post r1 empty\n\
+        r1 post r2 empty\n\
+        r2 post r0 round 0 2/idle/r2\n\
+        r2 post r1 empty\n\
+        r2 post r2 empty\n\
+        r2 take r0 round 0 0/idle/r0\n\
+        r2 take r1 empty\n\
+        r2 take r2 empty\n";
+    is_told(&rt, rt.alloc(), script, text)
+}
+
+#[test]
+fn a_forged_draft_is_not_posted(rt: HostRuntime) -> Result<(), Fail> {
+    // in the place of a forged draft to a replica stands the empty envelope, in that of one to a client nothing
+    let script = "dsr-serve 1 3 1 1 r2\n\
+        script r2 0 r0 round 0 2/idle/r1\n\
+        script r2 0 r1 round 0 2/idle/r2\n\
+        script r2 0 c0 round 0 2/idle/r1\n";
+    let text = "dsr-transcript 1 3 1 1 r2\n\
+        r0 post r0 round 0 0/idle/r0\n\
+        r0 post r1 round 0 0/idle/r0\n\
+        r0 post r2 round 0 0/idle/r0\n\
+        r1 post r0 empty\n\
+        r1 post r1 empty\n\
+        r1 post r2 empty\n\
+        r2 post r0 empty\n\
+        r2 post r1 round 0 2/idle/r2\n\
+        r2 post r2 empty\n\
+        r2 take r0 round 0 0/idle/r0\n\
+        r2 take r1 empty\n\
+        r2 take r2 empty\n";
+    is_told(&rt, rt.alloc(), script, text)
+}
+
+#[test]
+fn a_traitor_posts_to_a_client_by_its_script(rt: HostRuntime) -> Result<(), Fail> {
+    let script = "dsr-serve 1 3 1 1 r2\nscript r2 0 c0 reply 1 0 held 9\n";
+    let text = "dsr-transcript 1 3 1 1 r2\n\
+        r0 post r0 round 0 0/idle/r0\n\
+        r0 post r1 round 0 0/idle/r0\n\
+        r0 post r2 round 0 0/idle/r0\n\
+        r1 post r0 empty\n\
+        r1 post r1 empty\n\
+        r1 post r2 empty\n\
+        r2 post r0 empty\n\
+        r2 post r1 empty\n\
+        r2 post r2 empty\n\
+        r2 post c0 reply 1 0 held 9\n\
+        r2 take r0 round 0 0/idle/r0\n\
+        r2 take r1 empty\n\
+        r2 take r2 empty\n";
+    is_told(&rt, rt.alloc(), script, text)
+}
+
+#[test]
+fn a_shut_gate_stops_a_traitor(rt: HostRuntime) -> Result<(), Fail> {
+    let script = Script::read(rt.alloc(), b"dsr-serve 1 3 1 1 r2\n".as_slice())?;
+    let mut office = posted(&rt, rt.alloc())?;
+    let traitor = Actor::Replica(ReplicaId::of(2));
+    let gate = Until { turns: 0 };
+    let ran = office.run_traitor(&rt, rt.alloc(), &traitor, &script, &gate, 1);
+    assert_eq!(rt; ran, Err(Refusal::Stopped));
+    Ok(())
+}
