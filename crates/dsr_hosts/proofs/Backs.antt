@@ -1,14 +1,10 @@
 -- What is known of a seat that came back.
-use Rattle.std.proofs.Common.{◌≡◌, ◌++◌, List, [], ◌∷◌, Option, None, Some, ◌⊎◌, inl, inr, refl, sym, subst, ap, ap₂, ◌∙◌}
-use Rattle.std.specs.Prelude.{All, IfSome, map}
-use Rattle.std.proofs.lemmas.List.{map-append}
-use Rattle.std.proofs.lemmas.List.Elements.{All-append}
-use Rattle.dsr_base.specs.Member.{In}
+use Rattle.std.proofs.Common.{◌≡◌, Some, inr, refl, sym, subst}
 use Rattle.dsr_names.specs.declared.actor.Actor.{Actor}
 use Rattle.dsr_names.specs.declared.refusal.Refusal.TheVariants.{NoThread}
 use Rattle.dsr_script.specs.Script.{Script}
-use Rattle.dsr_boxes.specs.Pass.{SharedBoxes, Pass}
-use Rattle.dsr_rounds.specs.declared.end.End.TheVariants.{Told, Fault}
+use Rattle.dsr_boxes.specs.Pass.{SharedBoxes}
+use Rattle.dsr_rounds.specs.declared.end.End.TheVariants.{Fault}
 use Rattle.dsr_hosts.specs.declared.any_seat.AnySeat.{AnySeat}
 use Rattle.dsr_hosts.specs.declared.any_seat.AnySeat.TheVariants.{Loyal, Traitor, OfClient}
 use Rattle.dsr_hosts.specs.declared.back.Back.{Back}

@@ -1,5 +1,5 @@
 -- What the hosts of all seats leave, once the mail is closed.
-use Rattle.std.proofs.Common.{◌≡◌, ℕ, zero, suc, ◌<◌, ◌≤◌, ◌+◌, Bool, true, ◌++◌, List, [], ◌∷◌, Option, None, Some, ◌⊎◌, inl, inr, refl, sym, subst, ap, ap₂, ◌∙◌, arith}
+use Rattle.std.proofs.Common.{◌≡◌, ℕ, zero, suc, ◌<◌, ◌+◌, Bool, true, ◌++◌, List, [], ◌∷◌, Some, ◌⊎◌, inl, inr, refl, sym, subst, ap, ◌∙◌, arith}
 use Rattle.std.specs.Prelude.{All, IfSome, map}
 use Rattle.std.proofs.lemmas.Bool.{cases_eq}
 use Rattle.std.proofs.lemmas.List.Elements.{All-cons, All-nil}
@@ -8,7 +8,7 @@ use Rattle.dsr_base.proofs.MemberLemmas.{In-append_left, In-append_right, In-app
 use Rattle.dsr_names.specs.Places.{size, place_of, actor_at}
 use Rattle.dsr_names.specs.Shape.{Shape, IsActor}
 use Rattle.dsr_names.specs.declared.actor.Actor.{Actor}
-use Rattle.dsr_names.specs.declared.actor.Actor.TheVariants.{Replica, Client}
+use Rattle.dsr_names.specs.declared.actor.Actor.TheVariants.{Client}
 use Rattle.dsr_names.specs.declared.refusal.Refusal.{Refusal}
 use Rattle.dsr_names.specs.declared.refusal.Refusal.TheVariants.{BadShape, BadName, BadNumber, Busy, NotDue, BoxFull, BoxEmpty, Forged, Exhausted, Stopped, Unanswered, NoMemory, BadText, NotARun, NoActor, WrongRole, ReadFailed, WriteFailed, NoThread}
 use Rattle.dsr_names.proofs.PlaceLemmas.{actor_of_place}
@@ -21,7 +21,7 @@ use Rattle.dsr_calls.specs.Calls.{number_of}
 use Rattle.dsr_rounds.specs.Ends.{HostRefusal}
 use Rattle.dsr_hosts.specs.declared.ends.Fault.{Fault}
 use Rattle.dsr_hosts.specs.declared.ran.Ran.{Ran}
-use Rattle.dsr_hosts.specs.Causes.{CauseOf, HasPastLimit}
+use Rattle.dsr_hosts.specs.Causes.{CauseOf}
 use Rattle.dsr_hosts.specs.Hosted.{IsServed}
 use Rattle.dsr_hosts.specs.Returns.{WasRefused, HaveRun}
 use Rattle.dsr_hosts.specs.Seats.{IsNewSeat, IsSeatOf, AreNew, AreAgain, all_of}

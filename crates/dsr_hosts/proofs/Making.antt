@@ -1,27 +1,24 @@
 -- How calls make an operation.
-use Rattle.std.proofs.Common.{◌≡◌, ℕ, Bool, true, false, List, ◌∷◌, Option, None, Some, ◌⊎◌, inl, inr, refl, sym, subst, ap, ap₂, ◌∙◌}
+use Rattle.std.proofs.Common.{◌≡◌, ℕ, List, Option, None, Some, inl, inr, refl, sym, subst, ap}
 use Rattle.std.specs.Prelude.{IsSome}
 use Rattle.std.proofs.lemmas.Bool.{false≢true}
-use Rattle.std.specs.Option.{option_map, option_or}
+use Rattle.std.specs.Option.{option_or}
 use Rattle.dsr_names.specs.Shape.{Shape}
 use Rattle.dsr_names.specs.declared.actor.Actor.{Actor}
-use Rattle.dsr_names.specs.declared.actor.Actor.TheVariants.{Replica, Client}
+use Rattle.dsr_names.specs.declared.actor.Actor.TheVariants.{Client}
 use Rattle.dsr_names.specs.declared.refusal.Refusal.{Refusal}
-use Rattle.dsr_names.specs.declared.refusal.Refusal.TheVariants.{Exhausted, Unanswered, NoMemory}
 use Rattle.dsr_request.specs.declared.op.Op.{Op}
 use Rattle.dsr_ledger.specs.declared.reply.Reply.{Reply as AReply}
 use Rattle.dsr_chain.specs.declared.signed_request.SignedRequest.{SignedRequest}
 use Rattle.dsr_envelope.specs.declared.entry.Entry.{Entry}
-use Rattle.dsr_client.specs.Conduct.{ask_of, next_number}
 use Rattle.dsr_client.specs.State.{outstanding}
 use Rattle.dsr_node.specs.Conduct.{is_traitor_of}
 use Rattle.dsr_boxes.specs.Pass.{Pass}
-use Rattle.dsr_calls.specs.Calls.{GoesOn, number_of, awaited, IsAwaited, IsAnswered, Awaits}
-use Rattle.dsr_calls.specs.Calls.{Answers as CallAnswers}
+use Rattle.dsr_calls.specs.Calls.{GoesOn, number_of, awaited, IsAwaited, IsAnswered}
 use Rattle.dsr_calls.specs.Limits.{CallRefusal}
 use Rattle.dsr_rounds.specs.Ends.{HostRefusal}
 use Rattle.dsr_hosts.specs.Causes.{ClientRefusal}
-use Rattle.dsr_hosts.specs.Requests.{next_ask, IsOnItsWay, HasMade, IsMaking, Answers, Keeps}
+use Rattle.dsr_hosts.specs.Requests.{next_ask, IsOnItsWay, HasMade, IsMaking}
 
 -- the laws of calls that follow each other
 abbrev pub AwaitedLaw : Type 0

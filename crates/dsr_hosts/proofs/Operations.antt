@@ -1,5 +1,5 @@
 -- How a client's operations are made one after another.
-use Rattle.std.proofs.Common.{◌≡◌, ℕ, suc, ◌+◌, ◌<◌, ◌++◌, List, [], ◌∷◌, get_or, take, length, refl, sym, subst, ap, ◌∙◌}
+use Rattle.std.proofs.Common.{◌≡◌, ℕ, ◌+◌, ◌<◌, ◌++◌, List, [], ◌∷◌, get_or, take, length, refl, sym, subst, ap, ◌∙◌}
 use Rattle.std.specs.Prelude.{reverse}
 use Rattle.std.proofs.lemmas.List.{append_assoc, reverse-append, take_more}
 use Rattle.dsr_base.specs.Growth.{Extends}
@@ -10,11 +10,11 @@ use Rattle.dsr_request.specs.declared.op.Op.{Op}
 use Rattle.dsr_ledger.specs.declared.reply.Reply.{Reply as AReply}
 use Rattle.dsr_envelope.specs.declared.entry.Entry.{Entry}
 use Rattle.dsr_client.specs.Conduct.{ask_of, next_number}
-use Rattle.dsr_client.specs.State.{outstanding, accepted}
+use Rattle.dsr_client.specs.State.{accepted}
 use Rattle.dsr_boxes.specs.Pass.{Pass}
 use Rattle.dsr_calls.specs.Calls.{GoesOn, number_of, IsAnswered}
-use Rattle.dsr_hosts.specs.Requests.{HasMade, IsMaking, IsOnItsWay}
-use Rattle.dsr_hosts.specs.Served.{AreRepliesTo, IsReplyTo, HasAll}
+use Rattle.dsr_hosts.specs.Requests.{HasMade}
+use Rattle.dsr_hosts.specs.Served.{AreRepliesTo, HasAll}
 
 -- replies stay those to their operations in a longer log
 replies_stay : (me : ℕ) (old new : List Entry) → Extends new old → (replies : List AReply) (ops : List Op) → AreRepliesTo me old replies ops

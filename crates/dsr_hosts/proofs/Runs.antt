@@ -1,6 +1,6 @@
 -- How the seats that came back become one more.
-use Rattle.std.proofs.Common.{◌≡◌, ℕ, zero, suc, ◌<◌, ◌≤◌, Bool, true, ◌++◌, List, [], ◌∷◌, Option, None, Some, ◌⊎◌, inl, inr, refl, sym, subst, ap, ap₂, ◌∙◌, length, arith}
-use Rattle.std.specs.Prelude.{All, IfSome, map, slice_index_or, vec_len, vec_capacity}
+use Rattle.std.proofs.Common.{◌≡◌, ℕ, suc, ◌≤◌, true, ◌++◌, List, [], ◌∷◌, Option, None, Some, ◌⊎◌, inl, inr, refl, sym, subst, ap, ap₂, ◌∙◌, length, arith}
+use Rattle.std.specs.Prelude.{All, IfSome, map}
 use Rattle.std.proofs.lemmas.List.{map-append, length-append, length-map}
 use Rattle.std.proofs.lemmas.List.Elements.{All-append, All-cons, All-head, All-nil, All-tail}
 use Rattle.dsr_base.specs.Member.{In, here}
@@ -10,13 +10,12 @@ use Rattle.dsr_script.specs.Script.{Script}
 use Rattle.dsr_boxes.specs.Pass.{SharedBoxes, Pass}
 use Rattle.dsr_mail.specs.declared.seats.Seats.{Seats}
 use Rattle.dsr_rounds.specs.declared.end.End.{End}
-use Rattle.dsr_rounds.specs.declared.end.End.TheVariants.{Told, Fault}
+use Rattle.dsr_rounds.specs.declared.end.End.TheVariants.{Fault}
 use Rattle.dsr_hosts.specs.declared.any_seat.AnySeat.{AnySeat}
 use Rattle.dsr_hosts.specs.declared.any_seat.AnySeat.TheVariants.{Loyal, Traitor, OfClient}
 use Rattle.dsr_hosts.specs.declared.ends.Ends.{Ends}
 use Rattle.dsr_hosts.specs.declared.ends.Fault.{Fault as AFault}
 use Rattle.dsr_hosts.specs.declared.ran.Ran.{Ran}
-use Rattle.dsr_hosts.specs.Causes.{SeatRefusal}
 use Rattle.dsr_hosts.specs.Hosted.{IsServed, IsEnding}
 use Rattle.dsr_hosts.specs.Returns.{WasRefused, HaveRun}
 use Rattle.dsr_hosts.specs.Seats.{pass_of, is_of_client, IsNewSeat, IsSeatOf, IsAgain, IsBack, HasLast, HasRoomFor, SameRoom, AreNew, AreNone, AreAgain, all_of}

@@ -1,5 +1,5 @@
 -- What comes back from the host of a seat. No public contract cites this.
-use Rattle.std.specs.Prelude.{◌≡◌, Option, None, Some}
+use Rattle.std.specs.Prelude.{Option, None, Some}
 use Rattle.dsr_names.specs.declared.actor.Actor.{Actor}
 use Rattle.dsr_script.specs.Script.{Script, ops_of}
 use Rattle.dsr_boxes.specs.Pass.{SharedBoxes, Pass}

@@ -89,7 +89,8 @@ impl<'a, R: Wait, G: Gate> Service<'a, R, G> {
         }
     }
 
-    /// The host of the seat has ended. A refusal tells all others to stop, and so does the last client's work when it is done.
+    /// The host of the seat has ended. A refusal tells all others to stop, and so does the last client's work when it is done. Whoever tells them
+    /// first sees them end.
     fn leave(&self, back: &Back)
         requires { IsPassOf self.now.host.mail.now (pass_of back.now.seat) }
     {
@@ -98,13 +99,11 @@ impl<'a, R: Wait, G: Gate> Service<'a, R, G> {
             Some(End::Told) => false,
             None => back.seat.is_of_client() && self.clients.fetch_sub(1, SeqCst) == 1,
         };
-        if tells {
-            self.host.stop.tell();
-        }
+        let first = tells && self.host.stop.tell();
         if !back.seat.is_of_client() {
             self.host.stop.note_end();
         }
-        if tells {
+        if first {
             self.see_all_end(&back.seat);
         }
     }

@@ -1,6 +1,5 @@
-use Rattle.std.proofs.Common.{◌≡◌, refl, sym, subst}
 use Rattle.dsr_mail.specs.Seats.{is_loyal_replica, is_traitor_replica, is_client}
-use Rattle.dsr_hosts.proofs.Closing.{are_new, are_seats_of, all_served, cause_from, some_cause}
+use Rattle.dsr_hosts.proofs.Closing.{are_new, are_seats_of, all_served, some_cause}
 use Rattle.dsr_hosts.proofs.serving.serve.Goals as goal
 
 pub run_all-ran-requires-after_bounds : goal.run_all-ran-requires-after_bounds

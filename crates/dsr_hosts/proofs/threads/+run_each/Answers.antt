@@ -1,4 +1,4 @@
-use Rattle.std.proofs.Common.{◌≡◌, refl, sym, ◌∙◌, subst}
+use Rattle.std.proofs.Common.{subst}
 use Rattle.dsr_hosts.specs.Seats.{IsBack}
 use Rattle.dsr_hosts.proofs.Backs.{comes_at}
 use Rattle.dsr_hosts.proofs.Runs.{none_run, still_new, come_on, room_left}

@@ -1,0 +1,128 @@
+#!/usr/bin/env python3
+"""Services in threads: tests/services.py, or with the word `soak` a thousand of them. It needs what `rt ci` built.
+
+Runs `dsr_own_service` on scripts with traitors that are silent, that send one replica what they don't send another, that lie to clients, and that
+would forge. How its threads take turns is up to them, so no two runs are alike. Of each is asked:
+
+1. that it ends in time, with status 0, or with 1 where its gate stopped it or a client had no reply before the rounds were used up;
+2. that `dsr check` takes its transcript for a run;
+3. that with status 0 each client accepted as many replies as the script has operations of it, to its requests 1, 2, and so on.
+
+Of all runs together that are not to be stopped at least nine of ten must serve all clients. Some have one processor alone. The last line is
+`N passed, M failed`.
+"""
+
+import os
+import random
+import subprocess
+import sys
+
+TOP = os.path.dirname(os.path.dirname(os.path.realpath(__file__)))
+SERVICE = f"{TOP}/crates/dsr_own_service/out/dsr_own_service"
+PROGRAM = f"{TOP}/crates/dsr/out/dsr"
+MOST_BYTES = 16_777_216
+UNSTOPPED = 10**12
+SHAPES = ["1 0 1 -", "3 1 1 -", "3 1 2 r2", "4 1 2 r0", "4 1 4 r3", "5 2 3 r1+r4", "7 3 4 r0+r2+r6"]
+LARGE = "16 7 32 r1+r3+r5+r7+r9+r11+r13"
+OPERATIONS = ["read a", "write a 5", "write b 7", "remove a", "swap a 5 6", "swap b - 1"]
+
+
+def say(text):
+    print(text, flush=True)
+
+
+def drafts_of(chance, n, m, traitor):
+    """The lines of what a traitor does in its first rounds."""
+    kind = chance.choice(["silent", "two-faced", "lying", "forging"])
+    lines = []
+    for t in range(3 * n if kind != "silent" else 0):
+        if kind == "two-faced" and t % n == traitor:
+            to = chance.randrange(n)
+            lines.append(f"script r{traitor} {t} r{to} round {t} {t}/idle/r{traitor}")
+        elif kind == "lying":
+            lines.append(f"script r{traitor} {t} c{chance.randrange(m)} reply {1 + t % 3} {t} held {t}")
+        elif kind == "forging":
+            lines.append(f"script r{traitor} {t} r{chance.randrange(n)} round {t} {t}/idle/r{t % n}")
+    return lines
+
+
+def script_of(chance, shape):
+    """A script of the shape, and how many operations each client has there."""
+    n, _, m, traitors = shape.split(" ")
+    n, m = int(n), int(m)
+    counts = [chance.randrange(1, 4) for _ in range(m)]
+    lines = [f"ask c{client} {chance.choice(OPERATIONS)}" for client in range(m) for _ in range(counts[client])]
+    for traitor in [] if traitors == "-" else traitors.split("+"):
+        lines += list(dict.fromkeys(drafts_of(chance, n, m, int(traitor[1:]))))
+    return "\n".join([f"dsr-serve 1 {shape}", *lines]) + "\n", counts
+
+
+def serve(script, passes, alone):
+    """How a service ended: its status, its transcript, and what it said."""
+    words = [*(["taskset", "-c", "0"] if alone else []), SERVICE, str(passes), "transcript"]
+    ran = subprocess.run(words, input=script.encode(), capture_output=True, timeout=120)
+    return ran.returncode, ran.stdout, ran.stderr.decode(errors="replace")
+
+
+def accepted_in(report):
+    """The numbers of the replies that each client accepted, by the report of `dsr check`."""
+    numbers = {}
+    for line in report.decode().split("\n"):
+        if line.startswith("accepted "):
+            _, client, number, _ = line.split(" ", 3)
+            numbers.setdefault(client, []).append(int(number))
+    return numbers
+
+
+def fault_of(status, transcript, said, counts, stopped):
+    """What is wrong with how a service ended; None where nothing is."""
+    ends = {0: [""], 1: ["dsr: no answer within the turns\n"] + ["dsr: stopped by the gate\n"] * stopped}
+    if said not in ends.get(status, []):
+        return f"status {status}: {said!r}"
+    if len(transcript) > MOST_BYTES:
+        return None
+    checked = subprocess.run([PROGRAM, "check"], input=transcript, capture_output=True, timeout=120)
+    if checked.returncode != 0:
+        return f"its transcript is no run: {checked.stderr.decode(errors='replace')}"
+    wanted = {f"c{client}": list(range(1, count + 1)) for client, count in enumerate(counts)}
+    if status == 0 and accepted_in(checked.stdout) != wanted:
+        return f"accepted were {accepted_in(checked.stdout)}, and not {wanted}"
+    return None
+
+
+def rows(runs):
+    """Each run: its shape, after how many passes it is stopped, and whether it has one processor alone."""
+    for number in range(runs):
+        stopped = number % 4 == 3
+        yield SHAPES[number % len(SHAPES)], 50 * number if stopped else UNSTOPPED, number % 5 == 2
+    yield LARGE, UNSTOPPED, False
+
+
+def main(words):
+    if words not in ([], ["soak"]):
+        say("tests/services.py takes no word but soak\n0 passed, 1 failed")
+        return 2
+    chance = random.Random(1983)
+    passed = failed = served = unstopped = 0
+    for number, (shape, passes, alone) in enumerate(rows(1000 if words else 200)):
+        script, counts = script_of(chance, shape)
+        stopped = passes != UNSTOPPED
+        try:
+            status, transcript, said = serve(script, passes, alone)
+            fault = fault_of(status, transcript, said, counts, stopped)
+        except (OSError, subprocess.TimeoutExpired) as error:
+            status, fault = None, str(error)
+        unstopped, served = unstopped + (not stopped), served + (not stopped and status == 0)
+        passed, failed = passed + (not fault), failed + bool(fault)
+        if fault:
+            say(f"service {number} of shape {shape}: FAILED: {fault}\n{script}")
+    if 10 * served < 9 * unstopped:
+        say(f"only {served} of {unstopped} services that nothing stopped have served all clients: FAILED")
+        failed += 1
+    say(f"{served} of {unstopped} services that nothing stopped have served all clients")
+    say(f"{passed} passed, {failed} failed")
+    return 1 if failed else 0
+
+
+if __name__ == "__main__":
+    sys.exit(main(sys.argv[1:]))
