@@ -24,7 +24,7 @@ MOST_BYTES = 16_777_216
 UNSTOPPED = 10**12
 SHAPES = ["1 0 1 -", "3 1 1 -", "3 1 2 r2", "4 1 2 r0", "4 1 4 r3", "5 2 3 r1+r4", "7 3 4 r0+r2+r6"]
 LARGE = "16 7 32 r1+r3+r5+r7+r9+r11+r13"
-OPERATIONS = ["read a", "write a 5", "write b 7", "remove a", "swap a 5 6", "swap b - 1"]
+OPERATIONS = ["read a", "write a 5", "write b 7", "remove a", "swap a 5 6", "swap b none 1"]
 
 
 def say(text):
