@@ -24,6 +24,7 @@ import shutil
 import signal
 import sys
 import tempfile
+import threading
 from concurrent.futures import FIRST_COMPLETED, ThreadPoolExecutor, wait
 
 # What is called of the module, and of each of its crates.
@@ -67,7 +68,27 @@ def toolchain():
     lacking += [name for name in CRATE_CALLS if not hasattr(getattr(module, "Crate", None), name)]
     if lacking:
         raise OtherToolchain(f"rtlib.py has no {', '.join(lacking)}")
+    module.Crate.stamp = each_once(module.Crate.stamp)
     return module
+
+
+def each_once(walk):
+    """rt's stamp of a crate, for which each crate below is gone through once, and not once for each way to it: of those there are very many."""
+    seen = threading.local()
+
+    def stamp(crate):
+        outermost = not hasattr(seen, "stamps")
+        if outermost:
+            seen.stamps = {}
+        try:
+            if crate.folder not in seen.stamps:
+                seen.stamps[crate.folder] = walk(crate)
+            return seen.stamps[crate.folder]
+        finally:
+            if outermost:
+                del seen.stamps
+
+    return stamp
 
 
 def crates_of(module, top):
