@@ -8,8 +8,8 @@ would forge. How its threads take turns is up to them, so no two runs are alike.
 2. that `dsr check` takes its transcript for a run;
 3. that with status 0 each client accepted as many replies as the script has operations of it, to its requests 1, 2, and so on.
 
-Of all runs together that are not to be stopped at least nine of ten must serve all clients. Some have one processor alone. The last line is
-`N passed, M failed`.
+Of all runs together that are not to be stopped at least nine of ten must serve all clients, and of those that are to be, half must be stopped. Some have
+one processor alone. The last line is `N passed, M failed`.
 """
 
 import os
@@ -80,7 +80,7 @@ def fault_of(status, transcript, said, counts, stopped):
     if said not in ends.get(status, []):
         return f"status {status}: {said!r}"
     if len(transcript) > MOST_BYTES:
-        return None
+        return f"its transcript has {len(transcript)} bytes, more than `dsr check` reads"
     checked = subprocess.run([PROGRAM, "check"], input=transcript, capture_output=True, timeout=120)
     if checked.returncode != 0:
         return f"its transcript is no run: {checked.stderr.decode(errors='replace')}"
@@ -94,7 +94,7 @@ def rows(runs):
     """Each run: its shape, after how many passes it is stopped, and whether it has one processor alone."""
     for number in range(runs):
         stopped = number % 4 == 3
-        yield SHAPES[number % len(SHAPES)], 50 * number if stopped else UNSTOPPED, number % 5 == 2
+        yield SHAPES[number % len(SHAPES)], 1 + 7 * number % 101 if stopped else UNSTOPPED, number % 5 == 2
     yield LARGE, UNSTOPPED, False
 
 
@@ -103,7 +103,7 @@ def main(words):
         say("tests/services.py takes no word but soak\n0 passed, 1 failed")
         return 2
     chance = random.Random(1983)
-    passed = failed = served = unstopped = 0
+    passed = failed = served = unstopped = halted = halting = 0
     for number, (shape, passes, alone) in enumerate(rows(1000 if words else 200)):
         script, counts = script_of(chance, shape)
         stopped = passes != UNSTOPPED
@@ -112,6 +112,7 @@ def main(words):
             fault = fault_of(status, transcript, said, counts, stopped)
         except (OSError, subprocess.TimeoutExpired) as error:
             status, fault = None, str(error)
+        halting, halted = halting + stopped, halted + (stopped and status == 1)
         unstopped, served = unstopped + (not stopped), served + (not stopped and status == 0)
         passed, failed = passed + (not fault), failed + bool(fault)
         if fault:
@@ -119,6 +120,10 @@ def main(words):
     if 10 * served < 9 * unstopped:
         say(f"only {served} of {unstopped} services that nothing stopped have served all clients: FAILED")
         failed += 1
+    if 2 * halted < halting:
+        say(f"only {halted} of {halting} services were stopped by their gates: FAILED")
+        failed += 1
+    say(f"{halted} of {halting} services were stopped by their gates")
     say(f"{served} of {unstopped} services that nothing stopped have served all clients")
     say(f"{passed} passed, {failed} failed")
     return 1 if failed else 0
