@@ -234,7 +234,9 @@ class WhatTheToolchainSays(unittest.TestCase):
     def test_refused(self):
         self.assertEqual(self.found["low/kept.edit"], Outcome("src/lib.rt:36:5: it is not proved that what the function ensures holds when it returns (`returns`)", None))
         self.assertEqual(self.found["low/at-a-path.edit"].place, "src/lib.rt:7:1: it is not proved")
-        self.assertEqual(self.found["low/nowhere.edit"], Outcome("at no place that was told", None))
+
+    def test_refused_at_no_place(self):
+        self.assertEqual(self.found["low/nowhere.edit"], Outcome(None, "refused at no place, which says nothing of a contract"))
 
     def test_not_refused_and_bad(self):
         for name, word in (("still-proved", "NOT REFUSED"), ("no-such-text", "BAD EDIT"), ("no-such-name", "BAD EDIT"), ("no-such-field", "BAD EDIT")):

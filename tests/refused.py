@@ -154,12 +154,16 @@ def outcome_of(said):
     if not said.startswith(REFUSED):
         return Outcome(None, said)
     more = said.removeprefix(REFUSED)
-    # rt takes these two for refused too, but no clause was tried.
+    # rt takes these for refused too, but no clause was tried.
     if more.startswith(" (only because"):
         return Outcome(None, f"refused{more}")
     if re.search(r":\d+:\d+: warning: ", more):
         return Outcome(None, f"refused for a warning alone, which says nothing of a contract{more}")
-    return Outcome(place_of(more.removeprefix(": ")) or "at no place that was told", None)
+    place = place_of(more.removeprefix(": "))
+    if not place:
+        # As where the borrow checker does not cover what an edit made of a function.
+        return Outcome(None, "refused at no place, which says nothing of a contract")
+    return Outcome(place, None)
 
 
 def outcomes(said):
