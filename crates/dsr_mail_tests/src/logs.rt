@@ -1,9 +1,9 @@
 //! The logs of closed mails, and of none.
 
-use crate::office::{Office, stage};
 use dsr_envelope::{Entry, Envelope};
 use dsr_ledger::Reply;
 use dsr_mail::Logs;
+use dsr_mail_office::{Office, stage};
 use dsr_names::{Actor, ClientId, ReplicaId, Shape};
 use dsr_request::{Answer, Name, Op, Request};
 use std::process::Abort;
@@ -61,7 +61,7 @@ fn write_7() -> Result<Request, Fail> {
 
 #[test]
 fn the_logs_of_a_closed_mail_are_those_of_its_seats(rt: HostRuntime) -> Result<(), Fail> {
-    let office = stage(&rt, rt.alloc(), TWO, &[Ok(()); 7])?;
+    let office = stage(rt.alloc(), TWO, &[Ok(()); 7])?;
     let logs = office.close();
     assert_eq!(rt; *logs.shape(), Shape::new(1, 0, 2, 0)?);
     are_long(&rt, &logs, [4, 2, 1]);
@@ -79,7 +79,7 @@ fn the_logs_of_a_closed_mail_are_those_of_its_seats(rt: HostRuntime) -> Result<(
 
 #[test]
 fn a_closed_mail_has_a_history(rt: HostRuntime) -> Result<(), Fail> {
-    let office = stage(&rt, rt.alloc(), TWO, &[Ok(()); 7])?;
+    let office = stage(rt.alloc(), TWO, &[Ok(()); 7])?;
     let logs = office.close();
     assert_eq!(rt; logs.history(), [write_7()?].as_slice());
     let reply = Reply {

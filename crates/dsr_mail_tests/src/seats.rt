@@ -1,9 +1,9 @@
 //! What seats tell.
 
-use crate::office::{Office, go_on, stage};
 use dsr_envelope::{Clients, Due, Envelope, Pick};
 use dsr_ledger::Reply;
 use dsr_mail::{ClientSeat, ReplicaSeat};
+use dsr_mail_office::{Office, go_on, stage};
 use dsr_names::{Actor, ClientId, ReplicaId, Shape};
 use dsr_request::{Answer, Name, Op, Request};
 use std::process::Abort;
@@ -73,13 +73,13 @@ fn seats_stand_by_kind_and_number(rt: HostRuntime) -> Result<(), Fail> {
 
 #[test]
 fn a_client_tells_whom_it_asked(rt: HostRuntime) -> Result<(), Fail> {
-    let mut office = stage(&rt, rt.alloc(), "dsr-play 1 2 0 1 -\n", &[])?;
+    let mut office = stage(rt.alloc(), "dsr-play 1 2 0 1 -\n", &[])?;
     client_is(&rt, client(&office)?, None, (false, false), 0);
     let text = "dsr-play 1 2 0 1 -\npost c0 r1 begin write a 7\n";
-    go_on(&rt, rt.alloc(), &mut office, text, &[Ok(())])?;
+    go_on(rt.alloc(), &mut office, text, &[Ok(())])?;
     client_is(&rt, client(&office)?, Some(1), (false, true), 0);
     let text = "dsr-play 1 2 0 1 -\npost c0 r0\n";
-    go_on(&rt, rt.alloc(), &mut office, text, &[Ok(())])?;
+    go_on(rt.alloc(), &mut office, text, &[Ok(())])?;
     client_is(&rt, client(&office)?, Some(1), (true, true), 0);
     Ok(())
 }
@@ -92,7 +92,7 @@ fn a_client_accepts_a_reply(rt: HostRuntime) -> Result<(), Fail> {
         post r0 r0 from c0\n\
         take r0 r0\n\
         post r0 c0\n";
-    let mut office = stage(&rt, rt.alloc(), text, &[Ok(()); 5])?;
+    let mut office = stage(rt.alloc(), text, &[Ok(()); 5])?;
     client_is(&rt, client(&office)?, Some(1), (true, false), 0);
     let first = Actor::Replica(ReplicaId::FIRST);
     assert_eq!(rt;
@@ -102,7 +102,7 @@ fn a_client_accepts_a_reply(rt: HostRuntime) -> Result<(), Fail> {
     client_is(&rt, client(&office)?, None, (false, false), 1);
     assert_eq!(rt; client(&office)?.accepted(), [WRITTEN].as_slice());
     let again = "dsr-play 1 1 0 1 -\npost r0 c0\n";
-    go_on(&rt, rt.alloc(), &mut office, again, &[Ok(())])?;
+    go_on(rt.alloc(), &mut office, again, &[Ok(())])?;
     assert_eq!(rt; office.client_take(&ClientId::FIRST, &first), Ok(None));
     assert_eq!(rt; client(&office)?.accepted().len(), 1);
     Ok(())
@@ -116,7 +116,7 @@ fn a_told_front_is_seen(rt: HostRuntime) -> Result<(), Fail> {
         asks c0 begin write a 3\nhears c0\nposts r0 from c0\ntakes r0\nreplies c0\ntakes c0\n\
         tell c0 c1\ntake c1 c0\n\
         asks c1 begin read a\nhears c1\nposts r0 from c1\ntakes r0\nreplies c1\n";
-    let mut office = stage(&rt, rt.alloc(), text, &[Ok(()); 25])?;
+    let mut office = stage(rt.alloc(), text, &[Ok(()); 25])?;
     assert_eq!(rt; client(&office)?.seen(), 3);
     let other = office.clients().last().ok_or("no client")?;
     assert_eq!(rt; other.seen(), 3);
@@ -153,16 +153,16 @@ fn replica_is<R: Abort>(
 #[test]
 fn a_replica_tells_what_it_may_post(rt: HostRuntime) -> Result<(), Fail> {
     let first = ReplicaId::FIRST;
-    let mut office = stage(&rt, rt.alloc(), "dsr-play 1 1 0 1 -\n", &[])?;
+    let mut office = stage(rt.alloc(), "dsr-play 1 1 0 1 -\n", &[])?;
     replica_is(&rt, replica(&office)?, Due::Post(first), false, true)?;
     let text = "dsr-play 1 1 0 1 -\npost c0 r0 begin write a 7\ntake r0 c0\n";
-    go_on(&rt, rt.alloc(), &mut office, text, &[Ok(()); 2])?;
+    go_on(rt.alloc(), &mut office, text, &[Ok(()); 2])?;
     replica_is(&rt, replica(&office)?, Due::Post(first), true, true)?;
     let text = "dsr-play 1 1 0 1 -\npost r0 r0 from c0\n";
-    go_on(&rt, rt.alloc(), &mut office, text, &[Ok(())])?;
+    go_on(rt.alloc(), &mut office, text, &[Ok(())])?;
     replica_is(&rt, replica(&office)?, Due::Take(first), false, false)?;
     let text = "dsr-play 1 1 0 1 -\ntake r0 r0\n";
-    go_on(&rt, rt.alloc(), &mut office, text, &[Ok(())])?;
+    go_on(rt.alloc(), &mut office, text, &[Ok(())])?;
     replica_is(&rt, replica(&office)?, Due::Post(first), true, true)?;
     Ok(())
 }
@@ -170,17 +170,17 @@ fn a_replica_tells_what_it_may_post(rt: HostRuntime) -> Result<(), Fail> {
 #[test]
 fn a_replica_tells_what_it_holds_and_replies(rt: HostRuntime) -> Result<(), Fail> {
     let text = "dsr-play 1 1 0 1 -\npost c0 r0 begin write a 7\n";
-    let mut office = stage(&rt, rt.alloc(), text, &[Ok(())])?;
+    let mut office = stage(rt.alloc(), text, &[Ok(())])?;
     assert_eq!(rt; replica(&office)?.held(ClientId::FIRST), None);
     let text = "dsr-play 1 1 0 1 -\ntake r0 c0\npost r0 r0 from c0\n";
-    go_on(&rt, rt.alloc(), &mut office, text, &[Ok(()); 2])?;
+    go_on(rt.alloc(), &mut office, text, &[Ok(()); 2])?;
     assert_eq!(rt;
         replica(&office)?.held(ClientId::FIRST),
         Some(first_request()?)
     );
     assert!(rt; replica(&office)?.reply_for(ClientId::FIRST).is_none());
     let text = "dsr-play 1 1 0 1 -\ntake r0 r0\n";
-    go_on(&rt, rt.alloc(), &mut office, text, &[Ok(())])?;
+    go_on(rt.alloc(), &mut office, text, &[Ok(())])?;
     let reply = replica(&office)?
         .reply_for(ClientId::FIRST)
         .ok_or("no reply")?;

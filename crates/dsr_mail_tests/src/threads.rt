@@ -1,11 +1,8 @@
 //! Seats in two threads. Whoever cannot go on where memory was refused leaves the other one waiting, so these tests are of ample memory.
 
-use crate::acting::Part;
 use crate::logs::entries;
-use crate::office::{Office, stage};
-use crate::pair::Pair;
-use crate::transcripts::{ONE_REPLICA, transcript};
 use dsr_envelope::Due;
+use dsr_mail_office::{Pair, Part, stage};
 use dsr_names::{Actor, ClientId, ReplicaId};
 use dsr_play::Play;
 use std::test::Fail;
@@ -17,25 +14,9 @@ fn part(play: &Play, times: u32) -> Part<'_> {
 }
 
 #[test]
-fn two_threads_make_the_run_that_one_makes(rt: HostRuntime) -> Result<(), Fail> {
-    let client = "dsr-play 1 1 0 1 -\npost c0 r0 begin write a 7\ntake c0 r0\n";
-    let replica = "dsr-play 1 1 0 1 -\ntake r0 c0\npost r0 r0 from c0\ntake r0 r0\npost r0 c0\n";
-    let client = Play::read(rt.alloc(), client.as_bytes())?;
-    let replica = Play::read(rt.alloc(), replica.as_bytes())?;
-    let mut office = Office::open(rt.alloc(), client.shape())?;
-    let parts = (part(&replica, 1), part(&client, 1));
-    let ends = office.both_act(&rt, rt.alloc(), parts);
-    assert_eq!(rt; ends, (Ok(()), Ok(())));
-    let logs = office.close();
-    let told = transcript(rt.alloc(), &logs)?;
-    assert_eq!(rt; told.as_slice(), ONE_REPLICA.as_bytes());
-    Ok(())
-}
-
-#[test]
 fn a_box_hands_over_a_thousand_envelopes(rt: HostRuntime) -> Result<(), Fail> {
     let begin = "dsr-play 1 1 0 1 -\npost c0 r0 begin write a 7\ntake r0 c0\n";
-    let mut office = stage(&rt, rt.alloc(), begin, &[Ok(()), Ok(())])?;
+    let mut office = stage(rt.alloc(), begin, &[Ok(()), Ok(())])?;
     let client = Play::read(rt.alloc(), b"dsr-play 1 1 0 1 -\npost c0 r0\n".as_slice())?;
     let replica = Play::read(rt.alloc(), b"dsr-play 1 1 0 1 -\ntake r0 c0\n".as_slice())?;
     let parts = (part(&replica, 1_000), part(&client, 1_000));

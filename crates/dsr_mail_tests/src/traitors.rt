@@ -1,6 +1,6 @@
 //! The seat of a traitor: it posts what it can sign, or took.
 
-use crate::office::{go_on, stage};
+use dsr_mail_office::{go_on, stage};
 use dsr_names::Refusal;
 use std::test::Fail;
 
@@ -33,7 +33,7 @@ fn a_traitor_signs_for_itself_alone(rt: HostRuntime) -> Result<(), Fail> {
         Err(Refusal::BoxEmpty),
         Err(Refusal::NoActor),
     ];
-    let _office = stage(&rt, rt.alloc(), text, &wanted)?;
+    let _office = stage(rt.alloc(), text, &wanted)?;
     Ok(())
 }
 
@@ -54,7 +54,7 @@ fn a_traitor_sends_on_a_request_that_it_took(rt: HostRuntime) -> Result<(), Fail
         Err(Refusal::Forged),
         Ok(()),
     ];
-    let _office = stage(&rt, rt.alloc(), text, &wanted)?;
+    let _office = stage(rt.alloc(), text, &wanted)?;
     Ok(())
 }
 
@@ -71,13 +71,13 @@ fn a_traitor_sends_on_a_chain_that_it_took(rt: HostRuntime) -> Result<(), Fail> 
         plant r0 r2 round 1 1/idle/r1\n";
     let mut wanted = [Ok(()); 13];
     wanted[12] = Err(Refusal::Forged);
-    let mut office = stage(&rt, rt.alloc(), first, &wanted)?;
+    let mut office = stage(rt.alloc(), first, &wanted)?;
     let then = "dsr-play 1 3 1 1 r0\n\
         take r0 r1\n\
         plant r0 r2 round 1 1/idle/r1\n\
         plant r0 r0 round 1 1/idle/r1+r0\n\
         plant r0 c0 round 1 1/idle/r1+r2\n";
     let wanted = [Ok(()), Ok(()), Ok(()), Err(Refusal::Forged)];
-    go_on(&rt, rt.alloc(), &mut office, then, &wanted)?;
+    go_on(rt.alloc(), &mut office, then, &wanted)?;
     Ok(())
 }

@@ -1,6 +1,6 @@
 //! How waits end where there is nothing to wait for.
 
-use crate::office::{Office, Side, stage};
+use dsr_mail_office::{Office, Side, stage};
 use dsr_names::{Actor, Refusal};
 use std::process::Abort;
 use std::sync::Wait;
@@ -23,7 +23,7 @@ fn waits_end<R: Abort + Wait>(
 
 #[test]
 fn waits_are_for_replicas(rt: HostRuntime) -> Result<(), Fail> {
-    let office = stage(&rt, rt.alloc(), "dsr-play 1 3 1 1 r0\n", &[])?;
+    let office = stage(rt.alloc(), "dsr-play 1 3 1 1 r0\n", &[])?;
     let rows = [
         (Side::To, "r3", Err(Refusal::NoActor)),
         (Side::From, "r3", Err(Refusal::NoActor)),
@@ -44,7 +44,7 @@ fn waits_are_for_replicas(rt: HostRuntime) -> Result<(), Fail> {
 #[test]
 fn nobody_waits_for_what_is_there(rt: HostRuntime) -> Result<(), Fail> {
     let text = "dsr-play 1 3 1 1 r0\nposts r2\nplants r0 empty\n";
-    let office = stage(&rt, rt.alloc(), text, &[Ok(()); 6])?;
+    let office = stage(rt.alloc(), text, &[Ok(()); 6])?;
     let rows = [(Side::From, "r0", Ok(())), (Side::From, "r2", Ok(()))];
     waits_end(&rt, &office, "r0", &rows)?;
     waits_end(&rt, &office, "r1", &rows)?;

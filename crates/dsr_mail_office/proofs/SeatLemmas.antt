@@ -1,0 +1,46 @@
+-- How seats stay the same.
+use Rattle.std.proofs.Common.{◌≡◌, ℕ, zero, suc, ◌<◌, Bool, List, [], ◌∷◌, refl, ap, sym, ◌∙◌, subst, arith, length, get_or, set}
+use Rattle.std.proofs.Math.Seq.{map-set_same}
+use Rattle.std.proofs.lemmas.List.Elements.{All-set}
+use Rattle.std.specs.Prelude.{map}
+use Rattle.dsr_names.specs.Shape.{Shape}
+use Rattle.dsr_names.specs.declared.actor.Actor.{Actor}
+use Rattle.dsr_boxes.specs.Pass.{SharedBoxes, Pass, IsPassOf, new_pass}
+use Rattle.dsr_mail.specs.Seats.{actors_of, AreSeatsOf}
+use Rattle.dsr_mail_office.specs.Same.{IsSameSeat}
+
+-- seats stay those of a mail where one of them stays the same
+pub seats_stay : (mail : SharedBoxes) (kind : Shape → Actor → Bool) (xs : List Pass) (place : ℕ) (old new : Pass) → AreSeatsOf mail kind xs
+    → place < length xs → old ≡ get_or xs place old → IsSameSeat old new → AreSeatsOf mail kind (set xs place new)
+seats_stay mail kind xs place old new are below at same =
+    let pass : IsPassOf mail (get_or xs place old) = are.0 place old below in (
+      All-set (IsPassOf mail) xs place new
+          (same.0 ∙ (ap (λ (seat : Pass). seat.id) at ∙ pass.0), same.1 ∙ (ap (λ (seat : Pass). seat.shape) at ∙ pass.1)) are.0,
+      map-set_same (λ (seat : Pass). seat.actor) xs place new old (same.2 ∙ ap (λ (seat : Pass). seat.actor) at) ∙ are.1,
+    )
+
+-- a seat that is the same as one that is the same
+pub same_twice : (one other last : Pass) → IsSameSeat one other → IsSameSeat other last → IsSameSeat one last
+same_twice one other last first second = (second.0 ∙ first.0, second.1 ∙ first.1, second.2 ∙ first.2)
+
+-- a seat that is the same is of the same mail
+pub of_mail_on : (mail : SharedBoxes) (one other : Pass) → IsSameSeat one other → IsPassOf mail one → IsPassOf mail other
+of_mail_on mail one other same pass = (same.0 ∙ pass.0, same.1 ∙ pass.1)
+
+-- new seats are those of their mail
+pub all_new : (mail : SharedBoxes) (actors : List Actor) (k : ℕ) (d : Pass) → k < length (map (new_pass mail) actors)
+    → IsPassOf mail (get_or (map (new_pass mail) actors) k d)
+all_new mail [] k d below = absurd (omega (arith, below))
+all_new mail (a ∷ rest) zero d below = (refl, refl)
+all_new mail (a ∷ rest) (suc k) d below = all_new mail rest k d (omega (arith, below))
+
+-- and of their actors
+pub same_actors : (mail : SharedBoxes) (actors : List Actor) → map (λ (seat : Pass). seat.actor) (map (new_pass mail) actors) ≡ actors
+same_actors mail [] = refl
+same_actors mail (a ∷ rest) = ap (λ l. a ∷ l) (same_actors mail rest)
+
+-- so they are the seats of a mail
+pub new_seats : (mail : SharedBoxes) (kind : Shape → Actor → Bool) (xs : List Pass) → xs ≡ map (new_pass mail) (actors_of kind mail.shape)
+    → AreSeatsOf mail kind xs
+new_seats mail kind xs is =
+    subst (AreSeatsOf mail kind) (sym is) (all_new mail (actors_of kind mail.shape), same_actors mail (actors_of kind mail.shape))

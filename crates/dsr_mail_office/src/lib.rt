@@ -1,0 +1,11 @@
+//! What the tests of seats stand on: an open mail with the seats of all its actors, at which the events of a play happen, in one thread or in two;
+//! and one of two replicas that sleep and wake each other.
+#![tactic(auto)]
+
+mod acting;
+mod office;
+mod pair;
+
+pub use acting::Part;
+pub use office::{Office, Otherwise, Side, go_on, stage};
+pub use pair::Pair;

@@ -1,0 +1,532 @@
+//! An open mail with the seats of all its actors, whose calls are the events of a play.
+
+ghost use Rattle.std.specs.Prelude.{◌≡◌, ◌<◌, length, All, IfSome};
+ghost use Rattle.dsr_boxes.specs.Pass.{IsPassOf};
+ghost use Rattle.dsr_mail.specs.Seats.{is_loyal_replica, is_traitor_replica, is_client, AreSeatsOf};
+ghost use Rattle.dsr_mail_office.specs.Same.{IsSameSeat};
+ghost use Rattle.dsr_mail_office.specs.declared.office.Otherwise.TheVariants.{Refused};
+
+use crate::acting::{Part, both_act};
+use dsr_desk::Keys;
+use dsr_envelope::Pick;
+use dsr_ledger::Reply;
+use dsr_mail::{ClientSeat, Logs, Mail, ReplicaSeat, Seats, TraitorSeat};
+use dsr_names::{Actor, ClientId, Refusal, ReplicaId, Shape};
+use dsr_play::{Event, Play};
+use dsr_script::Draft;
+use std::alloc::Global;
+use std::sync::Wait;
+use std::thread::Threads;
+
+/// A mail, and the seats of all its actors.
+#[derive(Drop)]
+pub struct Office {
+    mail: Mail,
+    seats: Seats,
+    ghost replicas: { AreSeatsOf mail is_loyal_replica seats.replicas.items },
+    ghost traitors: { AreSeatsOf mail is_traitor_replica seats.traitors.items },
+    ghost clients: { AreSeatsOf mail is_client seats.clients.items },
+}
+
+/// How a play went otherwise than was wanted.
+#[derive(Clone, Copy, Debug, PartialEq, Eq)]
+pub enum Otherwise {
+    /// The play could not be read, or its mail not be opened.
+    Refused(Refusal),
+    /// The play has so many events, which is not how many ends are wanted.
+    Count(usize),
+    /// The event at this place ended so.
+    Ended {
+        place: usize,
+        end: Result<(), Refusal>,
+    },
+}
+
+/// What was refused.
+impl From<Refusal> for Otherwise {
+    ghost from_gives = { λ refusal e. e ≡ Refused refusal };
+
+    fn from(refusal: Refusal) -> Otherwise {
+        Otherwise::Refused(refusal)
+    }
+}
+
+/// Opens the mail of the play, and has each event of the play happen there, as long as each ends as wanted.
+pub fn stage(
+    alloc: Global,
+    text: &str,
+    wanted: &[Result<(), Refusal>],
+) -> Result<Office, Otherwise> {
+    let play = Play::read(alloc, text.as_bytes())?;
+    let mut office = Office::open(alloc, play.shape())?;
+    act(alloc, &mut office, play.events(), wanted)?;
+    Ok(office)
+}
+
+/// Has each event of the play happen at the mail of another play of this shape, as long as each ends as wanted.
+pub fn go_on(
+    alloc: Global,
+    office: &mut Office,
+    text: &str,
+    wanted: &[Result<(), Refusal>],
+) -> Result<(), Otherwise> {
+    let play = Play::read(alloc, text.as_bytes())?;
+    act(alloc, office, play.events(), wanted)
+}
+
+/// Has each event happen, as long as each ends as wanted.
+fn act(
+    alloc: Global,
+    office: &mut Office,
+    events: &[Event],
+    wanted: &[Result<(), Refusal>],
+) -> Result<(), Otherwise> {
+    if events.len() != wanted.len() {
+        return Err(Otherwise::Count(events.len()));
+    }
+    for (place, (event, wanted)) in events.iter().zip(wanted).enumerate() {
+        let end = office.step(alloc, event);
+        if end != *wanted {
+            return Err(Otherwise::Ended { place, end });
+        }
+    }
+    Ok(())
+}
+
+impl Office {
+    /// The open mail of this shape. `NoMemory` where memory runs out.
+    pub fn open(alloc: Global, shape: Shape) -> Result<Office, Refusal> {
+        let keys = Keys::new(alloc, shape)?;
+        let (mail, seats) = Mail::open(alloc, shape, keys)?;
+        Ok(Office { mail, seats })
+    }
+
+    /// Closes the mail, to which all seats come back.
+    pub fn close(self) -> Logs {
+        let Office { mail, seats } = self;
+        mail.close(seats)
+    }
+
+    /// The shape of the mail.
+    pub fn shape(&self) -> &Shape {
+        self.mail.shape()
+    }
+
+    /// The seats of the loyal replicas.
+    pub fn replicas(&self) -> &[ReplicaSeat] {
+        self.seats.replicas.as_slice()
+    }
+
+    /// The seats of the traitors.
+    pub fn traitors(&self) -> &[TraitorSeat] {
+        self.seats.traitors.as_slice()
+    }
+
+    /// The seats of the clients.
+    pub fn clients(&self) -> &[ClientSeat] {
+        self.seats.clients.as_slice()
+    }
+
+    /// Has the event happen by the seat of its actor. `NoActor` where the actor has none of that kind.
+    pub fn step(&mut self, alloc: Global, event: &Event) -> Result<(), Refusal> {
+        match event {
+            Event::Post { from, to, pick } => self.post(alloc, from, to, pick),
+            Event::Plant { from, to, draft } => self.plant(alloc, from, to, draft),
+            Event::Take { at, from } => self.take(at, from),
+            Event::Tell { from, to } => self.tell(alloc, from, to),
+        }
+    }
+
+    /// The post of a loyal replica or of a client.
+    fn post(
+        &mut self,
+        alloc: Global,
+        from: &Actor,
+        to: &Actor,
+        pick: &Pick,
+    ) -> Result<(), Refusal> {
+        match from {
+            Actor::Replica(replica) => self.replica_post(alloc, replica, to, pick),
+            Actor::Client(client) => self.client_post(alloc, client, to, pick),
+        }
+    }
+
+    /// A take of anyone.
+    fn take(&mut self, at: &Actor, from: &Actor) -> Result<(), Refusal> {
+        match at {
+            Actor::Replica(replica) => self.any_replica_take(replica, from),
+            Actor::Client(client) => match self.client_take(client, from) {
+                Ok(_) => Ok(()),
+                Err(refusal) => Err(refusal),
+            },
+        }
+    }
+
+    /// The take of a replica, loyal or not.
+    fn any_replica_take(&mut self, replica: &ReplicaId, from: &Actor) -> Result<(), Refusal> {
+        if self.mail.shape().is_loyal(Actor::Replica(*replica)) {
+            self.replica_take(replica, from)
+        } else {
+            self.traitor_take(replica, from)
+        }
+    }
+
+    /// A post of a loyal replica.
+    fn replica_post(
+        &mut self,
+        alloc: Global,
+        replica: &ReplicaId,
+        to: &Actor,
+        pick: &Pick,
+    ) -> Result<(), Refusal> {
+        let Some(place) = replica_place(self.seats.replicas.as_slice(), replica) else {
+            return Err(Refusal::NoActor);
+        };
+        post(&mut self.seats.replicas[place], alloc, &self.mail, to, pick)
+    }
+
+    /// A take of a loyal replica.
+    fn replica_take(&mut self, replica: &ReplicaId, from: &Actor) -> Result<(), Refusal> {
+        let Some(place) = replica_place(self.seats.replicas.as_slice(), replica) else {
+            return Err(Refusal::NoActor);
+        };
+        take(&mut self.seats.replicas[place], &self.mail, from)
+    }
+
+    /// A post of a traitor.
+    fn plant(
+        &mut self,
+        alloc: Global,
+        from: &Actor,
+        to: &Actor,
+        draft: &Draft,
+    ) -> Result<(), Refusal> {
+        let Some(place) = traitor_place(self.seats.traitors.as_slice(), from) else {
+            return Err(Refusal::NoActor);
+        };
+        plant(
+            &mut self.seats.traitors[place],
+            alloc,
+            &self.mail,
+            to,
+            draft,
+        )
+    }
+
+    /// A take of a traitor.
+    fn traitor_take(&mut self, replica: &ReplicaId, from: &Actor) -> Result<(), Refusal> {
+        let Some(place) = traitor_place(self.seats.traitors.as_slice(), &Actor::Replica(*replica))
+        else {
+            return Err(Refusal::NoActor);
+        };
+        traitor_take(&mut self.seats.traitors[place], &self.mail, from)
+    }
+
+    /// A post of a client.
+    fn client_post(
+        &mut self,
+        alloc: Global,
+        client: &ClientId,
+        to: &Actor,
+        pick: &Pick,
+    ) -> Result<(), Refusal> {
+        let Some(place) = client_place(self.seats.clients.as_slice(), client) else {
+            return Err(Refusal::NoActor);
+        };
+        ask(&mut self.seats.clients[place], alloc, &self.mail, to, pick)
+    }
+
+    /// A take of a client, and the reply that it accepts by it.
+    pub fn client_take(
+        &mut self,
+        client: &ClientId,
+        from: &Actor,
+    ) -> Result<Option<Reply>, Refusal> {
+        let Some(place) = client_place(self.seats.clients.as_slice(), client) else {
+            return Err(Refusal::NoActor);
+        };
+        hear(&mut self.seats.clients[place], &self.mail, from)
+    }
+
+    /// The first loyal replica and the first client have their parts happen, each in a thread of its own.
+    pub fn both_act<R: Threads + Wait + Sync>(
+        &mut self,
+        rt: &R,
+        alloc: Global,
+        parts: (Part<'_>, Part<'_>),
+    ) -> (Result<(), Refusal>, Result<(), Refusal>) {
+        if self.seats.replicas.is_empty() || self.seats.clients.is_empty() {
+            return (Err(Refusal::NoActor), Err(Refusal::NoActor));
+        }
+        let replica = &mut self.seats.replicas[0];
+        let client = &mut self.seats.clients[0];
+        both_act(rt, alloc, &self.mail, replica, client, parts)
+    }
+
+    /// A client tells its seen front.
+    fn tell(&mut self, alloc: Global, from: &Actor, to: &Actor) -> Result<(), Refusal> {
+        let Actor::Client(client) = from else {
+            return Err(Refusal::NoActor);
+        };
+        let Some(place) = client_place(self.seats.clients.as_slice(), client) else {
+            return Err(Refusal::NoActor);
+        };
+        tell(&mut self.seats.clients[place], alloc, &self.mail, to)
+    }
+}
+
+/// The place of a loyal replica's seat.
+fn replica_place(seats: &[ReplicaSeat], replica: &ReplicaId) -> Option<usize>
+    ensures { IfSome result (λ place. place < length seats.now) }
+{
+    for place in 0..seats.len() {
+        if seats[place].replica().number() == replica.number() {
+            return Some(place);
+        }
+    }
+    None
+}
+
+/// The place of a traitor's seat.
+fn traitor_place(seats: &[TraitorSeat], actor: &Actor) -> Option<usize>
+    ensures { IfSome result (λ place. place < length seats.now) }
+{
+    for place in 0..seats.len() {
+        if seats[place].actor() == *actor {
+            return Some(place);
+        }
+    }
+    None
+}
+
+/// The place of a client's seat.
+fn client_place(seats: &[ClientSeat], client: &ClientId) -> Option<usize>
+    ensures { IfSome result (λ place. place < length seats.now) }
+{
+    for place in 0..seats.len() {
+        if seats[place].client().number() == client.number() {
+            return Some(place);
+        }
+    }
+    None
+}
+
+/// A loyal replica posts.
+pub(crate) fn post(
+    seat: &mut ReplicaSeat,
+    alloc: Global,
+    mail: &Mail,
+    to: &Actor,
+    pick: &Pick,
+) -> Result<(), Refusal>
+    requires { IsPassOf mail.now seat.old }
+    ensures { IsSameSeat seat.old seat.new }
+{
+    match seat.try_post(alloc, mail, *to, *pick) {
+        Ok(()) => Ok(()),
+        Err(refusal) => Err(refusal),
+    }
+}
+
+/// A loyal replica takes.
+pub(crate) fn take(seat: &mut ReplicaSeat, mail: &Mail, from: &Actor) -> Result<(), Refusal>
+    requires { IsPassOf mail.now seat.old }
+    ensures { IsSameSeat seat.old seat.new }
+{
+    match seat.try_take(mail, *from) {
+        Ok(()) => Ok(()),
+        Err(refusal) => Err(refusal),
+    }
+}
+
+/// A traitor posts what the draft describes.
+fn plant(
+    seat: &mut TraitorSeat,
+    alloc: Global,
+    mail: &Mail,
+    to: &Actor,
+    draft: &Draft,
+) -> Result<(), Refusal>
+    requires { IsPassOf mail.now seat.old }
+    ensures { IsSameSeat seat.old seat.new }
+{
+    match seat.try_post(alloc, mail, *to, draft) {
+        Ok(()) => Ok(()),
+        Err(refusal) => Err(refusal),
+    }
+}
+
+/// A traitor takes.
+fn traitor_take(seat: &mut TraitorSeat, mail: &Mail, from: &Actor) -> Result<(), Refusal>
+    requires { IsPassOf mail.now seat.old }
+    ensures { IsSameSeat seat.old seat.new }
+{
+    match seat.try_take(mail, *from) {
+        Ok(()) => Ok(()),
+        Err(refusal) => Err(refusal),
+    }
+}
+
+/// A client posts.
+pub(crate) fn ask(
+    seat: &mut ClientSeat,
+    alloc: Global,
+    mail: &Mail,
+    to: &Actor,
+    pick: &Pick,
+) -> Result<(), Refusal>
+    requires { IsPassOf mail.now seat.old }
+    ensures { IsSameSeat seat.old seat.new }
+{
+    match seat.try_post(alloc, mail, *to, *pick) {
+        Ok(()) => Ok(()),
+        Err(refusal) => Err(refusal),
+    }
+}
+
+/// A client takes.
+pub(crate) fn hear(
+    seat: &mut ClientSeat,
+    mail: &Mail,
+    from: &Actor,
+) -> Result<Option<Reply>, Refusal>
+    requires { IsPassOf mail.now seat.old }
+    ensures { IsSameSeat seat.old seat.new }
+{
+    match seat.try_take(mail, *from) {
+        Ok(reply) => Ok(reply),
+        Err(refusal) => Err(refusal),
+    }
+}
+
+/// A client tells its seen front.
+fn tell(seat: &mut ClientSeat, alloc: Global, mail: &Mail, to: &Actor) -> Result<(), Refusal>
+    requires { IsPassOf mail.now seat.old }
+    ensures { IsSameSeat seat.old seat.new }
+{
+    match seat.try_tell(alloc, mail, *to) {
+        Ok(()) => Ok(()),
+        Err(refusal) => Err(refusal),
+    }
+}
+
+/// What an actor waits for.
+#[derive(Clone, Copy)]
+pub enum Side {
+    /// That its box to the other is empty.
+    To,
+    /// That the other's box to it is full.
+    From,
+}
+
+impl Office {
+    /// The wait of a replica, loyal or not. `NotDue` where it has no seat.
+    pub fn wait<R: Wait>(
+        &self,
+        rt: &R,
+        at: &Actor,
+        side: Side,
+        other: &Actor,
+    ) -> Result<(), Refusal> {
+        match at {
+            Actor::Replica(replica) if self.mail.shape().is_loyal(*at) => {
+                self.replica_wait(rt, replica, side, other)
+            }
+            _ => self.traitor_wait(rt, at, side, other),
+        }
+    }
+
+    /// The wait of a loyal replica.
+    fn replica_wait<R: Wait>(
+        &self,
+        rt: &R,
+        replica: &ReplicaId,
+        side: Side,
+        other: &Actor,
+    ) -> Result<(), Refusal> {
+        let Some(place) = replica_place(self.seats.replicas.as_slice(), replica) else {
+            return Err(Refusal::NotDue);
+        };
+        replica_wait(rt, &self.seats.replicas[place], &self.mail, side, other)
+    }
+
+    /// The wait of a traitor.
+    fn traitor_wait<R: Wait>(
+        &self,
+        rt: &R,
+        at: &Actor,
+        side: Side,
+        other: &Actor,
+    ) -> Result<(), Refusal> {
+        let Some(place) = traitor_place(self.seats.traitors.as_slice(), at) else {
+            return Err(Refusal::NotDue);
+        };
+        traitor_wait(rt, &self.seats.traitors[place], &self.mail, side, other)
+    }
+
+    /// Wakes all from each seat.
+    pub fn wake(&self) {
+        wake_from_replicas(&self.mail, self.seats.replicas.as_slice());
+        wake_from_traitors(&self.mail, self.seats.traitors.as_slice());
+        wake_from_clients(&self.mail, self.seats.clients.as_slice());
+    }
+}
+
+/// Wakes all from each of these seats.
+fn wake_from_replicas(mail: &Mail, seats: &[ReplicaSeat])
+    requires { All (IsPassOf mail.now) seats.now }
+{
+    for seat in seats {
+        seat.wake(mail);
+    }
+}
+
+/// Wakes all from each of these seats.
+fn wake_from_traitors(mail: &Mail, seats: &[TraitorSeat])
+    requires { All (IsPassOf mail.now) seats.now }
+{
+    for seat in seats {
+        seat.wake(mail);
+    }
+}
+
+/// Wakes all from each of these seats.
+fn wake_from_clients(mail: &Mail, seats: &[ClientSeat])
+    requires { All (IsPassOf mail.now) seats.now }
+{
+    for seat in seats {
+        seat.wake(mail);
+    }
+}
+
+/// A loyal replica waits.
+fn replica_wait<R: Wait>(
+    rt: &R,
+    seat: &ReplicaSeat,
+    mail: &Mail,
+    side: Side,
+    other: &Actor,
+) -> Result<(), Refusal>
+    requires { IsPassOf mail.now seat.now }
+{
+    match side {
+        Side::To => seat.wait_to(rt, mail, *other),
+        Side::From => seat.wait_from(rt, mail, *other),
+    }
+}
+
+/// A traitor waits.
+fn traitor_wait<R: Wait>(
+    rt: &R,
+    seat: &TraitorSeat,
+    mail: &Mail,
+    side: Side,
+    other: &Actor,
+) -> Result<(), Refusal>
+    requires { IsPassOf mail.now seat.now }
+{
+    match side {
+        Side::To => seat.wait_to(rt, mail, *other),
+        Side::From => seat.wait_from(rt, mail, *other),
+    }
+}
