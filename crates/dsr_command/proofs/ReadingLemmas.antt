@@ -17,12 +17,11 @@ use Rattle.clap.specs.declared.error.kind.ErrorKind.{ErrorKind}
 use Rattle.clap.specs.declared.error.kind.ErrorKind.TheVariants.{DisplayHelp, OutOfMemory}
 use Rattle.clap.proofs.WalkLemmas.{both, first_value-rows}
 use Rattle.dsr_command.specs.Asked.{Asked, asked_of, has_two_hyphens, help, task, unknown}
-use Rattle.dsr_command.specs.CommandLine.{command_line, play_entered, task_entered}
+use Rattle.dsr_command.specs.CommandLine.{command_line, entered_with_flag, task_entered}
 use Rattle.dsr_command.specs.Readings.{OnHelp, OnUsage}
 use Rattle.dsr_command.specs.declared.Reading.{Reading}
 use Rattle.dsr_command.specs.declared.Reading.TheVariants as reading
 use Rattle.dsr_command.specs.declared.Task.{Task}
-use Rattle.dsr_command.specs.declared.Task.TheVariants.{Play, Transcribe}
 use Rattle.dsr_command.proofs.WordLemmas.{Comes, IsEntered, IsRefused, asked, entered_as_asked, is_other, is_refusal}
 
 -- what is said of a help text may say less
@@ -137,19 +136,21 @@ pub ruleset readings = (taken_is_task, separator_is_unknown, on_separator, call_
 
 -- ---- the flag `--transcript`
 
--- the task of `play`, by the text of the flag
-abbrev by_text : Option Text → Task
-by_text text = if option_map_or (λ given. bytes_eq given (codes "true")) text false then Transcribe else Play
+-- which of two tasks is meant, by the text of the flag
+abbrev by_text : Task → Task → Option Text → Task
+by_text plain flagged text = if option_map_or (λ given. bytes_eq given (codes "true")) text false then flagged else plain
 
 -- the text is compared with that of a flag that is given
-pub flag_read : (f : Found) (text : Option (Bor Text)) (wanted : Bor Text) (same : Bool) → option_map (λ s. s.now) text ≡ first_value f (codes "transcript")
-    → wanted.now ≡ codes "true" → same ≡ option_eq (λ a b. bytes_eq a.now b.now) text (Some wanted) → (if same then Transcribe else Play) ≡ play_entered (rows_of f)
-flag_read f text wanted same is given compared =
-    ap (λ (b : Bool). if b then Transcribe else Play) compared ∙ go text ∙ ap by_text (is ∙ first_value-rows f (codes "transcript"))
+pub flag_read : (plain flagged : Task) (f : Found) (text : Option (Bor Text)) (wanted : Bor Text) (same : Bool)
+    → option_map (λ s. s.now) text ≡ first_value f (codes "transcript") → wanted.now ≡ codes "true"
+    → same ≡ option_eq (λ a b. bytes_eq a.now b.now) text (Some wanted) → (if same then flagged else plain) ≡ entered_with_flag plain flagged (rows_of f)
+flag_read plain flagged f text wanted same is given compared =
+    ap (λ (b : Bool). if b then flagged else plain) compared ∙ go text ∙ ap (by_text plain flagged) (is ∙ first_value-rows f (codes "transcript"))
   where
-    go : (text : Option (Bor Text)) → (if option_eq (λ a b. bytes_eq a.now b.now) text (Some wanted) then Transcribe else Play) ≡ by_text (option_map (λ s. s.now) text)
+    go : (text : Option (Bor Text)) → (if option_eq (λ a b. bytes_eq a.now b.now) text (Some wanted) then flagged else plain)
+        ≡ by_text plain flagged (option_map (λ s. s.now) text)
     go None = refl
-    go (Some t) = ap (λ (w : Text). if bytes_eq t.now w then Transcribe else Play) given
+    go (Some t) = ap (λ (w : Text). if bytes_eq t.now w then flagged else plain) given
 
 -- ---- the command
 

@@ -1,5 +1,5 @@
 -- What `clap` makes of the program's words is what `asked_of` says.
-use Rattle.std.proofs.Common.{◌≡◌, ◌∙◌, ◌⊎◌, ◌&&◌, ◌||◌, ℕ, Bool, true, false, refl, sym, ap, ap₂, subst, arith, inl, inr, List, [], ◌∷◌, None, Some, codes, length, fold, is_some, not, take, true≢false}
+use Rattle.std.proofs.Common.{◌≡◌, ◌∙◌, ◌⊎◌, ◌&&◌, ◌||◌, ◌++◌, ℕ, Bool, true, false, refl, sym, ap, ap₂, subst, arith, inl, inr, List, [], ◌∷◌, None, Some, codes, length, fold, is_some, not, take, true≢false}
 use Rattle.std.specs.Prelude.{◌==◌, if◌then◌else◌}
 use Rattle.std.specs.List.{before_first, list_all, list_any, prefix_len}
 use Rattle.std.specs.Str.{bytes_eq, chars}
@@ -16,10 +16,10 @@ use Rattle.clap.specs.declared.error.kind.ErrorKind.TheVariants.{DisplayHelp}
 use Rattle.clap.proofs.FaultLemmas.{stopped_fault}
 use Rattle.clap.proofs.OnLiterals.{clap_on_literals}
 use Rattle.clap.proofs.WalkLemmas.{walk_stopped}
-use Rattle.dsr_command.specs.Asked.{Asked, asked_after, asked_after_play, asked_by_other, asked_of, has_two_hyphens, help, is_help, task, unknown}
+use Rattle.dsr_command.specs.Asked.{Asked, asked_after, asked_after_flagged, asked_by_other, asked_of, has_two_hyphens, help, is_help, task, unknown}
 use Rattle.dsr_command.specs.CommandLine.{command_line, task_entered, transcript_rule}
 use Rattle.dsr_command.specs.declared.Task.{Task}
-use Rattle.dsr_command.specs.declared.Task.TheVariants.{Apply, Check, Transcribe}
+use Rattle.dsr_command.specs.declared.Task.TheVariants.{Apply, Check, Play, Serve, Transcribe, TranscribeService}
 
 -- the command as a parse builds it
 abbrev app : App
@@ -276,6 +276,11 @@ play_fault : (rest : List Text) → fault_of command_line (codes "play" ∷ rest
 unfolding clap_on_literals
 play_fault rest = after_name (codes "play") rest ∙ or_else-nil (level_fault (leaf true (codes "play")) [] (held []) rest false [])
 
+-- after `serve` it is that of `serve`
+serve_fault : (rest : List Text) → fault_of command_line (codes "serve" ∷ rest) ≡ level_fault (leaf true (codes "serve")) [] (held []) rest false []
+unfolding clap_on_literals
+serve_fault rest = after_name (codes "serve") rest ∙ or_else-nil (level_fault (leaf true (codes "serve")) [] (held []) rest false [])
+
 -- after `check` it is that of `check`
 check_word_fault : (rest : List Text) → fault_of command_line (codes "check" ∷ rest) ≡ level_fault (leaf false (codes "check")) [] (held []) rest false []
 unfolding clap_on_literals
@@ -317,61 +322,61 @@ words_after takes name rows named none separated flagged (word ∷ rest) = first
     first false true e f = all_flags takes refl f
     first false false e f = other_word takes name rows word rest e f
 
-says_apply : (words : List Text) → Says false (codes "apply") [] (asked_after Apply words) words
+-- the words after the name of a task without the flag
+says_plain : (name : Text) (named : Task) (words : List Text) → Says false name [] (asked_after named words) words
 unfolding clap_on_literals
-says_apply words = words_after false (codes "apply") [] Apply (refl, refl) separated (λ takes. absurd (true≢false (sym takes))) words
+says_plain name named words = words_after false name [] named (refl, refl) separated (λ takes. absurd (true≢false (sym takes))) words
   where
-    separated : (rest : List Text) → Says false (codes "apply") [] unknown (codes "--" ∷ rest)
+    separated : (rest : List Text) → Says false name [] unknown (codes "--" ∷ rest)
     separated [] = inr (refl, refl)
     separated (more ∷ rest) = inl refl
 
-says_check : (words : List Text) → Says false (codes "check") [] (asked_after Check words) words
+-- the words after the name of a task with the flag, and after the flag
+says_given : (name : Text) (named : Task) (words : List Text) → Says true name given (asked_after named words) words
 unfolding clap_on_literals
-says_check words = words_after false (codes "check") [] Check (refl, refl) separated (λ takes. absurd (true≢false (sym takes))) words
+says_given name named words = words_after true name given named (refl, refl) separated (λ takes rest. inl refl) words
   where
-    separated : (rest : List Text) → Says false (codes "check") [] unknown (codes "--" ∷ rest)
+    separated : (rest : List Text) → Says true name given unknown (codes "--" ∷ rest)
     separated [] = inr (refl, refl)
     separated (more ∷ rest) = inl refl
 
--- the words after `play --transcript`
-says_given : (words : List Text) → Says true (codes "play") given (asked_after Transcribe words) words
+-- the words after the name of such a task
+says_flagged : (name : Text) (plain flagged : Task) (words : List Text) → Says true name [] (asked_after_flagged plain flagged words) words
 unfolding clap_on_literals
-says_given words = words_after true (codes "play") given Transcribe (refl, refl) separated (λ takes rest. inl refl) words
+says_flagged name plain flagged [] = (refl, refl)
+says_flagged name plain flagged (word ∷ rest) = first (bytes_eq word (codes "--transcript")) (bytes_eq word (codes "--")) refl refl
   where
-    separated : (rest : List Text) → Says true (codes "play") given unknown (codes "--" ∷ rest)
-    separated [] = inr (refl, refl)
-    separated (more ∷ rest) = inl refl
-
--- the words after `play`
-says_play : (words : List Text) → Says true (codes "play") [] (asked_after_play words) words
-unfolding clap_on_literals
-says_play [] = (refl, refl)
-says_play (word ∷ rest) = first (bytes_eq word (codes "--transcript")) (bytes_eq word (codes "--")) refl refl
-  where
-    separated : (rest : List Text) → Says true (codes "play") [] unknown (codes "--" ∷ rest)
+    separated : (rest : List Text) → Says true name [] unknown (codes "--" ∷ rest)
     separated [] = inr (refl, refl)
     separated (more ∷ rest) = inl refl
 
     first : (flag separator : Bool) → bytes_eq word (codes "--transcript") ≡ flag → bytes_eq word (codes "--") ≡ separator
-        → Says true (codes "play") [] (if flag then asked_after Transcribe rest else asked_by_other word) (word ∷ rest)
+        → Says true name [] (if flag then asked_after flagged rest else asked_by_other word) (word ∷ rest)
     first true s e f =
-        subst (λ (w : Text). Says true (codes "play") [] (asked_after Transcribe rest) (w ∷ rest)) (sym ((bytes_eq-Decides word (codes "--transcript")).0 e)) (says_given rest)
+        subst (λ (w : Text). Says true name [] (asked_after flagged rest) (w ∷ rest)) (sym ((bytes_eq-Decides word (codes "--transcript")).0 e)) (says_given name flagged rest)
     first false true e f =
-        subst (λ (w : Text). Says true (codes "play") [] (asked_by_other w) (w ∷ rest)) (sym ((bytes_eq-Decides word (codes "--")).0 f)) (separated rest)
-    first false false e f = other_word true (codes "play") [] word rest f e
+        subst (λ (w : Text). Says true name [] (asked_by_other w) (w ∷ rest)) (sym ((bytes_eq-Decides word (codes "--")).0 f)) (separated rest)
+    first false false e f = other_word true name [] word rest f e
 
 -- the parse of these words comes to what they ask for
 abbrev Asks : List Text → Type 0
 Asks words = Comes (asked_of words) (has_two_hyphens words) (fault_of command_line words)
 
 after_apply : (rest : List Text) → Asks (codes "apply" ∷ rest)
-after_apply rest = subst (λ (kinds : Kinds). Comes (asked_after Apply rest) (has_two_hyphens rest) kinds) (sym (apply_fault rest)) (says_apply rest)
+after_apply rest = subst (λ (kinds : Kinds). Comes (asked_after Apply rest) (has_two_hyphens rest) kinds) (sym (apply_fault rest)) (says_plain (codes "apply") Apply rest)
 
 after_play : (rest : List Text) → Asks (codes "play" ∷ rest)
-after_play rest = subst (λ (kinds : Kinds). Comes (asked_after_play rest) (has_two_hyphens rest) kinds) (sym (play_fault rest)) (says_play rest)
+after_play rest =
+    subst (λ (kinds : Kinds). Comes (asked_after_flagged Play Transcribe rest) (has_two_hyphens rest) kinds) (sym (play_fault rest))
+    (says_flagged (codes "play") Play Transcribe rest)
+
+after_serve : (rest : List Text) → Asks (codes "serve" ∷ rest)
+after_serve rest =
+    subst (λ (kinds : Kinds). Comes (asked_after_flagged Serve TranscribeService rest) (has_two_hyphens rest) kinds) (sym (serve_fault rest))
+    (says_flagged (codes "serve") Serve TranscribeService rest)
 
 after_check : (rest : List Text) → Asks (codes "check" ∷ rest)
-after_check rest = subst (λ (kinds : Kinds). Comes (asked_after Check rest) (has_two_hyphens rest) kinds) (sym (check_word_fault rest)) (says_check rest)
+after_check rest = subst (λ (kinds : Kinds). Comes (asked_after Check rest) (has_two_hyphens rest) kinds) (sym (check_word_fault rest)) (says_plain (codes "check") Check rest)
 
 after_separator : (rest : List Text) → Asks (codes "--" ∷ rest)
 unfolding clap_on_literals
@@ -388,35 +393,38 @@ turned_eq a b other = go (bytes_eq b a) refl
 
 -- a word that names no task and is not `--`
 after_other : (word : Text) (rest : List Text) → bytes_eq word (codes "apply") ≡ false → bytes_eq word (codes "play") ≡ false
-    → bytes_eq word (codes "check") ≡ false → bytes_eq word (codes "--") ≡ false → Asks (word ∷ rest)
+    → bytes_eq word (codes "serve") ≡ false → bytes_eq word (codes "check") ≡ false → bytes_eq word (codes "--") ≡ false → Asks (word ∷ rest)
 unfolding clap_on_literals
-after_other word rest no_apply no_play no_check other =
+after_other word rest no_apply no_play no_serve no_check other =
     let unmet : subcommand_met (names_of app) idle word ≡ None =
-    rw (turned_eq word (codes "apply") no_apply, turned_eq word (codes "play") no_play, turned_eq word (codes "check") no_check) refl in
-    rw (no_apply, no_play, no_check) (by_turn (is_help word) (has_two_hyphens (word ∷ rest)) (turn_fault app.top (names_of app) (walk_from nothing_held) word) _ _
+    rw (
+      turned_eq word (codes "apply") no_apply,
+      turned_eq word (codes "play") no_play,
+      turned_eq word (codes "serve") no_serve,
+      turned_eq word (codes "check") no_check,
+    ) refl in
+    rw (no_apply, no_play, no_serve, no_check)
+    (by_turn (is_help word) (has_two_hyphens (word ∷ rest)) (turn_fault app.top (names_of app) (walk_from nothing_held) word) _ _
     (turn false (codes "dsr") false [] (names_of app) word unmet other refl))
+
+-- what holds of a name, and of any word that is not the name, holds of the word
+by_name : (P : Text → Type 0) (name word : Text) → P name → (bytes_eq word name ≡ false → P word) → P word
+by_name P name word is other = go (bytes_eq word name) refl
+  where
+    go : (b : Bool) → bytes_eq word name ≡ b → P word
+    go true e = subst P (sym ((bytes_eq-Decides word name).0 e)) is
+    go false e = other e
 
 pub asked : (words : List Text) → Asks words
 unfolding clap_on_literals
 asked [] = (refl, refl)
-asked (word ∷ rest) = first (bytes_eq word (codes "apply")) refl
-  where
-    fourth : (b : Bool) → bytes_eq word (codes "--") ≡ b → bytes_eq word (codes "apply") ≡ false → bytes_eq word (codes "play") ≡ false
-        → bytes_eq word (codes "check") ≡ false → Asks (word ∷ rest)
-    fourth true e no_apply no_play no_check = subst (λ (w : Text). Asks (w ∷ rest)) (sym ((bytes_eq-Decides word (codes "--")).0 e)) (after_separator rest)
-    fourth false e no_apply no_play no_check = after_other word rest no_apply no_play no_check e
-
-    third : (b : Bool) → bytes_eq word (codes "check") ≡ b → bytes_eq word (codes "apply") ≡ false → bytes_eq word (codes "play") ≡ false → Asks (word ∷ rest)
-    third true e no_apply no_play = subst (λ (w : Text). Asks (w ∷ rest)) (sym ((bytes_eq-Decides word (codes "check")).0 e)) (after_check rest)
-    third false e no_apply no_play = fourth (bytes_eq word (codes "--")) refl no_apply no_play e
-
-    second : (b : Bool) → bytes_eq word (codes "play") ≡ b → bytes_eq word (codes "apply") ≡ false → Asks (word ∷ rest)
-    second true e no_apply = subst (λ (w : Text). Asks (w ∷ rest)) (sym ((bytes_eq-Decides word (codes "play")).0 e)) (after_play rest)
-    second false e no_apply = third (bytes_eq word (codes "check")) refl no_apply e
-
-    first : (b : Bool) → bytes_eq word (codes "apply") ≡ b → Asks (word ∷ rest)
-    first true e = subst (λ (w : Text). Asks (w ∷ rest)) (sym ((bytes_eq-Decides word (codes "apply")).0 e)) (after_apply rest)
-    first false e = second (bytes_eq word (codes "play")) refl e
+asked (word ∷ rest) =
+    let after = λ (name : Text). Asks (name ∷ rest) in
+    by_name after (codes "apply") word (after_apply rest) (λ no_apply.
+    by_name after (codes "play") word (after_play rest) (λ no_play.
+    by_name after (codes "serve") word (after_serve rest) (λ no_serve.
+    by_name after (codes "check") word (after_check rest) (λ no_check.
+    by_name after (codes "--") word (after_separator rest) (after_other word rest no_apply no_play no_serve no_check)))))
 
 -- ---- the task that was entered
 
@@ -431,49 +439,52 @@ by_help : (words : List Text) (b : Bool) → IsEntered words (if b then help els
 by_help words true = tt
 by_help words false = tt
 
+-- where the words enter a task, further words after them ask for it only if there are none
+plain_entered : (words : List Text) (named : Task) → IsEntered (words ++ []) (task named) → (rest : List Text) → IsEntered (words ++ rest) (asked_after named rest)
+plain_entered words named alone [] = alone
+plain_entered words named alone (word ∷ rest) = by_help (words ++ (word ∷ rest)) (is_help word)
+
+-- where a name enters one task, and the name with the flag another one, the words after the name ask for these or for none
+flagged_entered : (name : Text) (plain flagged : Task) → IsEntered (name ∷ []) (task plain) → IsEntered (name ∷ codes "--transcript" ∷ []) (task flagged)
+    → (rest : List Text) → IsEntered (name ∷ rest) (asked_after_flagged plain flagged rest)
+flagged_entered name plain flagged alone with_flag [] = alone
+flagged_entered name plain flagged alone with_flag (word ∷ rest) = go (bytes_eq word (codes "--transcript")) refl
+  where
+    go : (b : Bool) → bytes_eq word (codes "--transcript") ≡ b
+        → IsEntered (name ∷ word ∷ rest) (if b then asked_after flagged rest else asked_by_other word)
+    go true e =
+        subst (λ (w : Text). IsEntered (name ∷ w ∷ rest) (asked_after flagged rest)) (sym ((bytes_eq-Decides word (codes "--transcript")).0 e))
+        (plain_entered (name ∷ codes "--transcript" ∷ []) flagged with_flag rest)
+    go false e = by_help (name ∷ word ∷ rest) (is_help word)
+
 apply_entered : (rest : List Text) → IsEntered (codes "apply" ∷ rest) (asked_after Apply rest)
 unfolding clap_on_literals
-apply_entered [] = refl
-apply_entered (word ∷ rest) = by_help (codes "apply" ∷ word ∷ rest) (is_help word)
+apply_entered rest = plain_entered (codes "apply" ∷ []) Apply refl rest
+
+play_entered : (rest : List Text) → IsEntered (codes "play" ∷ rest) (asked_after_flagged Play Transcribe rest)
+unfolding clap_on_literals
+play_entered rest = flagged_entered (codes "play") Play Transcribe refl refl rest
+
+serve_entered : (rest : List Text) → IsEntered (codes "serve" ∷ rest) (asked_after_flagged Serve TranscribeService rest)
+unfolding clap_on_literals
+serve_entered rest = flagged_entered (codes "serve") Serve TranscribeService refl refl rest
 
 check_entered : (rest : List Text) → IsEntered (codes "check" ∷ rest) (asked_after Check rest)
 unfolding clap_on_literals
-check_entered [] = refl
-check_entered (word ∷ rest) = by_help (codes "check" ∷ word ∷ rest) (is_help word)
+check_entered rest = plain_entered (codes "check" ∷ []) Check refl rest
 
-given_entered : (rest : List Text) → IsEntered (codes "play" ∷ codes "--transcript" ∷ rest) (asked_after Transcribe rest)
-unfolding clap_on_literals
-given_entered [] = refl
-given_entered (word ∷ rest) = by_help (codes "play" ∷ codes "--transcript" ∷ word ∷ rest) (is_help word)
-
-play_entered : (rest : List Text) → IsEntered (codes "play" ∷ rest) (asked_after_play rest)
-unfolding clap_on_literals
-play_entered [] = refl
-play_entered (word ∷ rest) = go (bytes_eq word (codes "--transcript")) refl
-  where
-    go : (b : Bool) → bytes_eq word (codes "--transcript") ≡ b
-        → IsEntered (codes "play" ∷ word ∷ rest) (if b then asked_after Transcribe rest else asked_by_other word)
-    go true e =
-        subst (λ (w : Text). IsEntered (codes "play" ∷ w ∷ rest) (asked_after Transcribe rest)) (sym ((bytes_eq-Decides word (codes "--transcript")).0 e)) (given_entered rest)
-    go false e = by_help (codes "play" ∷ word ∷ rest) (is_help word)
+-- a word that names no task enters none that it asks for
+other_entered : (word : Text) (rest : List Text) → bytes_eq word (codes "apply") ≡ false → bytes_eq word (codes "play") ≡ false
+    → bytes_eq word (codes "serve") ≡ false → bytes_eq word (codes "check") ≡ false → IsEntered (word ∷ rest) (asked_of (word ∷ rest))
+other_entered word rest no_apply no_play no_serve no_check =
+    rw (no_apply, no_play, no_serve, no_check) (by_help (word ∷ rest) (is_help word))
 
 pub entered_as_asked : (words : List Text) → IsEntered words (asked_of words)
 unfolding clap_on_literals
 entered_as_asked [] = refl
-entered_as_asked (word ∷ rest) = first (bytes_eq word (codes "apply")) refl
-  where
-    third : (b : Bool) → bytes_eq word (codes "check") ≡ b → IsEntered (word ∷ rest) (if b then asked_after Check rest else asked_by_other word)
-    third true e = subst (λ (w : Text). IsEntered (w ∷ rest) (asked_after Check rest)) (sym ((bytes_eq-Decides word (codes "check")).0 e)) (check_entered rest)
-    third false e = by_help (word ∷ rest) (is_help word)
-
-    second : (b : Bool) → bytes_eq word (codes "play") ≡ b
-        → IsEntered (word ∷ rest) (if b then asked_after_play rest else (if bytes_eq word (codes "check") then asked_after Check rest else asked_by_other word))
-    second true e = subst (λ (w : Text). IsEntered (w ∷ rest) (asked_after_play rest)) (sym ((bytes_eq-Decides word (codes "play")).0 e)) (play_entered rest)
-    second false e = third (bytes_eq word (codes "check")) refl
-
-    first : (b : Bool) → bytes_eq word (codes "apply") ≡ b
-        → IsEntered (word ∷ rest) (if b then asked_after Apply rest
-        else (if bytes_eq word (codes "play") then asked_after_play rest
-        else (if bytes_eq word (codes "check") then asked_after Check rest else asked_by_other word)))
-    first true e = subst (λ (w : Text). IsEntered (w ∷ rest) (asked_after Apply rest)) (sym ((bytes_eq-Decides word (codes "apply")).0 e)) (apply_entered rest)
-    first false e = second (bytes_eq word (codes "play")) refl
+entered_as_asked (word ∷ rest) =
+    let after = λ (name : Text). IsEntered (name ∷ rest) (asked_of (name ∷ rest)) in
+    by_name after (codes "apply") word (apply_entered rest) (λ no_apply.
+    by_name after (codes "play") word (play_entered rest) (λ no_play.
+    by_name after (codes "serve") word (serve_entered rest) (λ no_serve.
+    by_name after (codes "check") word (check_entered rest) (other_entered word rest no_apply no_play no_serve))))

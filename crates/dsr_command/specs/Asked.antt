@@ -4,7 +4,7 @@ use Rattle.std.specs.Prelude.{nat_eq}
 use Rattle.std.specs.List.{list_any, starts_with}
 use Rattle.std.specs.Str.{bytes_eq, chars}
 use Rattle.dsr_command.specs.declared.Task.{Task}
-use Rattle.dsr_command.specs.declared.Task.TheVariants.{Apply, Check, Play, Transcribe}
+use Rattle.dsr_command.specs.declared.Task.TheVariants.{Apply, Check, Play, Serve, Transcribe, TranscribeService}
 
 -- what words can ask for: a task, the text of the help, or nothing that the program knows
 pub data Asked : Type 0 where
@@ -30,15 +30,18 @@ abbrev pub asked_after : Task → List (List ℕ) → Asked
 asked_after named [] = task named
 asked_after named (word ∷ rest) = asked_by_other word
 
--- what is asked for by `play` and the words after it: the first of them may be `--transcript`
-abbrev pub asked_after_play : List (List ℕ) → Asked
-asked_after_play [] = task Play
-asked_after_play (word ∷ rest) = if bytes_eq word (codes "--transcript") then asked_after Transcribe rest else asked_by_other word
+-- what is asked for by a task's name and the words after it, where the first of them may be `--transcript`: the one task
+-- without it, the other one with it
+abbrev pub asked_after_flagged : Task → Task → List (List ℕ) → Asked
+asked_after_flagged plain flagged [] = task plain
+asked_after_flagged plain flagged (word ∷ rest) =
+    if bytes_eq word (codes "--transcript") then asked_after flagged rest else asked_by_other word
 
 -- what the words ask for: `apply` is also what no word at all means
 abbrev pub asked_of : List (List ℕ) → Asked
 asked_of [] = task Apply
 asked_of (word ∷ rest) =
     if bytes_eq word (codes "apply") then asked_after Apply rest
-    else (if bytes_eq word (codes "play") then asked_after_play rest
-    else (if bytes_eq word (codes "check") then asked_after Check rest else asked_by_other word))
+    else (if bytes_eq word (codes "play") then asked_after_flagged Play Transcribe rest
+    else (if bytes_eq word (codes "serve") then asked_after_flagged Serve TranscribeService rest
+    else (if bytes_eq word (codes "check") then asked_after Check rest else asked_by_other word)))

@@ -6,7 +6,7 @@ use Rattle.clap.specs.Words.{App, Row, Rule, first_of, new_app, new_rule, with_r
 use Rattle.clap.specs.Simple.{on_top}
 use Rattle.clap.specs.declared.builder.action.ArgAction.TheVariants.{SetTrue}
 use Rattle.dsr_command.specs.declared.Task.{Task}
-use Rattle.dsr_command.specs.declared.Task.TheVariants.{Apply, Check, Play, Transcribe}
+use Rattle.dsr_command.specs.declared.Task.TheVariants.{Apply, Check, Play, Serve, Transcribe, TranscribeService}
 
 -- the program `dsr` before its tasks are listed: the words begin after the program's name, and
 -- there is no word `help`
@@ -18,20 +18,29 @@ program = on_top (λ s. record s { no_binary_name = true; disable_help_subcomman
 abbrev pub transcript_rule : Rule
 transcript_rule = record (new_rule (codes "transcript")) { long = Some (codes "transcript"); action = Some SetTrue }
 
--- the program with its tasks, `apply`, `play` and `check`, of which `play` alone takes a flag
-abbrev pub command_line : App
-command_line =
-    with_subcommand (with_subcommand (with_subcommand program (new_app (codes "apply")).top)
-    (with_rule (new_app (codes "play")) transcript_rule).top) (new_app (codes "check")).top
+-- a subcommand of this name that takes that flag, and nothing else
+abbrev pub flagged_app : List ℕ → App
+flagged_app name = with_rule (new_app name) transcript_rule
 
--- the task of `play`, by what `clap` gives of its flag
-abbrev pub play_entered : List Row → Task
-play_entered rows =
-    if option_map_or (λ given. bytes_eq given (codes "true")) (first_of (codes "transcript") rows) false then Transcribe else Play
+-- the program with those of its tasks that keep a directory: `apply`, and `play` and `serve`, which take the flag
+abbrev pub keeping : App
+keeping =
+    with_subcommand (with_subcommand (with_subcommand program (new_app (codes "apply")).top)
+    (flagged_app (codes "play")).top) (flagged_app (codes "serve")).top
+
+-- the program with all of its tasks: with `check` too
+abbrev pub command_line : App
+command_line = with_subcommand keeping (new_app (codes "check")).top
+
+-- which of two tasks was entered, by what `clap` gives of the flag: the second one with it
+abbrev pub entered_with_flag : Task → Task → List Row → Task
+entered_with_flag plain flagged rows =
+    if option_map_or (λ given. bytes_eq given (codes "true")) (first_of (codes "transcript") rows) false then flagged else plain
 
 -- the task of the subcommand that the words name, as `clap` gives it; `apply`, where they name none
 abbrev pub task_entered : Option (List ℕ × List Row) → Task
 task_entered None = Apply
 task_entered (Some entered) =
-    if bytes_eq entered.0 (codes "play") then play_entered entered.1
-    else (if bytes_eq entered.0 (codes "check") then Check else Apply)
+    if bytes_eq entered.0 (codes "play") then entered_with_flag Play Transcribe entered.1
+    else (if bytes_eq entered.0 (codes "serve") then entered_with_flag Serve TranscribeService entered.1
+    else (if bytes_eq entered.0 (codes "check") then Check else Apply))

@@ -2,11 +2,11 @@
 #![tactic(auto)]
 
 ghost use Rattle.std.specs.Prelude.{◌≡◌, ◌≢◌, ◌++◌, ◌≤◌, ◌↔◌, IfOk, IsTrue, codes, false, length, map};
-ghost use Rattle.clap.specs.Words.{FailsBy, app_of, fault_of, found_of, kind_of, new_app, rows_of, rule_of, subcommand_of, subcommand_rows_of, with_rule};
+ghost use Rattle.clap.specs.Words.{FailsBy, app_of, fault_of, found_of, kind_of, new_app, rows_of, rule_of, subcommand_of, subcommand_rows_of};
 ghost use Rattle.clap.specs.declared.builder.command.Command.TheViews.{out-Command as fields_of};
 ghost use Rattle.clap.specs.declared.error.kind.ErrorKind.TheVariants.{DisplayHelp, OutOfMemory, UnknownArgument};
 ghost use Rattle.dsr_command.specs.Asked.{asked_of, has_two_hyphens, help, task, unknown};
-ghost use Rattle.dsr_command.specs.CommandLine.{command_line, play_entered, program, task_entered, transcript_rule};
+ghost use Rattle.dsr_command.specs.CommandLine.{command_line, entered_with_flag, flagged_app, keeping, program, task_entered, transcript_rule};
 ghost use Rattle.dsr_command.specs.ShownTexts.{IsHelp, IsUsage, title, usage_title};
 ghost use Rattle.dsr_command.specs.Readings.{IfDo, IfHelp, IfUsage, OnHelp, OnUsage};
 
@@ -21,8 +21,8 @@ const TITLE: &str = "dsr keeps a directory of named registers, each free or hold
 const ABOUT: &str =
     "Clients send it numbered requests: read, write, swap (compare-and-set), remove. It answers each of them.\n\
 `dsr apply` is one directory. `dsr play` is one that replicas keep together, though some of them are traitors,\n\
-and `dsr check` tells whether what was recorded of such a play is a run.\n\
-Without a command it does what `dsr apply` does.";
+`dsr serve` is one that replicas keep in threads, and `dsr check` tells whether what was recorded of such a play\n\
+or service is a run. Without a command it does what `dsr apply` does.";
 
 const EXAMPLES: &str = "Example:\n  \
 $ printf 'c0 1 write a 5\\nc1 1 swap a 5 6\\nc0 2 read a\\n' | dsr apply\n  \
@@ -30,10 +30,10 @@ $ printf 'c0 1 write a 5\\nc1 1 swap a 5 6\\nc0 2 read a\\n' | dsr apply\n  \
 1 swapped\n  \
 2 held 6\n\n\
 `dsr apply --help` says how a request is written, and what its answer means; `dsr play --help` the same of plays\n\
-and reports, and `dsr check --help` of transcripts.\n\n\
+and reports, `dsr serve --help` of scripts, and `dsr check --help` of transcripts.\n\n\
 Exit status:\n  \
 0  the answers, the report, the transcript or the help was written\n  \
-1  the input was refused, or reading or writing failed\n  \
+1  the input was refused, a service ended early, or reading or writing failed\n  \
 2  the words of the command line were not understood\n  \
 3  memory ran out";
 
@@ -112,7 +112,39 @@ events. Of a play with a bad line N nothing is played: `dsr: bad text in line N`
 the exit status is 1; where N, F, M or TRAITORS are outside their limits, it is `dsr: the shape is not allowed`.\n\
 Refused events are no fault: the status is 0, or 3 where one was refused because memory ran out.";
 
-/// What the help says of the flag of `play`.
+const SERVE_ABOUT: &str =
+    "Read a script from standard input, serve it by threads, and write what came of it";
+
+const SERVE_EXAMPLE: &str =
+    "A script begins with the line `dsr-serve 1 N F M TRAITORS`: the shape is written as in plays (`dsr play --help`). The\n\
+other lines may stand in any order. Each line ends with a line feed, the last one too.\n\n  \
+ask C OP           the client C asks for OP, written as in `dsr apply --help`; it makes its operations in their order\n  \
+script R NUM TO E  the traitor R posts the envelope E, written as in plays, to the actor TO in its round NUM, from 0 on\n\n\
+Of a traitor, a round and an actor there is one such line at most. Where there is none, and where E would need a forged\n\
+signature, the traitor posts `empty` to a replica and nothing to a client. Nor does it post to a client whose box is full.\n\n\
+Each replica, traitor and client is a thread of its own. A client asks the replicas for its next operation as soon as it\n\
+has accepted the answer to the one before. The replicas make rounds until all clients are served. Which of two clients\n\
+comes first is up to the threads, and may differ from run to run.\n\n\
+The report:\n  \
+accepted C K PLACE A   the client C accepted the answer A, and its place, for its request K; client by client\n  \
+history N              how many requests acted; then each of them after its place\n\n\
+With --transcript the steps of all actors are written in place of the report, as `dsr check --help` explains.\n\n\
+Example:\n  \
+$ printf 'dsr-serve 1 1 0 1 -\\nask c0 write a 7\\n' | dsr serve\n  \
+accepted c0 1 0 written\n  \
+history 1\n  \
+0 c0#1:write:a:7\n\n\
+A service may end before all clients are served. Then the report or the transcript tells what was done until then, and\n\
+standard error why it ended; the exit status is 1, or 3 for `no memory`, where there may be none for the report either:\n\n  \
+dsr: no answer within the turns  a client had no answer, and all replicas had ended: they make 4,096 rounds at most\n  \
+dsr: a counter is exhausted      a next post would be past a limit, as that of 2^40 posts from one actor to another\n  \
+dsr: no thread                   a thread could not be started\n  \
+dsr: no memory                   memory ran out\n\n\
+Nothing is served before the end of the input, which has at most 16,777,216 bytes. Of a script with a bad line N nothing\n\
+is served: `dsr: bad text in line N` is printed on standard error, and the exit status is 1; where N, F, M or TRAITORS\n\
+are outside their limits, it is `dsr: the shape is not allowed`.";
+
+/// What the help says of the flag of `play` and `serve`.
 const TRANSCRIPT_HELP: &str = "Write the steps of all actors in place of the report";
 
 const CHECK_ABOUT: &str =
@@ -152,11 +184,12 @@ const USAGE_TITLE: &str = "error: ";
 const TIPS: &str = "\n  \
 tip: to answer the requests in a file, run `dsr apply < FILE`\n  \
 tip: to play the play in a file, run `dsr play < FILE`\n  \
+tip: to serve the script in a file, run `dsr serve < FILE`\n  \
 tip: to check the transcript in a file, run `dsr check < FILE`\n  \
 tip: to see what they look like, run `dsr apply --help` and so on\n";
 
 /// The most bytes of what `clap` says that are shown.
-const MOST_SAID: usize = 3_800;
+const MOST_SAID: usize = 3_700;
 
 /// What is shown in the place of a text that has more.
 const TOO_LONG: &str = "what is to be said of these words is too long to be shown\n";
@@ -170,6 +203,10 @@ pub enum Task {
     Play,
     /// Play the play of standard input, and write the transcript of all steps.
     Transcribe,
+    /// Serve the script of standard input by hosts in threads, and report what came of it.
+    Serve,
+    /// Serve the script of standard input by hosts in threads, and write the transcript of all steps.
+    TranscribeService,
     /// Check the transcript of standard input, and report what the run gave.
     Check,
 }
@@ -239,20 +276,21 @@ fn task_of(matches: &ArgMatches<'_>) -> Task
     ensures { result ≡ task_entered (subcommand_rows_of matches.now) }
 {
     match matches.subcommand() {
-        Some(("play", given)) => play_task(given),
+        Some(("play", given)) => by_flag(given, Task::Play, Task::Transcribe),
+        Some(("serve", given)) => by_flag(given, Task::Serve, Task::TranscribeService),
         Some(("check", _)) => Task::Check,
         _ => Task::Apply,
     }
 }
 
-/// The task of `play`, by what was given after it.
-fn play_task(given: &ArgMatches<'_>) -> Task
-    ensures { result ≡ play_entered (rows_of (found_of given.now)) }
+/// One of two tasks, by what was given after the word for both: the second one with the flag.
+fn by_flag(given: &ArgMatches<'_>, plain: Task, flagged: Task) -> Task
+    ensures { result ≡ entered_with_flag plain flagged (rows_of (found_of given.now)) }
 {
     if given.get_str("transcript") == Some("true") {
-        Task::Transcribe
+        flagged
     } else {
-        Task::Play
+        plain
     }
 }
 
@@ -325,7 +363,7 @@ fn titled(alloc: Global, text: &str) -> Reading
     ensures task { IfDo result (λ _. ⊥) }
     ensures usage { OnUsage result ⊥ }
     ensures shown { IfHelp result IsHelp }
-    ensures whole { length text.now ≤ 3800 → IfHelp result (λ shown. shown ≡ title ++ (codes "\n\n" ++ text.now)) }
+    ensures whole { length text.now ≤ 3700 → IfHelp result (λ shown. shown ≡ title ++ (codes "\n\n" ++ text.now)) }
 {
     let said = shortened(text);
     match format!(in alloc; "{TITLE}\n\n{said}") {
@@ -336,8 +374,8 @@ fn titled(alloc: Global, text: &str) -> Reading
 
 /// The text where it is not too long to be shown, else a line that says so.
 fn shortened(text: &str) -> &str
-    ensures same { length text.now ≤ 3800 → result.now ≡ text.now }
-    ensures short { length result.now ≤ 3800 }
+    ensures same { length text.now ≤ 3700 → result.now ≡ text.now }
+    ensures short { length result.now ≤ 3700 }
 {
     if text.len() <= MOST_SAID {
         text
@@ -351,10 +389,19 @@ fn dsr_command<'a>(alloc: Global) -> Result<Command<'a>, AllocError>
     ensures { IfOk result (λ command. (app_of command ≡ command_line)
         × ((fields_of command).has_globals ≡ false)) }
 {
+    let dsr = dsr_keeping(alloc)?;
+    dsr.subcommand(check_command(alloc))
+}
+
+/// The command with those of its tasks that keep a directory.
+fn dsr_keeping<'a>(alloc: Global) -> Result<Command<'a>, AllocError>
+    ensures { IfOk result (λ command. (app_of command ≡ keeping)
+        × ((fields_of command).has_globals ≡ false)) }
+{
     let dsr = dsr_alone(alloc)?;
     let dsr = dsr.subcommand(apply_command(alloc))?;
     let dsr = dsr.subcommand(play_command(alloc)?)?;
-    dsr.subcommand(check_command(alloc))
+    dsr.subcommand(serve_command(alloc)?)
 }
 
 fn dsr_alone<'a>(alloc: Global) -> Result<Command<'a>, AllocError>
@@ -379,13 +426,23 @@ fn apply_command<'a>(alloc: Global) -> Command<'a>
 }
 
 fn play_command<'a>(alloc: Global) -> Result<Command<'a>, AllocError>
-    ensures { IfOk result (λ command. (app_of command ≡ with_rule (new_app (codes "play")) transcript_rule)
+    ensures { IfOk result (λ command. (app_of command ≡ flagged_app (codes "play"))
         × ((fields_of command).has_globals ≡ false)) }
 {
     let play = Command::new(alloc, "play")
         .about(PLAY_ABOUT)
         .after_help(PLAY_EXAMPLE);
     play.arg(transcript_flag(alloc))
+}
+
+fn serve_command<'a>(alloc: Global) -> Result<Command<'a>, AllocError>
+    ensures { IfOk result (λ command. (app_of command ≡ flagged_app (codes "serve"))
+        × ((fields_of command).has_globals ≡ false)) }
+{
+    let serve = Command::new(alloc, "serve")
+        .about(SERVE_ABOUT)
+        .after_help(SERVE_EXAMPLE);
+    serve.arg(transcript_flag(alloc))
 }
 
 fn transcript_flag<'a>(alloc: Global) -> Arg<'a>

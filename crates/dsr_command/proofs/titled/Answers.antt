@@ -3,7 +3,7 @@ use Rattle.dsr_command.specs.ShownTexts.{title, most_shown}
 use Rattle.dsr_command.proofs.titled.Goals as goal
 
 -- the title and two line feeds have at most 96 bytes
-short_enough : (text shown : List ℕ) → length text ≤ 3800 → shown ≡ title ++ (codes "\n\n" ++ text) → length shown ≤ most_shown
+short_enough : (text shown : List ℕ) → length text ≤ 3700 → shown ≡ title ++ (codes "\n\n" ++ text) → length shown ≤ most_shown
 short_enough text shown short is = subst (λ s. length s ≤ most_shown) (sym is) (omega (arith, short))
 
 pub returns-in-Ok-clause-shown : goal.returns-in-Ok-clause-shown
