@@ -8,7 +8,8 @@
 3. Each text of code in the first column of docs/FORMATS.md's table of bad lines, where the row says no more about it: the
    program must refuse it in line 1, as a line and between two good ones.
 4. Each transcript in a block of docs/FORMATS.md: the program must report on it as one of the later blocks that begin with `run` says, in
-   their order. The play there must be reported as the block after it says, and its transcript be the first.
+   their order. The play there must be reported as the block after it says, and its transcript be the first. The serve script there must be
+   reported as the block says that begins with `accepted`.
 5. Each text of code in the first columns of docs/FORMATS.md's tables of lines that are no steps: right after the header that the table
    names, the program must find no run, at line 2.
 
@@ -21,7 +22,7 @@ import subprocess
 import sys
 
 TOP = os.path.dirname(os.path.dirname(os.path.realpath(__file__)))
-HELPS = [["--help"], ["apply", "--help"], ["play", "--help"], ["check", "--help"]]
+HELPS = [["--help"], ["apply", "--help"], ["play", "--help"], ["serve", "--help"], ["check", "--help"]]
 
 
 def text_of(path):
@@ -99,7 +100,8 @@ def blocks_that_begin(text, begin):
 def faults_of_transcripts(text):
     transcripts, reports = blocks_that_begin(text, "dsr-transcript "), blocks_that_begin(text, "run ")
     plays, outcomes = blocks_that_begin(text, "dsr-play "), blocks_that_begin(text, "done ")
-    wanted = [("check", transcripts, reports), ("play", plays, outcomes), ("play --transcript", plays, transcripts[:len(plays)])]
+    scripts, served = blocks_that_begin(text, "dsr-serve "), blocks_that_begin(text, "accepted ")
+    wanted = [("check", transcripts, reports), ("play", plays, outcomes), ("play --transcript", plays, transcripts[:len(plays)]), ("serve", scripts, served)]
     faults = []
     for words, inputs, outputs in wanted:
         if len(inputs) != len(outputs):
