@@ -20,13 +20,17 @@ fn reads_the_task(rt: HostRuntime) {
     assert!(rt; matches!(&reading, Reading::Do(Task::Play)));
     let reading = read_words(rt.alloc(), &["play", "--transcript"]);
     assert!(rt; matches!(&reading, Reading::Do(Task::Transcribe)));
+    let reading = read_words(rt.alloc(), &["serve"]);
+    assert!(rt; matches!(&reading, Reading::Do(Task::Serve)));
+    let reading = read_words(rt.alloc(), &["serve", "--transcript"]);
+    assert!(rt; matches!(&reading, Reading::Do(Task::TranscribeService)));
     let reading = read_words(rt.alloc(), &["check"]);
     assert!(rt; matches!(&reading, Reading::Do(Task::Check)));
 }
 
 #[test]
 fn reads_calls_for_help(rt: HostRuntime) {
-    let lines: [&[&str]; 10] = [
+    let lines: [&[&str]; 14] = [
         &["--help"],
         &["-h"],
         &["apply", "--help"],
@@ -35,6 +39,10 @@ fn reads_calls_for_help(rt: HostRuntime) {
         &["-h", "play", "--transcript"],
         &["play", "--transcript", "--help"],
         &["play", "-h", "--transcript"],
+        &["serve", "--help"],
+        &["-h", "serve", "--transcript"],
+        &["serve", "--transcript", "-h"],
+        &["serve", "-h", "--transcript"],
         &["check", "-h"],
         &["check", "--help", "--transcript"],
     ];
@@ -48,7 +56,7 @@ fn reads_calls_for_help(rt: HostRuntime) {
 
 #[test]
 fn refuses_other_words(rt: HostRuntime) {
-    let lines: [&[&str]; 27] = [
+    let lines: [&[&str]; 39] = [
         &["fly"],
         &["--help=now"],
         &["apply", "--help=now"],
@@ -76,6 +84,18 @@ fn refuses_other_words(rt: HostRuntime) {
         &["play", "--transcripts"],
         &["play", "--trans"],
         &["play", "-t"],
+        &["serve", "serve"],
+        &["serve", "play"],
+        &["serve", "--"],
+        &["serves"],
+        &["--transcript", "serve"],
+        &["play", "serve"],
+        &["serve", "--transcript", "--transcript"],
+        &["serve", "--transcript=x"],
+        &["serve", "--transcript="],
+        &["serve", "--transcript", "true"],
+        &["serve", "--transcript", "--"],
+        &["serve", "--transcripts"],
     ];
     for words in lines {
         let reading = read_words(rt.alloc(), words);
@@ -90,14 +110,15 @@ dsr keeps a directory of named registers, each free or holding a number.
 
 Clients send it numbered requests: read, write, swap (compare-and-set), remove. It answers each of them.
 `dsr apply` is one directory. `dsr play` is one that replicas keep together, though some of them are traitors,
-and `dsr check` tells whether what was recorded of such a play is a run.
-Without a command it does what `dsr apply` does.
+`dsr serve` is one that replicas keep in threads, and `dsr check` tells whether what was recorded of such a play
+or service is a run. Without a command it does what `dsr apply` does.
 
 Usage: dsr [COMMAND]
 
 Commands:
   apply  Read request lines from standard input, and write one line for each
   play   Read a play of replicas and clients from standard input, and write what came of it
+  serve  Read a script from standard input, serve it by threads, and write what came of it
   check  Read a transcript from standard input, and tell whether it is a run, and what came of it
 
 Options:
@@ -110,11 +131,11 @@ Example:
   2 held 6
 
 `dsr apply --help` says how a request is written, and what its answer means; `dsr play --help` the same of plays
-and reports, and `dsr check --help` of transcripts.
+and reports, `dsr serve --help` of scripts, and `dsr check --help` of transcripts.
 
 Exit status:
   0  the answers, the report, the transcript or the help was written
-  1  the input was refused, or reading or writing failed
+  1  the input was refused, a service ended early, or reading or writing failed
   2  the words of the command line were not understood
   3  memory ran out
 ";
@@ -222,6 +243,55 @@ the exit status is 1; where N, F, M or TRAITORS are outside their limits, it is 
 Refused events are no fault: the status is 0, or 3 where one was refused because memory ran out.
 ";
 
+const SERVE_HELP: &str = "\
+dsr keeps a directory of named registers, each free or holding a number.
+
+Read a script from standard input, serve it by threads, and write what came of it
+
+Usage: dsr serve [OPTIONS]
+
+Options:
+      --transcript  Write the steps of all actors in place of the report
+  -h, --help        Print help
+
+A script begins with the line `dsr-serve 1 N F M TRAITORS`: the shape is written as in plays (`dsr play --help`). The
+other lines may stand in any order. Each line ends with a line feed, the last one too.
+
+  ask C OP           the client C asks for OP, written as in `dsr apply --help`; it makes its operations in their order
+  script R NUM TO E  the traitor R posts the envelope E, written as in plays, to the actor TO in its round NUM, from 0 on
+
+Of a traitor, a round and an actor there is one such line at most. Where there is none, and where E would need a forged
+signature, the traitor posts `empty` to a replica and nothing to a client. Nor does it post to a client whose box is full.
+
+Each replica, traitor and client is a thread of its own. A client asks the replicas for its next operation as soon as it
+has accepted the answer to the one before. The replicas make rounds until all clients are served. Which of two clients
+comes first is up to the threads, and may differ from run to run.
+
+The report:
+  accepted C K PLACE A   the client C accepted the answer A, and its place, for its request K; client by client
+  history N              how many requests acted; then each of them after its place
+
+With --transcript the steps of all actors are written in place of the report, as `dsr check --help` explains.
+
+Example:
+  $ printf 'dsr-serve 1 1 0 1 -\\nask c0 write a 7\\n' | dsr serve
+  accepted c0 1 0 written
+  history 1
+  0 c0#1:write:a:7
+
+A service may end before all clients are served. Then the report or the transcript tells what was done until then, and
+standard error why it ended; the exit status is 1, or 3 for `no memory`, where there may be none for the report either:
+
+  dsr: no answer within the turns  a client had no answer, and all replicas had ended: they make 4,096 rounds at most
+  dsr: a counter is exhausted      a next post would be past a limit, as that of 2^40 posts from one actor to another
+  dsr: no thread                   a thread could not be started
+  dsr: no memory                   memory ran out
+
+Nothing is served before the end of the input, which has at most 16,777,216 bytes. Of a script with a bad line N nothing
+is served: `dsr: bad text in line N` is printed on standard error, and the exit status is 1; where N, F, M or TRAITORS
+are outside their limits, it is `dsr: the shape is not allowed`.
+";
+
 const CHECK_HELP: &str = "\
 dsr keeps a directory of named registers, each free or holding a number.
 
@@ -274,6 +344,7 @@ For more information, try '--help'.
 
   tip: to answer the requests in a file, run `dsr apply < FILE`
   tip: to play the play in a file, run `dsr play < FILE`
+  tip: to serve the script in a file, run `dsr serve < FILE`
   tip: to check the transcript in a file, run `dsr check < FILE`
   tip: to see what they look like, run `dsr apply --help` and so on
 ";
@@ -285,6 +356,7 @@ fn shows_each_help(rt: HostRuntime) {
         (["--help"].as_slice(), HELP),
         (&["apply", "-h"], APPLY_HELP),
         (&["play", "-h"], PLAY_HELP),
+        (&["serve", "-h"], SERVE_HELP),
         (&["check", "-h"], CHECK_HELP),
     ] {
         let reading = read_words(rt.alloc(), words);
