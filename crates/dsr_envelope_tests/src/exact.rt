@@ -112,8 +112,16 @@ fn tasks_are_exact(rt: HostRuntime) {
     assert!(rt; Task::Apply.copy().same(&Task::Apply));
     assert!(rt; Task::Play.copy().same(&Task::Play));
     assert!(rt; Task::Transcribe.copy().same(&Task::Transcribe));
+    assert!(rt; Task::Serve.copy().same(&Task::Serve));
+    assert!(rt;
+        Task::TranscribeService
+            .copy()
+            .same(&Task::TranscribeService)
+    );
     assert!(rt; Task::Check.copy().same(&Task::Check));
     assert!(rt; !Task::Apply.same(&Task::Play));
     assert!(rt; !Task::Play.same(&Task::Transcribe));
-    assert!(rt; !Task::Transcribe.same(&Task::Check));
+    assert!(rt; !Task::Transcribe.same(&Task::Serve));
+    assert!(rt; !Task::Serve.same(&Task::TranscribeService));
+    assert!(rt; !Task::TranscribeService.same(&Task::Check));
 }
