@@ -1,3 +1,6 @@
+mod MergeLemmas
 mod PlayedLemmas
+mod ServedLemmas
+mod ServiceLemmas
 mod StatusLemmas
 mod VerdictLemmas

@@ -10,7 +10,7 @@ use Rattle.dsr_history.specs.Applied.{IsTextOf}
 use Rattle.dsr_cli.specs.Played.{Form, HasPlayed, LeftAfterPlay, PlayedAll}
 
 -- contents that are the same are kept
-kept : (before after : Option (List ℕ)) → after ≡ before → Keeps before after
+pub kept : (before after : Option (List ℕ)) → after ≡ before → Keeps before after
 kept before after same = subst (λ contents. Keeps before contents) (sym same) (itself before)
   where
     itself : (contents : Option (List ℕ)) → Keeps contents contents

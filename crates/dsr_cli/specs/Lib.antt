@@ -1,4 +1,5 @@
 pub mod Checked
 pub mod Played
 pub mod Report
+pub mod Served
 pub mod Status

@@ -8,9 +8,10 @@ use Rattle.dsr_history.specs.Applied.{AppliedAll, WrittenAfter}
 use Rattle.dsr_command.specs.Asked.{Asked, task, help, unknown}
 use Rattle.dsr_command.specs.ShownTexts.{IsHelp, IsUsage}
 use Rattle.dsr_command.specs.declared.Task.{Task}
-use Rattle.dsr_command.specs.declared.Task.TheVariants.{Apply, Check, Play, Transcribe}
+use Rattle.dsr_command.specs.declared.Task.TheVariants.{Apply, Check, Play, Serve, Transcribe, TranscribeService}
 use Rattle.dsr_cli.specs.Checked.{CheckedAll, LeftAfterCheck}
 use Rattle.dsr_cli.specs.Played.{IsReport, IsTranscript, LeftAfterPlay, PlayedAll}
+use Rattle.dsr_cli.specs.Served.{IsServiceReport, IsServiceTranscript, LeftAfterService, ServedAll}
 
 -- what a run of the program had and left: its input and output, and its error stream before and after
 pub record Run : Type 1 where
@@ -43,11 +44,14 @@ pub record EndedBy (After : Refusal → Streams → Type 0) (status : ℕ) (run 
   pub left : After refusal run.io
 
 -- a task was done: all lines were answered; the whole report of a play, or the transcript of its run, went out, and no event of the play
--- was refused because memory ran out; or the whole report on a transcript's run did
+-- was refused because memory ran out; all clients of a script were served, and the whole report of the service, or its transcript, went out; or
+-- the whole report on a transcript's run did
 abbrev pub IsDone : Task → Streams → Type 0
 IsDone Apply s = AppliedAll s
 IsDone Play s = PlayedAll IsReport s
 IsDone Transcribe s = PlayedAll IsTranscript s
+IsDone Serve s = ServedAll IsServiceReport s
+IsDone TranscribeService s = ServedAll IsServiceTranscript s
 IsDone Check s = CheckedAll s
 
 -- what a refusal of a task leaves
@@ -55,6 +59,8 @@ abbrev pub LeftAfter : Task → Refusal → Streams → Type 0
 LeftAfter Apply refusal s = WrittenAfter refusal s
 LeftAfter Play refusal s = LeftAfterPlay IsReport refusal s
 LeftAfter Transcribe refusal s = LeftAfterPlay IsTranscript refusal s
+LeftAfter Serve refusal s = LeftAfterService IsServiceReport refusal s
+LeftAfter TranscribeService refusal s = LeftAfterService IsServiceTranscript refusal s
 LeftAfter Check refusal s = LeftAfterCheck refusal s
 
 -- after 0 the task was done; another status is that of a refusal

@@ -4,7 +4,10 @@
 mod check;
 mod play;
 mod report;
+mod serve;
+mod serve_report;
 mod transcribe;
+mod transcribe_service;
 
 ghost use Rattle.std.specs.Prelude.{◌≡◌, ◌+◌, ◌<◌, ◌≤◌, IfErr, OnOk, length, map};
 ghost use Rattle.dsr_names.specs.Limits.{most_calls};
@@ -17,12 +20,16 @@ ghost use Rattle.dsr_cli.specs.Status.{StatusFor, RanOut, IsDone, LeftAfter, Wha
 
 use crate::check::run_check;
 use crate::play::run_play;
+use crate::serve::run_serve;
 use crate::transcribe::transcribe_play;
+use crate::transcribe_service::transcribe_service;
 use dsr_command::{Reading, Task, read_words};
 use dsr_history::run_apply;
 use dsr_names::{Refusal, Sink, Source, tell, tell_refusal, write_output};
 use std::alloc::Global;
 use std::convert::AsStr;
+use std::sync::Wait;
+use std::thread::Threads;
 
 /// The exit status where all that was asked for was done.
 const DONE: u8 = 0;
@@ -43,10 +50,14 @@ pub const NO_MEMORY: u8 = 3;
 /// reads the input. Each of the three is called at most `MOST_CALLS` times.
 ///
 /// The events of a play that are refused are no refusal of the play: its report counts them, and its transcript has nothing of them. But
-/// where memory ran out for some of them, the report or the transcript is written and then `NoMemory` told.
+/// where memory ran out for some of them, the report or the transcript is written and then `NoMemory` told. So it is with what ends a
+/// service before all clients are served: the report or the transcript of what was done until then is written, and then the refusal told.
+///
+/// A service starts threads, and waits for them; no other task does.
 ///
 /// It is for a program that ends after it: what a play took is not freed.
-pub fn run<S: AsStr, I: Source, O: Sink, E: Sink>(
+pub fn run<R: Threads + Wait + Sync, S: AsStr, I: Source, O: Sink, E: Sink>(
+    rt: &R,
     alloc: Global,
     words: &[S],
     input: &mut I,
@@ -62,11 +73,12 @@ pub fn run<S: AsStr, I: Source, O: Sink, E: Sink>(
     ensures tells { (E.output errors.new).calls ≤ (E.output errors.old).calls + most_calls }
 {
     let reading = read_words(alloc, words);
-    obey(alloc, reading, input, output, errors)
+    obey(rt, alloc, reading, input, output, errors)
 }
 
 /// Does what was read in the words, and answers the status.
-fn obey<I: Source, O: Sink, E: Sink>(
+fn obey<R: Threads + Wait + Sync, I: Source, O: Sink, E: Sink>(
+    rt: &R,
     alloc: Global,
     reading: Reading,
     input: &mut I,
@@ -89,7 +101,7 @@ fn obey<I: Source, O: Sink, E: Sink>(
 {
     match reading {
         Reading::Do(task) => {
-            let done = perform(alloc, task, input, output);
+            let done = perform(rt, alloc, task, input, output);
             status_after(done, errors)
         }
         Reading::Help(text) => show_help(text.as_str(), output, errors),
@@ -102,7 +114,8 @@ fn obey<I: Source, O: Sink, E: Sink>(
 }
 
 /// Does the task.
-fn perform<I: Source, O: Sink>(
+fn perform<R: Threads + Wait + Sync, I: Source, O: Sink>(
+    rt: &R,
     alloc: Global,
     task: Task,
     input: &mut I,
@@ -117,6 +130,8 @@ fn perform<I: Source, O: Sink>(
         Task::Apply => run_apply(alloc, input, output),
         Task::Play => run_play(alloc, input, output),
         Task::Transcribe => transcribe_play(alloc, input, output),
+        Task::Serve => run_serve(rt, alloc, input, output),
+        Task::TranscribeService => transcribe_service(rt, alloc, input, output),
         Task::Check => run_check(alloc, input, output),
     }
 }

@@ -58,7 +58,11 @@ fn write_accepted(out: &mut String, world: &World) -> Result<(), Refusal>
 }
 
 /// Writes the replies that this client accepted, in their order.
-fn write_replies(out: &mut String, client: ClientId, replies: &[Reply]) -> Result<(), Refusal>
+pub(crate) fn write_replies(
+    out: &mut String,
+    client: ClientId,
+    replies: &[Reply],
+) -> Result<(), Refusal>
     ensures text { OnOk result (string_bytes out.new ≡ string_bytes out.old ++ replies_text client (reverse replies.now)) }
     ensures refusal { IsOkUnless result Refusal.NoMemory }
 {

@@ -1,0 +1,149 @@
+-- What `serve` leaves, by what it returns (this project).
+use Rattle.std.specs.Prelude.{◌≡◌, ◌↔◌, ◌⊎◌, ℕ, ◌<◌, ◌≤◌, ◌++◌, All, List, Option, None, Some, length}
+use Rattle.std.specs.Io.KnownBytes.{Keeps}
+use Rattle.dsr_base.specs.Growth.{Extends}
+use Rattle.dsr_base.specs.Member.{In}
+use Rattle.dsr_names.specs.Limits.{most_bytes}
+use Rattle.dsr_names.specs.Shape.{Shape, IsLoyal}
+use Rattle.dsr_names.specs.Streams.{Output, Streams, CanFailToGive, CanFailToTake, SentAll, SentPrefix}
+use Rattle.dsr_names.specs.declared.actor.Actor.TheVariants.{Client, Replica}
+use Rattle.dsr_names.specs.declared.refusal.Refusal.{Refusal}
+use Rattle.dsr_names.specs.declared.refusal.Refusal.TheVariants.{BadShape, BadText, Exhausted, NoMemory, NoThread, ReadFailed, Unanswered, WriteFailed}
+use Rattle.dsr_ledger.specs.declared.reply.Reply.{Reply as AReply}
+use Rattle.dsr_history.specs.Applied.{IsTextOf}
+use Rattle.dsr_history.specs.History.{IsLegal}
+use Rattle.dsr_script.specs.Script.{Script, Spells, IsScriptRefusal, ops_of}
+use Rattle.dsr_run.specs.History.{accepted_by, decided_at, history}
+use Rattle.dsr_run.specs.Right.{IsRightReply}
+use Rattle.dsr_run.specs.Run.{AreLogs}
+use Rattle.dsr_run.specs.Step.{Logs as LogsOfAll}
+use Rattle.dsr_mail.specs.Logs.{Logs, logs_of}
+use Rattle.dsr_hosts.specs.Causes.{CauseOf}
+use Rattle.dsr_hosts.specs.Served.{HasAll}
+use Rattle.dsr_record.specs.Merge.{IsMerge, IsWhole}
+use Rattle.dsr_record.specs.Record.{Record}
+use Rattle.dsr_record.specs.RecordText.{IsStepOf, record_text}
+use Rattle.dsr_record.specs.RecordText.{Spells as SpellsRecord}
+use Rattle.dsr_record.specs.declared.version.Version.TheVariants.{One}
+use Rattle.dsr_cli.specs.Report.{accepted_text, history_text}
+
+-- ---- what is written
+
+-- the report of logs: what clients accepted and which requests acted, in lines as in the report of a play
+abbrev pub served_text : Logs → List ℕ
+served_text logs = accepted_text logs.shape (logs_of logs) ++ history_text (history logs.shape (logs_of logs))
+
+-- a form in which a service is told: which text is written, by the logs of all actors
+abbrev pub ServiceForm : Type 1
+ServiceForm = Logs → List ℕ → Type 0
+
+-- the report
+abbrev pub IsServiceReport : ServiceForm
+IsServiceReport logs text = text ≡ served_text logs
+
+-- the transcript, from which the steps can be read back: that of the merge of the whole logs, in version 1 where that has all of their lines
+pub record IsServiceTranscript (logs : Logs) (text : List ℕ) : Type 0 where
+  pub recorded : Record
+  pub shape_is : recorded.shape ≡ logs.shape
+  pub whole : IsWhole (logs_of logs) recorded.run
+  pub merged : IsMerge logs.shape (logs_of logs) recorded.run
+  pub version : (recorded.version ≡ One) ↔ All (IsStepOf One) recorded.run
+  pub is : text ≡ record_text recorded
+  pub spells : SpellsRecord text recorded
+
+-- ---- the service
+
+-- logs of a run, in which loyal replicas agree, and what clients accepted is right
+pub record AreRightLogs (shape : Shape) (logs : LogsOfAll) : Type 0 where
+  pub of_run : AreLogs shape logs
+  pub agree : (p q : ℕ) → IsLoyal shape (Replica p) → IsLoyal shape (Replica q)
+      → Extends (decided_at shape logs p) (decided_at shape logs q) ⊎ Extends (decided_at shape logs q) (decided_at shape logs p)
+  pub right : (c : ℕ) → c < shape.m → (reply : AReply) → In reply (accepted_by shape logs c)
+      → IsRightReply shape (history shape logs) (logs (Client c)) reply
+  pub legal : IsLegal (history shape logs)
+
+-- each client accepted the replies to exactly those operations that the script gives it, in their order
+abbrev pub ServesAll : Script → Logs → Type 0
+ServesAll script logs = (c : ℕ) → c < logs.shape.m → HasAll logs.shape c (logs_of logs (Client c)) (ops_of script c)
+
+-- how a service ended: nothing ended it before all clients were served; or this cause did, and no host was stopped
+abbrev pub IsEndOf : Script → Logs → Option Refusal → Type 0
+IsEndOf script logs None = ServesAll script logs
+IsEndOf script logs (Some cause) = CauseOf (λ actor. ⊥) logs cause
+
+-- the text spells a script that was served, which gave these logs, and ended so
+pub record HasService (text : List ℕ) (logs : Logs) (cause : Option Refusal) : Type 0 where
+  pub script : Script
+  pub spells : Spells text script
+  pub shape_is : logs.shape ≡ script.shape
+  pub right : AreRightLogs logs.shape (logs_of logs)
+  pub ended : IsEndOf script logs cause
+
+-- and it is told so
+pub record HasServed (Tells : ServiceForm) (text : List ℕ) (cause : Option Refusal) (told : List ℕ) : Type 0 where
+  pub logs : Logs
+  pub served : HasService text logs cause
+  pub tells : Tells logs told
+
+-- ---- what is left
+
+-- the source gave a script that was served, and ended so, and all of what tells it went out
+pub record ToldService (Tells : ServiceForm) (cause : Option Refusal) (s : Streams) : Type 0 where
+  pub text : List ℕ
+  pub short : length text ≤ most_bytes
+  pub given : IsTextOf s.input.left text
+  pub told : List ℕ
+  pub served : HasServed Tells text cause told
+  pub went_out : SentAll told s.output s.written
+
+-- all clients were served, and all of what tells it went out
+abbrev pub ServedAll : ServiceForm → Streams → Type 0
+ServedAll Tells s = ToldService Tells None s
+
+-- the service was ended by this cause, and all of what tells the logs until then went out
+abbrev pub ServiceEnded : ServiceForm → Refusal → Streams → Type 0
+ServiceEnded Tells cause s = ToldService Tells (Some cause) s
+
+-- however the service ended, a prefix of what tells it went out; the sink was one that may not take all of it
+pub record ServicePart (Tells : ServiceForm) (s : Streams) : Type 0 where
+  pub text : List ℕ
+  pub short : length text ≤ most_bytes
+  pub given : IsTextOf s.input.left text
+  pub cause : Option Refusal
+  pub told : List ℕ
+  pub served : HasServed Tells text cause told
+  pub too_many : CanFailToTake (length told) s.output
+  pub went_out : SentPrefix told s.output s.written
+
+-- the text that the source gave is no script, and nothing went out
+pub record RefusedScript (refusal : Refusal) (s : Streams) : Type 0 where
+  pub text : List ℕ
+  pub short : length text ≤ most_bytes
+  pub given : IsTextOf s.input.left text
+  pub refused : IsScriptRefusal text refusal
+  pub unwritten : Keeps s.output.contents s.written.contents
+
+-- what each refusal leaves: a text that is no script was refused, by what is wrong with it, and nothing was written; a counter at its limit, a
+-- client without an answer, or a thread that could not be started ended the service, and all that tells it was written; so did memory that ran
+-- out, or nothing was written; where reading failed, which it does of a steady source only for too many bytes, nothing was; where writing
+-- failed, a prefix was; there is no other refusal
+abbrev pub LeftAfterService : ServiceForm → Refusal → Streams → Type 0
+LeftAfterService Tells BadShape s = RefusedScript BadShape s
+LeftAfterService Tells (BadText line) s = RefusedScript (BadText line) s
+LeftAfterService Tells Exhausted s = ServiceEnded Tells Exhausted s
+LeftAfterService Tells Unanswered s = ServiceEnded Tells Unanswered s
+LeftAfterService Tells NoThread s = ServiceEnded Tells NoThread s
+LeftAfterService Tells NoMemory s = Keeps s.output.contents s.written.contents ⊎ ServiceEnded Tells NoMemory s
+LeftAfterService Tells ReadFailed s = CanFailToGive s.input × Keeps s.output.contents s.written.contents
+LeftAfterService Tells WriteFailed s = ServicePart Tells s
+LeftAfterService Tells other s = ⊥
+
+-- ---- while it is written; no public contract cites this
+
+-- what a refusal leaves where this was to tell a service that ended so: all of it went out, and the refusal is what ended the service; or
+-- writing failed, and a prefix of it went out; or memory ran out, and nothing did
+abbrev pub IsAfterTelling : List ℕ → Option Refusal → Output → Output → Refusal → Type 0
+IsAfterTelling told cause before after refusal =
+    ((cause ≡ Some refusal) × SentAll told before after)
+    ⊎ (((refusal ≡ WriteFailed) × CanFailToTake (length told) before × SentPrefix told before after)
+    ⊎ ((refusal ≡ NoMemory) × (after.contents ≡ before.contents)))

@@ -1,0 +1,44 @@
+//! What came of a service, as lines of text.
+
+ghost use Rattle.std.specs.Prelude.{◌≡◌, ◌<◌, ◌++◌, IfOk, OnOk, IsOkUnless, string_bytes};
+ghost use Rattle.dsr_run.specs.History.{accepted_by};
+ghost use Rattle.dsr_mail.specs.Logs.{logs_of};
+ghost use Rattle.dsr_cli.specs.Report.{accepted_text, replies_text};
+ghost use Rattle.dsr_cli.specs.Served.{served_text};
+
+use crate::report::{write_history, write_replies};
+use dsr_mail::Logs;
+use dsr_names::{ClientId, Refusal};
+use std::alloc::Global;
+
+/// The report of a service whose actors have these logs: what each client accepted, and the history. `NoMemory` where memory runs out.
+pub(crate) fn report_of(alloc: Global, logs: &Logs) -> Result<String, Refusal>
+    ensures text { IfOk result (λ report. string_bytes report ≡ served_text logs.now) }
+    ensures refusal { IsOkUnless result Refusal.NoMemory }
+{
+    let mut report = String::new(alloc);
+    write_accepted(&mut report, logs)?;
+    write_history(&mut report, logs.history())?;
+    Ok(report)
+}
+
+/// Writes the replies that each client accepted.
+fn write_accepted(out: &mut String, logs: &Logs) -> Result<(), Refusal>
+    ensures text { OnOk result (string_bytes out.new ≡ string_bytes out.old ++ accepted_text logs.now.shape (logs_of logs.now)) }
+    ensures refusal { IsOkUnless result Refusal.NoMemory }
+{
+    for number in 0..logs.shape().m() {
+        write_accepted_by(out, logs, ClientId::of(number))?;
+    }
+    Ok(())
+}
+
+/// Writes the replies that this client accepted. Requires a client of the shape.
+fn write_accepted_by(out: &mut String, logs: &Logs, client: ClientId) -> Result<(), Refusal>
+    requires { client < logs.now.shape.m }
+    ensures text { OnOk result (string_bytes out.new
+        ≡ string_bytes out.old ++ replies_text client (accepted_by logs.now.shape (logs_of logs.now) client)) }
+    ensures refusal { IsOkUnless result Refusal.NoMemory }
+{
+    write_replies(out, client, logs.accepted(client))
+}
