@@ -35,6 +35,7 @@ fn main(rt: HostRuntime) -> io::Result<ExitCode> {
         return Ok(refuse_words(&rt, ErrorKind::OutOfMemory));
     };
     let status = dsr_cli::run(
+        &rt,
         rt.alloc(),
         words.as_slice(),
         &mut Outside(rt.stdin()),

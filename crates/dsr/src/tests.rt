@@ -4,11 +4,13 @@ use dsr_names::{Outside, Sink, Source};
 use std::alloc::Global;
 use std::io;
 use std::process::Abort;
+use std::sync::Wait;
 use std::test::Fail;
+use std::thread::Threads;
 
 // Runs the program on these words and this text, and compares its status, its output and the beginning of what it
 // wrote on standard error.
-fn runs<R: Abort>(
+fn runs<R: Abort + Threads + Wait + Sync>(
     rt: &R,
     alloc: Global,
     words: &[&str],
@@ -19,7 +21,7 @@ fn runs<R: Abort>(
 ) {
     let mut out = Outside(Vec::new(alloc));
     let mut err = Vec::new(alloc);
-    let ended = run(alloc, words, &mut text.as_bytes(), &mut out, &mut err);
+    let ended = run(rt, alloc, words, &mut text.as_bytes(), &mut out, &mut err);
     assert_eq!(rt; ended, status, "at {words:?}");
     assert_eq!(rt; out.0.as_slice(), output.as_bytes(), "at {words:?}");
     assert!(rt;
@@ -184,6 +186,89 @@ fn transcripts_are_checked(rt: HostRuntime) {
     }
 }
 
+// A script of one replica and one client, and the report of its service.
+const SCRIPT: &str = "dsr-serve 1 1 0 1 -\nask c0 write a 7\n";
+
+const SERVED: &str = "accepted c0 1 0 written\nhistory 1\n0 c0#1:write:a:7\n";
+
+// A script in which nobody asks for anything.
+const IDLE: &str = "dsr-serve 1 3 1 2 r1\n";
+
+const TRANSCRIBE_SERVICE: [&str; 2] = ["serve", "--transcript"];
+
+// What a service wrote that served its client. How threads take turns is up to the system: where a client's thread came too late, it had no answer,
+// and the service is run once more.
+fn served<R: Abort + Threads + Wait + Sync>(rt: &R, alloc: Global, words: &[&str]) -> Vec<u8> {
+    for _ in 0..100 {
+        let mut out = Outside(Vec::new(alloc));
+        let mut err = Vec::new(alloc);
+        let mut input = SCRIPT.as_bytes();
+        if run(rt, alloc, words, &mut input, &mut out, &mut err) == 0 {
+            assert!(rt; err.is_empty());
+            return out.0;
+        }
+        assert_eq!(rt;
+            err.as_slice(),
+            b"dsr: no answer within the turns\n".as_slice()
+        );
+    }
+    Vec::new(alloc)
+}
+
+#[test]
+fn services_are_reported(rt: HostRuntime) {
+    let alloc = rt.alloc();
+    let report = served(&rt, alloc, &["serve"]);
+    assert_eq!(rt; report.as_slice(), SERVED.as_bytes());
+    // Nobody asks for anything.
+    runs(&rt, alloc, &["serve"], IDLE, 0, "history 0\n", "");
+}
+
+// The replica may have made some rounds before the client asked. So of the transcript it is compared how it begins, and what it is reported on as.
+#[test]
+fn services_are_transcribed(rt: HostRuntime) {
+    let alloc = rt.alloc();
+    let transcript = served(&rt, alloc, TRANSCRIBE_SERVICE.as_slice());
+    assert!(rt;
+        transcript
+            .as_slice()
+            .starts_with(b"dsr-transcript 1 1 0 1 -\n")
+    );
+    let mut report = Outside(Vec::new(alloc));
+    let mut err = Vec::new(alloc);
+    let mut input = transcript.as_slice();
+    let words: [&str; 1] = ["check"];
+    assert_eq!(rt;
+        run(
+            &rt,
+            alloc,
+            words.as_slice(),
+            &mut input,
+            &mut report,
+            &mut err
+        ),
+        0
+    );
+    assert!(rt; report.0.as_slice().ends_with(SERVED.as_bytes()));
+}
+
+#[test]
+fn refused_scripts_are_told(rt: HostRuntime) {
+    let alloc = rt.alloc();
+    for words in [["serve"].as_slice(), &["serve", "--transcript"]] {
+        for (text, errors) in [
+            ("dsr-serve 1 2 1 1 -\n", "dsr: the shape is not allowed\n"),
+            (PLAY, "dsr: bad text in line 1\n"),
+            (
+                "dsr-serve 1 1 0 1 -\nask c0 read a\nask c1 read a\n",
+                "dsr: bad text in line 3\n",
+            ),
+        ] {
+            runs(&rt, alloc, words, text, 1, "", errors);
+        }
+    }
+}
+
 #[test]
 fn refused_plays_are_told(rt: HostRuntime) {
     let alloc = rt.alloc();
@@ -225,6 +310,7 @@ fn help_goes_to_the_output(rt: HostRuntime) -> Result<(), Fail> {
     let mut err = Vec::new(alloc);
     assert_eq!(rt;
         run(
+            &rt,
             alloc,
             words.as_slice(),
             &mut b"".as_slice(),
@@ -280,7 +366,7 @@ impl Sink for Narrow {
 }
 
 // However many bytes the writer takes before it fails, they are the first ones of what is to be written.
-fn goes_out_as_far_as_it_can<R: Abort>(
+fn goes_out_as_far_as_it_can<R: Abort + Threads + Wait + Sync>(
     rt: &R,
     alloc: Global,
     words: &[&str],
@@ -294,7 +380,7 @@ fn goes_out_as_far_as_it_can<R: Abort>(
         };
         let mut err = Vec::new(alloc);
         let mut input = text.as_bytes();
-        let status = run(alloc, words, &mut input, &mut out, &mut err);
+        let status = run(rt, alloc, words, &mut input, &mut out, &mut err);
         assert_eq!(rt; out.taken.as_slice(), &output.as_bytes()[..room]);
         if room < output.len() {
             assert_eq!(rt; status, 1);
@@ -312,16 +398,23 @@ fn a_play_goes_out_as_far_as_it_can(rt: HostRuntime) {
     goes_out_as_far_as_it_can(&rt, alloc, &["play"], PLAY, REPORT);
     goes_out_as_far_as_it_can(&rt, alloc, TRANSCRIBE.as_slice(), PLAY, TRANSCRIPT);
     goes_out_as_far_as_it_can(&rt, alloc, &["check"], TRANSCRIPT, CHECKED);
+    goes_out_as_far_as_it_can(&rt, alloc, &["serve"], IDLE, "history 0\n");
 }
 
-// A play or a transcript that cannot be read is not told of.
+// A play, a script or a transcript that cannot be read is not told of.
 #[test]
 fn a_play_that_cannot_be_read_is_told(rt: HostRuntime) {
     let alloc = rt.alloc();
-    for words in [["play"].as_slice(), &["play", "--transcript"], &["check"]] {
+    for words in [
+        ["play"].as_slice(),
+        &["play", "--transcript"],
+        &["check"],
+        &["serve"],
+        &["serve", "--transcript"],
+    ] {
         let mut out = Outside(Vec::new(alloc));
         let mut err = Vec::new(alloc);
-        assert_eq!(rt; run(alloc, words, &mut Broken, &mut out, &mut err), 1);
+        assert_eq!(rt; run(&rt, alloc, words, &mut Broken, &mut out, &mut err), 1);
         assert!(rt; out.0.is_empty());
         assert_eq!(rt; err.as_slice(), b"dsr: reading failed\n".as_slice());
     }
@@ -334,7 +427,14 @@ fn failing_streams_are_told(rt: HostRuntime) -> Result<(), Fail> {
     let mut out = Outside(Vec::new(alloc));
     let mut err = Vec::new(alloc);
     assert_eq!(rt;
-        run(alloc, words.as_slice(), &mut Broken, &mut out, &mut err),
+        run(
+            &rt,
+            alloc,
+            words.as_slice(),
+            &mut Broken,
+            &mut out,
+            &mut err
+        ),
         1
     );
     assert!(rt; out.0.is_empty());
@@ -342,6 +442,7 @@ fn failing_streams_are_told(rt: HostRuntime) -> Result<(), Fail> {
     err.clear();
     assert_eq!(rt;
         run(
+            &rt,
             alloc,
             words.as_slice(),
             &mut b"c0 1 read a\n".as_slice(),
@@ -355,6 +456,7 @@ fn failing_streams_are_told(rt: HostRuntime) -> Result<(), Fail> {
     let words: [&str; 1] = ["--help"];
     assert_eq!(rt;
         run(
+            &rt,
             alloc,
             words.as_slice(),
             &mut b"".as_slice(),
@@ -374,7 +476,7 @@ fn where_the_fault_cannot_be_told_the_status_tells(rt: HostRuntime) {
         let mut out = Outside(Vec::new(alloc));
         let mut input = b"c0 1 read a".as_slice();
         assert_eq!(rt;
-            run(alloc, words, &mut input, &mut out, &mut Broken),
+            run(&rt, alloc, words, &mut input, &mut out, &mut Broken),
             status
         );
         assert!(rt; out.0.is_empty());
