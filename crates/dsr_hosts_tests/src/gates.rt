@@ -1,0 +1,220 @@
+//! The gates of the tests.
+
+ghost use Rattle.std.specs.Prelude.{◌≡◌};
+
+use dsr_names::{Actor, ReplicaId};
+use dsr_rounds::Gate;
+use std::sync::atomic::Ordering::SeqCst;
+use std::sync::atomic::{AtomicBool, AtomicU64};
+use std::thread;
+
+/// How often one replica looks for the other, at most.
+const MEETING_LOOKS: u64 = 1_000_000;
+
+/// How often a client looks for the last turn of a replica, at most.
+const HOLDING_LOOKS: u64 = 100_000_000;
+
+/// How many turns replicas and traitors have together, in full haste, after each turn of a client.
+const HASTY_TURNS: u64 = 3_000;
+
+/// How often others may run first in each turn after those, at most.
+const YIELDS: u64 = 10_000;
+
+/// Lets nobody go on.
+#[derive(Drop)]
+pub(crate) struct Shut;
+
+impl Gate for Shut {
+    ghost may_refuse = { λ _ _. Unit {0} };
+
+    fn pass(&self, _actor: Actor, _turn: u64) -> bool {
+        false
+    }
+}
+
+/// Lets one replica make so many turns, and all others any.
+#[derive(Drop)]
+pub(crate) struct Until {
+    /// The replica.
+    pub(crate) replica: ReplicaId,
+    /// The number of the turn that it refuses first.
+    pub(crate) turns: u64,
+}
+
+impl Gate for Until {
+    ghost may_refuse = { λ _ _. Unit {0} };
+
+    fn pass(&self, actor: Actor, turn: u64) -> bool {
+        match actor {
+            Actor::Replica(replica) => {
+                replica.number() != self.replica.number() || turn < self.turns
+            }
+            Actor::Client(_) => true,
+        }
+    }
+}
+
+/// Lets everybody go on, but gives a slow client time before the rounds of replicas and traitors are used up.
+#[derive(Drop)]
+pub(crate) struct Patient {
+    /// The turns of replicas and traitors since the last one of a client.
+    turns: AtomicU64,
+}
+
+impl Patient {
+    /// A gate that was not asked yet.
+    pub(crate) fn new() -> Patient {
+        Patient {
+            turns: AtomicU64::new(0),
+        }
+    }
+
+    /// Lets a client run first, for a while, where it has had no turn for long.
+    fn give_time(&self) {
+        if self.turns.fetch_add(1, SeqCst) < HASTY_TURNS {
+            return;
+        }
+        for _ in 0..YIELDS {
+            if self.turns.load(SeqCst) < HASTY_TURNS {
+                return;
+            }
+            thread::yield_now();
+        }
+    }
+}
+
+impl Gate for Patient {
+    ghost may_refuse = { λ _ _. ⊥ };
+
+    fn pass(&self, actor: Actor, _turn: u64) -> bool {
+        match actor {
+            Actor::Replica(_) => self.give_time(),
+            Actor::Client(_) => self.turns.store(0, SeqCst),
+        }
+        true
+    }
+}
+
+/// One of two replicas that look for each other.
+#[derive(Drop)]
+struct Party {
+    came: AtomicBool,
+    met: AtomicBool,
+}
+
+impl Party {
+    /// One that has not come yet.
+    fn new() -> Party {
+        Party {
+            came: AtomicBool::new(false),
+            met: AtomicBool::new(false),
+        }
+    }
+
+    /// It comes, and looks for the other one until that has come too. Both meet only if they run at once.
+    fn meet(&self, other: &Party) {
+        self.came.store(true, SeqCst);
+        for _ in 0..MEETING_LOOKS {
+            if other.came.load(SeqCst) {
+                self.met.store(true, SeqCst);
+                return;
+            }
+            thread::yield_now();
+        }
+    }
+}
+
+/// Lets everybody go on, and is patient; but in their first turns r0 and r1 look for each other.
+#[derive(Drop)]
+pub(crate) struct Meeting {
+    patient: Patient,
+    first: Party,
+    second: Party,
+}
+
+impl Meeting {
+    /// A gate that was not asked yet.
+    pub(crate) fn new() -> Meeting {
+        Meeting {
+            patient: Patient::new(),
+            first: Party::new(),
+            second: Party::new(),
+        }
+    }
+
+    /// Whether both saw each other.
+    pub(crate) fn both_met(&self) -> bool {
+        self.first.met.load(SeqCst) && self.second.met.load(SeqCst)
+    }
+
+    /// The replica looks for the other one, if it is one of the two.
+    fn meet(&self, replica: &ReplicaId) {
+        match replica.number() {
+            0 => self.first.meet(&self.second),
+            1 => self.second.meet(&self.first),
+            _ => {}
+        }
+    }
+}
+
+impl Gate for Meeting {
+    ghost may_refuse = { λ _ _. ⊥ };
+
+    fn pass(&self, actor: Actor, turn: u64) -> bool {
+        if let (Actor::Replica(replica), 0) = (&actor, turn) {
+            self.meet(replica);
+        }
+        self.patient.pass(actor, turn)
+    }
+}
+
+/// Lets everybody go on, but holds clients until a replica has its last turn.
+#[derive(Drop)]
+pub(crate) struct Late {
+    last_turn: u64,
+    came: AtomicBool,
+}
+
+impl Late {
+    /// A gate that was not asked yet, for a replica whose last turn has this number.
+    pub(crate) fn until(last_turn: u64) -> Late {
+        Late {
+            last_turn,
+            came: AtomicBool::new(false),
+        }
+    }
+
+    /// Whether a replica had its last turn.
+    pub(crate) fn came(&self) -> bool {
+        self.came.load(SeqCst)
+    }
+
+    /// A replica has this turn.
+    fn note(&self, turn: u64) {
+        if turn == self.last_turn {
+            self.came.store(true, SeqCst);
+        }
+    }
+
+    /// Waits until a replica has its last turn.
+    fn hold(&self) {
+        for _ in 0..HOLDING_LOOKS {
+            if self.came() {
+                return;
+            }
+            thread::yield_now();
+        }
+    }
+}
+
+impl Gate for Late {
+    ghost may_refuse = { λ _ _. ⊥ };
+
+    fn pass(&self, actor: Actor, turn: u64) -> bool {
+        match actor {
+            Actor::Replica(_) => self.note(turn),
+            Actor::Client(_) => self.hold(),
+        }
+        true
+    }
+}

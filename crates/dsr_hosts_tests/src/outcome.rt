@@ -1,0 +1,76 @@
+//! What came of a service.
+
+use dsr_envelope::Entry;
+use dsr_hosts::serve;
+use dsr_ledger::Reply;
+use dsr_mail::Logs;
+use dsr_names::{Actor, ClientId, Refusal};
+use dsr_request::{Name, Op, Request};
+use dsr_rounds::Gate;
+use dsr_script::Script;
+use std::alloc::Global;
+use std::process::Abort;
+use std::sync::Wait;
+use std::thread::Threads;
+
+/// What came of a service: the logs of all actors, and why it ended before all clients were served.
+#[derive(Drop)]
+pub(crate) struct Outcome {
+    pub(crate) logs: Logs,
+    pub(crate) cause: Option<Refusal>,
+}
+
+/// Serves the script of this text through the gate.
+pub(crate) fn serve_text<R: Threads + Wait + Sync, G: Gate + Sync>(
+    rt: &R,
+    alloc: Global,
+    script: &str,
+    gate: &G,
+) -> Result<Outcome, Refusal> {
+    let script = Script::read(alloc, script.as_bytes())?;
+    match serve(rt, alloc, &script, gate) {
+        Ok(logs) => Ok(Outcome { logs, cause: None }),
+        Err(fault) => Ok(Outcome {
+            logs: fault.logs,
+            cause: Some(fault.cause),
+        }),
+    }
+}
+
+/// The entries of the actor's log. None where it is no actor of the shape.
+pub(crate) fn entries<'a>(logs: &'a Logs, actor: &Actor) -> &'a [Entry] {
+    if logs.shape().has(*actor) {
+        logs.of(*actor)
+    } else {
+        &[]
+    }
+}
+
+/// What the first client accepted. Nothing where there is none.
+pub(crate) fn accepted(logs: &Logs) -> &[Reply] {
+    if ClientId::FIRST.number() < logs.shape().m() {
+        logs.accepted(ClientId::FIRST)
+    } else {
+        &[]
+    }
+}
+
+/// The request of the first client, under number 1, to write 5 to `a`.
+pub(crate) fn write_5() -> Result<Request, Refusal> {
+    let name = Name::read(b"a")?;
+    let op = Op::Write { name, value: 5 };
+    Request::new(ClientId::FIRST, 1, op)
+}
+
+/// The request of the first client, under number 2, to read `a`.
+pub(crate) fn read() -> Result<Request, Refusal> {
+    let name = Name::read(b"a")?;
+    Request::new(ClientId::FIRST, 2, Op::Read { name })
+}
+
+/// Compares why a service ended in which no request was done.
+pub(crate) fn ended_by<R: Abort>(rt: &R, outcome: &Outcome, cause: &Refusal) {
+    assert_eq!(rt; outcome.cause, Some(*cause));
+    assert_eq!(rt; accepted(&outcome.logs).len(), 0);
+    assert_eq!(rt; outcome.logs.history().len(), 0);
+}
