@@ -11,14 +11,9 @@ use Rattle.dsr_envelope.specs.Log.{posted_to, taken_from}
 use Rattle.dsr_script.specs.Script.{Script, draft_at, place_of}
 use Rattle.dsr_run.specs.OwnStep.{ForgesNone}
 use Rattle.dsr_boxes.specs.Pass.{Pass, with_entry}
-use Rattle.dsr_calls.specs.Calls.{GoesOn}
+use Rattle.dsr_calls.specs.Calls.{GoesOn, number_of}
 use Rattle.dsr_rounds.specs.declared.traitor.Planting.{Planting}
 use Rattle.dsr_rounds.specs.declared.traitor.Planting.TheVariants.{Made, Forged, Full}
-
--- the replica's number; 0 of a client, which no traitor is
-abbrev pub number_of : Actor → ℕ
-number_of (Replica p) = p
-number_of (Client c) = 0
 
 -- the script has no draft there, or one that would be forged
 abbrev pub IsNoDraft : Script → Shape → Actor → List Entry → ℕ → ℕ → Type 0

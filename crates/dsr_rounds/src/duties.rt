@@ -51,6 +51,11 @@ impl Duties {
         self.has_news
     }
 
+    /// Whether each client was answered since something of it was taken.
+    pub(crate) fn are_done(&self) -> bool {
+        self.unanswered.iter().all(|unanswered| !*unanswered)
+    }
+
     /// Something of the client was taken.
     pub(crate) fn note_take(&mut self, client: ClientId) {
         self.unanswered[client.number() as usize] = true;

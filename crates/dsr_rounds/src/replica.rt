@@ -24,6 +24,12 @@ use dsr_names::{Actor, ClientId, ReplicaId, Shape};
 use std::sync::Wait;
 use std::thread;
 
+/// How often others may run before a round in which no client sent anything, where none waits for an answer.
+const IDLE_YIELDS: u32 = 64;
+
+/// How often they may where some client waits for one.
+const BUSY_YIELDS: u32 = 4;
+
 impl<'a, R: Wait, G: Gate> Host<'a, R, G> {
     /// Has the replica make so many rounds: in each it takes once from each client, posts to all replicas, takes from all, and posts once to each
     /// client that is owed its reply. A round that was begun before is the first.
@@ -278,9 +284,18 @@ impl<'a, R: Wait, G: Gate> Host<'a, R, G> {
     }
 }
 
-/// Lets others run first where no client sent anything: slow clients have more time until the rounds of a host are used up.
+/// Lets others run first where no client sent anything, and more of them where none waits for an answer: slow clients have more time until
+/// the rounds of a host are used up.
 fn yield_without_news(duties: &Duties) {
-    if !duties.has_news() {
+    if duties.has_news() {
+        return;
+    }
+    let times = if duties.are_done() {
+        IDLE_YIELDS
+    } else {
+        BUSY_YIELDS
+    };
+    for _ in 0..times {
         thread::yield_now();
     }
 }
