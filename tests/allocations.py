@@ -28,7 +28,7 @@ EXAMPLES = [("apply", "first-lines.apply", "first-lines.out"), ("apply", "swaps.
             ("apply", "repeated-numbers.apply", "repeated-numbers.out"), ("apply", "full-table.apply", "full-table.out"),
             ("play", "one-replica.play", "one-replica.out"), ("play", "three-loyal.play", "three-loyal.out"),
             ("play --transcript", "one-replica.play", "whole-run.check"), ("check", "whole-run.check", "whole-run.out")]
-# The crates of tests that end with an error where memory was refused.
+# The crates of tests that end with an error where memory was refused. Those of dsr_hosts_tests run threads: tests/services.py refuses allocations of services.
 CRATES = ["dsr_request_tests", "dsr_history_tests", "dsr_envelope_tests", "dsr_slot_tests", "dsr_replica_tests", "dsr_script_tests",
           "dsr_play_tests", "dsr_world_tests", "dsr_mail_tests", "dsr_mail_record_tests", "dsr_record_tests", "dsr_rounds_tests",
           "dsr_check_tests"]
