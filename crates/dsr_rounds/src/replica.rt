@@ -21,14 +21,13 @@ use crate::turn::Turn;
 use dsr_envelope::{Due, Pick};
 use dsr_mail::ReplicaSeat;
 use dsr_names::{Actor, ClientId, ReplicaId, Shape};
+use std::hint::spin_loop;
 use std::sync::Wait;
 use std::thread;
 
-/// How often others may run before a round in which no client sent anything, where none waits for an answer.
-const IDLE_YIELDS: u32 = 64;
-
-/// How often they may where some client waits for one.
-const BUSY_YIELDS: u32 = 4;
+/// How long a replica rests before a round in which no client sent anything and none waits for an answer: so many turns of a loop, some
+/// microseconds.
+const IDLE_SPINS: u32 = 256;
 
 impl<'a, R: Wait, G: Gate> Host<'a, R, G> {
     /// Has the replica make so many rounds: in each it takes once from each client, posts to all replicas, takes from all, and posts once to each
@@ -61,7 +60,7 @@ impl<'a, R: Wait, G: Gate> Host<'a, R, G> {
     {
         duties.begin_round();
         self.take_from_clients(seat, turn, duties)?;
-        yield_without_news(duties);
+        rest_without_news(duties);
         self.post_all(seat, turn, duties)?;
         self.take_all(seat, turn)?;
         self.answer_clients(seat, turn, duties)
@@ -284,19 +283,17 @@ impl<'a, R: Wait, G: Gate> Host<'a, R, G> {
     }
 }
 
-/// Lets others run first where no client sent anything, and more of them where none waits for an answer: slow clients have more time until
-/// the rounds of a host are used up.
-fn yield_without_news(duties: &Duties) {
+/// Lets others run first where no client sent anything, and looks on for a moment where none waits for an answer: slow clients have more time
+/// until the rounds of a host are used up.
+fn rest_without_news(duties: &Duties) {
     if duties.has_news() {
         return;
     }
-    let times = if duties.are_done() {
-        IDLE_YIELDS
-    } else {
-        BUSY_YIELDS
-    };
-    for _ in 0..times {
-        thread::yield_now();
+    thread::yield_now();
+    if duties.are_done() {
+        for _ in 0..IDLE_SPINS {
+            spin_loop();
+        }
     }
 }
 
