@@ -7,5 +7,5 @@ mod office;
 mod pair;
 
 pub use acting::Part;
-pub use office::{Office, Otherwise, Side, go_on, stage};
+pub use office::{Office, Otherwise, Side, act_out, go_on, stage};
 pub use pair::Pair;

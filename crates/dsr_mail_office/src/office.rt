@@ -63,6 +63,12 @@ pub fn stage(
     Ok(office)
 }
 
+/// Has each event of the play happen at a mail of its own, as long as each ends as wanted.
+pub fn act_out(alloc: Global, text: &str, wanted: &[Result<(), Refusal>]) -> Result<(), Otherwise> {
+    stage(alloc, text, wanted)?;
+    Ok(())
+}
+
 /// Has each event of the play happen at the mail of another play of this shape, as long as each ends as wanted.
 pub fn go_on(
     alloc: Global,

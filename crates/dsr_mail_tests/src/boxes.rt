@@ -1,6 +1,6 @@
 //! One box each way between two actors, in one thread; and what clients tell each other.
 
-use dsr_mail_office::stage;
+use dsr_mail_office::act_out;
 use dsr_names::Refusal;
 use std::test::Fail;
 
@@ -27,8 +27,7 @@ fn a_box_holds_one_envelope(rt: HostRuntime) -> Result<(), Fail> {
         Ok(()),
         Err(Refusal::BoxFull),
     ];
-    let _office = stage(rt.alloc(), text, &wanted)?;
-    Ok(())
+    Ok(act_out(rt.alloc(), text, &wanted)?)
 }
 
 #[test]
@@ -58,8 +57,7 @@ fn the_other_way_is_another_box(rt: HostRuntime) -> Result<(), Fail> {
         Ok(()),
         Ok(()),
     ];
-    let _office = stage(rt.alloc(), text, &wanted)?;
-    Ok(())
+    Ok(act_out(rt.alloc(), text, &wanted)?)
 }
 
 #[test]
@@ -87,8 +85,7 @@ fn a_clients_own_log_refuses_first(rt: HostRuntime) -> Result<(), Fail> {
         Err(Refusal::NotDue),
         Err(Refusal::BoxFull),
     ];
-    let _office = stage(rt.alloc(), text, &wanted)?;
-    Ok(())
+    Ok(act_out(rt.alloc(), text, &wanted)?)
 }
 
 #[test]
@@ -120,8 +117,7 @@ fn a_replicas_own_log_refuses_first(rt: HostRuntime) -> Result<(), Fail> {
         Ok(()),
         Err(Refusal::BoxEmpty),
     ];
-    let _office = stage(rt.alloc(), text, &wanted)?;
-    Ok(())
+    Ok(act_out(rt.alloc(), text, &wanted)?)
 }
 
 #[test]
@@ -149,6 +145,5 @@ fn a_client_tells_another(rt: HostRuntime) -> Result<(), Fail> {
         Ok(()),
         Ok(()),
     ];
-    let _office = stage(rt.alloc(), text, &wanted)?;
-    Ok(())
+    Ok(act_out(rt.alloc(), text, &wanted)?)
 }

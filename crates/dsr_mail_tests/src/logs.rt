@@ -62,9 +62,13 @@ fn write_7() -> Result<Request, Fail> {
 #[test]
 fn the_logs_of_a_closed_mail_are_those_of_its_seats(rt: HostRuntime) -> Result<(), Fail> {
     let office = stage(rt.alloc(), TWO, &[Ok(()); 7])?;
-    let logs = office.close();
+    end_with_the_reply(&rt, &office.close())
+}
+
+/// Compares how long the logs are, and the last entry of the replica's.
+fn end_with_the_reply<R: Abort>(rt: &R, logs: &Logs) -> Result<(), Fail> {
     assert_eq!(rt; *logs.shape(), Shape::new(1, 0, 2, 0)?);
-    are_long(&rt, &logs, [4, 2, 1]);
+    are_long(rt, logs, [4, 2, 1]);
     let replica = Actor::Replica(ReplicaId::FIRST);
     let client = Actor::Client(ClientId::FIRST);
     let reply = Envelope::Reply(Reply {
@@ -72,7 +76,7 @@ fn the_logs_of_a_closed_mail_are_those_of_its_seats(rt: HostRuntime) -> Result<(
         place: 0,
         answer: Answer::Written,
     });
-    let last = entries(&logs, &replica).last().ok_or("no entry")?;
+    let last = entries(logs, &replica).last().ok_or("no entry")?;
     assert!(rt; is_post(last, &client, &reply));
     Ok(())
 }

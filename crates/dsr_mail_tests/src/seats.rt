@@ -6,6 +6,7 @@ use dsr_mail::{ClientSeat, ReplicaSeat};
 use dsr_mail_office::{Office, go_on, stage};
 use dsr_names::{Actor, ClientId, ReplicaId, Shape};
 use dsr_request::{Answer, Name, Op, Request};
+use std::alloc::Global;
 use std::process::Abort;
 use std::test::Fail;
 
@@ -52,6 +53,11 @@ fn client_is<R: Abort>(
 #[test]
 fn seats_stand_by_kind_and_number(rt: HostRuntime) -> Result<(), Fail> {
     let office = Office::open(rt.alloc(), Shape::new(3, 1, 2, 0b010)?)?;
+    stand_by_kind_and_number(&rt, &office)
+}
+
+/// Compares the seats of two loyal replicas, of which the second is r2, of the traitor r1, and of two clients.
+fn stand_by_kind_and_number<R: Abort>(rt: &R, office: &Office) -> Result<(), Fail> {
     assert_eq!(rt; *office.shape(), Shape::new(3, 1, 2, 0b010)?);
     let counts = (
         office.replicas().len(),
@@ -75,12 +81,17 @@ fn seats_stand_by_kind_and_number(rt: HostRuntime) -> Result<(), Fail> {
 fn a_client_tells_whom_it_asked(rt: HostRuntime) -> Result<(), Fail> {
     let mut office = stage(rt.alloc(), "dsr-play 1 2 0 1 -\n", &[])?;
     client_is(&rt, client(&office)?, None, (false, false), 0);
+    asks_both(&rt, rt.alloc(), &mut office)
+}
+
+/// The client asks r1 and then r0, and tells so.
+fn asks_both<R: Abort>(rt: &R, alloc: Global, office: &mut Office) -> Result<(), Fail> {
     let text = "dsr-play 1 2 0 1 -\npost c0 r1 begin write a 7\n";
-    go_on(rt.alloc(), &mut office, text, &[Ok(())])?;
-    client_is(&rt, client(&office)?, Some(1), (false, true), 0);
+    go_on(alloc, office, text, &[Ok(())])?;
+    client_is(rt, client(office)?, Some(1), (false, true), 0);
     let text = "dsr-play 1 2 0 1 -\npost c0 r0\n";
-    go_on(rt.alloc(), &mut office, text, &[Ok(())])?;
-    client_is(&rt, client(&office)?, Some(1), (true, true), 0);
+    go_on(alloc, office, text, &[Ok(())])?;
+    client_is(rt, client(office)?, Some(1), (true, true), 0);
     Ok(())
 }
 
@@ -94,17 +105,22 @@ fn a_client_accepts_a_reply(rt: HostRuntime) -> Result<(), Fail> {
         post r0 c0\n";
     let mut office = stage(rt.alloc(), text, &[Ok(()); 5])?;
     client_is(&rt, client(&office)?, Some(1), (true, false), 0);
+    accepts_once(&rt, rt.alloc(), &mut office)
+}
+
+/// The client accepts the reply that it is posted, and not the same reply once more.
+fn accepts_once<R: Abort>(rt: &R, alloc: Global, office: &mut Office) -> Result<(), Fail> {
     let first = Actor::Replica(ReplicaId::FIRST);
     assert_eq!(rt;
         office.client_take(&ClientId::FIRST, &first),
         Ok(Some(WRITTEN))
     );
-    client_is(&rt, client(&office)?, None, (false, false), 1);
-    assert_eq!(rt; client(&office)?.accepted(), [WRITTEN].as_slice());
+    client_is(rt, client(office)?, None, (false, false), 1);
+    assert_eq!(rt; client(office)?.accepted(), [WRITTEN].as_slice());
     let again = "dsr-play 1 1 0 1 -\npost r0 c0\n";
-    go_on(rt.alloc(), &mut office, again, &[Ok(())])?;
+    go_on(alloc, office, again, &[Ok(())])?;
     assert_eq!(rt; office.client_take(&ClientId::FIRST, &first), Ok(None));
-    assert_eq!(rt; client(&office)?.accepted().len(), 1);
+    assert_eq!(rt; client(office)?.accepted().len(), 1);
     Ok(())
 }
 
@@ -117,7 +133,12 @@ fn a_told_front_is_seen(rt: HostRuntime) -> Result<(), Fail> {
         tell c0 c1\ntake c1 c0\n\
         asks c1 begin read a\nhears c1\nposts r0 from c1\ntakes r0\nreplies c1\n";
     let mut office = stage(rt.alloc(), text, &[Ok(()); 25])?;
-    assert_eq!(rt; client(&office)?.seen(), 3);
+    sees_what_it_was_told(&rt, &mut office)
+}
+
+/// Client 1 has seen what client 0 told it, and then the place of its own reply too.
+fn sees_what_it_was_told<R: Abort>(rt: &R, office: &mut Office) -> Result<(), Fail> {
+    assert_eq!(rt; client(office)?.seen(), 3);
     let other = office.clients().last().ok_or("no client")?;
     assert_eq!(rt; other.seen(), 3);
     let reply = Reply {
@@ -152,36 +173,49 @@ fn replica_is<R: Abort>(
 
 #[test]
 fn a_replica_tells_what_it_may_post(rt: HostRuntime) -> Result<(), Fail> {
-    let first = ReplicaId::FIRST;
     let mut office = stage(rt.alloc(), "dsr-play 1 1 0 1 -\n", &[])?;
-    replica_is(&rt, replica(&office)?, Due::Post(first), false, true)?;
+    tells_what_it_may_post(&rt, rt.alloc(), &mut office)
+}
+
+/// The replica goes through a round, and tells at each step what it may post.
+fn tells_what_it_may_post<R: Abort>(
+    rt: &R,
+    alloc: Global,
+    office: &mut Office,
+) -> Result<(), Fail> {
+    let first = ReplicaId::FIRST;
+    replica_is(rt, replica(office)?, Due::Post(first), false, true)?;
     let text = "dsr-play 1 1 0 1 -\npost c0 r0 begin write a 7\ntake r0 c0\n";
-    go_on(rt.alloc(), &mut office, text, &[Ok(()); 2])?;
-    replica_is(&rt, replica(&office)?, Due::Post(first), true, true)?;
+    go_on(alloc, office, text, &[Ok(()); 2])?;
+    replica_is(rt, replica(office)?, Due::Post(first), true, true)?;
     let text = "dsr-play 1 1 0 1 -\npost r0 r0 from c0\n";
-    go_on(rt.alloc(), &mut office, text, &[Ok(())])?;
-    replica_is(&rt, replica(&office)?, Due::Take(first), false, false)?;
+    go_on(alloc, office, text, &[Ok(())])?;
+    replica_is(rt, replica(office)?, Due::Take(first), false, false)?;
     let text = "dsr-play 1 1 0 1 -\ntake r0 r0\n";
-    go_on(rt.alloc(), &mut office, text, &[Ok(())])?;
-    replica_is(&rt, replica(&office)?, Due::Post(first), true, true)?;
-    Ok(())
+    go_on(alloc, office, text, &[Ok(())])?;
+    replica_is(rt, replica(office)?, Due::Post(first), true, true)
 }
 
 #[test]
 fn a_replica_tells_what_it_holds_and_replies(rt: HostRuntime) -> Result<(), Fail> {
     let text = "dsr-play 1 1 0 1 -\npost c0 r0 begin write a 7\n";
     let mut office = stage(rt.alloc(), text, &[Ok(())])?;
-    assert_eq!(rt; replica(&office)?.held(ClientId::FIRST), None);
+    holds_and_replies(&rt, rt.alloc(), &mut office)
+}
+
+/// The replica tells which request it holds, and its reply once that is decided.
+fn holds_and_replies<R: Abort>(rt: &R, alloc: Global, office: &mut Office) -> Result<(), Fail> {
+    assert_eq!(rt; replica(office)?.held(ClientId::FIRST), None);
     let text = "dsr-play 1 1 0 1 -\ntake r0 c0\npost r0 r0 from c0\n";
-    go_on(rt.alloc(), &mut office, text, &[Ok(()); 2])?;
+    go_on(alloc, office, text, &[Ok(()); 2])?;
     assert_eq!(rt;
-        replica(&office)?.held(ClientId::FIRST),
+        replica(office)?.held(ClientId::FIRST),
         Some(first_request()?)
     );
-    assert!(rt; replica(&office)?.reply_for(ClientId::FIRST).is_none());
+    assert!(rt; replica(office)?.reply_for(ClientId::FIRST).is_none());
     let text = "dsr-play 1 1 0 1 -\ntake r0 r0\n";
-    go_on(rt.alloc(), &mut office, text, &[Ok(())])?;
-    let reply = replica(&office)?
+    go_on(alloc, office, text, &[Ok(())])?;
+    let reply = replica(office)?
         .reply_for(ClientId::FIRST)
         .ok_or("no reply")?;
     assert!(rt; reply.same(&Envelope::Reply(WRITTEN)));

@@ -1,6 +1,6 @@
 //! The seat of a traitor: it posts what it can sign, or took.
 
-use dsr_mail_office::{go_on, stage};
+use dsr_mail_office::{act_out, go_on, stage};
 use dsr_names::Refusal;
 use std::test::Fail;
 
@@ -33,8 +33,7 @@ fn a_traitor_signs_for_itself_alone(rt: HostRuntime) -> Result<(), Fail> {
         Err(Refusal::BoxEmpty),
         Err(Refusal::NoActor),
     ];
-    let _office = stage(rt.alloc(), text, &wanted)?;
-    Ok(())
+    Ok(act_out(rt.alloc(), text, &wanted)?)
 }
 
 #[test]
@@ -54,8 +53,7 @@ fn a_traitor_sends_on_a_request_that_it_took(rt: HostRuntime) -> Result<(), Fail
         Err(Refusal::Forged),
         Ok(()),
     ];
-    let _office = stage(rt.alloc(), text, &wanted)?;
-    Ok(())
+    Ok(act_out(rt.alloc(), text, &wanted)?)
 }
 
 #[test]
