@@ -1,8 +1,8 @@
 //! Services that end before their clients are served.
 
 use crate::gates::{Late, Shut, Until};
-use crate::outcome::{ended_by, serve_text};
-use dsr_names::{Refusal, ReplicaId};
+use crate::outcome::{ended_by, entries, serve_text};
+use dsr_names::{Actor, ClientId, Refusal, ReplicaId};
 use dsr_record::Record;
 use std::test::Fail;
 
@@ -35,5 +35,10 @@ fn a_client_that_comes_late_is_not_answered(rt: HostRuntime) -> Result<(), Fail>
     let outcome = serve_text(&rt, rt.alloc(), script, &gate)?;
     assert!(rt; gate.came());
     ended_by(&rt, &outcome, &Refusal::Unanswered);
+    // the posts and takes of all rounds came with the fault, and the one ask that nobody took
+    let replica = Actor::Replica(ReplicaId::FIRST);
+    assert_eq!(rt; entries(&outcome.logs, &replica).len(), 2 * 4_096);
+    let client = Actor::Client(ClientId::FIRST);
+    assert_eq!(rt; entries(&outcome.logs, &client).len(), 1);
     Ok(())
 }
