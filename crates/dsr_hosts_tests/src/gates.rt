@@ -32,6 +32,21 @@ impl Gate for Shut {
     }
 }
 
+/// Lets replicas and traitors go on, and no client.
+#[derive(Drop)]
+pub(crate) struct ClientsShut;
+
+impl Gate for ClientsShut {
+    ghost may_refuse = { λ _ _. Unit {0} };
+
+    fn pass(&self, actor: Actor, _turn: u64) -> bool {
+        match actor {
+            Actor::Replica(_) => true,
+            Actor::Client(_) => false,
+        }
+    }
+}
+
 /// Lets one replica make so many turns, and all others any.
 #[derive(Drop)]
 pub(crate) struct Until {

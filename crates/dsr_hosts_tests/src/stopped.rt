@@ -1,6 +1,6 @@
 //! Services that end before their clients are served.
 
-use crate::gates::{Late, Shut, Until};
+use crate::gates::{ClientsShut, Late, Shut, Until};
 use crate::outcome::{ended_by, entries, serve_text};
 use dsr_names::{Actor, ClientId, Refusal, ReplicaId};
 use dsr_record::Record;
@@ -12,6 +12,13 @@ const THREE: &str = "dsr-serve 1 3 1 1 -\nask c0 write a 5\nask c0 read a\n";
 #[test]
 fn a_shut_gate_stops_a_service(rt: HostRuntime) -> Result<(), Fail> {
     let outcome = serve_text(&rt, rt.alloc(), THREE, &Shut)?;
+    ended_by(&rt, &outcome, &Refusal::Stopped);
+    Ok(())
+}
+
+#[test]
+fn a_client_that_is_stopped_stops_a_service(rt: HostRuntime) -> Result<(), Fail> {
+    let outcome = serve_text(&rt, rt.alloc(), THREE, &ClientsShut)?;
     ended_by(&rt, &outcome, &Refusal::Stopped);
     Ok(())
 }
