@@ -20,6 +20,7 @@ import re
 import subprocess
 import sys
 import tempfile
+from concurrent.futures import ThreadPoolExecutor
 
 TOP = os.path.dirname(os.path.dirname(os.path.realpath(__file__)))
 PROGRAM = f"{TOP}/crates/dsr/out/dsr"
@@ -119,23 +120,32 @@ def fault_of_crate(crate, refuser, note):
     return (None if tests else "it lists no test"), len(tests), count
 
 
+def example_line(example, room, refuser):
+    """Whether this example passes, and a line that says how."""
+    words, given, written = example
+    text, wanted = read(f"{TOP}/examples/{given}"), read(f"{TOP}/examples/{written}")
+    fault, count, ended = fault_of(words, text, wanted, refuser, f"{room}/{words}-{given}")
+    return fault is None, f"{words} on {given}: {fault or f'ok, each of {count} allocations refused in turn, {ended} times with status 3'}"
+
+
+def crate_line(crate, room, refuser):
+    """Whether the tests of this crate pass, and a line that says how."""
+    fault, tests, count = fault_of_crate(crate, refuser, f"{room}/{crate}")
+    return fault is None, f"{crate}: {fault or f'ok, each of {count} allocations of {tests} tests refused in turn'}"
+
+
 def main():
     subprocess.run([f"{TOP}/dsr", "--help"], stdin=subprocess.DEVNULL, stdout=subprocess.DEVNULL, check=True)
-    passed = failed = 0
-    with tempfile.TemporaryDirectory(prefix="dsr-allocations-") as room:
+    passed = []
+    with tempfile.TemporaryDirectory(prefix="dsr-allocations-") as room, ThreadPoolExecutor(os.cpu_count()) as pool:
         refuser = f"{room}/refuse.so"
         subprocess.run(["cc", "-shared", "-fPIC", "-O1", "-o", refuser, f"{TOP}/tests/refuse.c", "-ldl"], check=True)
-        for words, given, written in EXAMPLES:
-            text, wanted = read(f"{TOP}/examples/{given}"), read(f"{TOP}/examples/{written}")
-            fault, count, ended = fault_of(words, text, wanted, refuser, f"{room}/refused")
-            passed, failed = passed + (fault is None), failed + (fault is not None)
-            print(f"{words} on {given}: {fault or f'ok, each of {count} allocations refused in turn, {ended} times with status 3'}", flush=True)
-        for crate in CRATES:
-            fault, tests, count = fault_of_crate(crate, refuser, f"{room}/refused")
-            passed, failed = passed + (fault is None), failed + (fault is not None)
-            print(f"{crate}: {fault or f'ok, each of {count} allocations of {tests} tests refused in turn'}", flush=True)
-    print(f"{passed} passed, {failed} failed")
-    return 1 if failed else 0
+        parts = [(crate_line, crate) for crate in CRATES] + [(example_line, example) for example in EXAMPLES]
+        for passes, line in pool.map(lambda part: part[0](part[1], room, refuser), parts):
+            passed.append(passes)
+            print(line, flush=True)
+    print(f"{sum(passed)} passed, {len(passed) - sum(passed)} failed")
+    return 0 if all(passed) else 1
 
 
 if __name__ == "__main__":
