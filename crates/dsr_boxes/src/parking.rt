@@ -1,6 +1,6 @@
-//! Sleeping until a box is as one wants it, and waking who sleeps. Neither changes a box, and no contract speaks of it.
+//! Looking at a box, sleeping until it is as one wants it, and waking who sleeps. None of these changes a box, and no contract speaks of it.
 //!
-//! Who sleeps first notes at its own place the word on which it does; then the system looks whether the word is still as it was found, and only
+//! Who waits looks a few times first, as sleeping and being woken takes longer than most waits. Who sleeps first notes at its own place the word on which it does; then the system looks whether the word is still as it was found, and only
 //! then has it sleep. Who publishes or releases looks afterwards whether the box's other end has noted that word. Words, notes and the system's
 //! look are in one order: so either the change comes before the look, and the sleeper does not sleep, or the note before the changer's
 //! look, and it is woken. No wake by a post or a take is lost. That needs three things more. A poster waits while the word is 2 or 3, a taker
@@ -14,13 +14,26 @@ ghost use Rattle.dsr_names.specs.Shape.{IsActor};
 use crate::shared_boxes::SharedBoxes;
 use crate::steps::{EMPTY, FULL};
 use dsr_names::Actor;
+use std::hint::spin_loop;
 use std::sync::Wait;
 use std::sync::atomic::Ordering::SeqCst;
 
 /// The note of one who does not sleep. It is the number of a word too, but of none that is a box's.
 const AWAKE: u64 = 0;
 
+/// How often one who waits looks before it sleeps.
+const LOOKS: u32 = 50;
+
 impl SharedBoxes {
+    /// Whether the word of a box is this one, by a look.
+    pub(crate) fn looks(&self, poster: &Actor, taker: &Actor, wanted: u64) -> bool
+        requires poster { IsActor self.now.shape poster.now }
+        requires taker { IsActor self.now.shape taker.now }
+    {
+        let word = self.word_of(poster, taker);
+        self.memory.shared.peek(word) == wanted
+    }
+
     /// Has the poster sleep while its box to the taker is not empty.
     pub(crate) fn sleep_until_empty<R: Wait>(&self, rt: &R, poster: &Actor, taker: &Actor)
         requires poster { IsActor self.now.shape poster.now }
@@ -73,6 +86,9 @@ impl SharedBoxes {
         requires sleeper { IsActor self.now.shape sleeper.now }
         requires word { word < self.now.id.words }
     {
+        if self.comes_to(word, wanted) {
+            return;
+        }
         let found = self.memory.shared.peek(word);
         if found == wanted {
             return;
@@ -82,6 +98,19 @@ impl SharedBoxes {
         // A word is at most 3, so that its low half is all of it.
         self.memory.shared.park(rt, word, (found % 4) as u32);
         self.sleepers[place].store(AWAKE, SeqCst);
+    }
+
+    /// Whether a word is the wanted one at one of a few looks.
+    fn comes_to(&self, word: usize, wanted: u64) -> bool
+        requires { word < self.now.id.words }
+    {
+        for _ in 0..LOOKS {
+            if self.memory.shared.peek(word) == wanted {
+                return true;
+            }
+            spin_loop();
+        }
+        false
     }
 
     /// Wakes the actor if it sleeps on this word.

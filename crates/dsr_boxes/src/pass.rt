@@ -9,6 +9,7 @@ ghost use Rattle.dsr_boxes.specs.Pass.{IsPassOf, IsInRun, with_entry, MayTake};
 use crate::parcel::Parcel;
 use crate::rule::Token;
 use crate::shared_boxes::SharedBoxes;
+use crate::steps::{EMPTY, FULL};
 use dsr_names::{Actor, Refusal};
 use std::marker::Model;
 use std::sync::Wait;
@@ -79,6 +80,23 @@ impl Pass {
         let parcel = boxes.release(&mut self.token, &self.actor, from);
         boxes.wake_poster(from, &self.actor);
         Some(parcel)
+    }
+
+    /// Whether the own box to an actor looks empty. A look changes nothing, and costs less than a post that is refused; a post alone tells what holds.
+    pub fn looks_empty(&self, boxes: &SharedBoxes, to: &Actor) -> bool
+        requires boxes { IsPassOf boxes.now self.now }
+        requires to { IsActor self.now.shape to.now }
+    {
+        boxes.looks(&self.actor, to, EMPTY)
+    }
+
+    /// Whether the box of an actor to this one looks full. A look changes nothing, and costs less than a take that finds nothing; a take alone tells
+    /// what holds.
+    pub fn looks_full(&self, boxes: &SharedBoxes, from: &Actor) -> bool
+        requires boxes { IsPassOf boxes.now self.now }
+        requires from { IsActor self.now.shape from.now }
+    {
+        boxes.looks(from, &self.actor, FULL)
     }
 
     /// Sleeps while the own box to an actor is not empty. It may return earlier; where the actor never takes, only a wake of all ends it.

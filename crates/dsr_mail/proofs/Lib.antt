@@ -4,3 +4,4 @@ pub mod Clearing
 pub mod Closing
 pub mod Planting
 pub mod Seating
+pub mod ServingLemmas

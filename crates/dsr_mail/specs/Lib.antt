@@ -7,4 +7,5 @@ pub mod Loyal
 pub mod Played
 pub mod Refusals
 pub mod Seats
+pub mod Serving
 pub mod Traitor

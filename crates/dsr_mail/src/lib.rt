@@ -12,6 +12,7 @@ mod mail;
 mod replica_seat;
 mod seat;
 mod seats;
+mod serving;
 mod traitor_seat;
 
 pub use client_seat::ClientSeat;

@@ -118,6 +118,10 @@ impl Loyal {
         // For the proof: what their contracts say.
         let _n = self.seat.shape().n();
         let _actor = self.seat.actor();
+        // No envelope is made for a box that looks full.
+        if !self.seat.looks_empty(boxes, to) {
+            return Err(Refusal::BoxFull);
+        }
         let Ok(envelope) = self.node.envelope_for(alloc, *to, *pick) else {
             return Err(Refusal::NoMemory);
         };
@@ -150,6 +154,9 @@ impl Loyal {
         }
         // For the proof: what its contract says.
         let _n = self.seat.shape().n();
+        if !self.seat.looks_full(boxes, from) {
+            return Err(Refusal::BoxEmpty);
+        }
         let Ok(()) = self.node.room() else {
             return Err(Refusal::NoMemory);
         };

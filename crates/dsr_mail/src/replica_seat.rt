@@ -1,4 +1,4 @@
-ghost use Rattle.std.specs.Prelude.{◌≡◌, ◌↔◌, ◌<◌, ◌^◌, None, Some, Ok, Err, IfErr, IsSome, IsTrue, OnOk, OnErr};
+ghost use Rattle.std.specs.Prelude.{◌≡◌, ◌↔◌, ◌<◌, ◌^◌, [], None, Some, Ok, Err, IfErr, IsSome, IsTrue, OnOk, OnErr};
 ghost use Rattle.std.specs.Option.{option_map};
 ghost use Rattle.dsr_names.specs.Shape.{IsActor, IsLoyal};
 ghost use Rattle.dsr_names.specs.declared.actor.Actor.TheVariants.{Replica};
@@ -13,9 +13,11 @@ ghost use Rattle.dsr_node.specs.Conduct.{post_of};
 ghost use Rattle.dsr_node.specs.Node.{IsReplicaNumber};
 ghost use Rattle.dsr_boxes.specs.Pass.{IsPassOf, IsInRun, with_entry};
 ghost use Rattle.dsr_mail.specs.Refusals.{IsRefusedBy, post_refused, take_refused, wait_refused};
+ghost use Rattle.dsr_mail.specs.Serving.{IsUnanswered};
 
 use crate::loyal::Loyal;
 use crate::mail::Mail;
+use crate::serving::Serving;
 use dsr_envelope::{Due, Envelope, Pick};
 use dsr_names::{Actor, ClientId, Refusal, ReplicaId};
 use dsr_request::Request;
@@ -27,26 +29,32 @@ use std::sync::Wait;
 #[derive(Drop)]
 pub struct ReplicaSeat {
     loyal: Loyal,
+    serving: Serving,
 }
 
 impl Model for ReplicaSeat {
     ghost use Rattle.dsr_node.specs.Node.{IsReplicaNumber};
     ghost use Rattle.dsr_boxes.specs.Pass.{Pass};
+    ghost use Rattle.dsr_mail.specs.Serving.{AreUnanswered};
 
     ghost Value = { Pass };
 
     ghost view = { λ s. s.loyal };
 
-    ghost invariant = { λ s. IsReplicaNumber s.loyal.actor };
+    ghost invariant = { λ s. IsReplicaNumber s.loyal.actor × AreUnanswered s.loyal.log s.serving };
 }
 
 impl ReplicaSeat {
-    /// The seat of a loyal replica.
+    /// The seat of a loyal replica, before it did anything.
     pub(crate) fn new(loyal: Loyal) -> ReplicaSeat
-        requires { IsReplicaNumber loyal.actor }
+        requires replica { IsReplicaNumber loyal.actor }
+        requires first { loyal.log ≡ [] }
         ensures { result ≡ loyal }
     {
-        ReplicaSeat { loyal }
+        ReplicaSeat {
+            loyal,
+            serving: Serving::none(),
+        }
     }
 
     /// The loyal actor.
@@ -109,6 +117,19 @@ impl ReplicaSeat {
         self.loyal.replica().reply_for(client)
     }
 
+    /// Whether the client was not answered since something of it was taken: of the entries with it the newest is a take.
+    pub fn is_unanswered(&self, client: ClientId) -> bool
+        ensures { IsTrue result ↔ IsUnanswered client self.now.log }
+    {
+        let _number = client.number();
+        self.serving.has(client)
+    }
+
+    /// The last of the clients that it picked last, if it picked any. Nothing more is promised of it.
+    pub fn last_picked(&self) -> Option<ClientId> {
+        self.serving.picked()
+    }
+
     /// Posts to an actor by a choice. It waits for nobody. Refused with the first of these that holds: `NoActor` where there is no such
     /// actor; `NotDue` where the conduct has no such post now; `Exhausted` where a counter would pass its limit; `NoMemory` where memory runs
     /// out; `BoxFull` where what it posted there last was not taken, or is still being taken out. Requires a seat of this mail. After each of them nothing changed.
@@ -126,7 +147,12 @@ impl ReplicaSeat {
         ensures refused { (refusal : Refusal) → post_refused self.old.shape self.old.actor self.old.log to pick ≡ Some refusal → result ≡ Err refusal }
         ensures last { IfErr result (IsRefusedBy (post_refused self.old.shape self.old.actor self.old.log to pick) Refusal.BoxFull) }
     {
-        self.loyal.try_post(alloc, mail.boxes(), &to, &pick)
+        match self.loyal.try_post(alloc, mail.boxes(), &to, &pick) {
+            Ok(()) => {}
+            Err(refusal) => return Err(refusal),
+        }
+        self.serving.note_post(&to, &pick);
+        Ok(())
     }
 
     /// Takes from an actor what it posted to this replica. It waits for nobody. Refused with the first of these that holds: `NoActor` where
@@ -140,9 +166,11 @@ impl ReplicaSeat {
         ensures last { IfErr result (IsRefusedBy (take_refused self.old.shape self.old.actor self.old.log from) Refusal.BoxEmpty) }
     {
         match self.loyal.try_take(mail.boxes(), &from) {
-            Ok(_) => Ok(()),
-            Err(refusal) => Err(refusal),
+            Ok(_) => {}
+            Err(refusal) => return Err(refusal),
         }
+        self.serving.note_take(&from);
+        Ok(())
     }
 
     /// Sleeps while what it posted to a replica is not taken. It may return earlier, so the caller tries again. `NoActor` where there is no

@@ -79,6 +79,22 @@ impl Seat {
         posts >= NUMBER_END - 1
     }
 
+    /// Whether the own box to an actor looks empty. A post alone tells whether it is.
+    pub(crate) fn looks_empty(&self, boxes: &SharedBoxes, to: &Actor) -> bool
+        requires boxes { IsPassOf boxes.now self.now }
+        requires to { IsActor self.now.shape to.now }
+    {
+        self.pass.looks_empty(boxes, to)
+    }
+
+    /// Whether the box of an actor to this one looks full. A take alone tells whether it is.
+    pub(crate) fn looks_full(&self, boxes: &SharedBoxes, from: &Actor) -> bool
+        requires boxes { IsPassOf boxes.now self.now }
+        requires from { IsActor self.now.shape from.now }
+    {
+        self.pass.looks_full(boxes, from)
+    }
+
     /// Posts the envelope to an actor. `NoMemory` where memory runs out or one handle more is refused, `BoxFull` where the box is not
     /// empty: then nothing changed, and the envelope is gone. Requires that the own log allows the post.
     pub(crate) fn post(

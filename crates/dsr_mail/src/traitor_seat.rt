@@ -132,6 +132,9 @@ impl TraitorSeat {
         if !self.seat.shape().has(from) {
             return Err(Refusal::NoActor);
         }
+        if !self.seat.looks_full(mail.boxes(), &from) {
+            return Err(Refusal::BoxEmpty);
+        }
         let Ok(()) = self.known.room() else {
             return Err(Refusal::NoMemory);
         };

@@ -1,4 +1,4 @@
-//! What a replica owes its clients, and whose requests it proposes next.
+//! To whom a replica owes a reply, and whose requests it proposes next. Both go by what its seat knows, so that a call goes on where the one before it ended.
 
 ghost use Rattle.std.specs.Prelude.{◌≡◌, IsSome, IsTrue};
 ghost use Rattle.dsr_names.specs.declared.actor.Actor.TheVariants.{Replica};
@@ -6,37 +6,29 @@ ghost use Rattle.dsr_envelope.specs.declared.due.Due.TheVariants.{Post as PostTo
 ghost use Rattle.dsr_envelope.specs.Log.{due};
 ghost use Rattle.dsr_replica.specs.Conduct.{reply_to};
 ghost use Rattle.dsr_node.specs.Conduct.{post_of};
+ghost use Rattle.dsr_mail.specs.Serving.{IsUnanswered};
 
 use dsr_envelope::{Clients, Envelope, Pick};
 use dsr_mail::ReplicaSeat;
 use dsr_names::{ClientId, ReplicaId};
 
-/// The most clients of a shape.
-const MOST_CLIENTS: usize = 32;
-
 /// The most clients whose requests one slot carries.
 const MOST_PICKED: usize = 8;
 
-/// Which clients a replica has not answered since it took something of them, and whose request it proposed last.
+/// What a replica has to do for its clients in a round.
 #[derive(Drop)]
 pub(crate) struct Duties {
     /// How many clients there are.
     clients: u8,
-    /// The client after which the ring of clients begins.
-    last: u8,
-    /// Whether something of the client was taken and not answered, by the client's number.
-    unanswered: [bool; MOST_CLIENTS],
     /// Whether something of a client was taken in this round.
     has_news: bool,
 }
 
 impl Duties {
-    /// Nobody is owed anything, and client 0 is the first of the ring. Requires at least one client, and at most 32.
-    pub(crate) fn none(clients: u8) -> Duties {
+    /// Those towards so many clients, at least one and at most 32.
+    pub(crate) fn of(clients: u8) -> Duties {
         Duties {
             clients,
-            last: clients.saturating_sub(1),
-            unanswered: [false; MOST_CLIENTS],
             has_news: false,
         }
     }
@@ -46,73 +38,66 @@ impl Duties {
         self.has_news = false;
     }
 
+    /// Something of a client was taken.
+    pub(crate) fn note_take(&mut self) {
+        self.has_news = true;
+    }
+
     /// Whether something of a client was taken in this round.
     pub(crate) fn has_news(&self) -> bool {
         self.has_news
     }
 
     /// Whether each client was answered since something of it was taken.
-    pub(crate) fn are_done(&self) -> bool {
-        self.unanswered.iter().all(|unanswered| !*unanswered)
-    }
-
-    /// Something of the client was taken.
-    pub(crate) fn note_take(&mut self, client: ClientId) {
-        self.unanswered[client.number() as usize] = true;
-        self.has_news = true;
-    }
-
-    /// The client was answered.
-    pub(crate) fn note_answer(&mut self, client: ClientId) {
-        self.unanswered[client.number() as usize] = false;
-    }
-
-    /// Whether the client is owed its reply: something of it was taken since it was answered, and the request that is held of it is the one that
-    /// the reply is for.
-    pub(crate) fn owes(&self, seat: &ReplicaSeat, client: ClientId) -> bool
-        ensures { IsTrue result → IsSome (reply_to seat.now.shape seat.now.log client) }
-    {
-        if !self.unanswered[client.number() as usize] {
-            return false;
+    pub(crate) fn are_done(&self, seat: &ReplicaSeat) -> bool {
+        for number in 0..self.clients {
+            if let Ok(client) = ClientId::new(number) {
+                if seat.is_unanswered(client) {
+                    return false;
+                }
+            }
         }
-        match (seat.held(client), replied_number(seat, client)) {
-            (Some(held), Some(number)) => held.number() == number,
-            _ => false,
-        }
+        true
     }
 
     /// The choice for the post to replica 0, which must be due: the first 8 clients in the ring whose held requests would act, where the slot is
     /// the replica's own and there are any; else nothing in particular. The ring begins after the client that was proposed last.
-    pub(crate) fn proposal(&mut self, seat: &ReplicaSeat) -> Pick
+    pub(crate) fn proposal(&self, seat: &ReplicaSeat) -> Pick
         requires { due seat.now.shape seat.now.log ≡ PostTo 0 }
         ensures { IsSome (post_of seat.now.shape seat.now.log seat.now.actor (Replica 0) result) }
     {
         // For the proof: that it is a replica, whose conduct has a post.
         let _replica = seat.replica();
         let _due = seat.due();
-        let waiting = self.waiting(seat);
-        let Some(clients) = waiting.clients() else {
+        let Some(clients) = self.waiting(seat).clients() else {
             return Pick::Plain;
         };
         let pick = Pick::From(clients);
         if !is_allowed(seat, &pick) {
             return Pick::Plain;
         }
-        self.last = waiting.last;
         pick
     }
 
     /// The first 8 clients in the ring whose held requests would act.
     fn waiting(&self, seat: &ReplicaSeat) -> Waiting {
         let mut waiting = Waiting::none();
-        let mut number = self.last;
+        let mut number = self.first(seat);
         for _ in 0..self.clients {
-            number = self.after(number);
             if let Ok(client) = ClientId::new(number) {
                 waiting.add_if_held(seat, client);
             }
+            number = self.after(number);
         }
         waiting
+    }
+
+    /// The number of the client with which the ring begins: the one after the last that was picked, at first client 0.
+    fn first(&self, seat: &ReplicaSeat) -> u8 {
+        match seat.last_picked() {
+            Some(last) => self.after(last.number()),
+            None => 0,
+        }
     }
 
     /// The number of the next client in the ring.
@@ -130,8 +115,6 @@ impl Duties {
 struct Waiting {
     list: [ClientId; MOST_PICKED],
     count: usize,
-    /// The number of the last.
-    last: u8,
 }
 
 impl Waiting {
@@ -140,7 +123,6 @@ impl Waiting {
         Waiting {
             list: [ClientId::FIRST; MOST_PICKED],
             count: 0,
-            last: 0,
         }
     }
 
@@ -149,13 +131,27 @@ impl Waiting {
         if self.count < MOST_PICKED && acts(seat, client) {
             self.list[self.count] = client;
             self.count += 1;
-            self.last = client.number();
         }
     }
 
     /// The clients, if there are any.
     fn clients(&self) -> Option<Clients> {
         Clients::of(self.list.get(..self.count)?)
+    }
+}
+
+/// Whether the client is owed its reply: it was not answered since something of it was taken, and the request that is held of it is the one that the
+/// reply is for.
+pub(crate) fn owes(seat: &ReplicaSeat, client: ClientId) -> bool
+    ensures reply { IsTrue result → IsSome (reply_to seat.now.shape seat.now.log client) }
+    ensures unanswered { IsTrue result → IsUnanswered client seat.now.log }
+{
+    if !seat.is_unanswered(client) {
+        return false;
+    }
+    match (seat.held(client), replied_number(seat, client)) {
+        (Some(held), Some(number)) => held.number() == number,
+        _ => false,
     }
 }
 

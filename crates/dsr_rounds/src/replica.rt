@@ -1,6 +1,6 @@
 //! The rounds of a replica.
 
-ghost use Rattle.std.specs.Prelude.{◌≡◌, ◌<◌, false, IfOk, IfErr, OnOk, OnErr, IsSome};
+ghost use Rattle.std.specs.Prelude.{◌≡◌, ◌<◌, ¬◌, false, IfOk, IfErr, OnOk, OnErr, IsSome};
 ghost use Rattle.dsr_names.specs.Shape.{IsActor};
 ghost use Rattle.dsr_names.specs.declared.actor.Actor.TheVariants.{Replica};
 ghost use Rattle.dsr_envelope.specs.declared.entry.Entry.TheVariants.{Post, Take};
@@ -9,11 +9,12 @@ ghost use Rattle.dsr_envelope.specs.declared.envelope.Envelope.{Envelope};
 ghost use Rattle.dsr_envelope.specs.Log.{due, rounds};
 ghost use Rattle.dsr_node.specs.Conduct.{post_of, is_undue};
 ghost use Rattle.dsr_boxes.specs.Pass.{IsPassOf, with_entry};
+ghost use Rattle.dsr_mail.specs.Serving.{IsUnanswered};
 ghost use Rattle.dsr_calls.specs.Calls.{GoesOn};
 ghost use Rattle.dsr_rounds.specs.Ends.{HostEnd, HasTried};
 ghost use Rattle.dsr_rounds.specs.Replicas.{HasClosed, KeepsRound, IsAtPost, IsTaking};
 
-use crate::duties::Duties;
+use crate::duties::{Duties, owes};
 use crate::end::End;
 use crate::gate::Gate;
 use crate::host::{Host, was_made};
@@ -39,7 +40,7 @@ impl<'a, R: Wait, G: Gate> Host<'a, R, G> {
         ensures end { IfErr result (HostEnd (G.may_refuse self.now.gate.now) self.now.stop.now seat.new) }
     {
         let mut turn = Turn::first();
-        let mut duties = Duties::none(self.mail.shape().m());
+        let mut duties = Duties::of(self.mail.shape().m());
         for round in 0..rounds {
             self.make_round(seat, &mut turn, &mut duties)?;
         }
@@ -60,10 +61,10 @@ impl<'a, R: Wait, G: Gate> Host<'a, R, G> {
     {
         duties.begin_round();
         self.take_from_clients(seat, turn, duties)?;
-        rest_without_news(duties);
+        rest_without_news(seat, duties);
         self.post_all(seat, turn, duties)?;
         self.take_all(seat, turn)?;
-        self.answer_clients(seat, turn, duties)
+        self.answer_clients(seat, turn)
     }
 
     /// Takes once from each client.
@@ -99,7 +100,7 @@ impl<'a, R: Wait, G: Gate> Host<'a, R, G> {
         // For the proof: that it is a replica.
         let _replica = seat.replica();
         if self.try_take(seat, turn, &Actor::Client(client))? {
-            duties.note_take(client);
+            duties.note_take();
         }
         Ok(())
     }
@@ -109,7 +110,7 @@ impl<'a, R: Wait, G: Gate> Host<'a, R, G> {
         &self,
         seat: &mut ReplicaSeat,
         turn: &mut Turn,
-        duties: &mut Duties,
+        duties: &Duties,
     ) -> Result<(), End>
         requires mail { IsPassOf self.now.mail.now seat.old }
         ensures posted { OnOk result (IsTaking (due seat.new.shape seat.new.log)) }
@@ -130,7 +131,7 @@ impl<'a, R: Wait, G: Gate> Host<'a, R, G> {
         &self,
         seat: &mut ReplicaSeat,
         turn: &mut Turn,
-        duties: &mut Duties,
+        duties: &Duties,
         to: ReplicaId,
     ) -> Result<(), End>
         requires mail { IsPassOf self.now.mail.now seat.old }
@@ -206,43 +207,36 @@ impl<'a, R: Wait, G: Gate> Host<'a, R, G> {
     }
 
     /// Posts once to each client that is owed its reply.
-    fn answer_clients(
-        &self,
-        seat: &mut ReplicaSeat,
-        turn: &mut Turn,
-        duties: &mut Duties,
-    ) -> Result<(), End>
+    fn answer_clients(&self, seat: &mut ReplicaSeat, turn: &mut Turn) -> Result<(), End>
         requires mail { IsPassOf self.now.mail.now seat.old }
         ensures kept { KeepsRound seat.new seat.old }
         ensures end { IfErr result (HostEnd (G.may_refuse self.now.gate.now) self.now.stop.now seat.new) }
     {
         for number in 0..self.mail.shape().m() {
-            self.answer_client(seat, turn, duties, ClientId::of(number))?;
+            self.answer_client(seat, turn, ClientId::of(number))?;
         }
         Ok(())
     }
 
-    /// Posts once to a client, if it is owed its reply.
+    /// Posts once to a client, if it is owed its reply. A post for which the box is full is made again after the next round.
     fn answer_client(
         &self,
         seat: &mut ReplicaSeat,
         turn: &mut Turn,
-        duties: &mut Duties,
         client: ClientId,
     ) -> Result<(), End>
         requires mail { IsPassOf self.now.mail.now seat.old }
         requires inside { client < seat.old.shape.m }
         ensures kept { KeepsRound seat.new seat.old }
+        ensures owed { ¬ IsUnanswered client seat.old.log → seat.new ≡ seat.old }
         ensures end { IfErr result (HostEnd (G.may_refuse self.now.gate.now) self.now.stop.now seat.new) }
     {
-        if !duties.owes(seat, client) {
+        if !owes(seat, client) {
             return Ok(());
         }
         // For the proof: that it is a replica.
         let _replica = seat.replica();
-        if self.try_post(seat, turn, &Actor::Client(client), &Pick::Plain)? {
-            duties.note_answer(client);
-        }
+        self.try_post(seat, turn, &Actor::Client(client), &Pick::Plain)?;
         Ok(())
     }
 
@@ -285,12 +279,12 @@ impl<'a, R: Wait, G: Gate> Host<'a, R, G> {
 
 /// Lets others run first where no client sent anything, and looks on for a moment where none waits for an answer: slow clients have more time
 /// until the rounds of a host are used up.
-fn rest_without_news(duties: &Duties) {
+fn rest_without_news(seat: &ReplicaSeat, duties: &Duties) {
     if duties.has_news() {
         return;
     }
     thread::yield_now();
-    if duties.are_done() {
+    if duties.are_done(seat) {
         for _ in 0..IDLE_SPINS {
             spin_loop();
         }
@@ -298,7 +292,7 @@ fn rest_without_news(duties: &Duties) {
 }
 
 /// The choice for the post to a replica that is due.
-fn choice(seat: &ReplicaSeat, duties: &mut Duties, to: ReplicaId) -> Pick
+fn choice(seat: &ReplicaSeat, duties: &Duties, to: ReplicaId) -> Pick
     requires { due seat.now.shape seat.now.log ≡ PostTo to }
     ensures { IsSome (post_of seat.now.shape seat.now.log seat.now.actor (Replica to) result) }
 {
