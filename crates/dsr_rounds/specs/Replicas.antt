@@ -1,9 +1,18 @@
 -- What a replica's host has done (this project).
-use Rattle.std.specs.Prelude.{◌≡◌, ◌⊎◌, ℕ, suc, ◌+◌, ◌<◌}
+use Rattle.std.specs.Prelude.{◌≡◌, ◌⊎◌, ℕ, suc, ◌+◌, ◌<◌, List, Some}
+use Rattle.std.specs.Option.{option_map}
+use Rattle.dsr_names.specs.Shape.{Shape}
+use Rattle.dsr_request.specs.declared.request.Request.{Request}
+use Rattle.dsr_ledger.specs.declared.reply.Reply.{Reply as AReply}
+use Rattle.dsr_envelope.specs.declared.entry.Entry.{Entry}
+use Rattle.dsr_envelope.specs.declared.envelope.Envelope.TheVariants.{Reply}
 use Rattle.dsr_envelope.specs.Log.{due, rounds}
 use Rattle.dsr_envelope.specs.declared.due.Due.{Due}
 use Rattle.dsr_envelope.specs.declared.due.Due.TheVariants.{Post as PostTo, Take as TakeFrom}
+use Rattle.dsr_replica.specs.Conduct.{reply_to}
+use Rattle.dsr_replica.specs.Held.{held}
 use Rattle.dsr_boxes.specs.Pass.{Pass}
+use Rattle.dsr_mail.specs.Serving.{IsUnanswered}
 use Rattle.dsr_calls.specs.Calls.{GoesOn}
 
 -- so many more rounds are closed in the later log
@@ -31,3 +40,8 @@ abbrev pub IsAtTake : Pass → ℕ → ℕ → ℕ → Type 0
 IsAtTake seat n p closed =
     ((p < n) × (due seat.shape seat.log ≡ TakeFrom p) × (rounds seat.shape seat.log ≡ closed))
     ⊎ ((p ≡ n) × (rounds seat.shape seat.log ≡ suc closed))
+
+-- the client is owed its reply: something was taken of it since it was answered, and the request that is held of it is the one that the reply is for
+abbrev pub IsOwed : Shape → List Entry → ℕ → Type 0
+IsOwed shape log c = IsUnanswered c log × (request : Request) × (reply : AReply) × (option_map (λ ask. ask.request) (held shape c log) ≡ Some request)
+    × (reply_to shape log c ≡ Some (Reply reply)) × (request.number ≡ reply.number)

@@ -1,12 +1,14 @@
 //! To whom a replica owes a reply, and whose requests it proposes next. Both go by what its seat knows, so that a call goes on where the one before it ended.
 
-ghost use Rattle.std.specs.Prelude.{◌≡◌, IsSome, IsTrue};
+ghost use Rattle.std.specs.Prelude.{◌≡◌, Some, IsSome, IfSome, IsTrue};
 ghost use Rattle.dsr_names.specs.declared.actor.Actor.TheVariants.{Replica};
 ghost use Rattle.dsr_envelope.specs.declared.due.Due.TheVariants.{Post as PostTo};
+ghost use Rattle.dsr_envelope.specs.declared.envelope.Envelope.TheVariants.{Reply};
 ghost use Rattle.dsr_envelope.specs.Log.{due};
+ghost use Rattle.dsr_ledger.specs.declared.reply.Reply.{Reply as AReply};
 ghost use Rattle.dsr_replica.specs.Conduct.{reply_to};
 ghost use Rattle.dsr_node.specs.Conduct.{post_of};
-ghost use Rattle.dsr_mail.specs.Serving.{IsUnanswered};
+ghost use Rattle.dsr_rounds.specs.Replicas.{IsOwed};
 
 use dsr_envelope::{Clients, Envelope, Pick};
 use dsr_mail::ReplicaSeat;
@@ -143,8 +145,8 @@ impl Waiting {
 /// Whether the client is owed its reply: it was not answered since something of it was taken, and the request that is held of it is the one that the
 /// reply is for.
 pub(crate) fn owes(seat: &ReplicaSeat, client: ClientId) -> bool
+    ensures owed { IsTrue result → IsOwed seat.now.shape seat.now.log client }
     ensures reply { IsTrue result → IsSome (reply_to seat.now.shape seat.now.log client) }
-    ensures unanswered { IsTrue result → IsUnanswered client seat.now.log }
 {
     if !seat.is_unanswered(client) {
         return false;
@@ -166,7 +168,9 @@ fn acts(seat: &ReplicaSeat, client: ClientId) -> bool {
 
 /// The number of the client's last request that acted, if one did.
 fn replied_number(seat: &ReplicaSeat, client: ClientId) -> Option<u64>
-    ensures { IsSome result → IsSome (reply_to seat.now.shape seat.now.log client) }
+    ensures some { IsSome result → IsSome (reply_to seat.now.shape seat.now.log client) }
+    ensures number { IfSome result (λ number. (reply : AReply) × (reply_to seat.now.shape seat.now.log client ≡ Some (Reply reply))
+        × (reply.number ≡ number)) }
 {
     match seat.reply_for(client) {
         Some(Envelope::Reply(reply)) => Some(reply.number),

@@ -1,6 +1,6 @@
 //! The rounds of a replica.
 
-ghost use Rattle.std.specs.Prelude.{◌≡◌, ◌<◌, ¬◌, false, IfOk, IfErr, OnOk, OnErr, IsSome};
+ghost use Rattle.std.specs.Prelude.{◌≡◌, ◌⊎◌, ◌<◌, false, IfOk, IfErr, OnOk, OnErr, IsSome};
 ghost use Rattle.dsr_names.specs.Shape.{IsActor};
 ghost use Rattle.dsr_names.specs.declared.actor.Actor.TheVariants.{Replica};
 ghost use Rattle.dsr_envelope.specs.declared.entry.Entry.TheVariants.{Post, Take};
@@ -9,10 +9,9 @@ ghost use Rattle.dsr_envelope.specs.declared.envelope.Envelope.{Envelope};
 ghost use Rattle.dsr_envelope.specs.Log.{due, rounds};
 ghost use Rattle.dsr_node.specs.Conduct.{post_of, is_undue};
 ghost use Rattle.dsr_boxes.specs.Pass.{IsPassOf, with_entry};
-ghost use Rattle.dsr_mail.specs.Serving.{IsUnanswered};
 ghost use Rattle.dsr_calls.specs.Calls.{GoesOn};
 ghost use Rattle.dsr_rounds.specs.Ends.{HostEnd, HasTried};
-ghost use Rattle.dsr_rounds.specs.Replicas.{HasClosed, KeepsRound, IsAtPost, IsTaking};
+ghost use Rattle.dsr_rounds.specs.Replicas.{HasClosed, KeepsRound, IsAtPost, IsTaking, IsOwed};
 
 use crate::duties::{Duties, owes};
 use crate::end::End;
@@ -228,7 +227,7 @@ impl<'a, R: Wait, G: Gate> Host<'a, R, G> {
         requires mail { IsPassOf self.now.mail.now seat.old }
         requires inside { client < seat.old.shape.m }
         ensures kept { KeepsRound seat.new seat.old }
-        ensures owed { ¬ IsUnanswered client seat.old.log → seat.new ≡ seat.old }
+        ensures owed { (seat.new ≡ seat.old) ⊎ IsOwed seat.old.shape seat.old.log client }
         ensures end { IfErr result (HostEnd (G.may_refuse self.now.gate.now) self.now.stop.now seat.new) }
     {
         if !owes(seat, client) {
