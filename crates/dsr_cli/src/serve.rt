@@ -36,11 +36,11 @@ impl Gate for Open {
 pub(crate) struct Service {
     /// The logs of all actors.
     pub(crate) logs: Logs,
-    /// What ended it before all clients were served; `None` where nothing did.
+    /// The fault by which it ended, if there was one.
     pub(crate) cause: Option<Refusal>,
 }
 
-/// The report of a service, and what ended it before all clients were served.
+/// The report of a service, and the fault by which it ended, if there was one.
 #[derive(Drop)]
 struct Outcome {
     report: String,

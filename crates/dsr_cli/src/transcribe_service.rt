@@ -15,7 +15,7 @@ use std::mem::forget;
 use std::sync::Wait;
 use std::thread::Threads;
 
-/// What the actors of a service did, and what ended it before all clients were served.
+/// What the actors of a service did, and the fault by which it ended, if there was one.
 #[derive(Drop)]
 struct Recording {
     recorded: Record,

@@ -54,8 +54,8 @@ impl Ends {
         Ends { first, served }
     }
 
-    /// Why the service ended before all clients were served: by the fault of the least rank; or, where there is none, since a client was not
-    /// answered. `None` where all are served.
+    /// The fault by which the service ended: that of the least rank, also where all clients are served; or, where there is none, that a client was not
+    /// answered. `None` where there is none and all are served.
     pub(crate) fn cause(&self) -> Option<Refusal>
         ensures some { IfSome result (λ refusal. ((fault : AFault) × (self.now.first ≡ Some fault) × (fault.refusal ≡ refusal))
             ⊎ (refusal ≡ Refusal.Unanswered)) }

@@ -20,10 +20,10 @@ use std::alloc::Global;
 use std::sync::Wait;
 use std::thread::Threads;
 
-/// Why a service ended before all clients were served, with the logs until then.
+/// The fault by which a service ended, with the logs until then.
 #[derive(Drop)]
 pub struct ServeFault {
-    /// The refusal that ended it.
+    /// What the host of the least rank was refused with; `Unanswered` where no host was, and a client was not served.
     pub cause: Refusal,
     /// The logs of all actors.
     pub logs: Logs,
