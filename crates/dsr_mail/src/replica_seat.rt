@@ -130,6 +130,13 @@ impl ReplicaSeat {
         self.serving.picked()
     }
 
+    /// Whether anybody's box to this replica looks full. A take alone tells whether it is. Requires a seat of this mail.
+    pub fn has_mail(&self, mail: &Mail) -> bool
+        requires mail { IsPassOf mail.now self.now }
+    {
+        self.loyal.seat().has_mail(mail.boxes())
+    }
+
     /// Posts to an actor by a choice. It waits for nobody. Refused with the first of these that holds: `NoActor` where there is no such
     /// actor; `NotDue` where the conduct has no such post now; `Exhausted` where a counter would pass its limit; `NoMemory` where memory runs
     /// out; `BoxFull` where what it posted there last was not taken, or is still being taken out. Requires a seat of this mail. After each of them nothing changed.

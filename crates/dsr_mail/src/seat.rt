@@ -10,7 +10,7 @@ ghost use Rattle.dsr_mail.specs.Refusals.{is_spent, wait_refused};
 use crate::log::Log;
 use dsr_boxes::{Parcel, Pass, SharedBoxes};
 use dsr_envelope::{Entry, Envelope};
-use dsr_names::{Actor, NUMBER_END, Refusal, Shape};
+use dsr_names::{Actor, ClientId, NUMBER_END, Refusal, ReplicaId, Shape};
 use std::alloc::Global;
 use std::marker::Model;
 use std::sync::Wait;
@@ -93,6 +93,23 @@ impl Seat {
         requires from { IsActor self.now.shape from.now }
     {
         self.pass.looks_full(boxes, from)
+    }
+
+    /// Whether the box of any actor to this one looks full.
+    pub(crate) fn has_mail(&self, boxes: &SharedBoxes) -> bool
+        requires { IsPassOf boxes.now self.now }
+    {
+        for number in 0..self.shape.n() {
+            if self.looks_full(boxes, &Actor::Replica(ReplicaId::of(number))) {
+                return true;
+            }
+        }
+        for number in 0..self.shape.m() {
+            if self.looks_full(boxes, &Actor::Client(ClientId::of(number))) {
+                return true;
+            }
+        }
+        false
     }
 
     /// Posts the envelope to an actor. `NoMemory` where memory runs out or one handle more is refused, `BoxFull` where the box is not

@@ -2,11 +2,11 @@
 #![tactic(auto)]
 
 mod alone;
-mod duties;
 mod end;
 mod gate;
 mod host;
 mod replica;
+mod ring;
 mod stop;
 mod traitor;
 mod turn;

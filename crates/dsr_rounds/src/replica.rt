@@ -13,10 +13,10 @@ ghost use Rattle.dsr_calls.specs.Calls.{GoesOn};
 ghost use Rattle.dsr_rounds.specs.Ends.{HostEnd, HasTried};
 ghost use Rattle.dsr_rounds.specs.Replicas.{HasClosed, KeepsRound, IsAtPost, IsTaking, IsOwed};
 
-use crate::duties::{Duties, owes};
 use crate::end::End;
 use crate::gate::Gate;
 use crate::host::{Host, was_made};
+use crate::ring::{Ring, owes};
 use crate::turn::Turn;
 use dsr_envelope::{Due, Pick};
 use dsr_mail::ReplicaSeat;
@@ -25,9 +25,8 @@ use std::hint::spin_loop;
 use std::sync::Wait;
 use std::thread;
 
-/// How long a replica rests before a round in which no client sent anything and none waits for an answer: so many turns of a loop, some
-/// microseconds.
-const IDLE_SPINS: u32 = 256;
+/// How often a replica that has nothing to do looks whether there is mail, before it begins a round without any.
+const IDLE_LOOKS: u32 = 64;
 
 impl<'a, R: Wait, G: Gate> Host<'a, R, G> {
     /// Has the replica make so many rounds: in each it takes once from each client, posts to all replicas, takes from all, and posts once to each
@@ -39,9 +38,9 @@ impl<'a, R: Wait, G: Gate> Host<'a, R, G> {
         ensures end { IfErr result (HostEnd (G.may_refuse self.now.gate.now) self.now.stop.now seat.new) }
     {
         let mut turn = Turn::first();
-        let mut duties = Duties::of(self.mail.shape().m());
+        let ring = Ring::of(self.mail.shape().m());
         for round in 0..rounds {
-            self.make_round(seat, &mut turn, &mut duties)?;
+            self.make_round(seat, &mut turn, &ring)?;
         }
         Ok(())
     }
@@ -51,34 +50,48 @@ impl<'a, R: Wait, G: Gate> Host<'a, R, G> {
         &self,
         seat: &mut ReplicaSeat,
         turn: &mut Turn,
-        duties: &mut Duties,
+        ring: &Ring,
     ) -> Result<(), End>
         requires mail { IsPassOf self.now.mail.now seat.old }
         ensures closed { OnOk result (HasClosed seat.old seat.new 1) }
         ensures log { GoesOn seat.new seat.old }
         ensures end { IfErr result (HostEnd (G.may_refuse self.now.gate.now) self.now.stop.now seat.new) }
     {
-        duties.begin_round();
-        self.take_from_clients(seat, turn, duties)?;
-        rest_without_news(seat, duties);
-        self.post_all(seat, turn, duties)?;
+        self.rest_without_mail(seat, ring);
+        self.take_from_clients(seat, turn)?;
+        self.post_all(seat, turn, ring)?;
         self.take_all(seat, turn)?;
         self.answer_clients(seat, turn)
     }
 
+    /// Lets others run first where no mail has come, and looks on for a moment where nobody waits for an answer: slow clients have more time until the
+    /// rounds of a host are used up.
+    fn rest_without_mail(&self, seat: &ReplicaSeat, ring: &Ring)
+        requires mail { IsPassOf self.now.mail.now seat.now }
+    {
+        if seat.has_mail(self.mail) {
+            return;
+        }
+        thread::yield_now();
+        if !ring.is_answered(seat) {
+            return;
+        }
+        for _ in 0..IDLE_LOOKS {
+            if seat.has_mail(self.mail) {
+                return;
+            }
+            spin_loop();
+        }
+    }
+
     /// Takes once from each client.
-    fn take_from_clients(
-        &self,
-        seat: &mut ReplicaSeat,
-        turn: &mut Turn,
-        duties: &mut Duties,
-    ) -> Result<(), End>
+    fn take_from_clients(&self, seat: &mut ReplicaSeat, turn: &mut Turn) -> Result<(), End>
         requires mail { IsPassOf self.now.mail.now seat.old }
         ensures kept { KeepsRound seat.new seat.old }
         ensures end { IfErr result (HostEnd (G.may_refuse self.now.gate.now) self.now.stop.now seat.new) }
     {
         for number in 0..self.mail.shape().m() {
-            self.take_from_client(seat, turn, duties, ClientId::of(number))?;
+            self.take_from_client(seat, turn, ClientId::of(number))?;
         }
         Ok(())
     }
@@ -88,7 +101,6 @@ impl<'a, R: Wait, G: Gate> Host<'a, R, G> {
         &self,
         seat: &mut ReplicaSeat,
         turn: &mut Turn,
-        duties: &mut Duties,
         client: ClientId,
     ) -> Result<(), End>
         requires mail { IsPassOf self.now.mail.now seat.old }
@@ -98,9 +110,7 @@ impl<'a, R: Wait, G: Gate> Host<'a, R, G> {
     {
         // For the proof: that it is a replica.
         let _replica = seat.replica();
-        if self.try_take(seat, turn, &Actor::Client(client))? {
-            duties.note_take();
-        }
+        self.try_take(seat, turn, &Actor::Client(client))?;
         Ok(())
     }
 
@@ -109,7 +119,7 @@ impl<'a, R: Wait, G: Gate> Host<'a, R, G> {
         &self,
         seat: &mut ReplicaSeat,
         turn: &mut Turn,
-        duties: &Duties,
+        ring: &Ring,
     ) -> Result<(), End>
         requires mail { IsPassOf self.now.mail.now seat.old }
         ensures posted { OnOk result (IsTaking (due seat.new.shape seat.new.log)) }
@@ -120,7 +130,7 @@ impl<'a, R: Wait, G: Gate> Host<'a, R, G> {
         let shape = self.mail.shape();
         let first = next_post(seat, shape);
         for number in first..shape.n() {
-            self.post_next(seat, turn, duties, ReplicaId::of(number))?;
+            self.post_next(seat, turn, ring, ReplicaId::of(number))?;
         }
         Ok(())
     }
@@ -130,7 +140,7 @@ impl<'a, R: Wait, G: Gate> Host<'a, R, G> {
         &self,
         seat: &mut ReplicaSeat,
         turn: &mut Turn,
-        duties: &Duties,
+        ring: &Ring,
         to: ReplicaId,
     ) -> Result<(), End>
         requires mail { IsPassOf self.now.mail.now seat.old }
@@ -140,7 +150,7 @@ impl<'a, R: Wait, G: Gate> Host<'a, R, G> {
         ensures unchanged { OnErr result (seat.new ≡ seat.old) }
         ensures end { IfErr result (HostEnd (G.may_refuse self.now.gate.now) self.now.stop.now seat.new) }
     {
-        let pick = choice(seat, duties, to);
+        let pick = choice(seat, ring, to);
         self.post_to(seat, turn, to, &pick)
     }
 
@@ -276,27 +286,13 @@ impl<'a, R: Wait, G: Gate> Host<'a, R, G> {
     }
 }
 
-/// Lets others run first where no client sent anything, and looks on for a moment where none waits for an answer: slow clients have more time
-/// until the rounds of a host are used up.
-fn rest_without_news(seat: &ReplicaSeat, duties: &Duties) {
-    if duties.has_news() {
-        return;
-    }
-    thread::yield_now();
-    if duties.are_done(seat) {
-        for _ in 0..IDLE_SPINS {
-            spin_loop();
-        }
-    }
-}
-
 /// The choice for the post to a replica that is due.
-fn choice(seat: &ReplicaSeat, duties: &Duties, to: ReplicaId) -> Pick
+fn choice(seat: &ReplicaSeat, ring: &Ring, to: ReplicaId) -> Pick
     requires { due seat.now.shape seat.now.log ≡ PostTo to }
     ensures { IsSome (post_of seat.now.shape seat.now.log seat.now.actor (Replica to) result) }
 {
     if to.number() == 0 {
-        return duties.proposal(seat);
+        return ring.proposal(seat);
     }
     // For the proof: that it is a replica, whose conduct has a post.
     let _replica = seat.replica();

@@ -1,4 +1,5 @@
-//! To whom a replica owes a reply, and whose requests it proposes next. Both go by what its seat knows, so that a call goes on where the one before it ended.
+//! Whose requests a replica proposes next, and to whom it owes a reply. Both go by what its seat knows, so that a call goes on where the one before
+//! it ended.
 
 ghost use Rattle.std.specs.Prelude.{◌≡◌, Some, IsSome, IfSome, IsTrue};
 ghost use Rattle.dsr_names.specs.declared.actor.Actor.TheVariants.{Replica};
@@ -17,41 +18,21 @@ use dsr_names::{ClientId, ReplicaId};
 /// The most clients whose requests one slot carries.
 const MOST_PICKED: usize = 8;
 
-/// What a replica has to do for its clients in a round.
+/// The clients of a replica, in a ring.
 #[derive(Drop)]
-pub(crate) struct Duties {
-    /// How many clients there are.
+pub(crate) struct Ring {
+    /// How many there are.
     clients: u8,
-    /// Whether something of a client was taken in this round.
-    has_news: bool,
 }
 
-impl Duties {
-    /// Those towards so many clients, at least one and at most 32.
-    pub(crate) fn of(clients: u8) -> Duties {
-        Duties {
-            clients,
-            has_news: false,
-        }
-    }
-
-    /// A round begins: nothing was taken in it.
-    pub(crate) fn begin_round(&mut self) {
-        self.has_news = false;
-    }
-
-    /// Something of a client was taken.
-    pub(crate) fn note_take(&mut self) {
-        self.has_news = true;
-    }
-
-    /// Whether something of a client was taken in this round.
-    pub(crate) fn has_news(&self) -> bool {
-        self.has_news
+impl Ring {
+    /// That of so many clients, at least one and at most 32.
+    pub(crate) fn of(clients: u8) -> Ring {
+        Ring { clients }
     }
 
     /// Whether each client was answered since something of it was taken.
-    pub(crate) fn are_done(&self, seat: &ReplicaSeat) -> bool {
+    pub(crate) fn is_answered(&self, seat: &ReplicaSeat) -> bool {
         for number in 0..self.clients {
             if let Ok(client) = ClientId::new(number) {
                 if seat.is_unanswered(client) {
