@@ -2,8 +2,9 @@
 use Rattle.std.proofs.Common.{◌≡◌, ℕ, suc, ◌+◌, ◌-◌, ◌<◌, ◌≤◌, ◌==◌, ◌⊎◌, inl, inr, Bool, true, false, List, [], ◌∷◌, ◌++◌, length, if◌then◌else◌, refl, ap, sym, ◌∙◌, subst, arith}
 use Rattle.std.specs.Prelude.{IsSome}
 use Rattle.std.proofs.lemmas.Bool.Decides.{nat_tests, Decides-eqb}
-use Rattle.std.proofs.lemmas.List.{length-append}
+use Rattle.std.proofs.lemmas.List.{length-append, append_assoc}
 use Rattle.dsr_names.specs.Shape.{Shape, IsAllowed, IsLoyal}
+use Rattle.dsr_names.specs.declared.actor.Actor.{Actor}
 use Rattle.dsr_names.specs.declared.actor.Actor.TheVariants.{Replica, Client}
 use Rattle.dsr_envelope.specs.declared.envelope.Envelope.{Envelope}
 use Rattle.dsr_envelope.specs.declared.entry.Entry.{Entry}
@@ -19,35 +20,79 @@ use Rattle.dsr_envelope.specs.declared.pick.Pick.TheVariants.{Plain}
 use Rattle.dsr_boxes.specs.Pass.{Pass, with_entry}
 use Rattle.dsr_calls.specs.Calls.{GoesOn}
 use Rattle.dsr_rounds.specs.Ends.{HasTried}
-use Rattle.dsr_rounds.specs.Replicas.{HasClosed, KeepsRound, IsAtPost, IsTaking, IsAtTake}
-use Rattle.dsr_rounds.proofs.Going.{goes_same, goes_entry, goes_further}
+use Rattle.dsr_rounds.specs.Replicas.{HasClosed, IsOwed, AreOwed, AnswersOwed, KeepsRound, IsAtPost, IsTaking, IsAtTake}
+
+-- ---- what is posted to clients is owed to them
+
+pub owing_same : (later earlier : Pass) → later ≡ earlier → AnswersOwed later earlier
+owing_same later earlier e =
+    subst (λ (s : Pass). AnswersOwed s earlier) (sym e) (record { id = refl; shape = refl; actor = refl; added = []; log = refl; owed = tt })
+
+pub owing_take : (later earlier : Pass) (from : Actor) (x : Envelope) → later ≡ with_entry earlier (Take from x) → AnswersOwed later earlier
+owing_take later earlier from x e =
+    subst (λ (s : Pass). AnswersOwed s earlier) (sym e) (record { id = refl; shape = refl; actor = refl; added = Take from x ∷ []; log = refl; owed = tt })
+
+pub owing_post : (later earlier : Pass) (q : ℕ) (x : Envelope) → later ≡ with_entry earlier (Post (Replica q) x) → AnswersOwed later earlier
+owing_post later earlier q x e =
+    subst (λ (s : Pass). AnswersOwed s earlier) (sym e)
+    (record { id = refl; shape = refl; actor = refl; added = Post (Replica q) x ∷ []; log = refl; owed = tt })
+
+owing_answer : (later earlier : Pass) (c : ℕ) (x : Envelope) → IsOwed earlier.shape earlier.log c → later ≡ with_entry earlier (Post (Client c) x)
+    → AnswersOwed later earlier
+owing_answer later earlier c x owed e =
+    subst (λ (s : Pass). AnswersOwed s earlier) (sym e)
+    (record { id = refl; shape = refl; actor = refl; added = Post (Client c) x ∷ []; log = refl; owed = (tt, owed) })
+
+owed_further : (shape : Shape) (base was more : List Entry) → AreOwed shape (was ++ base) more → AreOwed shape base was → AreOwed shape base (more ++ was)
+owed_further shape base was [] later earlier = earlier
+owed_further shape base was (Post (Client c) x ∷ more) later earlier =
+    (owed_further shape base was more later.0 earlier, subst (λ l. IsOwed shape l c) (sym (append_assoc more was base)) later.1)
+owed_further shape base was (Post (Replica q) x ∷ more) later earlier = owed_further shape base was more later earlier
+owed_further shape base was (Take from x ∷ more) later earlier = owed_further shape base was more later earlier
+
+pub owing_further : (last later earlier : Pass) → AnswersOwed last later → AnswersOwed later earlier → AnswersOwed last earlier
+owing_further last later earlier more was = record {
+  id = more.id ∙ was.id;
+  shape = more.shape ∙ was.shape;
+  actor = more.actor ∙ was.actor;
+  added = more.added ++ was.added;
+  log = more.log ∙ (ap (λ l. more.added ++ l) was.log ∙ sym (append_assoc more.added was.added earlier.log));
+  owed = owed_further earlier.shape earlier.log was.added more.added
+      (subst (λ (s : Shape). AreOwed s (was.added ++ earlier.log) more.added) was.shape
+      (subst (λ l. AreOwed later.shape l more.added) was.log more.owed)) was.owed;
+}
+
+pub owing_goes : (later earlier : Pass) → AnswersOwed later earlier → GoesOn later earlier
+owing_goes later earlier answers =
+    record { id = answers.id; shape = answers.shape; actor = answers.actor; log = (answers.added, answers.log) }
 
 -- ---- what clients send and get leaves the round as it is
 
 pub keeps_same : (later earlier : Pass) → later ≡ earlier → KeepsRound later earlier
 keeps_same later earlier e = record {
-  goes_on = goes_same later earlier e;
+  answers = owing_same later earlier e;
   due = ap (λ (s : Pass). due s.shape s.log) e;
   rounds = ap (λ (s : Pass). rounds s.shape s.log) e;
 }
 
 pub keeps_take : (later earlier : Pass) (c : ℕ) (x : Envelope) → later ≡ with_entry earlier (Take (Client c) x) → KeepsRound later earlier
 keeps_take later earlier c x e = record {
-  goes_on = goes_entry later earlier (Take (Client c) x) e;
+  answers = owing_take later earlier (Client c) x e;
   due = ap (λ (s : Pass). due s.shape s.log) e;
   rounds = ap (λ (s : Pass). rounds s.shape s.log) e;
 }
 
-pub keeps_post : (later earlier : Pass) (c : ℕ) (x : Envelope) → later ≡ with_entry earlier (Post (Client c) x) → KeepsRound later earlier
-keeps_post later earlier c x e = record {
-  goes_on = goes_entry later earlier (Post (Client c) x) e;
+pub keeps_post : (later earlier : Pass) (c : ℕ) (x : Envelope) → IsOwed earlier.shape earlier.log c → later ≡ with_entry earlier (Post (Client c) x)
+    → KeepsRound later earlier
+keeps_post later earlier c x owed e = record {
+  answers = owing_answer later earlier c x owed e;
   due = ap (λ (s : Pass). due s.shape s.log) e;
   rounds = ap (λ (s : Pass). rounds s.shape s.log) e;
 }
 
 pub keeps_further : (last later earlier : Pass) → KeepsRound last later → KeepsRound later earlier → KeepsRound last earlier
 keeps_further last later earlier more was = record {
-  goes_on = goes_further last later earlier more.goes_on was.goes_on;
+  answers = owing_further last later earlier more.answers was.answers;
   due = more.due ∙ was.due;
   rounds = more.rounds ∙ was.rounds;
 }
@@ -56,9 +101,10 @@ pub take_keeps : (c : ℕ) (earlier later : Pass) (made : Bool) → HasTried (Ta
 take_keeps c earlier later true tried = keeps_take later earlier c tried.0 tried.1
 take_keeps c earlier later false tried = keeps_same later earlier tried
 
-pub post_keeps : (c : ℕ) (earlier later : Pass) (made : Bool) → HasTried (Post (Client c)) earlier later made → KeepsRound later earlier
-post_keeps c earlier later true tried = keeps_post later earlier c tried.0 tried.1
-post_keeps c earlier later false tried = keeps_same later earlier tried
+pub post_keeps : (c : ℕ) (earlier later : Pass) (made : Bool) → IsOwed earlier.shape earlier.log c → HasTried (Post (Client c)) earlier later made
+    → KeepsRound later earlier
+post_keeps c earlier later true owed tried = keeps_post later earlier c tried.0 owed tried.1
+post_keeps c earlier later false owed tried = keeps_same later earlier tried
 
 -- ---- posts
 
@@ -165,19 +211,19 @@ post_here seat to p allowed loyal is same =
 pub take_here : (seat : Pass) (from p : ℕ) → TakeFrom from ≡ due seat.shape seat.log → p ≡ seat.shape.n → IsAtPost seat.shape.n p (due seat.shape seat.log)
 take_here seat from p is same = subst (IsAtPost seat.shape.n p) is same
 
-pub take_step : (first earlier later : Pass) (p closed : ℕ) (x : Envelope) → GoesOn earlier first → p < first.shape.n → IsAtTake earlier first.shape.n p closed
-    → later ≡ with_entry earlier (Take (Replica p) x) → GoesOn later first × IsAtTake later first.shape.n (p + 1) closed
+pub take_step : (first earlier later : Pass) (p closed : ℕ) (x : Envelope) → AnswersOwed earlier first → p < first.shape.n → IsAtTake earlier first.shape.n p closed
+    → later ≡ with_entry earlier (Take (Replica p) x) → AnswersOwed later first × IsAtTake later first.shape.n (p + 1) closed
 take_step first earlier later p closed x goes less at e = (
-  goes_further later earlier first (goes_entry later earlier (Take (Replica p) x) e) goes,
+  owing_further later earlier first (owing_take later earlier (Replica p) x e) goes,
   subst (λ k. IsAtTake later first.shape.n k closed) (one_more p)
       (take_at later earlier first.shape.n p closed x (sym (ap (λ (s : Shape). s.n) goes.shape)) less (due_at_take earlier first.shape.n p closed less at).1 e),
 )
 
-pub post_step : (first earlier later : Pass) (q : ℕ) (x : Envelope) → GoesOn earlier first → q < first.shape.n → rounds earlier.shape earlier.log ≡ rounds first.shape first.log
+pub post_step : (first earlier later : Pass) (q : ℕ) (x : Envelope) → AnswersOwed earlier first → q < first.shape.n → rounds earlier.shape earlier.log ≡ rounds first.shape first.log
     → later ≡ with_entry earlier (Post (Replica q) x)
-    → GoesOn later first × IsAtPost first.shape.n (q + 1) (due later.shape later.log) × (rounds later.shape later.log ≡ rounds first.shape first.log)
+    → AnswersOwed later first × IsAtPost first.shape.n (q + 1) (due later.shape later.log) × (rounds later.shape later.log ≡ rounds first.shape first.log)
 post_step first earlier later q x goes less same e = (
-  goes_further later earlier first (goes_entry later earlier (Post (Replica q) x) e) goes,
+  owing_further later earlier first (owing_post later earlier q x e) goes,
   subst (λ k. IsAtPost first.shape.n k (due later.shape later.log)) (one_more q)
       (post_at later earlier first.shape.n q x (sym (ap (λ (s : Shape). s.n) goes.shape)) less e),
   post_rounds later earlier q x e ∙ same,
@@ -192,7 +238,7 @@ plain_post seat me q is honest loyal due_is =
     subst (λ a. IsSome (post_of seat.shape seat.log a (Replica q) Plain)) (sym is)
     (plain_possible seat.shape (Replica me) seat.log (omega (arith, less)) (subst (λ a. IsLoyalLog seat.shape a seat.log) is loyal) q due_is)
 
-pub round_step : (first earlier later : Pass) (count : ℕ) → GoesOn earlier first → GoesOn later earlier → HasClosed first earlier count → HasClosed earlier later 1
-    → GoesOn later first × HasClosed first later (count + 1)
+pub round_step : (first earlier later : Pass) (count : ℕ) → AnswersOwed earlier first → AnswersOwed later earlier → HasClosed first earlier count → HasClosed earlier later 1
+    → AnswersOwed later first × HasClosed first later (count + 1)
 round_step first earlier later count goes more was one =
-    (goes_further later earlier first more goes, subst (HasClosed first later) (one_more count) (more_closed first earlier later count was one))
+    (owing_further later earlier first more goes, subst (HasClosed first later) (one_more count) (more_closed first earlier later count was one))

@@ -1,10 +1,12 @@
 -- What a replica's host has done (this project).
-use Rattle.std.specs.Prelude.{◌≡◌, ◌⊎◌, ℕ, suc, ◌+◌, ◌<◌, List, Some}
+use Rattle.std.specs.Prelude.{◌≡◌, ◌⊎◌, ℕ, suc, ◌+◌, ◌<◌, ◌++◌, List, [], ◌∷◌, Some}
 use Rattle.std.specs.Option.{option_map}
 use Rattle.dsr_names.specs.Shape.{Shape}
+use Rattle.dsr_names.specs.declared.actor.Actor.TheVariants.{Replica, Client}
 use Rattle.dsr_request.specs.declared.request.Request.{Request}
 use Rattle.dsr_ledger.specs.declared.reply.Reply.{Reply as AReply}
 use Rattle.dsr_envelope.specs.declared.entry.Entry.{Entry}
+use Rattle.dsr_envelope.specs.declared.entry.Entry.TheVariants.{Post, Take}
 use Rattle.dsr_envelope.specs.declared.envelope.Envelope.TheVariants.{Reply}
 use Rattle.dsr_envelope.specs.Log.{due, rounds}
 use Rattle.dsr_envelope.specs.declared.due.Due.{Due}
@@ -13,15 +15,35 @@ use Rattle.dsr_replica.specs.Conduct.{reply_to}
 use Rattle.dsr_replica.specs.Held.{held}
 use Rattle.dsr_boxes.specs.Pass.{Pass}
 use Rattle.dsr_mail.specs.Serving.{IsUnanswered}
-use Rattle.dsr_calls.specs.Calls.{GoesOn}
 
 -- so many more rounds are closed in the later log
 abbrev pub HasClosed : Pass → Pass → ℕ → Type 0
 HasClosed earlier later count = rounds later.shape later.log ≡ rounds earlier.shape earlier.log + count
 
--- the later seat goes on from the earlier one, and nothing between replicas was done
+-- the client is owed its reply: something was taken of it since it was answered, and the request that is held of it is the one that the reply is for
+abbrev pub IsOwed : Shape → List Entry → ℕ → Type 0
+IsOwed shape log c = IsUnanswered c log × (request : Request) × (reply : AReply) × (option_map (λ ask. ask.request) (held shape c log) ≡ Some request)
+    × (reply_to shape log c ≡ Some (Reply reply)) × (request.number ≡ reply.number)
+
+-- each post to a client among what was added to a log is to one that was owed its reply then
+abbrev pub AreOwed : Shape → List Entry → List Entry → Type 0
+AreOwed shape base [] = Unit {0}
+AreOwed shape base (Post (Client c) envelope ∷ added) = AreOwed shape base added × IsOwed shape (added ++ base) c
+AreOwed shape base (Post (Replica q) envelope ∷ added) = AreOwed shape base added
+AreOwed shape base (Take from envelope ∷ added) = AreOwed shape base added
+
+-- the later seat goes on from the earlier one, and has posted to clients only what they were owed
+pub record AnswersOwed (later earlier : Pass) : Type 0 where
+  pub id : later.id ≡ earlier.id
+  pub shape : later.shape ≡ earlier.shape
+  pub actor : later.actor ≡ earlier.actor
+  pub added : List Entry
+  pub log : later.log ≡ added ++ earlier.log
+  pub owed : AreOwed earlier.shape earlier.log added
+
+-- the same, and nothing between replicas was done
 pub record KeepsRound (later earlier : Pass) : Type 0 where
-  pub goes_on : GoesOn later earlier
+  pub answers : AnswersOwed later earlier
   pub due : due later.shape later.log ≡ due earlier.shape earlier.log
   pub rounds : rounds later.shape later.log ≡ rounds earlier.shape earlier.log
 
@@ -40,8 +62,3 @@ abbrev pub IsAtTake : Pass → ℕ → ℕ → ℕ → Type 0
 IsAtTake seat n p closed =
     ((p < n) × (due seat.shape seat.log ≡ TakeFrom p) × (rounds seat.shape seat.log ≡ closed))
     ⊎ ((p ≡ n) × (rounds seat.shape seat.log ≡ suc closed))
-
--- the client is owed its reply: something was taken of it since it was answered, and the request that is held of it is the one that the reply is for
-abbrev pub IsOwed : Shape → List Entry → ℕ → Type 0
-IsOwed shape log c = IsUnanswered c log × (request : Request) × (reply : AReply) × (option_map (λ ask. ask.request) (held shape c log) ≡ Some request)
-    × (reply_to shape log c ≡ Some (Reply reply)) × (request.number ≡ reply.number)

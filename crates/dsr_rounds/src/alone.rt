@@ -4,7 +4,7 @@ ghost use Rattle.std.specs.Prelude.{IfErr, OnOk};
 ghost use Rattle.dsr_boxes.specs.Pass.{IsPassOf};
 ghost use Rattle.dsr_calls.specs.Calls.{GoesOn};
 ghost use Rattle.dsr_rounds.specs.Ends.{HostRefusal};
-ghost use Rattle.dsr_rounds.specs.Replicas.{HasClosed};
+ghost use Rattle.dsr_rounds.specs.Replicas.{HasClosed, AnswersOwed};
 ghost use Rattle.dsr_rounds.specs.Traitors.{RanScript};
 
 use crate::end::End;
@@ -20,7 +20,8 @@ use std::sync::Wait;
 /// Has a loyal replica make so many rounds, and waits for the others. In each round it takes once from each client, posts to all replicas, takes
 /// from all, and posts once to each client that is owed its reply. A round that was begun before is the first.
 ///
-/// With `Ok` exactly so many more rounds are closed. `Exhausted` where its next post is past a limit, `Stopped` where the gate answered false,
+/// With `Ok` exactly so many more rounds are closed. However it ends, each client to which it posted was owed that reply: it was not answered since
+/// something of it was taken, and the request held of it is the one that the reply is for. `Exhausted` where its next post is past a limit, `Stopped` where the gate answered false,
 /// `NoMemory` where memory ran out: what was done until then stands, and the host can be run again. Requires a seat of this mail.
 pub fn run_replica<R: Wait, G: Gate>(
     rt: &R,
@@ -33,6 +34,7 @@ pub fn run_replica<R: Wait, G: Gate>(
     requires mail { IsPassOf mail.now seat.old }
     ensures closed { OnOk result (HasClosed seat.old seat.new rounds) }
     ensures log { GoesOn seat.new seat.old }
+    ensures answers { AnswersOwed seat.new seat.old }
     ensures refused { IfErr result (HostRefusal (G.may_refuse gate.now) seat.new) }
 {
     let stop = Stop::never();

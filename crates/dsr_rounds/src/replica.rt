@@ -1,6 +1,6 @@
 //! The rounds of a replica.
 
-ghost use Rattle.std.specs.Prelude.{◌≡◌, ◌⊎◌, ◌<◌, false, IfOk, IfErr, OnOk, OnErr, IsSome};
+ghost use Rattle.std.specs.Prelude.{◌≡◌, ◌<◌, false, IfOk, IfErr, OnOk, OnErr, IsSome};
 ghost use Rattle.dsr_names.specs.Shape.{IsActor};
 ghost use Rattle.dsr_names.specs.declared.actor.Actor.TheVariants.{Replica};
 ghost use Rattle.dsr_envelope.specs.declared.entry.Entry.TheVariants.{Post, Take};
@@ -11,7 +11,7 @@ ghost use Rattle.dsr_node.specs.Conduct.{post_of, is_undue};
 ghost use Rattle.dsr_boxes.specs.Pass.{IsPassOf, with_entry};
 ghost use Rattle.dsr_calls.specs.Calls.{GoesOn};
 ghost use Rattle.dsr_rounds.specs.Ends.{HostEnd, HasTried};
-ghost use Rattle.dsr_rounds.specs.Replicas.{HasClosed, KeepsRound, IsAtPost, IsTaking, IsOwed};
+ghost use Rattle.dsr_rounds.specs.Replicas.{HasClosed, AnswersOwed, KeepsRound, IsAtPost, IsTaking};
 
 use crate::end::End;
 use crate::gate::Gate;
@@ -35,6 +35,7 @@ impl<'a, R: Wait, G: Gate> Host<'a, R, G> {
         requires mail { IsPassOf self.now.mail.now seat.old }
         ensures closed { OnOk result (HasClosed seat.old seat.new rounds) }
         ensures log { GoesOn seat.new seat.old }
+        ensures answers { AnswersOwed seat.new seat.old }
         ensures end { IfErr result (HostEnd (G.may_refuse self.now.gate.now) self.now.stop.now seat.new) }
     {
         let mut turn = Turn::first();
@@ -54,7 +55,7 @@ impl<'a, R: Wait, G: Gate> Host<'a, R, G> {
     ) -> Result<(), End>
         requires mail { IsPassOf self.now.mail.now seat.old }
         ensures closed { OnOk result (HasClosed seat.old seat.new 1) }
-        ensures log { GoesOn seat.new seat.old }
+        ensures log { AnswersOwed seat.new seat.old }
         ensures end { IfErr result (HostEnd (G.may_refuse self.now.gate.now) self.now.stop.now seat.new) }
     {
         self.rest_without_mail(seat, ring);
@@ -124,7 +125,7 @@ impl<'a, R: Wait, G: Gate> Host<'a, R, G> {
         requires mail { IsPassOf self.now.mail.now seat.old }
         ensures posted { OnOk result (IsTaking (due seat.new.shape seat.new.log)) }
         ensures rounds { OnOk result (rounds seat.new.shape seat.new.log ≡ rounds seat.old.shape seat.old.log) }
-        ensures log { GoesOn seat.new seat.old }
+        ensures log { AnswersOwed seat.new seat.old }
         ensures end { IfErr result (HostEnd (G.may_refuse self.now.gate.now) self.now.stop.now seat.new) }
     {
         let shape = self.mail.shape();
@@ -183,7 +184,7 @@ impl<'a, R: Wait, G: Gate> Host<'a, R, G> {
         requires mail { IsPassOf self.now.mail.now seat.old }
         requires taking { IsTaking (due seat.old.shape seat.old.log) }
         ensures closed { OnOk result (HasClosed seat.old seat.new 1) }
-        ensures log { GoesOn seat.new seat.old }
+        ensures log { AnswersOwed seat.new seat.old }
         ensures end { IfErr result (HostEnd (G.may_refuse self.now.gate.now) self.now.stop.now seat.new) }
     {
         let Due::Take(first) = seat.due() else {
@@ -237,7 +238,6 @@ impl<'a, R: Wait, G: Gate> Host<'a, R, G> {
         requires mail { IsPassOf self.now.mail.now seat.old }
         requires inside { client < seat.old.shape.m }
         ensures kept { KeepsRound seat.new seat.old }
-        ensures owed { (seat.new ≡ seat.old) ⊎ IsOwed seat.old.shape seat.old.log client }
         ensures end { IfErr result (HostEnd (G.may_refuse self.now.gate.now) self.now.stop.now seat.new) }
     {
         if !owes(seat, client) {

@@ -1,17 +1,17 @@
-use Rattle.dsr_rounds.proofs.Going.{goes_further}
+use Rattle.dsr_rounds.proofs.Rounds.{owing_further}
 use Rattle.dsr_rounds.proofs.host.Host.make_round.Goals as goal
 
 pub returns-in_err-post_all-clause-log : goal.returns-in_err-post_all-clause-log
 returns-in_err-post_all-clause-log g c =
-    goes_further c.post_all.new.seat c.take_from_clients.new.seat c.args.seat.now c.post_all.ensures.log c.take_from_clients.ensures.kept.goes_on
+    owing_further c.post_all.new.seat c.take_from_clients.new.seat c.args.seat.now c.post_all.ensures.log c.take_from_clients.ensures.kept.answers
 
 pub returns-in_err-take_all-clause-log : goal.returns-in_err-take_all-clause-log
 returns-in_err-take_all-clause-log g c =
-    goes_further c.take_all.new.seat c.post_all.new.seat c.args.seat.now c.take_all.ensures.log
-    (goes_further c.post_all.new.seat c.take_from_clients.new.seat c.args.seat.now c.post_all.ensures.log c.take_from_clients.ensures.kept.goes_on)
+    owing_further c.take_all.new.seat c.post_all.new.seat c.args.seat.now c.take_all.ensures.log
+    (owing_further c.post_all.new.seat c.take_from_clients.new.seat c.args.seat.now c.post_all.ensures.log c.take_from_clients.ensures.kept.answers)
 
 pub returns-clause-log : goal.returns-clause-log
 returns-clause-log g c =
-    goes_further c.answer_clients.new.seat c.take_all.new.seat c.args.seat.now c.answer_clients.ensures.kept.goes_on
-    (goes_further c.take_all.new.seat c.post_all.new.seat c.args.seat.now c.take_all.ensures.log
-    (goes_further c.post_all.new.seat c.take_from_clients.new.seat c.args.seat.now c.post_all.ensures.log c.take_from_clients.ensures.kept.goes_on))
+    owing_further c.answer_clients.new.seat c.take_all.new.seat c.args.seat.now c.answer_clients.ensures.kept.answers
+    (owing_further c.take_all.new.seat c.post_all.new.seat c.args.seat.now c.take_all.ensures.log
+    (owing_further c.post_all.new.seat c.take_from_clients.new.seat c.args.seat.now c.post_all.ensures.log c.take_from_clients.ensures.kept.answers))

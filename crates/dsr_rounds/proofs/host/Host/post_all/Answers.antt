@@ -1,11 +1,14 @@
-use Rattle.std.proofs.Common.{◌≡◌, ◌<◌, ◌≤◌, subst, ap, sym, ◌∙◌}
+use Rattle.std.proofs.Common.{◌≡◌, ◌<◌, ◌≤◌, refl, subst, ap, sym, ◌∙◌}
 use Rattle.dsr_names.specs.Shape.{Shape}
 use Rattle.dsr_names.specs.declared.actor.Actor.TheVariants.{Replica}
 use Rattle.dsr_envelope.specs.declared.entry.Entry.TheVariants.{Post}
 use Rattle.dsr_envelope.specs.Log.{due}
 use Rattle.dsr_boxes.specs.Pass.{with_entry}
-use Rattle.dsr_rounds.proofs.Rounds.{post_step, taking_at}
+use Rattle.dsr_rounds.proofs.Rounds.{owing_same, post_step, taking_at}
 use Rattle.dsr_rounds.proofs.host.Host.post_all.Goals as goal
+
+pub loop-number-init : goal.loop-number-init
+loop-number-init g c = (owing_same c.args.seat.now c.args.seat.now refl, c.next_post.ensures, refl)
 
 pub loop-number-preserved : goal.loop-number-preserved
 loop-number-preserved g c =

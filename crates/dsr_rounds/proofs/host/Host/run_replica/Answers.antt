@@ -1,12 +1,23 @@
-use Rattle.dsr_rounds.proofs.Rounds.{round_step}
-use Rattle.dsr_rounds.proofs.Going.{goes_further}
+use Rattle.std.proofs.Common.{refl}
+use Rattle.dsr_rounds.proofs.Rounds.{owing_same, owing_further, owing_goes, none_closed, round_step}
 use Rattle.dsr_rounds.proofs.host.Host.run_replica.Goals as goal
 
-pub returns-in_err-make_round-clause-log : goal.returns-in_err-make_round-clause-log
-returns-in_err-make_round-clause-log g c =
-    goes_further c.make_round.new.seat c.loop-round.seat c.args.seat.now c.make_round.ensures.log c.loop-round.invariant.0
+pub loop-round-init : goal.loop-round-init
+loop-round-init g c = (owing_same c.args.seat.now c.args.seat.now refl, none_closed c.args.seat.now)
 
 pub loop-round-preserved : goal.loop-round-preserved
 loop-round-preserved g c =
     round_step c.args.seat.now c.loop-round.seat c.make_round.new.seat c.loop-round.round c.loop-round.invariant.0 c.make_round.ensures.log
     c.loop-round.invariant.1 c.in_ok-make_round.ensures.closed
+
+pub returns-in_err-make_round-clause-log : goal.returns-in_err-make_round-clause-log
+returns-in_err-make_round-clause-log g c =
+    owing_goes c.make_round.new.seat c.args.seat.now
+    (owing_further c.make_round.new.seat c.loop-round.seat c.args.seat.now c.make_round.ensures.log c.loop-round.invariant.0)
+
+pub returns-in_err-make_round-clause-answers : goal.returns-in_err-make_round-clause-answers
+returns-in_err-make_round-clause-answers g c =
+    owing_further c.make_round.new.seat c.loop-round.seat c.args.seat.now c.make_round.ensures.log c.loop-round.invariant.0
+
+pub returns-clause-log : goal.returns-clause-log
+returns-clause-log g c = owing_goes c.loop-round.seat c.args.seat.now c.loop-round.invariant.0

@@ -1,5 +1,9 @@
-use Rattle.dsr_rounds.proofs.Rounds.{keeps_further}
+use Rattle.std.proofs.Common.{refl}
+use Rattle.dsr_rounds.proofs.Rounds.{keeps_same, keeps_further}
 use Rattle.dsr_rounds.proofs.host.Host.take_from_clients.Goals as goal
+
+pub loop-number-init : goal.loop-number-init
+loop-number-init g c = keeps_same c.args.seat.now c.args.seat.now refl
 
 pub returns-in_err-take_from_client-clause-kept : goal.returns-in_err-take_from_client-clause-kept
 returns-in_err-take_from_client-clause-kept g c =
