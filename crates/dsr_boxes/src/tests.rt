@@ -14,6 +14,7 @@ use crate::shared_boxes::SharedBoxes;
 use dsr_envelope::Envelope;
 use dsr_names::{Actor, ClientId, Refusal, ReplicaId, Shape};
 use std::alloc::Global;
+use std::process::Abort;
 use std::test::Fail;
 
 /// How often what must not succeed is tried.
@@ -189,6 +190,30 @@ fn a_taker_stopped_after_its_fetch_stops_one_box(rt: HostRuntime) -> Result<(), 
     assert!(rt; second.take(&boxes, &replica(0)).is_some());
     assert!(rt; traitor.take(&boxes, &replica(0)).is_some());
     plant_nothing(rt.alloc(), &boxes, &mut traitor, &client(0))?;
+    Ok(())
+}
+
+/// Compares how the box of the traitor to the first client looks at its two ends.
+fn looks_full<R: Abort>(rt: &R, boxes: &SharedBoxes, traitor: &Pass, first: &Pass, full: bool)
+    requires boxes { IsPassOf boxes.now traitor.now × IsPassOf boxes.now first.now }
+    requires shape { boxes.now.shape ≡ shape_of 3 1 2 1 }
+{
+    assert_eq!(rt; traitor.looks_empty(boxes, &client(0)), !full);
+    assert_eq!(rt; first.looks_full(boxes, &replica(0)), full);
+}
+
+#[test]
+fn a_look_tells_what_lies_in_a_box(rt: HostRuntime) -> Result<(), Fail> {
+    let Small {
+        boxes,
+        mut traitor,
+        first,
+        second,
+    } = open_small(rt.alloc())?;
+    drop(second);
+    looks_full(&rt, &boxes, &traitor, &first, false);
+    plant(rt.alloc(), &boxes, &mut traitor, &client(0))?;
+    looks_full(&rt, &boxes, &traitor, &first, true);
     Ok(())
 }
 

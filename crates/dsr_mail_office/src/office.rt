@@ -470,12 +470,29 @@ impl Office {
         traitor_wait(rt, &self.seats.traitors[place], &self.mail, side, other)
     }
 
+    /// Whether a loyal replica has mail.
+    pub fn has_mail(&self) -> bool {
+        one_has_mail(&self.mail, self.seats.replicas.as_slice())
+    }
+
     /// Wakes all from each seat.
     pub fn wake(&self) {
         wake_from_replicas(&self.mail, self.seats.replicas.as_slice());
         wake_from_traitors(&self.mail, self.seats.traitors.as_slice());
         wake_from_clients(&self.mail, self.seats.clients.as_slice());
     }
+}
+
+/// Whether one of these seats has mail.
+fn one_has_mail(mail: &Mail, seats: &[ReplicaSeat]) -> bool
+    requires { All (IsPassOf mail.now) seats.now }
+{
+    for seat in seats {
+        if seat.has_mail(mail) {
+            return true;
+        }
+    }
+    false
 }
 
 /// Wakes all from each of these seats.

@@ -221,3 +221,38 @@ fn holds_and_replies<R: Abort>(rt: &R, alloc: Global, office: &mut Office) -> Re
     assert!(rt; reply.same(&Envelope::Reply(WRITTEN)));
     Ok(())
 }
+
+/// Compares whether the replica has mail, whether it has not answered client 0, and which client it picked last.
+fn serves<R: Abort>(
+    rt: &R,
+    office: &Office,
+    mail: bool,
+    unanswered: bool,
+    picked: Option<ClientId>,
+) -> Result<(), Fail> {
+    assert_eq!(rt; office.has_mail(), mail);
+    let seat = replica(office)?;
+    assert_eq!(rt; seat.is_unanswered(ClientId::FIRST), unanswered);
+    assert_eq!(rt; seat.last_picked(), picked);
+    Ok(())
+}
+
+#[test]
+fn a_replica_tells_whom_it_has_not_answered(rt: HostRuntime) -> Result<(), Fail> {
+    let text = "dsr-play 1 1 0 1 -\npost c0 r0 begin write a 7\n";
+    let mut office = stage(rt.alloc(), text, &[Ok(())])?;
+    has_not_answered(&rt, rt.alloc(), &mut office)
+}
+
+/// The replica takes a request, picks it, and replies, and tells at each step whom it has not answered.
+fn has_not_answered<R: Abort>(rt: &R, alloc: Global, office: &mut Office) -> Result<(), Fail> {
+    serves(rt, office, true, false, None)?;
+    go_on(alloc, office, "dsr-play 1 1 0 1 -\ntake r0 c0\n", &[Ok(())])?;
+    serves(rt, office, false, true, None)?;
+    let text = "dsr-play 1 1 0 1 -\npost r0 r0 from c0\n";
+    go_on(alloc, office, text, &[Ok(())])?;
+    serves(rt, office, true, true, Some(ClientId::FIRST))?;
+    let text = "dsr-play 1 1 0 1 -\ntake r0 r0\npost r0 c0\n";
+    go_on(alloc, office, text, &[Ok(()); 2])?;
+    serves(rt, office, false, false, Some(ClientId::FIRST))
+}
