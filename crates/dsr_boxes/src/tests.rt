@@ -196,7 +196,7 @@ fn a_taker_stopped_after_its_fetch_stops_one_box(rt: HostRuntime) -> Result<(), 
 /// Compares how the box of the traitor to the first client looks at its two ends.
 fn looks_full<R: Abort>(rt: &R, boxes: &SharedBoxes, traitor: &Pass, first: &Pass, full: bool)
     requires boxes { IsPassOf boxes.now traitor.now × IsPassOf boxes.now first.now }
-    requires shape { boxes.now.shape ≡ shape_of 3 1 2 1 }
+    requires shape { (traitor.now.shape ≡ shape_of 3 1 2 1) × (first.now.shape ≡ shape_of 3 1 2 1) }
 {
     assert_eq!(rt; traitor.looks_empty(boxes, &client(0)), !full);
     assert_eq!(rt; first.looks_full(boxes, &replica(0)), full);
