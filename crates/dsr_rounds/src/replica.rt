@@ -25,7 +25,12 @@ use std::hint::spin_loop;
 use std::sync::Wait;
 use std::thread;
 
-/// How often a replica that has nothing to do looks whether there is mail, before it begins a round without any.
+/// How often a replica lets others run before it begins a round without mail: where it has answered all clients, and where it has not. On a busy machine
+/// each time may take milliseconds, and so an idle replica does it once.
+const IDLE_YIELDS: u32 = 1;
+const BUSY_YIELDS: u32 = 4;
+
+/// How often an idle replica looks for mail after that: some microseconds.
 const IDLE_LOOKS: u32 = 64;
 
 impl<'a, R: Wait, G: Gate> Host<'a, R, G> {
@@ -65,18 +70,28 @@ impl<'a, R: Wait, G: Gate> Host<'a, R, G> {
         self.answer_clients(seat, turn)
     }
 
-    /// Lets others run first where no mail has come, and looks on for a moment where nobody waits for an answer: slow clients have more time until the
-    /// rounds of a host are used up.
+    /// Lets others run first while no mail comes: for a moment where all clients are answered, and so slow clients have more time until the rounds of
+    /// a host are used up; a few times where some are not, and so more of their requests come into one slot.
     fn rest_without_mail(&self, seat: &ReplicaSeat, ring: &Ring)
         requires mail { IsPassOf self.now.mail.now seat.now }
     {
-        if seat.has_mail(self.mail) {
-            return;
+        let is_idle = ring.is_answered(seat);
+        let yields = if is_idle { IDLE_YIELDS } else { BUSY_YIELDS };
+        for _ in 0..yields {
+            if seat.has_mail(self.mail) {
+                return;
+            }
+            thread::yield_now();
         }
-        thread::yield_now();
-        if !ring.is_answered(seat) {
-            return;
+        if is_idle {
+            self.look_for_mail(seat);
         }
+    }
+
+    /// Looks for mail again and again for a moment, until some comes.
+    fn look_for_mail(&self, seat: &ReplicaSeat)
+        requires mail { IsPassOf self.now.mail.now seat.now }
+    {
         for _ in 0..IDLE_LOOKS {
             if seat.has_mail(self.mail) {
                 return;
