@@ -8,10 +8,10 @@ crates.md           What each crate is, what it stands on and what it offers.
 calls.md            The contract of each public call: what the line above it says, and the names of its clauses.
 laws.md             The laws, likewise.
 models.md           What contracts see of each type.
-definitions.md      For each promise of docs/READING.md that ends with `<!-- definitions of FILE: FUNCTION, .. -->` the definitions that the contracts
-                    of these functions name, those that these name, and so on, as far as they stand in a `specs/` of this repository; and the
-                    types of the code that they name. The tests of equality in `specs/Support/` are left out, as docs/READING.md says.
-                    Under each table stands how many lines these have, without comments.
+definitions.md      For each headline promise the definitions that the contracts of its functions name, those that these name, and so on, as far as they
+                    stand in a `specs/` of this repository; and the types of the code that they name. The tests of equality in
+                    `specs/Support/` are left out, as docs/READING.md says. Beside each promise stands how many lines these have, without comments.
+meanings.md         Each definition with the line of plain meaning above it.
 wrong-bodies.md     The edits that the prover must refuse.
 """
 
@@ -23,9 +23,47 @@ import sys
 from contracts import TOP, WORD, crates, imports_of, lines_of
 
 TABLES = f"{TOP}/docs/tables"
-PROMISE = re.compile(r"^- \*\*([^*]+)\*\*(?:(?!\n- |\n\n).)*?<!-- definitions of (.+?) -->", re.M | re.S)
 DEFINITION = re.compile(r"(?:(?:abbrev|unfoldable|data|record|pub) )+([\w-]+)")
 MADE = "Generated from the sources by `tests/reading.py --write`; `./test` checks that it is current.\n"
+# The headline promises, each with the functions of whose contracts it is made.
+PROMISES = [
+    ("Each input line is answered as one directory answers that processes the lines in turn",
+     "crates/dsr_history/src/apply.rt: run_apply"),
+    ("A history only grows, no number of a client stands in it twice, and what stands at a place stays there",
+     "crates/dsr_history/src/laws.rt: history_only_grows, history_is_legal, requests_keep_their_places"),
+    ("A chain passes its check exactly where it is proper",
+     "crates/dsr_chain/src/check.rt: check"),
+    ("Agreement and validity of one slot",
+     "crates/dsr_slot/src/laws.rt: agreement_and_validity"),
+    ("A loyal replica keeps to its conduct",
+     "crates/dsr_replica/src/replica.rt: new, posted, taken, ask_taken, reply_for; crates/dsr_replica/src/laws.rt: "
+     "calls_keep_a_log_loyal, posts_and_takes_keep_step, posts_follow_the_log, signatures_are_own_or_taken, "
+     "closed_rounds_stay, limits_are_kept, conduct_is_blind"),
+    ("A client accepts a reply only from more than f replicas, one of them loyal",
+     "crates/dsr_client/src/laws.rt: accepted_replies_have_enough_votes"),
+    ("What `build` makes has nothing forged in it",
+     "crates/dsr_script/src/building.rt: build; crates/dsr_script/src/laws.rt: nobody_forges"),
+    ("The headline: each reply that a client accepts is the sequential directory's answer to its request at one place of one history that only grows",
+     "crates/dsr_run/src/headline.rt: runs_are_right, clients_are_answered"),
+    ("In every run loyal replicas agree, and there is one history, which only grows",
+     "crates/dsr_run/src/laws.rt: loyal_replicas_agree, loyal_senders_values_are_decided, no_signature_is_forged, "
+     "history_only_grows"),
+    ("What `dsr play` writes is the report of a run that the play's events made, and that run is right",
+     "crates/dsr_cli/src/play.rt: run_play"),
+    ("A record is found to be a run exactly where it is one, and a history and replies are judged right exactly where they are",
+     "crates/dsr_check/src/checking.rt: check; crates/dsr_check/src/judging.rt: judge"),
+    ("What `dsr serve` writes is the report of what threads did, which is right whatever they did",
+     "crates/dsr_cli/src/serve.rt: run_serve; crates/dsr_cli/src/transcribe_service.rt: transcribe_service"),
+    ("What `dsr check` reports on is a run, and what it refuses is none from the line on that it names",
+     "crates/dsr_cli/src/check.rt: run_check"),
+    ("Whatever threads do at the mail, their logs are those of a run",
+     "crates/dsr_mail/src/replica_seat.rt: try_post, try_take; crates/dsr_mail/src/mail.rt: open, close"),
+    ("A service in threads that ends has served each client's operations, or says why not",
+     "crates/dsr_hosts/src/serving.rt: serve"),
+    ("The transcript of a world's record is its run, line by line, and is read back as that",
+     "crates/dsr_record/src/recording.rt: of_world; crates/dsr_record/src/files.rt: write; crates/dsr_record/src/laws.rt: "
+     "transcripts_spell_their_records; crates/dsr_record/src/record.rt: of_text"),
+]
 BESIDE_THE_CODE = ("dsr_mail_tries", "dsr_mail_office", "dsr_own_service")
 
 
@@ -110,7 +148,7 @@ def length_of(path, line):
 
 
 def definitions_of(named, order):
-    """The table for the functions that a promise of docs/READING.md names, and its two counts of lines."""
+    """The table for the functions that a promise names, and its two counts of lines."""
     functions = []
     for part in re.findall(r"(\S+): ([^;]+)", named):
         functions += [(part[0], function.strip()) for function in part[1].split(",")]
@@ -135,13 +173,12 @@ def cell(text):
 def definitions_table(all_crates):
     order = [crate.name for crate in all_crates]
     rows, parts = [], []
-    for promise, named in PROMISE.findall("\n".join(lines_of(f"{TOP}/docs/READING.md"))):
-        title = " ".join(promise.split())
+    for title, named in PROMISES:
         text, counts = definitions_of(named, order)
         rows.append(f"| {title} | {counts[False]} | {counts[True]} |")
         parts.append(f"## {title}\n\n{text}")
-    head = f"# What must be believed\n\n{MADE}\nOf each promise of [READING.md](../READING.md) the definitions that its contracts rest on, file by file. "
-    head += "What types show stands in [models.md](models.md).\n\n"
+    head = f"# What must be believed\n\n{MADE}\nOf each headline promise the definitions that its contracts rest on, file by file. "
+    head += "What types show stands in [models.md](models.md), what each means in [meanings.md](meanings.md).\n\n"
     return head + table(["Promise", "Lines of definitions", "Lines of types of the code"], rows) + "\n" + "\n".join(parts)
 
 
@@ -217,6 +254,34 @@ def crates_table(all_crates):
         table(["Crate", "What it is", "Stands on", "Offers"], rows)
 
 
+def meanings_in(path):
+    """The comment at the head of a file of definitions, and the definitions that have one above them."""
+    head, rows, said, begun = "", [], [], False
+    for line in lines_of(path):
+        if line.startswith("--"):
+            said.append(line[2:].strip())
+            continue
+        if not begun:
+            head, said, begun = " ".join(said), [], True
+        found = DEFINITION.match(line)
+        if found and said and not line.startswith(("use", "pub use", "pub mod")):
+            rows.append(f"| `{found[1]}` | {cell(' '.join(said))} |")
+        said = []
+    return head, rows
+
+
+def meanings_table(all_crates):
+    parts = [f"# What the definitions mean\n\n{MADE}\nEach definition in a crate's `specs/` with the line above it, file by file. Those of `specs/Support/` are left "
+             "out.\n"]
+    for crate in filter(is_shown, all_crates):
+        for path in sorted(glob.glob(f"{TOP}/crates/{crate.name}/specs/*.antt")):
+            head, rows = meanings_in(path)
+            if rows:
+                title = f"{crate.name.removeprefix('dsr_')}/{os.path.basename(path).removesuffix('.antt')}"
+                parts.append(f"## {title}\n\n" + (f"{head}\n\n" if head else "") + table(["Definition", "Meaning"], rows))
+    return "\n".join(parts)
+
+
 def wrong_bodies_table(all_crates):
     parts, count = [], 0
     for crate in all_crates:
@@ -237,7 +302,7 @@ def tables():
     """The name of each table's file with its text."""
     all_crates = crates()
     return {"crates": crates_table(all_crates), "calls": calls_table(all_crates), "laws": laws_table(all_crates), "models": models_table(all_crates),
-            "definitions": definitions_table(all_crates), "wrong-bodies": wrong_bodies_table(all_crates)}
+            "definitions": definitions_table(all_crates), "meanings": meanings_table(all_crates), "wrong-bodies": wrong_bodies_table(all_crates)}
 
 
 def text_in(path):
