@@ -1,13 +1,18 @@
 #!/usr/bin/env python3
-"""The tables of docs/READING.md: which definitions one must believe to believe a law, file by file with their lines.
+"""The tables of docs/tables/, which are generated from the sources: what is promised call by call, law by law, and what must be believed.
 
 tests/reading.py            Compares each table with the sources; the last line is `N passed, M failed`.
 tests/reading.py --write    Writes the tables anew.
 
-A table stands after a line `<!-- definitions of FILE: FUNCTION, .. -->`. It has the definitions that the contracts of these
-functions name, those that these name, and so on, as far as they stand in a `specs/` of this repository; and the types of the
-code that they name. The tests of equality in `specs/Support/` are left out, as docs/READING.md says. Under it stands how many lines
-these definitions have, without comments.
+crates.md           What each crate is, what it stands on and what it offers.
+calls.md            The contract of each public call: what the line above it says, and the names of its clauses.
+laws.md             The laws, likewise.
+models.md           What contracts see of each type.
+definitions.md      For each headline promise the definitions that the contracts of its functions name, those that these name, and so on, as far as they
+                    stand in a `specs/` of this repository; and the types of the code that they name. The tests of equality in
+                    `specs/Support/` are left out, as docs/READING.md says. Beside each promise stands how many lines these have, without comments.
+meanings.md         Each definition with the line of plain meaning above it.
+wrong-bodies.md     The edits that the prover must refuse.
 """
 
 import glob
@@ -15,28 +20,51 @@ import os
 import re
 import sys
 
-TOP = os.path.dirname(os.path.dirname(os.path.realpath(__file__)))
-READING = f"{TOP}/docs/READING.md"
-TABLE = re.compile(r"(<!-- definitions of (.*?) -->\n\n)((?:\|.*\n)*(?:\n\d+ lines of definitions, and \d+ of types of the code\.\n)?)")
-IMPORT = re.compile(r"use (Rattle\.[\w.+]+)\.\{(.*?)\}", re.S)
+from contracts import TOP, WORD, crates, imports_of, lines_of
+
+TABLES = f"{TOP}/docs/tables"
 DEFINITION = re.compile(r"(?:(?:abbrev|unfoldable|data|record|pub) )+([\w-]+)")
-WORD = re.compile(r"[A-Za-z_][\w-]*")
-HEAD = ["| File | Definitions, each with its line |", "|---|---|"]
-
-
-def lines_of(path):
-    with open(path, encoding="utf-8") as file:
-        return file.read().split("\n")
-
-
-def imports_of(text):
-    """What each imported name is: the module and its name there."""
-    found = {}
-    for module, names in IMPORT.findall(text):
-        for name in names.split(","):
-            there, _, here = name.strip().partition(" as ")
-            found[here or there] = module, there
-    return found
+MADE = "Generated from the sources by `tests/reading.py --write`; `./test` checks that it is current.\n"
+# The headline promises, each with the functions of whose contracts it is made.
+PROMISES = [
+    ("Each input line is answered as one directory answers that processes the lines in turn",
+     "crates/dsr_history/src/apply.rt: run_apply"),
+    ("A history only grows, no number of a client stands in it twice, and what stands at a place stays there",
+     "crates/dsr_history/src/laws.rt: history_only_grows, history_is_legal, requests_keep_their_places"),
+    ("A chain passes its check exactly where it is proper",
+     "crates/dsr_chain/src/check.rt: check"),
+    ("Agreement and validity of one slot",
+     "crates/dsr_slot/src/laws.rt: agreement_and_validity"),
+    ("A loyal replica keeps to its conduct",
+     "crates/dsr_replica/src/replica.rt: new, posted, taken, ask_taken, reply_for; crates/dsr_replica/src/laws.rt: "
+     "calls_keep_a_log_loyal, posts_and_takes_keep_step, posts_follow_the_log, signatures_are_own_or_taken, "
+     "closed_rounds_stay, limits_are_kept, conduct_is_blind"),
+    ("A client accepts a reply only from more than f replicas, one of them loyal",
+     "crates/dsr_client/src/laws.rt: accepted_replies_have_enough_votes"),
+    ("What `build` makes has nothing forged in it",
+     "crates/dsr_script/src/building.rt: build; crates/dsr_script/src/laws.rt: nobody_forges"),
+    ("The headline: each reply that a client accepts is the sequential directory's answer to its request at one place of one history that only grows",
+     "crates/dsr_run/src/headline.rt: runs_are_right, clients_are_answered"),
+    ("In every run loyal replicas agree, and there is one history, which only grows",
+     "crates/dsr_run/src/laws.rt: loyal_replicas_agree, loyal_senders_values_are_decided, no_signature_is_forged, "
+     "history_only_grows"),
+    ("What `dsr play` writes is the report of a run that the play's events made, and that run is right",
+     "crates/dsr_cli/src/play.rt: run_play"),
+    ("A record is found to be a run exactly where it is one, and a history and replies are judged right exactly where they are",
+     "crates/dsr_check/src/checking.rt: check; crates/dsr_check/src/judging.rt: judge"),
+    ("What `dsr serve` writes is the report of what threads did, which is right whatever they did",
+     "crates/dsr_cli/src/serve.rt: run_serve; crates/dsr_cli/src/transcribe_service.rt: transcribe_service"),
+    ("What `dsr check` reports on is a run, and what it refuses is none from the line on that it names",
+     "crates/dsr_cli/src/check.rt: run_check"),
+    ("Whatever threads do at the mail, their logs are those of a run",
+     "crates/dsr_mail/src/replica_seat.rt: try_post, try_take; crates/dsr_mail/src/mail.rt: open, close"),
+    ("A service in threads that ends has served each client's operations, or says why not",
+     "crates/dsr_hosts/src/serving.rt: serve"),
+    ("The transcript of a world's record is its run, line by line, and is read back as that",
+     "crates/dsr_record/src/recording.rt: of_world; crates/dsr_record/src/files.rt: write; crates/dsr_record/src/laws.rt: "
+     "transcripts_spell_their_records; crates/dsr_record/src/record.rt: of_text"),
+]
+BESIDE_THE_CODE = ("dsr_mail_tries", "dsr_mail_office", "dsr_own_service")
 
 
 class Source:
@@ -119,36 +147,184 @@ def length_of(path, line):
     return sum(not text.lstrip().startswith(("//", "--")) for text in lines[line - 1:end])
 
 
-def table_of(named):
+def definitions_of(named, order):
+    """The table for the functions that a promise names, and its two counts of lines."""
     functions = []
     for part in re.findall(r"(\S+): ([^;]+)", named):
         functions += [(part[0], function.strip()) for function in part[1].split(",")]
     found = definitions_for(functions)
-    order = [line.split(":")[0] for line in lines_of(f"{TOP}/crates.txt") if ":" in line]
     rows, counts = [], {True: 0, False: 0}
     for path in sorted(found, key=lambda path: (-order.index(path.split("/crates/")[1].split("/")[0]), "/src/" in path, path)):
         names = sorted(found[path].items(), key=lambda item: item[1])
         rows.append(f"| `{os.path.relpath(path, TOP)}` | {', '.join(f'`{name}` {line}' for name, line in names)} |")
         counts["/src/" in path] += sum(length_of(path, line) for _, line in names)
-    return "\n".join([*HEAD, *rows, "", f"{counts[False]} lines of definitions, and {counts[True]} of types of the code."]) + "\n"
+    shown = ", ".join(f"`{function}` of `{path}`" for path, function in functions)
+    return "\n".join([f"Of {shown}.", "", table(["File", "Definitions, each with its line"], rows)]), counts
+
+
+def table(heads, rows):
+    return "\n".join([f"| {' | '.join(heads)} |", f"|{'---|' * len(heads)}", *rows]) + "\n"
+
+
+def cell(text):
+    return text.replace("|", "\\|")
+
+
+def definitions_table(all_crates):
+    order = [crate.name for crate in all_crates]
+    rows, parts = [], []
+    for title, named in PROMISES:
+        text, counts = definitions_of(named, order)
+        rows.append(f"| {title} | {counts[False]} | {counts[True]} |")
+        parts.append(f"## {title}\n\n{text}")
+    head = f"# What must be believed\n\n{MADE}\nOf each headline promise the definitions that its contracts rest on, file by file. "
+    head += "What types show stands in [models.md](models.md), what each means in [meanings.md](meanings.md).\n\n"
+    return head + table(["Promise", "Lines of definitions", "Lines of types of the code"], rows) + "\n" + "\n".join(parts)
+
+
+def clauses(listed, at_length=0):
+    """The clauses by their names, each with the definitions that it names, or with its text where that is short enough."""
+    shown = []
+    for clause in listed:
+        name = f"`{clause.name}`" if clause.name else ""
+        if len(clause.text) <= at_length:
+            shown.append(f"{name}: `{clause.text}`" if name else f"`{clause.text}`")
+        else:
+            named = ", ".join(f"`{word}`" for word in clause.definitions)
+            shown.append(f"{name or 'one clause'} ({named})" if named else name or "one clause")
+    return cell("; ".join(shown))
+
+
+def is_shown(crate):
+    return not crate.name.endswith("_tests") and crate.name not in BESIDE_THE_CODE
+
+
+def heading_of(crate):
+    return f"## `{crate.name}`\n\n{crate.says}\n"
+
+
+def calls_table(all_crates):
+    parts = [f"# Public calls and their contracts\n\n{MADE}\nThe second column is what stands above the call. A clause stands with the definitions "
+             "that it names. Beside these clauses each call is proved to be free of overflow and of reads out of range, and to return, unless it "
+             "takes a bound `Wait`. The laws stand in [laws.md](laws.md), how a clause is read in [READING.md](../READING.md).\n"]
+    for crate in filter(is_shown, all_crates):
+        calls = [call for call in crate.calls if not call.is_law]
+        if not calls:
+            continue
+        rows = [f"| `{call.name}` *{os.path.basename(call.path)}* | {cell(call.says)} | {clauses(call.requires, 120)} | {clauses(call.ensures)} |" for call in calls]
+        parts.append(heading_of(crate) + "\n" + table(["Call", "What it does", "Requires", "Ensures"], rows))
+        for trait, (types, members) in sorted(crate.traits.items()):
+            said = f" ({', '.join(f'`{member}`' for member in members)})" if members else ""
+            parts.append(f"`{trait}`{said} of {', '.join(f'`{name}`' for name in dict.fromkeys(types))}.\n")
+        if crate.constants:
+            parts.append(f"Constants: {', '.join(f'`{name}`' for name in crate.constants)}.\n")
+    return "\n".join(parts)
+
+
+def laws_table(all_crates):
+    parts = [f"# Laws\n\n{MADE}\nA law is a public function whose contract is all that matters. The second column is what stands above it. A clause "
+             "stands with the definitions that it names. Laws require nothing but what they say.\n"]
+    for crate in filter(is_shown, all_crates):
+        laws = [call for call in crate.calls if call.is_law]
+        rows = [f"| `{law.name}` *{os.path.basename(law.path)}* | {cell(law.says)} | {clauses(law.ensures)} |" for law in laws]
+        if rows:
+            parts.append(f"## `{crate.name}`\n\n" + table(["Law", "What it says", "Clauses"], rows))
+    return "\n".join(parts)
+
+
+def models_table(all_crates):
+    parts = [f"# What contracts see of a type\n\n{MADE}\nA value is seen as the second column says, read off its fields by the third. The fourth is the "
+             "invariant that each value keeps, which the prover checks. A public type that stands in no table is seen as it is "
+             "declared, each part by its own model.\n"]
+    for crate in filter(is_shown, all_crates):
+        rows = [f"| `{name}` *{os.path.basename(path)}* | " + " | ".join(f"`{cell(text)}`" if text else "" for text in said) + " |"
+                for name, path, *said in crate.models]
+        if rows:
+            parts.append(f"## `{crate.name}`\n\n" + table(["Type", "Seen as", "View", "Invariant"], rows))
+    return "\n".join(parts)
+
+
+def crates_table(all_crates):
+    rows = []
+    for crate in all_crates:
+        names = sorted(crate.offers, key=lambda name: (name.islower(), name))
+        below = ", ".join(f"`{name}`" for name in crate.stands_on)
+        rows.append(f"| `{crate.name}` | {cell(crate.says)} | {below} | {', '.join(f'`{name}`' for name in names)} |")
+    return f"# The crates\n\n{MADE}\nLowest first, as crates.txt has them. Each stands on those that its row names, and on std.\n\n" + \
+        table(["Crate", "What it is", "Stands on", "Offers"], rows)
+
+
+def meanings_in(path):
+    """The comment at the head of a file of definitions, and the definitions that have one above them."""
+    head, rows, said, begun = "", [], [], False
+    for line in lines_of(path):
+        if line.startswith("--"):
+            said.append(line[2:].strip())
+            continue
+        if not begun:
+            head, said, begun = " ".join(said), [], True
+        found = DEFINITION.match(line)
+        if found and said and not line.startswith(("use", "pub use", "pub mod")):
+            rows.append(f"| `{found[1]}` | {cell(' '.join(said))} |")
+        said = []
+    return head, rows
+
+
+def meanings_table(all_crates):
+    parts = [f"# What the definitions mean\n\n{MADE}\nEach definition in a crate's `specs/` with the line above it, file by file. Those of `specs/Support/` are left "
+             "out.\n"]
+    for crate in filter(is_shown, all_crates):
+        for path in sorted(glob.glob(f"{TOP}/crates/{crate.name}/specs/*.antt")):
+            head, rows = meanings_in(path)
+            if rows:
+                title = f"{crate.name.removeprefix('dsr_')}/{os.path.basename(path).removesuffix('.antt')}"
+                parts.append(f"## {title}\n\n" + (f"{head}\n\n" if head else "") + table(["Definition", "Meaning"], rows))
+    return "\n".join(parts)
+
+
+def wrong_bodies_table(all_crates):
+    parts, count = [], 0
+    for crate in all_crates:
+        files = {}
+        for path in sorted(glob.glob(f"{TOP}/crates/{crate.name}/wrong-bodies/*.edit")):
+            count += 1
+            edited = lines_of(path)[0].removeprefix("file:").strip()
+            files.setdefault(edited, []).append(f"`{os.path.basename(path)[:-len('.edit')]}`")
+        rows = [f"| *{edited}* | {', '.join(names)} |" for edited, names in sorted(files.items())]
+        if rows:
+            parts.append(f"## `{crate.name}`\n\n" + table(["File", "Edits"], rows))
+    head = f"# Wrong bodies that the prover refuses\n\n{MADE}\n{count} edits of the code, or of a definition where the file is one of `specs/`, each named for what " \
+        "it breaks. `tests/edits.py` tries them, and `tests/refused.txt` records where each was refused.\n\n"
+    return head + "\n".join(parts)
+
+
+def tables():
+    """The name of each table's file with its text."""
+    all_crates = crates()
+    return {"crates": crates_table(all_crates), "calls": calls_table(all_crates), "laws": laws_table(all_crates), "models": models_table(all_crates),
+            "definitions": definitions_table(all_crates), "meanings": meanings_table(all_crates), "wrong-bodies": wrong_bodies_table(all_crates)}
+
+
+def text_in(path):
+    return "\n".join(lines_of(path)) if os.path.exists(path) else ""
 
 
 def main():
-    with open(READING, encoding="utf-8") as file:
-        text = file.read()
+    made = tables()
     if sys.argv[1:] == ["--write"]:
-        text = TABLE.sub(lambda table: table[1] + table_of(table[2]), text)
-        with open(READING, "w", encoding="utf-8") as file:
-            file.write(text)
+        os.makedirs(TABLES, exist_ok=True)
+        for name, text in made.items():
+            with open(f"{TABLES}/{name}.md", "w", encoding="utf-8") as file:
+                file.write(text)
         return 0
     passed = failed = 0
-    for _, named, table in TABLE.findall(text):
-        right = table == table_of(named)
+    for name, text in made.items():
+        right = text_in(f"{TABLES}/{name}.md") == text
         passed, failed = passed + right, failed + (not right)
-        print(f"{named}: {'ok' if right else 'FAILED: the table is stale; tests/reading.py --write writes it anew'}")
-    if not passed + failed:
-        print("there are no tables: that is a failure")
-        failed = 1
+        print(f"docs/tables/{name}.md: {'ok' if right else 'FAILED: it is stale; tests/reading.py --write writes it anew'}")
+    for path in sorted(set(os.listdir(TABLES)) - {f"{name}.md" for name in made}):
+        failed += 1
+        print(f"docs/tables/{path}: FAILED: nothing makes it")
     print(f"{passed} passed, {failed} failed")
     return 1 if failed else 0
 
