@@ -1,5 +1,6 @@
-use Rattle.std.proofs.Common.{sym, subst}
+use Rattle.std.proofs.Common.{◌∷◌, sym, subst}
 use Rattle.dsr_boxes.specs.Pass.{Pass}
+use Rattle.dsr_envelope.specs.declared.entry.Entry.TheVariants.{Post}
 use Rattle.dsr_node.specs.Node.{IsReplicaNumber}
 use Rattle.dsr_mail.specs.Serving.{AreUnanswered}
 use Rattle.dsr_mail.proofs.ServingLemmas.{unanswered_posted}
@@ -11,5 +12,5 @@ invariant_of-self-2 c =
     let posted = c.in-Ok.ensures.ok in
     let are = unanswered_posted seat.log c.self.inside.serving c.note_post.ensures.long c.self.invariant.1 c.args.to posted.0 in (
       subst (λ (s : Pass). IsReplicaNumber s.actor) (sym posted.2) c.self.invariant.0,
-      subst (λ (s : Pass). AreUnanswered s.log c.note_post.new.self) (sym posted.2) (subst (AreUnanswered _) (sym c.note_post.ensures.noted) are),
+      subst (λ (s : Pass). AreUnanswered s.log c.note_post.new.self) (sym posted.2) (subst (AreUnanswered (Post c.args.to posted.0 ∷ seat.log)) (sym c.note_post.ensures.noted) are),
     )
