@@ -7,4 +7,4 @@ returns-clause-kept g c =
     c.in_ok-try_post.ensures.tried
 
 pub returns-in_err-try_post-clause-kept : goal.returns-in_err-try_post-clause-kept
-returns-in_err-try_post-clause-kept g c = keeps_same c.try_post.new.seat c.args.seat.now c.try_post.ensures.unchanged
+returns-in_err-try_post-clause-kept g c = keeps_same c.try_post.new.seat c.args.seat.now c.in_err-try_post.ensures.unchanged

@@ -8,7 +8,7 @@ use Rattle.dsr_rounds.proofs.Rounds.{owing_same, post_step, taking_at}
 use Rattle.dsr_rounds.proofs.host.Host.post_all.Goals as goal
 
 pub loop-number-init : goal.loop-number-init
-loop-number-init g c = (owing_same c.args.seat.now c.args.seat.now refl, c.next_post.ensures, refl)
+loop-number-init g c = (owing_same c.args.seat.now c.args.seat.now refl, c.next_post-first.ensures, refl)
 
 pub loop-number-preserved : goal.loop-number-preserved
 loop-number-preserved g c =
