@@ -28,6 +28,7 @@ use std::thread;
 /// How often a replica lets others run before it begins a round without mail: where it has answered all clients, and where it has not. On a busy machine
 /// each time may take milliseconds, and so an idle replica does it once.
 const IDLE_YIELDS: u32 = 1;
+
 const BUSY_YIELDS: u32 = 4;
 
 /// How often an idle replica looks for mail after that: some microseconds.
@@ -52,12 +53,7 @@ impl<'a, R: Wait, G: Gate> Host<'a, R, G> {
     }
 
     /// One round.
-    fn make_round(
-        &self,
-        seat: &mut ReplicaSeat,
-        turn: &mut Turn,
-        ring: &Ring,
-    ) -> Result<(), End>
+    fn make_round(&self, seat: &mut ReplicaSeat, turn: &mut Turn, ring: &Ring) -> Result<(), End>
         requires mail { IsPassOf self.now.mail.now seat.old }
         ensures closed { OnOk result (HasClosed seat.old seat.new 1) }
         ensures log { AnswersOwed seat.new seat.old }
@@ -131,12 +127,7 @@ impl<'a, R: Wait, G: Gate> Host<'a, R, G> {
     }
 
     /// Posts to all replicas to which it has not posted in this round.
-    fn post_all(
-        &self,
-        seat: &mut ReplicaSeat,
-        turn: &mut Turn,
-        ring: &Ring,
-    ) -> Result<(), End>
+    fn post_all(&self, seat: &mut ReplicaSeat, turn: &mut Turn, ring: &Ring) -> Result<(), End>
         requires mail { IsPassOf self.now.mail.now seat.old }
         ensures posted { OnOk result (IsTaking (due seat.new.shape seat.new.log)) }
         ensures rounds { OnOk result (rounds seat.new.shape seat.new.log ≡ rounds seat.old.shape seat.old.log) }
