@@ -25,10 +25,11 @@ use std::hint::spin_loop;
 use std::sync::Wait;
 use std::thread;
 
-/// How often a replica lets others run before it begins a round without mail: where it has answered all clients, and where it has not. On a busy machine
-/// each time may take milliseconds, and so an idle replica does it once.
+/// How often a replica that has answered all clients lets others run before it begins a round without mail. On a busy machine each time may take
+/// milliseconds.
 const IDLE_YIELDS: u32 = 1;
 
+/// How often one does that has not answered all.
 const BUSY_YIELDS: u32 = 4;
 
 /// How often an idle replica looks for mail after that: some microseconds.
