@@ -2,7 +2,7 @@
 """Malicious texts, for every word of the program: tests/malicious.py, or with the word `soak` many more of them. It needs what `rt ci` built.
 
 1. Each text of examples/ that `apply`, `play`, `serve` or `check` reads, cut at every byte, and with each byte changed: a part of these, with `soak` all of
-   them, and each byte changed in several ways. Transcripts of plays are so treated by tests/transcripts.py.
+   them, and each byte changed in several ways. Of the transcripts of plays tests/transcripts.py has a part, and this with `soak` each byte, changed in one way.
 2. These texts with changes by chance: bytes left out, lines moved or made twice, words and headers exchanged; and texts of nothing but words and
    bytes drawn by chance.
 3. Texts at each limit and past it: bytes of input, events, chains of an envelope, signatures of a chain, signers of a statement, requests of a value,
@@ -107,8 +107,8 @@ def cuts(text, step, first):
 def changes(words, text, is_soak):
     """The text cut and changed, as often as is wanted."""
     step = 1 if is_soak else STEPS[words] * max(1, len(text) // SHORT)
-    first = len(text) % step
-    return itertools.chain(cuts(text, step, first), with_a_byte_changed(text, TURNS if is_soak else 1, step, first))
+    first, turns = len(text) % step, TURNS if is_soak and not text.startswith(b"dsr-transcript") else 1
+    return itertools.chain(cuts(text, step, first), with_a_byte_changed(text, turns, step, first))
 
 
 def examples():
@@ -128,8 +128,14 @@ def task_of_changes(task):
     return f"{words} on {os.path.relpath(path, TOP)}, cut and changed", *faults_of(words, texts)
 
 
+def transcripts():
+    """The transcripts of the plays of examples/."""
+    for path in sorted(glob.glob(f"{TOP}/examples/*.transcript") + glob.glob(f"{TOP}/examples/attacks/*.transcript")):
+        yield "check", path, bytes_of(path)
+
+
 def tasks_of_changes(is_soak):
-    for words, path, text in examples():
+    for words, path, text in itertools.chain(examples(), transcripts() if is_soak else []):
         count = sum(1 for _ in changes(words, text, is_soak))
         for first in range(0, count, TEXTS_A_TASK):
             yield words, path, text, is_soak, first
