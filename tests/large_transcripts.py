@@ -5,9 +5,9 @@ program.
 1. Each kind repeats two lines, a post of an envelope and the take of it, until the text has as many bytes as a transcript may have. So
    how many steps it has is known by how it was made, and that nothing acts. Then the same with a last line that is no step, and with one byte
    more than may be read. The program has twice the memory that it needed when that was measured: so many MiB for each kind.
-2. Transcripts with some 700,000 signatures that are spelled out: all the same, of a traitor, and of a client, which each must be found among those
-   that are known; and all different, but alike in signer, slot, and how many signed before, by which a signature is looked up. A byte of
-   them may take four times the processor time of a byte of a service's transcript.
+2. Transcripts with some 700,000 signatures that are spelled out: all the same, of a traitor, and of a client, which each time must be found among those
+   that a service made known; and all different, but alike in signer, slot, and how many signed before, by which a signature is looked up. A byte of
+   them, and one of the transcript of a service of four times the rounds, may take four times the processor time of a byte of that of a service.
 
 The last line is `N passed, M failed`.
 """
@@ -121,23 +121,31 @@ def least_time(text, steps):
     return min(times) / len(text)
 
 
+def service(shape, rounds):
+    """The transcript of a service in so many rounds, in which a client has a request in most of them."""
+    n, f, traitors = shape
+    text = Rounds(n, f, traitors, True, rounds).text()
+    return subprocess.run([PROGRAM, "play", "--transcript"], input=text, capture_output=True, timeout=120).stdout
+
+
 def times():
     """What each case is, its fault, or None, and how long it took."""
-    service = subprocess.run([PROGRAM, "play", "--transcript"], input=Rounds(4, 1, [3], True, 4_000).text(), capture_output=True, timeout=120).stdout
-    common = least_time(service, service.count(b"\n") - 1)
-    for what, first, signature in [
-        ("the same signature of a traitor", [], lambda number: "r0(1/idle/-)"),
-        ("the same signature of a client", ASKED, lambda number: "c0(c0#1:write:a:7)"),
-        ("signatures that agree in signer, slot and count", [], lambda number: f"r0(0/c0#{number + 1}:read:a/-)"),
-    ]:
-        text, steps = alike(first, signature)
+    common, longer = (service((4, 1, [3]), rounds) for rounds in (1_500, 6_000))
+    asked = service((3, 1, [0]), 1_500).decode().splitlines()[1:]
+    cases = [
+        ("a service of four times the rounds", longer, longer.count(b"\n") - 1),
+        (f"{SIGNATURES} times the same signature of a traitor", *alike([], lambda number: "r0(1/idle/-)")),
+        (f"{SIGNATURES} times the same signature of a client, after a service", *alike(asked, lambda number: "c0(c0#1:read:a)")),
+        (f"signatures that agree in signer, slot and count, up to {SIGNATURES}", *alike([], lambda number: f"r0(0/c0#{number + 1}:read:a/-)")),
+    ]
+    usual = least_time(common, common.count(b"\n") - 1)
+    for what, text, steps in cases:
         found = least_time(text, steps)
-        count = text.count(b"(")
-        if common is None or found is None:
-            yield f"{count} times {what}", "it is no run, or that of a service is none", ""
+        if usual is None or found is None:
+            yield what, "it is no run, or that of a service is none", ""
             continue
-        said = f"{len(text)} bytes, {found * len(text):.2f} seconds, {found / common:.2f} times as long a byte as {len(service)} bytes of a service"
-        yield f"{count} times {what}", said if found > MOST_TIMES * common else None, said
+        said = f"{len(text)} bytes, {found * len(text):.2f} seconds, {found / usual:.2f} times as long a byte as {len(common)} bytes of a service"
+        yield what, said if found > MOST_TIMES * usual else None, said
 
 
 def main():
