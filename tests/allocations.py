@@ -7,7 +7,8 @@ what `rt ci` built.
    and wider steps. A run that met a refusal must do all the same what it does with ample memory; or end with status 3, say so on standard error, and
    write nothing on standard output. The last one must do what it does with ample memory. A play may also be reported whole, where one of its events was
    refused for that, with status 3. Then the report must be, to the byte, that of tests/slow_play.py where this event alone has no memory, so that
-   nothing else was changed. The same holds of its transcript, and `dsr check` must report on that as this model says.
+   nothing else was changed. The same holds of its transcript, and `dsr check` must report on that as this model says. Where each event of the play is made
+   twice, the transcript must be that of ample memory: the event that was refused is done when it is made again.
 2. The same with all later allocations refused too.
 3. The same with so little memory that the system refuses it, on long texts, with more and more until all is done.
 4. The tests of the crates below the command line whose calls can return that memory was refused, one by one, and each allocation in turn. A test that
@@ -35,11 +36,14 @@ from sizes import one_replica
 TOP = os.path.dirname(os.path.dirname(os.path.realpath(__file__)))
 PROGRAM = f"{TOP}/crates/dsr/out/dsr"
 NO_MEMORY = (3, b"", b"dsr: no memory\n")
+# The words of a run in which each event is made again: the one that was refused for want of memory is then done.
+AGAIN = "play --transcript, each event made again,"
 # The runs in which each allocation is refused, also without the word `soak`.
 WHOLE = {("apply", "first-lines.apply"), ("apply", "swaps.apply"), ("apply", "repeated-numbers.apply"), ("apply", "full-table.apply"),
-         ("play", "one-replica.play"), ("play", "three-loyal.play"), ("play --transcript", "one-replica.play"), ("check", "whole-run.check")}
-# Of the others so many first ones are, and then steps grow by one for so many.
-FIRST_ONES, STEPS = 24, 16
+         ("play", "one-replica.play"), ("play", "three-loyal.play"), ("play --transcript", "one-replica.play"), ("check", "whole-run.check"),
+         (AGAIN, "three-loyal.play")}
+# Of the others so many first ones are, and then steps grow by one for so many; and where all later ones are refused too.
+SOME, FEW = (24, 16), (8, 4)
 # The crates of tests that end with an error where memory was refused. Those of dsr_hosts_tests run threads: tests/services.py refuses allocations of services.
 CRATES = ["dsr_request_tests", "dsr_history_tests", "dsr_envelope_tests", "dsr_slot_tests", "dsr_replica_tests", "dsr_script_tests",
           "dsr_play_tests", "dsr_world_tests", "dsr_mail_tests", "dsr_mail_record_tests", "dsr_record_tests", "dsr_rounds_tests",
@@ -75,6 +79,23 @@ def checked(report):
     return b"".join([b"run " + lines[0].removeprefix(b"done "), *accepted, *lines[history:]])
 
 
+def event_line(event):
+    """The line of a play that stands for this event alone."""
+    word, actor, other, *more = event
+    if word == "plant":
+        return f"plant {actor} {other} {more[0]}"
+    choice = more[0] if more else None
+    if choice is None:
+        return f"{word} {actor} {other}"
+    return f"{word} {actor} {other} {choice[0]} {('+' if choice[0] == 'from' else ' ').join(choice[1])}"
+
+
+def each_event_twice(text):
+    """The play with each of its events twice, one right after the other. Where the first is done, the second is refused."""
+    (_, events), _ = slow_play.read_play(text)
+    return text[:text.index(b"\n") + 1] + b"".join(2 * f"{event_line(event)}\n".encode() for event in events)
+
+
 def rows_of_play(stem):
     """The runs on a play of examples/, and on its transcript, if it is played."""
     text, wanted = bytes_of(f"{stem}.play"), wanted_of(stem, "out")
@@ -84,6 +105,7 @@ def rows_of_play(stem):
         return
     transcript = bytes_of(f"{stem}.transcript")
     yield "play --transcript", f"{stem}.play", text, (0, transcript, b"")
+    yield AGAIN, f"{stem}.play", each_event_twice(text), (0, transcript, b"")
     yield "check", f"{stem}.transcript", transcript, (0, checked(wanted[1]), b"")
 
 
@@ -99,8 +121,10 @@ def rows():
 
 
 def run_of(words, text, before=(), **more):
-    """The status of the program with these words on this text, and what it wrote on standard output and standard error. What stands before it runs it."""
-    ran = subprocess.run([*before, PROGRAM, *words.split()], input=text, capture_output=True, timeout=60, env={**os.environ, **more})
+    """The status of the program with these words on this text, and what it wrote on standard output and standard error. What stands before it runs
+    it. What stands after a comma in the words says something of the text."""
+    command = [*before, PROGRAM, *words.split(",")[0].split()]
+    ran = subprocess.run(command, input=text, capture_output=True, timeout=60, env={**os.environ, **more})
     return ran.returncode, ran.stdout, ran.stderr
 
 
@@ -169,12 +193,12 @@ class Starved:
 # ---- allocations in turn
 
 
-def numbers(is_whole, shift):
-    """The numbers of the allocations that are refused, in turn."""
+def numbers(some, shift=0):
+    """The numbers of the allocations that are refused, in turn: all, or some."""
     nth = 1
     while nth < MOST_RUNS:
         yield nth
-        nth += 1 if is_whole or nth < FIRST_ONES else 1 + (nth + shift) // STEPS
+        nth += 1 if not some or nth < some[0] else 1 + (nth + shift) // some[1]
 
 
 class Tally:
@@ -191,10 +215,14 @@ class Tally:
         self.ended += run == NO_MEMORY
         if run == NO_MEMORY:
             return None
-        if run[::2] == NO_MEMORY[::2] and self.starved.tells(run[1]):
+        if run[::2] == NO_MEMORY[::2] and self.tells(run[1], wanted[1]):
             self.reported += 1
             return None
         return f"with allocation {nth} refused: {shown(run)}"
+
+    def tells(self, output, wanted):
+        """Whether the output may be that of a play of which one event was refused for want of memory: all was done where it was made again."""
+        return self.starved.tells(output) and (self.starved.words != AGAIN or output == wanted)
 
     def said(self):
         told = f", {self.reported} times with the report of {len(self.starved.told)} starved events" if self.reported else ""
@@ -204,7 +232,7 @@ class Tally:
 def fault_in_turn(row, tally, room, is_whole):
     """What is wrong with the runs on this row with one allocation refused, or None."""
     words, name, text, wanted = row
-    for nth in numbers(is_whole, zlib.crc32(name.encode()) % STEPS):
+    for nth in numbers(None if is_whole else SOME, zlib.crc32(name.encode()) % SOME[1]):
         run, refused = refused_run(words, text, nth, room)
         if not refused:
             return None if run == wanted else f"with no refusal: {shown(run)}"
@@ -214,10 +242,10 @@ def fault_in_turn(row, tally, room, is_whole):
     return f"there is still a refusal after {MOST_RUNS} allocations"
 
 
-def fault_of_rest(row, tally, room):
+def fault_of_rest(row, tally, room, is_soak):
     """What is wrong with the runs on this row with all allocations refused from one on, or None."""
     words, _, text, wanted = row
-    for nth in numbers(False, 0):
+    for nth in numbers(SOME if is_soak else FEW):
         run, refused = refused_run(words, text, nth, room, REFUSE_REST="1")
         if not refused:
             return None
@@ -232,7 +260,7 @@ def row_line(row, room, is_soak):
     words, name, text, _ = row
     is_whole = is_soak or (words, os.path.basename(name)) in WHOLE
     tally = Tally(Starved(words, text))
-    fault = fault_in_turn(row, tally, room, is_whole) or fault_of_rest(row, tally, room)
+    fault = fault_in_turn(row, tally, room, is_whole) or fault_of_rest(row, tally, room, is_soak)
     if not fault and not tally.ended:
         fault = "no refusal ended it"
     if not fault and is_whole and len(tally.starved.done) > 1 and not tally.reported:
@@ -362,7 +390,7 @@ class Sums:
     def judge_words(self):
         """In all runs of a word together something was refused, and events of plays were starved."""
         for words, (inputs, count, ended, reported) in self.of_words.items():
-            passes = ended > 0 and (reported > 0 or words not in ("play", "play --transcript"))
+            passes = ended > 0 and (reported > 0 or words not in ("play", "play --transcript", AGAIN))
             self.judge(passes, f"{words}: {inputs} inputs, {count} runs with allocations refused, {ended} times with status 3 and no output, "
                                f"{reported} times with status 3 and the report or transcript of the other events{'' if passes else ': FAILED'}")
 
