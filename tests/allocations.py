@@ -54,6 +54,7 @@ ANSWERED = ("command::", "threads::")
 MOST_RUNS = 20_000
 WANT_OF_MEMORY = re.compile(rb"^(?:[Ee]rror:|  left:) .*(NoMemory|AllocError|AllocFailed|WriteFailed)", re.M)
 MIB = 1 << 20
+SECONDS = 60
 
 
 def bytes_of(path, otherwise=b""):
@@ -124,7 +125,10 @@ def run_of(words, text, before=(), **more):
     """The status of the program with these words on this text, and what it wrote on standard output and standard error. What stands before it runs
     it. What stands after a comma in the words says something of the text."""
     command = [*before, PROGRAM, *words.split(",")[0].split()]
-    ran = subprocess.run(command, input=text, capture_output=True, timeout=60, env={**os.environ, **more})
+    try:
+        ran = subprocess.run(command, input=text, capture_output=True, timeout=SECONDS, env={**os.environ, **more})
+    except subprocess.TimeoutExpired:
+        return f"none within {SECONDS} seconds", b"", b""
     return ran.returncode, ran.stdout, ran.stderr
 
 
@@ -330,7 +334,10 @@ def refused_test(program, test, nth, room):
     if os.path.exists(note):
         os.remove(note)
     env = {**os.environ, "LD_PRELOAD": f"{os.path.dirname(room)}/refuse.so", "REFUSE_NTH": str(nth), "REFUSE_NOTE": note}
-    run = subprocess.run([program, test], input=b"", env=env, capture_output=True, timeout=60)
+    try:
+        run = subprocess.run([program, test], input=b"", env=env, capture_output=True, timeout=SECONDS)
+    except subprocess.TimeoutExpired as late:
+        run = subprocess.CompletedProcess(late.cmd, "late", b"", str(late).encode())
     return run, os.path.exists(note)
 
 

@@ -111,7 +111,8 @@ def least_time(text, steps):
         with tempfile.TemporaryFile() as given, tempfile.TemporaryFile() as report:
             given.write(text)
             given.seek(0)
-            child = subprocess.Popen([PROGRAM, "check"], stdin=given, stdout=report, env=ENVIRONMENT)
+            # the time of the one is that of the other too
+            child = subprocess.Popen(["timeout", "120", PROGRAM, "check"], stdin=given, stdout=report, env=ENVIRONMENT)
             _, status, used = os.wait4(child.pid, 0)
             child.returncode = os.waitstatus_to_exitcode(status)
             report.seek(0)

@@ -70,7 +70,10 @@ class Rounds(Play):
 def memory_of(words, text, room):
     """The most bytes that the program had on its heap with this text, and what it wrote; None where it did not end with status 0."""
     env = {**os.environ, "LD_PRELOAD": f"{room}/count.so", "COUNT_NOTE": f"{room}/counts"}
-    ran = subprocess.run([PROGRAM, *words.split()], input=text, capture_output=True, timeout=SECONDS, env=env)
+    try:
+        ran = subprocess.run([PROGRAM, *words.split()], input=text, capture_output=True, timeout=SECONDS, env=env)
+    except subprocess.TimeoutExpired:
+        return 0, None
     with open(f"{room}/counts") as file:
         return int(file.read().split()[3]), ran.stdout if (ran.returncode, ran.stderr) == (0, b"") else None
 
