@@ -285,18 +285,17 @@ def long_rows():
     yield "check", run_of("play --transcript", play)[1]
 
 
-def is_starved_report(output, wanted):
-    """Whether this is the report of a play of which events were refused for want of memory, which is right of what was done."""
+def is_starved(words, output, wanted):
+    """Whether this is the report of a play of which events were refused for want of memory, and right of what was done; or the transcript of a run."""
+    if words == "play --transcript":
+        status, found, _ = run_of("check", output)
+        return status == 0 and found.startswith(b"run %d\n" % (output.count(b"\n") - 1))
+    if words != "play":
+        return False
     report, whole = runs.read_report(output.decode()), runs.read_report(wanted.decode())
-    if isinstance(report, str) or report["refused"] == 0 or report.get("first", [""])[1:] != ["E12", "NoMemory"]:
+    if isinstance(report, str) or report.get("first", [""])[1:] != ["E12", "NoMemory"]:
         return False
     return not runs.faults_of(report, whole["done"] + whole["refused"])
-
-
-def is_starved_transcript(output):
-    """Whether this is the transcript of a run."""
-    status, report, _ = run_of("check", output)
-    return status == 0 and report.startswith(b"run %d\n" % (output.count(b"\n") - 1))
 
 
 def fault_of_little(words, text):
@@ -309,9 +308,7 @@ def fault_of_little(words, text):
         count += 1
         if run == wanted:
             return ("it never had too little" if count == 1 else None), count
-        is_starved = run[::2] == NO_MEMORY[::2] and (
-            words == "play" and is_starved_report(run[1], wanted[1]) or words == "play --transcript" and is_starved_transcript(run[1]))
-        if run != NO_MEMORY and not is_starved:
+        if run != NO_MEMORY and not (run[::2] == NO_MEMORY[::2] and is_starved(words, run[1], wanted[1])):
             return f"with {limit} bytes: {shown(run)}", count
         if limit > 1024 * MIB:
             return f"with {limit} bytes there is still too little", count

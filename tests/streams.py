@@ -11,8 +11,8 @@ Runs the built program with every word, on examples, over streams that do not do
 3. The reads end early: then the text is what was read, and the program gives what models give for that (tests/slow_texts.py, tests/slow_play.py,
    tests/slow_check.py).
 4. Writes on standard error fail: the status alone tells, and standard output is as it should be.
-5. The system's own: streams that are closed, folders, full files, pipes that nobody reads, or that are closed in the middle, with and without the signal
-   that tells of it; pipes that give nothing and may not be waited for, and such as are full; input that comes in pieces; a terminal without input,
+5. The system's own: streams that are closed, folders, full files, pipes that nobody reads, or that are left in the middle, whether a signal for that
+   would end the program or not; pipes that give nothing and may not be waited for, and such as are full; input that comes in pieces; a terminal without input,
    with an end of input, and one that hangs up.
 
 Each run must end within 20 seconds. Needs a C compiler, `cc`, for the few lines that fail. The last line is `N passed, M failed`, a count for each word
@@ -112,35 +112,39 @@ def kinds(errors, nth):
     return errors[nth % len(errors)], None if nth // len(errors) % 2 else 1
 
 
+def failures(errors, all_kinds):
+    """Which call fails, with which error, and how many do, in turn: each call in each way, or in one."""
+    for nth in range(1, MOST_CALLS):
+        for error, times in itertools.product(errors, [None, 1]) if all_kinds else [kinds(errors, nth)]:
+            yield nth, error, times
+
+
 def fault_of_reads(failing, row, most, all_kinds):
     """What is wrong with the runs on this row in which a read of at most so many bytes fails, or None; and how many they are."""
     words, text, wanted = row
-    for nth in range(1, MOST_CALLS):
-        for error, times in itertools.product(READ_ERRORS, [None, 1]) if all_kinds else [kinds(READ_ERRORS, nth)]:
-            run, calls = failing.run(words, text, 0, nth, error, times, most)
-            if not calls:
-                # the last of the reads tells that there is no more
-                whole = len(text) // most + (len(text) % most > 0) + 1
-                fault = difference(run, wanted) or (f"{nth - 1} reads, and not {whole}" if nth - 1 != whole else None)
-                return fault, nth
-            fault = difference(run, UNREAD) or (f"it read {calls - 1} times after the failure" if calls > 1 else None)
-            if fault:
-                return f"read {nth} of at most {most} bytes fails with error {error}, times {times}: {fault}", nth
+    # the last of the reads tells that there is no more
+    whole = -(-len(text) // most) + 1
+    for count, (nth, error, times) in enumerate(failures(READ_ERRORS, all_kinds), 1):
+        run, calls = failing.run(words, text, 0, nth, error, times, most)
+        if not calls:
+            return difference(run, wanted) or (f"it read {nth - 1} times, and not {whole}" if nth - 1 != whole else None), count
+        fault = difference(run, UNREAD) or (f"it read {calls - 1} times after the failure" if calls > 1 else None)
+        if fault:
+            return f"read {nth} of at most {most} bytes fails with error {error}, times {times}: {fault}", count
     return f"there is still a read after {MOST_CALLS}", MOST_CALLS
 
 
 def fault_of_writes(failing, row, most, all_kinds):
     """What is wrong with the runs on this row in which a write of at most so many bytes fails, or None; and how many they are."""
     words, text, wanted = row
-    for nth in range(1, MOST_CALLS):
-        for error, times in itertools.product(WRITE_ERRORS, [None, 1]) if all_kinds else [kinds(WRITE_ERRORS, nth)]:
-            run, calls = failing.run(words, text, 1, nth, error, times, most)
-            if not calls:
-                return difference(run, wanted), nth
-            begun = UNWRITTEN[0], wanted[1][:(nth - 1) * most], UNWRITTEN[1]
-            fault = difference(run, begun) or (f"it wrote {calls - 1} times after the failure" if calls > 1 else None)
-            if fault:
-                return f"write {nth} of at most {most} bytes fails with error {error}, times {times}: {fault}", nth
+    for count, (nth, error, times) in enumerate(failures(WRITE_ERRORS, all_kinds), 1):
+        run, calls = failing.run(words, text, 1, nth, error, times, most)
+        if not calls:
+            return difference(run, wanted), count
+        begun = UNWRITTEN[0], wanted[1][:(nth - 1) * most], UNWRITTEN[1]
+        fault = difference(run, begun) or (f"it wrote {calls - 1} times after the failure" if calls > 1 else None)
+        if fault:
+            return f"write {nth} of at most {most} bytes fails with error {error}, times {times}: {fault}", count
     return f"there is still a write after {MOST_CALLS}", MOST_CALLS
 
 
@@ -259,29 +263,25 @@ def closed_streams(row):
     yield by_shell(words, text, "<&- >&- 2>&-"), (1, b"", b"")
 
 
-def unread_pipe(words, text, is_signalled):
-    """The run of a program whose standard output is a pipe that nobody reads; whether a signal tells it so."""
+def unread_pipe(words, text, handled):
+    """The run of a program whose standard output is a pipe that nobody reads, and that was started with the signal which tells of it handled so."""
     reader, writer = os.pipe()
     os.close(reader)
-    handled = signal.SIG_DFL if is_signalled else signal.SIG_IGN
     with tempfile.TemporaryFile() as given:
         given.write(text)
         given.seek(0)
-        # the signal is as it is here, for the programs that this one starts
         before = signal.signal(signal.SIGPIPE, handled)
         child = subprocess.Popen([PROGRAM, *words.split()], stdin=given, stdout=writer, stderr=subprocess.PIPE, restore_signals=False)
         signal.signal(signal.SIGPIPE, before)
         os.close(writer)
         _, errors = child.communicate(timeout=SECONDS)
-    return child.returncode, None, errors
+    return child.returncode, b"", errors
 
 
 def unread_pipes(row):
-    words, text, wanted = row
-    if wanted[0] == 0:
-        yield unread_pipe(words, text, False), (1, None, UNWRITTEN[1])
-        # as of any program, the system ends it
-        yield unread_pipe(words, text, True), (-signal.SIGPIPE, None, b"")
+    words, text, _ = row
+    for handled in (signal.SIG_DFL, signal.SIG_IGN):
+        yield unread_pipe(words, text, handled), (1, b"", UNWRITTEN[1])
 
 
 def many_lines():
@@ -416,10 +416,11 @@ def system_streams():
     for row in rows():
         words, text, wanted = row
         yield f"{words}, closed streams", lambda row=row: fault_of_pairs(closed_streams(row))
-        yield f"{words}, pipes that nobody reads", lambda row=row: fault_of_pairs(unread_pipes(row))
+        if wanted[0] == 0:
+            yield f"{words}, pipes that nobody reads", lambda row=row: fault_of_pairs(unread_pipes(row))
         yield f"{words}, input that is not there yet", lambda words=words: fault_of_pairs([(idle_pipe(words), UNREAD)])
         yield f"{words}, input in pieces", lambda row=row: fault_of_pairs([(in_pieces(row[0], row[1], 5), row[2])])
-    yield "apply, a pipe that is left", lambda: fault_of_pairs([(left_pipe(count), (-signal.SIGPIPE, many_lines()[1][:count], b"")) for count in (1, 1000, 70_000)])
+    yield "apply, a pipe that is left", lambda: fault_of_pairs([(left_pipe(count), (1, many_lines()[1][:count], UNWRITTEN[1])) for count in (1, 1000, 70_000)])
     yield "apply, a pipe that is full", lambda: fault_of_pairs([full_pipe()])
     for what, words, act, allowed in terminals():
         yield what, lambda words=words, act=act, allowed=allowed: fault_of_terminal(words, act, allowed)
