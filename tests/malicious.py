@@ -40,7 +40,7 @@ TEXTS_A_TASK = 500
 TEXTS = [("apply", "*.apply"), ("play", "*.play"), ("play", "attacks/*.play"), ("serve", "services/*.serve"), ("serve", "malicious/*.serve"),
          ("check", "*.check"), ("check", "malicious/*.check")]
 # Of how many bytes of a short text one is cut or changed without `soak`; a text of more bytes than this is treated so as if it had so many.
-STEPS = {"apply": 1, "play": 5, "play --transcript": 40, "serve": 2, "check": 2}
+STEPS = {"apply": 1, "play": 2, "play --transcript": 16, "serve": 1, "check": 1}
 SHORT = 400
 # In how many ways a byte is changed with `soak`, and how many texts of each word have changes by chance.
 TURNS = 4
