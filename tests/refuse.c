@@ -1,6 +1,6 @@
 /* Refuses one allocation of a program that this is preloaded into: the one whose number, counted from 1, stands in
-   REFUSE_NTH. Or it refuses one of the program's threads: that whose number stands in REFUSE_THREAD. It then makes the
-   file that REFUSE_NOTE names, so that the caller knows that it came to that. */
+   REFUSE_NTH; where REFUSE_REST is set, each one after it too. Or it refuses one of the program's threads: that whose number
+   stands in REFUSE_THREAD. It then makes the file that REFUSE_NOTE names, so that the caller knows that it came to that. */
 #define _GNU_SOURCE
 #include <dlfcn.h>
 #include <errno.h>
@@ -12,10 +12,13 @@
 static long seen;
 static long threads;
 
-/* Whether this is the one to be refused, of those that were counted so far. Threads may ask at once. */
+/* Whether this is one to be refused, of those that were counted so far. Threads may ask at once. */
 static int refused(const char *nth, long *count)
 {
-    if (!nth || __atomic_add_fetch(count, 1, __ATOMIC_SEQ_CST) != atol(nth))
+    if (!nth)
+        return 0;
+    long number = __atomic_add_fetch(count, 1, __ATOMIC_SEQ_CST), first = atol(nth);
+    if (number < first || (number > first && !getenv("REFUSE_REST")))
         return 0;
     const char *note = getenv("REFUSE_NOTE");
     if (note)
