@@ -80,10 +80,11 @@ impl Posts {
         if *to != *actor {
             return Ok(());
         }
+        let place = self.count;
         if !envelope.envelope().same(&Envelope::Empty) {
-            self.full.push(self.count)?;
+            self.full.push(place)?;
         }
-        self.count = self.count.saturating_add(1);
+        self.count = place.saturating_add(1);
         Ok(())
     }
 }

@@ -57,7 +57,7 @@ impl Pair {
         turns: u64,
     ) -> Result<Reply, Refusal> {
         let gate = Closing::new();
-        let ends = both_act(
+        let (_made, asked) = both_act(
             rt,
             alloc,
             &self.mail,
@@ -67,7 +67,7 @@ impl Pair {
             op,
             turns,
         );
-        ends.1
+        asked
     }
 }
 
