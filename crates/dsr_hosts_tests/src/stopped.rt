@@ -43,23 +43,20 @@ fn has_posted<R: Abort>(
     Ok(())
 }
 
+/// Compares what the three replicas posted to r0. The traitor, r2, goes through its script once.
+fn all_have_posted<R: Abort>(rt: &R, alloc: Global, logs: &Logs) -> Result<(), Fail> {
+    has_posted(rt, alloc, logs, &ReplicaId::FIRST, None)?;
+    has_posted(rt, alloc, logs, &ReplicaId::of(1), None)?;
+    let full: [u64; 2] = [0, 4_095];
+    has_posted(rt, alloc, logs, &ReplicaId::of(2), Some(full.as_slice()))
+}
+
 #[test]
 fn all_hosts_make_the_same_rounds(rt: HostRuntime) -> Result<(), Fail> {
     let script = too_many(rt.alloc())?;
     let outcome = serve_text(&rt, rt.alloc(), script.as_str(), &Open)?;
     assert_eq!(rt; outcome.cause, Some(Refusal::Unanswered));
-    has_posted(&rt, rt.alloc(), &outcome.logs, &ReplicaId::FIRST, None)?;
-    has_posted(&rt, rt.alloc(), &outcome.logs, &ReplicaId::of(1), None)?;
-    // the traitor goes through its script once
-    let full: [u64; 2] = [0, 4_095];
-    let traitor = ReplicaId::of(2);
-    has_posted(
-        &rt,
-        rt.alloc(),
-        &outcome.logs,
-        &traitor,
-        Some(full.as_slice()),
-    )
+    all_have_posted(&rt, rt.alloc(), &outcome.logs)
 }
 
 #[test]

@@ -76,9 +76,9 @@ fn has_asked<R: Abort>(
     then: Option<u64>,
     text: &str,
 ) -> Result<(), Fail> {
+    let op = write_7()?;
     let mut office = three(alloc)?;
-    let asked = office.ask(alloc, &write_7()?, turns);
-    assert_eq!(rt; asked, Err(Refusal::Unanswered));
+    assert_eq!(rt; office.ask(alloc, &op, turns), Err(Refusal::Unanswered));
     if let Some(turns) = then {
         assert_eq!(rt; office.go_on(alloc, turns), Err(Refusal::Unanswered));
     }

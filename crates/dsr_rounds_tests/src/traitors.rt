@@ -66,16 +66,27 @@ fn ask_all<R: Abort>(rt: &R, alloc: Global, office: &mut Office) -> Result<(), F
     Ok(())
 }
 
-/// The traitor makes a round by the script of this text, after the client asked it too. Compares its log.
-fn has_log<R: Abort + Wait>(rt: &R, alloc: Global, script: &str, text: &str) -> Result<(), Fail> {
+/// The traitor makes a round by the script of this text, after the client asked it too.
+fn takes_and_posts<R: Abort + Wait>(
+    rt: &R,
+    alloc: Global,
+    office: &mut Office,
+    script: &str,
+) -> Result<(), Fail> {
     let script = Script::read(alloc, script.as_bytes())?;
-    let mut office = posted(rt, alloc)?;
-    ask_all(rt, alloc, &mut office)?;
+    ask_all(rt, alloc, office)?;
     let traitor = Actor::Replica(ReplicaId::of(2));
     let ran = office.run_traitor(rt, alloc, &traitor, &script, &Open, 1);
     assert_eq!(rt; ran, Ok(()));
+    Ok(())
+}
+
+/// Compares the log of the traitor after such a round.
+fn has_log<R: Abort + Wait>(rt: &R, alloc: Global, script: &str, text: &str) -> Result<(), Fail> {
+    let mut office = posted(rt, alloc)?;
+    takes_and_posts(rt, alloc, &mut office, script)?;
     let logs = office.close();
-    let told = log_text(alloc, &logs, &traitor)?;
+    let told = log_text(alloc, &logs, &Actor::Replica(ReplicaId::of(2)))?;
     assert_eq!(rt; told.as_str(), text);
     Ok(())
 }
