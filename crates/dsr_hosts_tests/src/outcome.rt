@@ -56,11 +56,7 @@ pub(crate) struct Posts {
 }
 
 /// The posts of these entries to the actor.
-pub(crate) fn posts_to(
-    alloc: Global,
-    entries: &[Entry],
-    actor: &Actor,
-) -> Result<Posts, Refusal> {
+pub(crate) fn posts_to(alloc: Global, entries: &[Entry], actor: &Actor) -> Result<Posts, Refusal> {
     let mut posts = Posts {
         count: 0,
         full: Vec::new(alloc),

@@ -59,12 +59,7 @@ fn make_rounds<R: Abort + Wait>(
 }
 
 /// Compares what the replica posts to the client in so many rounds.
-fn is_posted<R: Abort + Wait>(
-    rt: &R,
-    alloc: Global,
-    rounds: u32,
-    text: &str,
-) -> Result<(), Fail> {
+fn is_posted<R: Abort + Wait>(rt: &R, alloc: Global, rounds: u32, text: &str) -> Result<(), Fail> {
     let mut office = Office::open(alloc, Shape::new(3, 1, 1, 0)?)?;
     make_rounds(rt, alloc, &mut office, rounds)?;
     let logs = office.close();

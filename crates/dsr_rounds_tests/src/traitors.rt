@@ -42,12 +42,7 @@ fn is_told<R: Abort + Wait>(rt: &R, alloc: Global, script: &str, text: &str) -> 
 }
 
 /// Compares how many turns the traitor has in a round by the script of this text. They are numbered from 0.
-fn has_turns<R: Abort + Wait>(
-    rt: &R,
-    alloc: Global,
-    script: &str,
-    turns: u64,
-) -> Result<(), Fail> {
+fn has_turns<R: Abort + Wait>(rt: &R, alloc: Global, script: &str, turns: u64) -> Result<(), Fail> {
     let script = Script::read(alloc, script.as_bytes())?;
     let mut office = posted(rt, alloc)?;
     let traitor = Actor::Replica(ReplicaId::of(2));
