@@ -1,7 +1,7 @@
 /* Refuses one allocation of a program that this is preloaded into: the one whose number, counted from 1, stands in
    REFUSE_NTH. Or it refuses one of the program's threads: that whose number stands in REFUSE_THREAD. It then makes the
    file that REFUSE_NOTE names, so that the caller knows that it came to that. Where REFUSE_LATE has a number, the threads
-   before the refused one begin once that is asked for, and the refusal takes so many milliseconds. */
+   before the refused one begin once that is asked for, the last of them first, and the refusal takes so many milliseconds. */
 #define _GNU_SOURCE
 #include <dlfcn.h>
 #include <errno.h>
@@ -74,6 +74,7 @@ static void *begin_late(void *at)
     struct beginning *beginning = at;
     while (!__atomic_load_n(&let_go, __ATOMIC_SEQ_CST))
         sched_yield();
+    usleep(1000 * (useconds_t)(__atomic_load_n(&held_count, __ATOMIC_SEQ_CST) - 1 - (beginning - held)));
     return beginning->routine(beginning->argument);
 }
 

@@ -14,7 +14,7 @@ one processor alone.
 Then services of which something is refused, each of which must end within 20 seconds:
 
 1. each thread in turn: the service ends as `no thread`, and its transcript is a run;
-2. each thread in turn, while the gate stops all that were started before: the service ends as `no thread` too, whichever host came first;
+2. each thread in turn, while the gate stops the host that was started before it: the service ends as `no thread` too, whichever of the two has the lower place;
 3. one allocation, the 1st, the 2nd and so on, with wider and wider steps, until a service meets no refusal: the service serves all clients; or it ends as
    `no memory`, or as `no thread` where the memory was that of a thread, and its transcript is a run, if it has the memory to write one.
 
@@ -43,9 +43,10 @@ OPERATIONS = ["read a", "write a 5", "write b 7", "remove a", "swap a 5 6", "swa
 # The shapes of which each allocation is refused, with wider and wider steps: those that `dsr_own_service` serves, and those that `dsr serve` does.
 STARVED_SHAPES = ["1 0 1 -", "3 1 2 r2", "7 3 4 r0+r2+r6"]
 SERVED_SHAPES = ["1 0 1 -", "3 1 2 r2"]
-# The shapes of which a thread is refused while the gate stops the others. A traitor is started before the loyal replicas of lower numbers.
+# The shapes of which a thread is refused while the gate stops the host before it. Hosts are started by falling numbers, first those of clients, then those of
+# traitors: so the stopped one has a lower place than the refused one where that is a loyal replica after a traitor.
 STOPPED_SHAPES = ["1 0 1 -", "3 1 1 r0", "5 2 3 r1+r4"]
-# How many milliseconds a thread's refusal takes then, in which the threads before it are stopped.
+# How many milliseconds a thread's refusal takes then, in which the host of the thread before it is stopped, and stops the others.
 LATE = 20
 FORMS = [["serve"], ["serve", "--transcript"]]
 NO_MEMORY, NO_THREAD, NO_ANSWER = "dsr: no memory\n", "dsr: no thread\n", "dsr: no answer within the turns\n"
@@ -209,7 +210,7 @@ def fault_without_thread(form, room, script, counts, nth):
 
 
 def fault_where_both(room, script, counts, nth):
-    """What is wrong with how a service ended whose nth thread was refused while the gate stopped all hosts before it; None where nothing is."""
+    """What is wrong with how a service ended whose nth thread was refused while the gate stopped the host before it; None where nothing is."""
     (status, transcript, said), refused = refused_serve(script, room, {"REFUSE_THREAD": nth, "REFUSE_LATE": LATE}, passes=0)
     if not refused:
         return "no thread was refused"
