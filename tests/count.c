@@ -1,6 +1,7 @@
 /* Counts what a program that this is preloaded into asks of the C library: how often for memory (malloc, aligned_alloc, and
-   realloc of nothing), how often for more room where it has some already (realloc), and how many bytes that room had. The
-   three counts go into the file that COUNT_NOTE names when the program ends: by itself, or by _exit, as one does that may have threads. */
+   realloc of nothing), how often for more room where it has some already (realloc), and how many bytes that room had; and how
+   many bytes it had at most at once, which is told of a program of one thread alone. The four counts go into the file that COUNT_NOTE
+   names when the program ends: by itself, or by _exit, as one does that may have threads. */
 #define _GNU_SOURCE
 #include <dlfcn.h>
 #include <fcntl.h>
@@ -11,6 +12,15 @@
 #include <unistd.h>
 
 static unsigned long asked, grown, moved;
+static long held, most;
+
+/* This was given, and is held from now on. */
+static void *given(void *room)
+{
+    held += room ? malloc_usable_size(room) : 0;
+    most = held > most ? held : most;
+    return room;
+}
 
 void *malloc(size_t size)
 {
@@ -18,7 +28,16 @@ void *malloc(size_t size)
     if (!next)
         next = (void *(*)(size_t))dlsym(RTLD_NEXT, "malloc");
     asked++;
-    return next(size);
+    return given(next(size));
+}
+
+void free(void *old)
+{
+    static void (*next)(void *);
+    if (!next)
+        next = (void (*)(void *))dlsym(RTLD_NEXT, "free");
+    held -= old ? malloc_usable_size(old) : 0;
+    next(old);
 }
 
 void *realloc(void *old, size_t size)
@@ -26,13 +45,17 @@ void *realloc(void *old, size_t size)
     static void *(*next)(void *, size_t);
     if (!next)
         next = (void *(*)(void *, size_t))dlsym(RTLD_NEXT, "realloc");
+    size_t before = old ? malloc_usable_size(old) : 0;
     if (old) {
         grown++;
-        moved += malloc_usable_size(old);
+        moved += before;
     } else {
         asked++;
     }
-    return next(old, size);
+    void *room = next(old, size);
+    if (room)
+        held -= before;
+    return given(room);
 }
 
 void *aligned_alloc(size_t alignment, size_t size)
@@ -41,7 +64,7 @@ void *aligned_alloc(size_t alignment, size_t size)
     if (!next)
         next = (void *(*)(size_t, size_t))dlsym(RTLD_NEXT, "aligned_alloc");
     asked++;
-    return next(alignment, size);
+    return given(next(alignment, size));
 }
 
 __attribute__((destructor)) static void tell(void)
@@ -50,7 +73,7 @@ __attribute__((destructor)) static void tell(void)
     if (!note)
         return;
     char text[80];
-    int size = snprintf(text, sizeof text, "%lu %lu %lu\n", asked, grown, moved);
+    int size = snprintf(text, sizeof text, "%lu %lu %lu %ld\n", asked, grown, moved, most);
     int file = open(note, O_CREAT | O_WRONLY | O_TRUNC, 0600);
     if (file >= 0 && write(file, text, size) == size)
         close(file);

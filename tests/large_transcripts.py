@@ -2,9 +2,12 @@
 """What `dsr check` does with transcripts of 16 MiB of the worst kinds: tests/large_transcripts.py, with no arguments. It runs the built
 program.
 
-Each kind repeats two lines, a post of an envelope and the take of it, until the text has as many bytes as a transcript may have. So
-how many steps it has is known by how it was made, and that nothing acts. Then the same with a last line that is no step, and with one byte
-more than may be read. The program has twice the memory that it needed when that was measured: so many MiB for each kind.
+1. Each kind repeats two lines, a post of an envelope and the take of it, until the text has as many bytes as a transcript may have. So
+   how many steps it has is known by how it was made, and that nothing acts. Then the same with a last line that is no step, and with one byte
+   more than may be read. The program has twice the memory that it needed when that was measured: so many MiB for each kind.
+2. Transcripts with some 700,000 signatures that are spelled out: all the same, of a traitor, and of a client, which each time must be found among those
+   that a service made known; and all different, but alike in signer, slot, and how many signed before, by which a signature is looked up. A byte of
+   them, and one of the transcript of a service of four times the rounds, may take four times the processor time of a byte of that of a service.
 
 The last line is `N passed, M failed`.
 """
@@ -13,6 +16,9 @@ import os
 import resource
 import subprocess
 import sys
+import tempfile
+
+from load import Rounds
 
 TOP = os.path.dirname(os.path.dirname(os.path.realpath(__file__)))
 PROGRAM = f"{TOP}/crates/dsr/out/dsr"
@@ -76,6 +82,73 @@ def cases():
     yield "one byte more than can be read", longer, 2 * needed, (1, "", "dsr: reading failed\n")
 
 
+# ---- time
+
+SIGNATURES = 700_000
+# Of one envelope: 32 chains with 16 signatures each.
+OF_AN_ENVELOPE = 512
+MOST_TIMES = 4
+RUNS = 3
+
+
+def alike(first, signature):
+    """A transcript with so many signatures, in posts and takes together, or as many as fit, and how many steps it has. `signature` gives each of a number."""
+    lines, size = [TRAITOR, *first], 0
+    for number in range(0, SIGNATURES // 2, OF_AN_ENVELOPE):
+        signatures = [signature(number + at) for at in range(OF_AN_ENVELOPE)]
+        more = sent("round 0 " + " ".join("0/idle/" + "+".join(signatures[at:at + 16]) for at in range(0, OF_AN_ENVELOPE, 16)))
+        size += sum(len(line) + 1 for line in more)
+        if size > MOST_BYTES - 1_000:
+            break
+        lines += more
+    return "".join(f"{line}\n" for line in lines).encode(), len(lines) - 1
+
+
+def least_time(text, steps):
+    """The least seconds of a processor that the program takes for this transcript, a byte of it; None where it is no run of so many steps."""
+    times = []
+    for _ in range(RUNS):
+        with tempfile.TemporaryFile() as given, tempfile.TemporaryFile() as report:
+            given.write(text)
+            given.seek(0)
+            # the time of the one is that of the other too
+            child = subprocess.Popen(["timeout", "120", PROGRAM, "check"], stdin=given, stdout=report, env=ENVIRONMENT)
+            _, status, used = os.wait4(child.pid, 0)
+            child.returncode = os.waitstatus_to_exitcode(status)
+            report.seek(0)
+            if child.returncode != 0 or not report.read().startswith(b"run %d\n" % steps):
+                return None
+            times.append(used.ru_utime + used.ru_stime)
+    return min(times) / len(text)
+
+
+def service(shape, rounds):
+    """The transcript of a service in so many rounds, in which a client has a request in most of them."""
+    n, f, traitors = shape
+    text = Rounds(n, f, traitors, True, rounds).text()
+    return subprocess.run([PROGRAM, "play", "--transcript"], input=text, capture_output=True, timeout=120).stdout
+
+
+def times():
+    """What each case is, its fault, or None, and how long it took."""
+    common, longer = (service((4, 1, [3]), rounds) for rounds in (1_500, 6_000))
+    asked = service((3, 1, [0]), 1_500).decode().splitlines()[1:]
+    cases = [
+        ("a service of four times the rounds", longer, longer.count(b"\n") - 1),
+        (f"{SIGNATURES} times the same signature of a traitor", *alike([], lambda number: "r0(1/idle/-)")),
+        (f"{SIGNATURES} times the same signature of a client, after a service", *alike(asked, lambda number: "c0(c0#1:read:a)")),
+        (f"signatures that agree in signer, slot and count, up to {SIGNATURES}", *alike([], lambda number: f"r0(0/c0#{number + 1}:read:a/-)")),
+    ]
+    usual = least_time(common, common.count(b"\n") - 1)
+    for what, text, steps in cases:
+        found = least_time(text, steps)
+        if usual is None or found is None:
+            yield what, "it is no run, or that of a service is none", ""
+            continue
+        said = f"{len(text)} bytes, {found * len(text):.2f} seconds, {found / usual:.2f} times as long a byte as {len(common)} bytes of a service"
+        yield what, said if found > MOST_TIMES * usual else None, said
+
+
 def main():
     if subprocess.run([f"{TOP}/dsr", "--help"], stdin=subprocess.DEVNULL, stdout=subprocess.DEVNULL).returncode != 0:
         print("the program cannot be built or run\n0 passed, 1 failed")
@@ -86,6 +159,9 @@ def main():
         passed, failed = passed + (found == wanted), failed + (found != wanted)
         said = "ok" if found == wanted else f"FAILED: {found[0]}, {found[1][:200]!r} and {found[2][:200]!r}, not {wanted}"
         print(f"{what}, {len(text)} bytes, within {mib} MiB: {said}", flush=True)
+    for what, fault, said in times():
+        passed, failed = passed + (fault is None), failed + (fault is not None)
+        print(f"{what}: {f'FAILED: {fault}' if fault else f'ok, {said}'}", flush=True)
     print(f"{passed} passed, {failed} failed")
     return 1 if failed else 0
 

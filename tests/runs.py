@@ -35,8 +35,13 @@ def report_of(text):
     run = subprocess.run([PROGRAM, "play"], input=text.encode(), capture_output=True, timeout=120)
     if run.returncode != 0 or run.stderr:
         return f"status {run.returncode}: {run.stderr.decode(errors='replace').strip()}"
+    return read_report(run.stdout.decode())
+
+
+def read_report(text):
+    """This report of a play, as a dictionary; a text if it is no report."""
     report = {"accepted": [], "seen": {}, "decided": {}, "history": []}
-    lines = run.stdout.decode().splitlines()
+    lines = text.splitlines()
     for at, line in enumerate(lines):
         words = line.split(" ")
         if words[0] in ("done", "refused"):

@@ -325,7 +325,7 @@ def counts_of(play, counter, note):
     run = subprocess.run([PROGRAM, "play"], input=play.text(), capture_output=True, timeout=120, env=env)
     ensure_done(play, run.returncode, run.stdout)
     with open(note) as file:
-        return [int(count) for count in file.read().split()]
+        return [int(count) for count in file.read().split()][:3]
 
 
 def growth(count, events):

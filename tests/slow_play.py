@@ -13,7 +13,7 @@ import runs
 from transcript_text import MOST_BYTES, Bad, Reader, actor_text, envelope_text, is_allowed, shape_text, whole
 
 MOST_EVENTS = 1_000_000
-NAMES = {5: "NotDue", 6: "BoxFull", 7: "BoxEmpty", 8: "Forged", 15: "NoActor", 16: "WrongRole"}
+NAMES = {5: "NotDue", 6: "BoxFull", 7: "BoxEmpty", 8: "Forged", 12: "NoMemory", 15: "NoActor", 16: "WrongRole"}
 
 
 class Refused(Exception):

@@ -1,11 +1,11 @@
 //! Services whose clients are all served.
 
-use crate::gates::{Meeting, Patient};
+use crate::gates::{Counting, Meeting, Patient};
 use crate::outcome::{accepted, entries, read, serve_text, write_5};
 use dsr_envelope::{Entry, Envelope};
 use dsr_ledger::Reply;
 use dsr_mail::Logs;
-use dsr_names::{Actor, Refusal, ReplicaId};
+use dsr_names::{Actor, ClientId, Refusal, ReplicaId};
 use dsr_request::Answer;
 use dsr_script::Draft;
 use std::alloc::Global;
@@ -61,6 +61,28 @@ fn posts_first<R: Abort>(
     let text = text_of(alloc, envelope)?;
     assert_eq!(rt; *to, Actor::Replica(ReplicaId::FIRST));
     assert_eq!(rt; text.as_str(), post);
+    Ok(())
+}
+
+/// Each replica, the traitor too, had at least a turn for each entry of its log, and the client one for each of its two operations.
+fn had_turns<R: Abort>(rt: &R, logs: &Logs, gate: &Counting) {
+    for number in 0..3 {
+        let replica = Actor::Replica(ReplicaId::of(number));
+        let done = entries(logs, &replica).len() as u64;
+        assert!(rt; done > 0);
+        assert!(rt; gate.turns(&replica) >= done);
+    }
+    assert!(rt; gate.turns(&Actor::Client(ClientId::FIRST)) >= 2);
+}
+
+#[test]
+fn the_turns_of_each_host_are_counted_from_0(rt: HostRuntime) -> Result<(), Fail> {
+    let script = "dsr-serve 1 3 1 1 r2\nask c0 write a 5\nask c0 read a\n";
+    let gate = Counting::new();
+    let outcome = serve_text(&rt, rt.alloc(), script, &gate)?;
+    assert_eq!(rt; outcome.cause, None);
+    assert!(rt; !gate.is_amiss());
+    had_turns(&rt, &outcome.logs, &gate);
     Ok(())
 }
 

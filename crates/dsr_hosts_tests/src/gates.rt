@@ -20,6 +20,18 @@ const HASTY_TURNS: u64 = 3_000;
 /// How often others may run first in each turn after those, at most.
 const YIELDS: u64 = 10_000;
 
+/// Lets everybody go on.
+#[derive(Drop)]
+pub(crate) struct Open;
+
+impl Gate for Open {
+    ghost may_refuse = { λ _ _. ⊥ };
+
+    fn pass(&self, _actor: Actor, _turn: u64) -> bool {
+        true
+    }
+}
+
 /// Lets nobody go on.
 #[derive(Drop)]
 pub(crate) struct Shut;
@@ -107,6 +119,64 @@ impl Gate for Patient {
             Actor::Client(_) => self.turns.store(0, SeqCst),
         }
         true
+    }
+}
+
+/// Lets everybody go on, and is patient; and counts the turns of r0, r1, r2 and c0.
+#[derive(Drop)]
+pub(crate) struct Counting {
+    patient: Patient,
+    first: AtomicU64,
+    second: AtomicU64,
+    third: AtomicU64,
+    client: AtomicU64,
+    amiss: AtomicBool,
+}
+
+impl Counting {
+    /// A gate that was not asked yet.
+    pub(crate) fn new() -> Counting {
+        Counting {
+            patient: Patient::new(),
+            first: AtomicU64::new(0),
+            second: AtomicU64::new(0),
+            third: AtomicU64::new(0),
+            client: AtomicU64::new(0),
+            amiss: AtomicBool::new(false),
+        }
+    }
+
+    /// Whether some turn had another number than its actor's count of turns before it.
+    pub(crate) fn is_amiss(&self) -> bool {
+        self.amiss.load(SeqCst)
+    }
+
+    /// How many turns the actor had.
+    pub(crate) fn turns(&self, actor: &Actor) -> u64 {
+        self.count(actor).load(SeqCst)
+    }
+
+    /// The count of the actor's turns.
+    fn count(&self, actor: &Actor) -> &AtomicU64 {
+        match actor {
+            Actor::Replica(replica) => match replica.number() {
+                0 => &self.first,
+                1 => &self.second,
+                _ => &self.third,
+            },
+            Actor::Client(_) => &self.client,
+        }
+    }
+}
+
+impl Gate for Counting {
+    ghost may_refuse = { λ _ _. ⊥ };
+
+    fn pass(&self, actor: Actor, turn: u64) -> bool {
+        if self.count(&actor).fetch_add(1, SeqCst) != turn {
+            self.amiss.store(true, SeqCst);
+        }
+        self.patient.pass(actor, turn)
     }
 }
 

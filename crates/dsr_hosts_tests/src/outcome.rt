@@ -1,6 +1,6 @@
 //! What came of a service.
 
-use dsr_envelope::Entry;
+use dsr_envelope::{Entry, Envelope};
 use dsr_hosts::serve;
 use dsr_ledger::Reply;
 use dsr_mail::Logs;
@@ -43,6 +43,45 @@ pub(crate) fn entries<'a>(logs: &'a Logs, actor: &Actor) -> &'a [Entry] {
         logs.of(*actor)
     } else {
         &[]
+    }
+}
+
+/// The posts to one actor.
+#[derive(Drop)]
+pub(crate) struct Posts {
+    /// How many there are.
+    pub(crate) count: u64,
+    /// Which of them, counted from 0, have something else than the empty envelope.
+    pub(crate) full: Vec<u64>,
+}
+
+/// The posts of these entries to the actor.
+pub(crate) fn posts_to(alloc: Global, entries: &[Entry], actor: &Actor) -> Result<Posts, Refusal> {
+    let mut posts = Posts {
+        count: 0,
+        full: Vec::new(alloc),
+    };
+    for entry in entries {
+        posts.note(entry, actor)?;
+    }
+    Ok(posts)
+}
+
+impl Posts {
+    /// Notes the entry, if it is a post to the actor.
+    fn note(&mut self, entry: &Entry, actor: &Actor) -> Result<(), Refusal> {
+        let Entry::Post { to, envelope } = entry else {
+            return Ok(());
+        };
+        if *to != *actor {
+            return Ok(());
+        }
+        let place = self.count;
+        if !envelope.envelope().same(&Envelope::Empty) {
+            self.full.push(place)?;
+        }
+        self.count = place.saturating_add(1);
+        Ok(())
     }
 }
 

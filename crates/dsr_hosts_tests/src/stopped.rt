@@ -1,13 +1,63 @@
 //! Services that end before their clients are served.
 
-use crate::gates::{ClientsShut, Late, Shut, Until};
-use crate::outcome::{ended_by, entries, serve_text};
+use crate::gates::{ClientsShut, Late, Open, Shut, Until};
+use crate::outcome::{ended_by, entries, posts_to, serve_text};
+use dsr_mail::Logs;
 use dsr_names::{Actor, ClientId, Refusal, ReplicaId};
 use dsr_record::Record;
+use std::alloc::Global;
+use std::process::Abort;
 use std::test::Fail;
+
+/// How many rounds each host of a replica or a traitor has.
+const ROUNDS: u64 = 4_096;
 
 /// Three loyal replicas, and a client with a write and a read.
 const THREE: &str = "dsr-serve 1 3 1 1 -\nask c0 write a 5\nask c0 read a\n";
+
+/// The script of a service with a traitor, and with an operation more than it has rounds. The operations of one client need a slot each, and
+/// a round begins one slot, so they are never all served. The traitor posts something in its first round and in its last.
+fn too_many(alloc: Global) -> Result<String, Refusal> {
+    let mut text = String::new(alloc);
+    text.push_str("dsr-serve 1 3 1 1 r2\nscript r2 0 r0 seen 1\nscript r2 4095 r0 seen 1\n")?;
+    for _ in 0..ROUNDS + 1 {
+        text.push_str("ask c0 read a\n")?;
+    }
+    Ok(text)
+}
+
+/// Compares how many posts a replica made to r0, and which of them are not empty.
+fn has_posted<R: Abort>(
+    rt: &R,
+    alloc: Global,
+    logs: &Logs,
+    replica: &ReplicaId,
+    full: Option<&[u64]>,
+) -> Result<(), Fail> {
+    let log = entries(logs, &Actor::Replica(*replica));
+    let posts = posts_to(alloc, log, &Actor::Replica(ReplicaId::FIRST))?;
+    assert_eq!(rt; posts.count, ROUNDS);
+    if let Some(full) = full {
+        assert_eq!(rt; posts.full.as_slice(), full);
+    }
+    Ok(())
+}
+
+/// Compares what the three replicas posted to r0. The traitor, r2, goes through its script once.
+fn all_have_posted<R: Abort>(rt: &R, alloc: Global, logs: &Logs) -> Result<(), Fail> {
+    has_posted(rt, alloc, logs, &ReplicaId::FIRST, None)?;
+    has_posted(rt, alloc, logs, &ReplicaId::of(1), None)?;
+    let full: [u64; 2] = [0, 4_095];
+    has_posted(rt, alloc, logs, &ReplicaId::of(2), Some(full.as_slice()))
+}
+
+#[test]
+fn all_hosts_make_the_same_rounds(rt: HostRuntime) -> Result<(), Fail> {
+    let script = too_many(rt.alloc())?;
+    let outcome = serve_text(&rt, rt.alloc(), script.as_str(), &Open)?;
+    assert_eq!(rt; outcome.cause, Some(Refusal::Unanswered));
+    all_have_posted(&rt, rt.alloc(), &outcome.logs)
+}
 
 #[test]
 fn a_shut_gate_stops_a_service(rt: HostRuntime) -> Result<(), Fail> {

@@ -1,9 +1,10 @@
-//! The calls of a client, of which each round of the one replica answers one.
+//! The calls of a client: each round of the one replica answers one; and whom of three replicas, which do nothing, they ask.
 
 use crate::gates::Open;
 use crate::office::Office;
+use crate::told::log_text;
 use dsr_ledger::Reply;
-use dsr_names::{Refusal, Shape};
+use dsr_names::{Actor, ClientId, Refusal, Shape};
 use dsr_request::{Answer, Name, Op};
 use std::alloc::Global;
 use std::process::Abort;
@@ -24,6 +25,17 @@ const HELD: Reply = Reply {
     answer: Answer::Held(Some(7)),
 };
 
+/// What the client does that asks r0 alone.
+const ONE: &str = "post r0 ask c0#1:write:a:7~c0\n";
+
+/// What the client does that asks r0 and r1.
+const TWO: &str = "post r0 ask c0#1:write:a:7~c0\npost r1 ask c0#1:write:a:7~c0\n";
+
+/// What the client does that asks all three.
+const THREE: &str = "post r0 ask c0#1:write:a:7~c0\n\
+    post r1 ask c0#1:write:a:7~c0\n\
+    post r2 ask c0#1:write:a:7~c0\n";
+
 /// A write of 7 to `a`.
 fn write_7() -> Result<Op, Refusal> {
     let name = Name::read(b"a")?;
@@ -40,6 +52,37 @@ fn read() -> Result<Op, Refusal> {
 fn one(alloc: Global) -> Result<Office, Refusal> {
     let shape = Shape::new(1, 0, 1, 0)?;
     Office::open(alloc, shape)
+}
+
+/// A mail of three replicas and one client.
+fn three(alloc: Global) -> Result<Office, Refusal> {
+    let shape = Shape::new(3, 1, 1, 0)?;
+    Office::open(alloc, shape)
+}
+
+/// Compares what the client did.
+fn has_done<R: Abort>(rt: &R, alloc: Global, office: Office, text: &str) -> Result<(), Fail> {
+    let logs = office.close();
+    let told = log_text(alloc, &logs, &Actor::Client(ClientId::FIRST))?;
+    assert_eq!(rt; told.as_str(), text);
+    Ok(())
+}
+
+/// Compares what the client did in a call of so many turns, and, where there is one, in a second that goes on.
+fn has_asked<R: Abort>(
+    rt: &R,
+    alloc: Global,
+    turns: u64,
+    then: Option<u64>,
+    text: &str,
+) -> Result<(), Fail> {
+    let op = write_7()?;
+    let mut office = three(alloc)?;
+    assert_eq!(rt; office.ask(alloc, &op, turns), Err(Refusal::Unanswered));
+    if let Some(turns) = then {
+        assert_eq!(rt; office.go_on(alloc, turns), Err(Refusal::Unanswered));
+    }
+    has_done(rt, alloc, office, text)
 }
 
 /// Compares the reply to the operation, which needs a round of the replica.
@@ -91,4 +134,43 @@ fn no_turn_begins_nothing(rt: HostRuntime) -> Result<(), Fail> {
     assert_eq!(rt; office.ask(rt.alloc(), &op, 0), Err(Refusal::Unanswered));
     assert_eq!(rt; office.outstanding(), None);
     Ok(())
+}
+
+#[test]
+fn a_reply_in_the_last_turn_is_accepted(rt: HostRuntime) -> Result<(), Fail> {
+    let mut office = one(rt.alloc())?;
+    let op = write_7()?;
+    assert_eq!(rt; office.ask(rt.alloc(), &op, 1), Err(Refusal::Unanswered));
+    assert_eq!(rt; office.run_replica(&rt, rt.alloc(), &Open, 1), Ok(()));
+    assert_eq!(rt; office.go_on(rt.alloc(), 0), Err(Refusal::Unanswered));
+    assert_eq!(rt; office.go_on(rt.alloc(), 1), Ok(WRITTEN));
+    Ok(())
+}
+
+#[test]
+fn a_call_has_a_turn_for_each_post_and_for_each_take(rt: HostRuntime) -> Result<(), Fail> {
+    // it goes to r0, r1 and r2, and then to r0 again, where it asked already
+    for (turns, text) in [
+        (1, ONE),
+        (2, ONE),
+        (3, TWO),
+        (4, TWO),
+        (5, THREE),
+        (6, THREE),
+        (1_000, THREE),
+    ] {
+        has_asked(&rt, rt.alloc(), turns, None, text)?;
+    }
+    Ok(())
+}
+
+#[test]
+fn each_call_begins_at_r0(rt: HostRuntime) -> Result<(), Fail> {
+    // where it asked before, it has no turn for a post
+    has_asked(&rt, rt.alloc(), 1, Some(1), ONE)?;
+    has_asked(&rt, rt.alloc(), 2, Some(1), ONE)?;
+    has_asked(&rt, rt.alloc(), 1, Some(2), TWO)?;
+    has_asked(&rt, rt.alloc(), 3, Some(2), TWO)?;
+    has_asked(&rt, rt.alloc(), 3, Some(3), THREE)?;
+    has_asked(&rt, rt.alloc(), 6, Some(6), THREE)
 }

@@ -4,8 +4,8 @@ ghost use Rattle.std.specs.Prelude.{◌≡◌};
 
 use dsr_names::Actor;
 use dsr_rounds::Gate;
-use std::sync::atomic::AtomicU64;
 use std::sync::atomic::Ordering::SeqCst;
+use std::sync::atomic::{AtomicBool, AtomicU64};
 
 /// Lets everybody go on.
 #[derive(Drop)]
@@ -34,21 +34,23 @@ impl Gate for Until {
     }
 }
 
-/// Counts what it is asked, and refuses a turn of another number than its own count.
+/// Counts what it is asked of one actor, and refuses it a turn of another number than its own count. It refuses all other actors.
 #[derive(Drop)]
 pub(crate) struct Counting {
+    actor: Actor,
     turns: AtomicU64,
 }
 
 impl Counting {
-    /// A gate that was not asked yet.
-    pub(crate) fn new() -> Counting {
+    /// A gate for this actor, that was not asked yet.
+    pub(crate) fn of(actor: Actor) -> Counting {
         Counting {
+            actor,
             turns: AtomicU64::new(0),
         }
     }
 
-    /// How often it was asked.
+    /// How often it was asked of the actor.
     pub(crate) fn turns(&self) -> u64 {
         self.turns.load(SeqCst)
     }
@@ -57,7 +59,35 @@ impl Counting {
 impl Gate for Counting {
     ghost may_refuse = { λ _ _. Unit {0} };
 
-    fn pass(&self, _actor: Actor, turn: u64) -> bool {
-        turn == self.turns.fetch_add(1, SeqCst)
+    fn pass(&self, actor: Actor, turn: u64) -> bool {
+        actor == self.actor && turn == self.turns.fetch_add(1, SeqCst)
+    }
+}
+
+/// Lets everybody go on until it is shut.
+#[derive(Drop)]
+pub(crate) struct Closing {
+    shut: AtomicBool,
+}
+
+impl Closing {
+    /// A gate that is open.
+    pub(crate) fn new() -> Closing {
+        Closing {
+            shut: AtomicBool::new(false),
+        }
+    }
+
+    /// Shuts it.
+    pub(crate) fn shut(&self) {
+        self.shut.store(true, SeqCst);
+    }
+}
+
+impl Gate for Closing {
+    ghost may_refuse = { λ _ _. Unit {0} };
+
+    fn pass(&self, _actor: Actor, _turn: u64) -> bool {
+        !self.shut.load(SeqCst)
     }
 }

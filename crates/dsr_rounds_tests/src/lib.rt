@@ -9,6 +9,20 @@ mod gates;
 #[cfg(test)]
 mod office;
 #[cfg(test)]
+mod pair;
+#[cfg(test)]
 mod replicas;
 #[cfg(test)]
+mod replies;
+#[cfg(test)]
+mod ring;
+#[cfg(test)]
+mod single_rounds;
+#[cfg(test)]
+mod threads;
+#[cfg(test)]
+mod told;
+#[cfg(test)]
 mod traitors;
+#[cfg(test)]
+mod trio;

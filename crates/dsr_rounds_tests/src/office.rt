@@ -71,9 +71,28 @@ impl Office {
         post_plain(&mut self.seats.replicas[place], alloc, &self.mail, to)
     }
 
+    /// A loyal replica takes from another. `NoActor` where it has no seat.
+    pub(crate) fn take(&mut self, replica: &ReplicaId, from: &Actor) -> Result<(), Refusal> {
+        let Some(place) = replica_place(self.seats.replicas.as_slice(), replica) else {
+            return Err(Refusal::NoActor);
+        };
+        take_from(&mut self.seats.replicas[place], &self.mail, from)
+    }
+
     /// The first client asks. `NoActor` where there is none.
     pub(crate) fn ask(&mut self, alloc: Global, op: &Op, turns: u64) -> Result<Reply, Refusal> {
-        let Some(place) = client_place(self.seats.clients.as_slice(), &ClientId::FIRST) else {
+        self.ask_by(alloc, &ClientId::FIRST, op, turns)
+    }
+
+    /// A client asks. `NoActor` where it has no seat.
+    pub(crate) fn ask_by(
+        &mut self,
+        alloc: Global,
+        client: &ClientId,
+        op: &Op,
+        turns: u64,
+    ) -> Result<Reply, Refusal> {
+        let Some(place) = client_place(self.seats.clients.as_slice(), client) else {
             return Err(Refusal::NoActor);
         };
         client_asks(&mut self.seats.clients[place], alloc, &self.mail, op, turns)
@@ -81,7 +100,17 @@ impl Office {
 
     /// The first client goes on. `NoActor` where there is none.
     pub(crate) fn go_on(&mut self, alloc: Global, turns: u64) -> Result<Reply, Refusal> {
-        let Some(place) = client_place(self.seats.clients.as_slice(), &ClientId::FIRST) else {
+        self.go_on_by(alloc, &ClientId::FIRST, turns)
+    }
+
+    /// A client goes on. `NoActor` where it has no seat.
+    pub(crate) fn go_on_by(
+        &mut self,
+        alloc: Global,
+        client: &ClientId,
+        turns: u64,
+    ) -> Result<Reply, Refusal> {
+        let Some(place) = client_place(self.seats.clients.as_slice(), client) else {
             return Err(Refusal::NoActor);
         };
         client_goes_on(&mut self.seats.clients[place], alloc, &self.mail, turns)
@@ -183,6 +212,17 @@ fn post_plain(seat: &mut ReplicaSeat, alloc: Global, mail: &Mail, to: &Actor) ->
     ensures { IsSameSeat seat.old seat.new }
 {
     match seat.try_post(alloc, mail, *to, Pick::Plain) {
+        Ok(()) => Ok(()),
+        Err(refusal) => Err(refusal),
+    }
+}
+
+/// A loyal replica takes.
+fn take_from(seat: &mut ReplicaSeat, mail: &Mail, from: &Actor) -> Result<(), Refusal>
+    requires { IsPassOf mail.now seat.old }
+    ensures { IsSameSeat seat.old seat.new }
+{
+    match seat.try_take(mail, *from) {
         Ok(()) => Ok(()),
         Err(refusal) => Err(refusal),
     }

@@ -3,7 +3,7 @@
 use crate::gates::{Counting, Open, Until};
 use crate::office::{Office, transcript};
 use dsr_envelope::Due;
-use dsr_names::{Refusal, ReplicaId, Shape};
+use dsr_names::{Actor, Refusal, ReplicaId, Shape};
 use std::alloc::Global;
 use std::process::Abort;
 use std::test::Fail;
@@ -12,6 +12,11 @@ use std::test::Fail;
 fn one(alloc: Global) -> Result<Office, Refusal> {
     let shape = Shape::new(1, 0, 1, 0)?;
     Office::open(alloc, shape)
+}
+
+/// The gate that counts the turns of the replica.
+fn counting() -> Counting {
+    Counting::of(Actor::Replica(ReplicaId::FIRST))
 }
 
 /// Compares the transcript of what was done.
@@ -35,13 +40,13 @@ fn a_shut_gate_stops_a_replica_before_its_first_try(rt: HostRuntime) -> Result<(
 #[test]
 fn turns_count_from_0_by_one_in_each_call(rt: HostRuntime) -> Result<(), Fail> {
     let mut office = one(rt.alloc())?;
-    let gate = Counting::new();
+    let gate = counting();
     assert_eq!(rt; office.run_replica(&rt, rt.alloc(), &gate, 2), Ok(()));
     assert_eq!(rt; gate.turns(), 6);
     // its count is 6, but the turn is 0 again
     let ran = office.run_replica(&rt, rt.alloc(), &gate, 1);
     assert_eq!(rt; ran, Err(Refusal::Stopped));
-    let gate = Counting::new();
+    let gate = counting();
     assert_eq!(rt; office.run_replica(&rt, rt.alloc(), &gate, 1), Ok(()));
     Ok(())
 }

@@ -1,8 +1,10 @@
 //! The host of a traitor, which posts by a script.
 
-use crate::gates::{Open, Until};
+use crate::gates::{Counting, Open, Until};
 use crate::office::{Office, transcript};
+use crate::told::log_text;
 use dsr_names::{Actor, Refusal, ReplicaId, Shape};
+use dsr_request::{Name, Op};
 use dsr_script::Script;
 use std::alloc::Global;
 use std::process::Abort;
@@ -36,6 +38,51 @@ fn is_told<R: Abort + Wait>(rt: &R, alloc: Global, script: &str, text: &str) -> 
     let logs = office.close();
     let told = transcript(alloc, &logs)?;
     assert_eq!(rt; told.as_slice(), text.as_bytes());
+    Ok(())
+}
+
+/// Compares how many turns the traitor has in a round by the script of this text. They are numbered from 0.
+fn has_turns<R: Abort + Wait>(rt: &R, alloc: Global, script: &str, turns: u64) -> Result<(), Fail> {
+    let script = Script::read(alloc, script.as_bytes())?;
+    let mut office = posted(rt, alloc)?;
+    let traitor = Actor::Replica(ReplicaId::of(2));
+    let gate = Counting::of(Actor::Replica(ReplicaId::of(2)));
+    let ran = office.run_traitor(rt, alloc, &traitor, &script, &gate, 1);
+    assert_eq!(rt; ran, Ok(()));
+    assert_eq!(rt; gate.turns(), turns);
+    Ok(())
+}
+
+/// The client asks all three replicas: a turn goes to each post, and one to each take between them.
+fn ask_all<R: Abort>(rt: &R, alloc: Global, office: &mut Office) -> Result<(), Fail> {
+    let name = Name::read(b"a")?;
+    let op = Op::Write { name, value: 7 };
+    assert_eq!(rt; office.ask(alloc, &op, 5), Err(Refusal::Unanswered));
+    Ok(())
+}
+
+/// The traitor makes a round by the script of this text, after the client asked it too.
+fn takes_and_posts<R: Abort + Wait>(
+    rt: &R,
+    alloc: Global,
+    office: &mut Office,
+    script: &str,
+) -> Result<(), Fail> {
+    let script = Script::read(alloc, script.as_bytes())?;
+    ask_all(rt, alloc, office)?;
+    let traitor = Actor::Replica(ReplicaId::of(2));
+    let ran = office.run_traitor(rt, alloc, &traitor, &script, &Open, 1);
+    assert_eq!(rt; ran, Ok(()));
+    Ok(())
+}
+
+/// Compares the log of the traitor after such a round.
+fn has_log<R: Abort + Wait>(rt: &R, alloc: Global, script: &str, text: &str) -> Result<(), Fail> {
+    let mut office = posted(rt, alloc)?;
+    takes_and_posts(rt, alloc, &mut office, script)?;
+    let logs = office.close();
+    let told = log_text(alloc, &logs, &Actor::Replica(ReplicaId::of(2)))?;
+    assert_eq!(rt; told.as_str(), text);
     Ok(())
 }
 
@@ -110,4 +157,30 @@ fn a_shut_gate_stops_a_traitor(rt: HostRuntime) -> Result<(), Fail> {
     let ran = office.run_traitor(&rt, rt.alloc(), &traitor, &script, &gate, 1);
     assert_eq!(rt; ran, Err(Refusal::Stopped));
     Ok(())
+}
+
+#[test]
+fn a_traitor_has_a_turn_for_each_try(rt: HostRuntime) -> Result<(), Fail> {
+    // a take from the client, three posts and three takes
+    has_turns(&rt, rt.alloc(), "dsr-serve 1 3 1 1 r2\n", 7)?;
+    // and a post to the client
+    let script = "dsr-serve 1 3 1 1 r2\nscript r2 0 c0 reply 1 0 held 9\n";
+    has_turns(&rt, rt.alloc(), script, 8)?;
+    // a forged draft is tried before the empty envelope
+    let script = "dsr-serve 1 3 1 1 r2\nscript r2 0 r1 round 0 2/idle/r1\n";
+    has_turns(&rt, rt.alloc(), script, 8)
+}
+
+#[test]
+fn a_traitor_takes_what_a_client_posted(rt: HostRuntime) -> Result<(), Fail> {
+    // so it has the client's signature, which it sends on in the same round
+    let script = "dsr-serve 1 3 1 1 r2\nscript r2 0 r1 round 0 2/c0#1:write:a:7~c0/r2\n";
+    let text = "take c0 ask c0#1:write:a:7~c0\n\
+        post r0 empty\n\
+        post r1 round 0 2/c0#1:write:a:7~c0/r2\n\
+        post r2 empty\n\
+        take r0 round 0 0/idle/r0\n\
+        take r1 empty\n\
+        take r2 empty\n";
+    has_log(&rt, rt.alloc(), script, text)
 }
