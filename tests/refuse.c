@@ -78,7 +78,7 @@ static void *begin_late(void *at)
     struct beginning *beginning = at;
     while (!__atomic_load_n(&let_go, __ATOMIC_SEQ_CST))
         sched_yield();
-    usleep(1000 * (useconds_t)(__atomic_load_n(&held_count, __ATOMIC_SEQ_CST) - 1 - (beginning - held)));
+    usleep(5000 * (useconds_t)(__atomic_load_n(&held_count, __ATOMIC_SEQ_CST) - 1 - (beginning - held)));
     return beginning->routine(beginning->argument);
 }
 

@@ -47,7 +47,7 @@ SERVED_SHAPES = ["1 0 1 -", "3 1 2 r2"]
 # traitors: so the stopped one has a lower place than the refused one where that is a loyal replica after a traitor.
 STOPPED_SHAPES = ["1 0 1 -", "3 1 1 r0", "5 2 3 r1+r4"]
 # How many milliseconds a thread's refusal takes then, in which the host of the thread before it is stopped, and stops the others.
-LATE = 20
+LATE = 60
 FORMS = [["serve"], ["serve", "--transcript"]]
 NO_MEMORY, NO_THREAD, NO_ANSWER = "dsr: no memory\n", "dsr: no thread\n", "dsr: no answer within the turns\n"
 # What the example says where there is no memory for its own words, of which it then has none.
