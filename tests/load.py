@@ -71,10 +71,14 @@ class Rounds(Play):
 def memory_of(words, text, room):
     """The most bytes that the program had on its heap with this text, and what it wrote; None where it did not end with status 0."""
     env = {**os.environ, "LD_PRELOAD": f"{room}/count.so", "COUNT_NOTE": f"{room}/counts"}
-    try:
-        ran = subprocess.run([PROGRAM, *words.split()], input=text, capture_output=True, timeout=SECONDS, env=env)
-    except subprocess.TimeoutExpired:
-        return 0, None
+    # A pipe gives pieces of any size, and how the input grows depends on them. A file gives as much as is asked for.
+    with tempfile.TemporaryFile() as given:
+        given.write(text)
+        given.seek(0)
+        try:
+            ran = subprocess.run([PROGRAM, *words.split()], stdin=given, capture_output=True, timeout=SECONDS, env=env)
+        except subprocess.TimeoutExpired:
+            return 0, None
     with open(f"{room}/counts") as file:
         return int(file.read().split()[3]), ran.stdout if (ran.returncode, ran.stderr) == (0, b"") else None
 
