@@ -4,7 +4,7 @@
 1. Plays of 2,500, 5,000 and 10,000 rounds, with `soak` most of 20,000 too, and the checks of their transcripts: one replica, three, and four of which one is a
    traitor; rounds in which nothing is asked, and such in which a request is asked for, decided and answered. All events must be done, all transcripts
    be runs. The most that is on the heap at once, counted, must be flat but for what is kept, which is the same of each round: of twice the rounds the later
-   ones take no more bytes each than the first ones, and a twentieth; and a round takes no more than is written here, which is a quarter more than
+   ones take no more bytes each than the first ones, and a twentieth; and a round takes no more than is written here, which is a tenth more than
    it took when that was measured.
 2. Services of 16 replicas and 32 clients, each with 25 operations, with `soak` with 100: without traitors, and with seven that tell each other's stories, lie to
    clients, and would forge. Each must serve all clients, and its report be right by definitions written anew (tests/slow_texts.py).
@@ -31,10 +31,10 @@ SECONDS = 300
 # Each kind of play: n, f, its traitors, whether requests are asked for, the most rounds whose transcript is not too long to be checked, and the bytes that a
 # round takes at most, in a play and in a check.
 KINDS = [
-    ("one replica, nothing asked", 1, 0, [], False, 20_000, 3_000, 900),
-    ("one replica, a request a round", 1, 0, [], True, 20_000, 7_500, 4_400),
-    ("three replicas, nothing asked", 3, 1, [], False, 20_000, 13_900, 9_400),
-    ("four replicas with a traitor, a request a round", 4, 1, [3], True, 10_000, 41_900, 32_400),
+    ("one replica, nothing asked", 1, 0, [], False, 20_000, 2_630, 790),
+    ("one replica, a request a round", 1, 0, [], True, 20_000, 6_620, 3_870),
+    ("three replicas, nothing asked", 3, 1, [], False, 20_000, 12_240, 8_290),
+    ("four replicas with a traitor, a request a round", 4, 1, [3], True, 10_000, 36_850, 28_570),
 ]
 OPERATIONS, OPERATIONS_SOAK = 25, 100
 LARGE = [("16 replicas and 32 clients", "-"), ("16 replicas, seven of them traitors, and 32 clients", "r1+r3+r5+r7+r9+r11+r13")]
@@ -71,10 +71,14 @@ class Rounds(Play):
 def memory_of(words, text, room):
     """The most bytes that the program had on its heap with this text, and what it wrote; None where it did not end with status 0."""
     env = {**os.environ, "LD_PRELOAD": f"{room}/count.so", "COUNT_NOTE": f"{room}/counts"}
-    try:
-        ran = subprocess.run([PROGRAM, *words.split()], input=text, capture_output=True, timeout=SECONDS, env=env)
-    except subprocess.TimeoutExpired:
-        return 0, None
+    # A pipe gives pieces of any size, and how the input grows depends on them. A file gives as much as is asked for.
+    with tempfile.TemporaryFile() as given:
+        given.write(text)
+        given.seek(0)
+        try:
+            ran = subprocess.run([PROGRAM, *words.split()], stdin=given, capture_output=True, timeout=SECONDS, env=env)
+        except subprocess.TimeoutExpired:
+            return 0, None
     with open(f"{room}/counts") as file:
         return int(file.read().split()[3]), ran.stdout if (ran.returncode, ran.stderr) == (0, b"") else None
 

@@ -198,12 +198,35 @@ def failing_calls(failing, is_soak):
             if wanted[0] == 0:
                 yield f"{words}, writes that fail", lambda row=row, most=most: fault_of_writes(failing, row, most, is_soak or most > 1)
         yield f"{words}, short reads and writes", lambda row=row: short_calls(failing, row)
+    yield "serve --transcript, reads and writes that fail", lambda: fault_of_transcribed(failing)
     shown_help = program("--help")
     yield "--help, writes that fail", lambda: fault_of_writes(failing, ("--help", b"", shown_help), 37, True)
     for words, text, wanted in refusals():
         yield f"{words}, writes on standard error that fail", lambda words=words, text=text, wanted=wanted: fault_of_errors(failing, words, text, wanted)
     for what, words, given, most, errors, wanted in worked_rows():
         yield what, lambda words=words, given=given, most=most, errors=errors, wanted=wanted: fault_of_worked(failing, words, given, most, errors, wanted)
+
+
+def fault_of_transcribed(failing):
+    """What is wrong with runs of `serve --transcript` whose calls fail, or None; and how many they are. Which steps a service has is up to its threads, so of
+    what went out it is known how long it is, and how it begins, and of a whole transcript that it is a run."""
+    words, text = "serve --transcript", bytes_of("services/nothing-asked.serve")
+    header = text.replace(b"dsr-serve", b"dsr-transcript")
+    reads = -(-len(text) // 7) + 1
+    for count, (nth, error, times) in enumerate(failures(READ_ERRORS, True), 1):
+        if nth > reads:
+            break
+        fault = difference(failing.run(words, text, 0, nth, error, times, 7)[0], UNREAD)
+        if fault:
+            return f"read {nth} fails with error {error}: {fault}", count
+    for nth, error, times in failures(WRITE_ERRORS, False):
+        run, calls = failing.run(words, text, 1, nth, error, times, 7)
+        count += 1
+        if not calls:
+            checked = program("check", run[1])
+            return (None if (run[0], run[2], checked[0]) == (0, b"", 0) and nth > 3 else f"{shown(run)}, and {shown(checked)}"), count
+        if (run[0], run[2], len(run[1]), calls) != (1, UNWRITTEN[1], 7 * (nth - 1), 1) or run[1][:len(header)] != header[:len(run[1])] or nth > 400:
+            return f"write {nth} fails with error {error}, times {times}: {shown(run)}, {calls} calls", count
 
 
 def short_calls(failing, row):
@@ -261,6 +284,16 @@ def closed_streams(row):
     yield by_shell(words, text, "2> /dev/full"), (status, output, b"")
     yield by_shell(words, b"", "<&- 2>&-"), (1, b"", b"")
     yield by_shell(words, text, "<&- >&- 2>&-"), (1, b"", b"")
+
+
+def transcribed_streams():
+    words, text = "serve --transcript", bytes_of("services/nothing-asked.serve")
+    yield by_shell(words, b"", "<&-"), UNREAD
+    yield by_shell(words, b"", f"< '{TOP}'"), UNREAD
+    yield idle_pipe(words), UNREAD
+    yield by_shell(words, text, ">&-"), (1, b"", UNWRITTEN[1])
+    yield by_shell(words, text, "> /dev/full"), (1, b"", UNWRITTEN[1])
+    yield unread_pipe(words, text, signal.SIG_DFL), (1, b"", UNWRITTEN[1])
 
 
 def unread_pipe(words, text, handled):
@@ -384,7 +417,7 @@ def wait_and_type(child, terminal):
 
 def terminals():
     """What is done at terminals, the words, how it is done, and what the program may give."""
-    for words in ("apply", "play", "play --transcript", "serve", "check"):
+    for words in ("apply", "play", "play --transcript", "serve", "serve --transcript", "check"):
         nothing = (0, b"", b"") if words == "apply" else slow_texts.refused("bad text in line 1")
         yield f"{words}, a terminal with the end of input at once", words, end_input, [nothing]
         # what a terminal gives that is gone is the end of input, or an error
@@ -420,6 +453,7 @@ def system_streams():
             yield f"{words}, pipes that nobody reads", lambda row=row: fault_of_pairs(unread_pipes(row))
         yield f"{words}, input that is not there yet", lambda words=words: fault_of_pairs([(idle_pipe(words), UNREAD)])
         yield f"{words}, input in pieces", lambda row=row: fault_of_pairs([(in_pieces(row[0], row[1], 5), row[2])])
+    yield "serve --transcript, streams that fail", lambda: fault_of_pairs(transcribed_streams())
     yield "apply, a pipe that is left", lambda: fault_of_pairs([(left_pipe(count), (1, many_lines()[1][:count], UNWRITTEN[1])) for count in (1, 1000, 70_000)])
     yield "apply, a pipe that is full", lambda: fault_of_pairs([full_pipe()])
     for what, words, act, allowed in terminals():
