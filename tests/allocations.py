@@ -49,8 +49,8 @@ CRATES = ["dsr_request_tests", "dsr_history_tests", "dsr_envelope_tests", "dsr_s
           "dsr_play_tests", "dsr_world_tests", "dsr_mail_tests", "dsr_mail_record_tests", "dsr_record_tests", "dsr_rounds_tests",
           "dsr_check_tests"]
 # Tests that end otherwise: those of dsr_command and dsr_cli, whose calls say it by what they answer (these calls are in the runs of the program);
-# and those of dsr_mail_tests, dsr_mail_record_tests and dsr_rounds_tests that run threads, of which one waits for ever where the other one ended for
-# want of memory. What they call is called by its other tests too.
+# and those of dsr_mail_tests and dsr_mail_record_tests that run threads, of which one waits for ever where the other one ended for want of memory.
+# What they call is called by its other tests too.
 ANSWERED = ("command::", "threads::")
 MOST_RUNS = 20_000
 WANT_OF_MEMORY = re.compile(rb"^(?:[Ee]rror:|  left:) .*(NoMemory|AllocError|AllocFailed|WriteFailed)", re.M)

@@ -4,8 +4,8 @@ ghost use Rattle.std.specs.Prelude.{◌≡◌};
 
 use dsr_names::Actor;
 use dsr_rounds::Gate;
+use std::sync::atomic::AtomicU64;
 use std::sync::atomic::Ordering::SeqCst;
-use std::sync::atomic::{AtomicBool, AtomicU64};
 
 /// Lets everybody go on.
 #[derive(Drop)]
@@ -61,33 +61,5 @@ impl Gate for Counting {
 
     fn pass(&self, actor: Actor, turn: u64) -> bool {
         actor == self.actor && turn == self.turns.fetch_add(1, SeqCst)
-    }
-}
-
-/// Lets everybody go on until it is shut.
-#[derive(Drop)]
-pub(crate) struct Closing {
-    shut: AtomicBool,
-}
-
-impl Closing {
-    /// A gate that is open.
-    pub(crate) fn new() -> Closing {
-        Closing {
-            shut: AtomicBool::new(false),
-        }
-    }
-
-    /// Shuts it.
-    pub(crate) fn shut(&self) {
-        self.shut.store(true, SeqCst);
-    }
-}
-
-impl Gate for Closing {
-    ghost may_refuse = { λ _ _. Unit {0} };
-
-    fn pass(&self, _actor: Actor, _turn: u64) -> bool {
-        !self.shut.load(SeqCst)
     }
 }

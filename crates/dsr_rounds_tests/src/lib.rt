@@ -9,8 +9,6 @@ mod gates;
 #[cfg(test)]
 mod office;
 #[cfg(test)]
-mod pair;
-#[cfg(test)]
 mod replicas;
 #[cfg(test)]
 mod replies;
@@ -19,10 +17,6 @@ mod ring;
 #[cfg(test)]
 mod single_rounds;
 #[cfg(test)]
-mod threads;
-#[cfg(test)]
 mod told;
 #[cfg(test)]
 mod traitors;
-#[cfg(test)]
-mod trio;
