@@ -6,7 +6,7 @@ program.
    how many steps it has is known by how it was made, and that nothing acts. Then the same with a last line that is no step, and with one byte
    more than may be read. The program has twice the memory that it needed when that was measured: so many MiB for each kind.
 2. Transcripts with some 700,000 signatures that are spelled out: all the same, of a traitor, and of a client, which each time must be found among those
-   that a service made known; and all different, but alike in signer, slot, and how many signed before, by which a signature is looked up. A byte of
+   that a service made known; and all different, but alike in signer, slot, and how many signed before; and scripts with such signatures. A byte of
    them may take four times the processor time of a byte of the transcript of a service, or of the first of these, if that is less; and a byte of a service of
    four times the rounds half as much again.
 
@@ -91,6 +91,8 @@ SIGNATURES = 700_000
 OF_AN_ENVELOPE = 512
 MOST_TIMES, MOST_GROWTH = 4, 1.5
 RUNS = 3
+# Rounds of a script, and operations of its client.
+OF_A_SCRIPT = 24
 
 
 def alike(first, signature):
@@ -106,19 +108,29 @@ def alike(first, signature):
     return "".join(f"{line}\n" for line in lines).encode(), len(lines) - 1
 
 
-def least_time(text, steps):
-    """The least seconds of a processor that the program takes for this transcript, a byte of it; None where it is no run of so many steps."""
+def script(signature):
+    """A script with so many signatures, which its traitor posts to itself: what it took it may post again, so it keeps them. `signature` gives each of a number."""
+    lines = ["dsr-serve 1 3 1 1 r0", *["ask c0 read a"] * OF_A_SCRIPT]
+    for round_number in range(OF_A_SCRIPT):
+        signatures = [signature(1_000_000 + round_number * OF_AN_ENVELOPE + at) for at in range(OF_AN_ENVELOPE)]
+        chains = " ".join("0/idle/" + "+".join(signatures[at:at + 16]) for at in range(0, OF_AN_ENVELOPE, 16))
+        lines.append(f"script r0 {round_number} r0 round {round_number} {chains}")
+    return "".join(f"{line}\n" for line in lines).encode()
+
+
+def least_time(task, text, begins):
+    """The least seconds of a processor that the program takes for this text, a byte of it; None where what it writes does not begin so."""
     times = []
     for _ in range(RUNS):
         with tempfile.TemporaryFile() as given, tempfile.TemporaryFile() as report:
             given.write(text)
             given.seek(0)
             # the time of the one is that of the other too
-            child = subprocess.Popen(["timeout", "120", PROGRAM, "check"], stdin=given, stdout=report, env=ENVIRONMENT)
+            child = subprocess.Popen(["timeout", "120", PROGRAM, task], stdin=given, stdout=report, env=ENVIRONMENT)
             _, status, used = os.wait4(child.pid, 0)
             child.returncode = os.waitstatus_to_exitcode(status)
             report.seek(0)
-            if child.returncode != 0 or not report.read().startswith(b"run %d\n" % steps):
+            if child.returncode != 0 or not report.read().startswith(begins):
                 return None
             times.append(used.ru_utime + used.ru_stime)
     return min(times) / len(text)
@@ -143,8 +155,8 @@ def times():
         (f"{SIGNATURES} times the same signature of a client, after a service", MOST_TIMES, *alike(asked, lambda number: f"c0({last})")),
         (f"signatures that agree in signer, slot and count, up to {SIGNATURES}", MOST_TIMES, *alike([], lambda number: f"r0(0/c0#{number + 1}:read:a/-)")),
     ]
-    found = [least_time(text, steps) for _, _, text, steps in cases]
-    usual = least_time(common, common.count(b"\n") - 1)
+    found = [least_time("check", text, b"run %d\n" % steps) for _, _, text, steps in cases]
+    usual = least_time("check", common, b"run %d\n" % (common.count(b"\n") - 1))
     if usual is None or None in found:
         yield "transcripts whose time is taken", "one of them is no run", ""
         return
@@ -153,6 +165,19 @@ def times():
     for (what, most, text, _), a_byte in zip(cases, found):
         said = f"{len(text)} bytes, {a_byte * len(text):.2f} seconds, {a_byte / least:.2f} times as long a byte as {len(common)} bytes of a service, or the second of these"
         yield what, said if a_byte > most * least else None, said
+    yield from script_times()
+
+
+def script_times():
+    """The same of scripts: what signatures take that differ in what is signed alone, beside some that differ in their slot."""
+    alike_ones, others = script(lambda number: f"r0(0/c0#{number}:read:a/-)"), script(lambda number: f"r0({number}/c0#1:read:a/-)")
+    a_byte, usual = (least_time("serve", text, b"accepted c0 1 ") for text in (alike_ones, others))
+    what = f"a script with {OF_A_SCRIPT * OF_AN_ENVELOPE} signatures that agree in signer, slot and count"
+    if a_byte is None or usual is None:
+        yield what, "one of two scripts is not served", ""
+        return
+    said = f"{len(alike_ones)} bytes, {a_byte * len(alike_ones):.2f} seconds, {a_byte / usual:.2f} times as long a byte as where they differ in their slot"
+    yield what, said if a_byte > MOST_TIMES * usual else None, said
 
 
 def main():

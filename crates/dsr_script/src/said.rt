@@ -17,7 +17,6 @@ use dsr_desk::{Signature, Statement};
 use dsr_names::{Actor, Refusal};
 use dsr_request::Request;
 use std::alloc::Global;
-use std::hash::{Hash, Hasher};
 use std::marker::Model;
 
 /// What a signature says: its signer and its statement. Anybody can make one, and it is no signature.
@@ -70,29 +69,6 @@ impl Said {
         ensures { result.now ≡ self.now.statement }
     {
         &self.statement
-    }
-}
-
-// What is hashed tells the signatures of one run well apart: a loyal signer signs few links of a slot.
-impl Hash for Said {
-    ghost use Rattle.dsr_script.specs.Support.SaidHash.{said_fed, said_fed_alike};
-
-    ghost hash_input = { said_fed };
-
-    ghost respects_eq = { said_fed_alike };
-
-    fn hash<H: Hasher>(&self, state: &mut H) {
-        match self.signer {
-            Actor::Replica(replica) => state.write_u8(replica.number()),
-            Actor::Client(client) => state.write_u8(client.number()),
-        }
-        match &self.statement {
-            Statement::Ask(request) => state.write_u64(request.number()),
-            Statement::Link { slot, before, .. } => {
-                state.write_u64(*slot);
-                state.write_u8(before.len() as u8);
-            }
-        }
     }
 }
 
