@@ -6,6 +6,7 @@ use Rattle.std.specs.Option.{option_to_list, is_some}
 use Rattle.std.proofs.lemmas.Bool.{false≢true}
 use Rattle.std.proofs.lemmas.Bool.Decides.{same_from_decides, Decides-eqb}
 use Rattle.dsr_names.specs.Shape.{Shape}
+use Rattle.dsr_request.specs.Request.{Request}
 use Rattle.dsr_names.specs.declared.actor.Actor.{Actor}
 use Rattle.dsr_chain.specs.Content.{content}
 use Rattle.dsr_chain.specs.ProperTest.{is_proper, same_content, is_signer}
@@ -58,6 +59,30 @@ no_news_beside_same shape slot round k chain same tells agrees =
 pub no_news_beside_two : (shape : Shape) (slot round : ℕ) (k l : Kept) (chain : Chain) → is_news shape slot round (k ∷ l ∷ []) chain ≡ false
 no_news_beside_two shape slot round k l chain =
     third_is_none (is_proper shape slot round chain) (is_kept (content chain.value) (k ∷ l ∷ []))
+
+-- ---- whether a content is kept
+
+or_false : (b : Bool) → b ≡ (b || false)
+or_false true = refl
+or_false false = refl
+
+-- by a test of the one chain's content
+pub kept_alone : (k : Kept) (chain : Chain) (same : Bool) → (IsTrue same ↔ (content_of k ≡ content chain.value))
+    → same ≡ is_kept (content chain.value) (k ∷ [])
+kept_alone k chain same tells =
+    same_test same (same_content (content_of k) (content chain.value)) (same_content-Decides (content_of k) (content chain.value)) tells
+    ∙ or_false (same_content (content_of k) (content chain.value))
+
+or_one : (b c : Bool) → (b || (c || false)) ≡ ((b || false) || (c || false))
+or_one true c = refl
+or_one false c = refl
+
+-- at one place or at the other
+pub kept_at_either : (wanted : Option (List Request)) (first second : Option Kept)
+    → is_kept wanted (option_to_list first ++ option_to_list second) ≡ (is_kept wanted (option_to_list first) || is_kept wanted (option_to_list second))
+kept_at_either wanted None second = refl
+kept_at_either wanted (Some k) None = or_false (is_kept wanted (k ∷ []))
+kept_at_either wanted (Some k) (Some l) = or_one (same_content (content_of k) wanted) (same_content (content_of l) wanted)
 
 -- ---- what is kept
 

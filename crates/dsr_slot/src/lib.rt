@@ -3,10 +3,13 @@
 #![tactic(auto)]
 
 mod decision;
+mod fate;
 mod kept;
 mod laws;
 mod slot_state;
 
 pub use decision::Decision;
+pub use fate::Fate;
+pub use kept::Kept;
 pub use laws::{agreement_and_validity, first_two_contents_are_kept, rules_are_blind};
 pub use slot_state::SlotState;

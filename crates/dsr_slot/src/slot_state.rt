@@ -1,15 +1,18 @@
 ghost use Rattle.std.specs.Prelude.{◌≡◌, ℕ, suc, ◌+◌, ◌<◌, ◌≤◌, ◌↔◌, ◌++◌, ◌∷◌, List, [], Some, All, IfOk, IfSome, IsOk, IsSome, false, length, vec_capacity, IsOkUnless};
 ghost use Rattle.dsr_chain.specs.Chain.{Chain};
-ghost use Rattle.dsr_chain.specs.Content.{signed_in};
+ghost use Rattle.std.specs.Option.{option_map, option_to_list};
+ghost use Rattle.dsr_chain.specs.Content.{content, signed_in};
 ghost use Rattle.dsr_chain.specs.Proper.{IsAsked};
 ghost use Rattle.dsr_chain.specs.ProperTest.{is_proper};
-ghost use Rattle.dsr_slot.specs.Keeping.{kept_after, keep_one, is_news};
+ghost use Rattle.dsr_slot.specs.Fate.{IsFate, IsFateBeside};
+ghost use Rattle.dsr_slot.specs.Keeping.{kept_after, keep_one, is_kept, is_news};
 ghost use Rattle.dsr_slot.specs.Conduct.{relayed, is_relayed};
 ghost use Rattle.dsr_slot.specs.Support.SlotState.{IsOfSomeRound};
 ghost use Rattle.dsr_slot.specs.Decision.{decision, decided};
 ghost use Rattle.dsr_slot.specs.SlotState.{opened, with_chain, with_closed, with_round, decision_of, StandsFor, HasRead, IsOneChainMore};
 
 use crate::decision::Decision;
+use crate::fate::Fate;
 use crate::kept::Kept;
 use dsr_chain::{Chain, SlotValue};
 use dsr_desk::Key;
@@ -78,6 +81,41 @@ impl SlotState {
         ensures most { result ≤ 8 }
     {
         self.closed
+    }
+
+    /// The same state once more. It shares what the kept chains hold. `NoMemory` where one handle more is refused.
+    pub fn try_copy(&self) -> Result<SlotState, Refusal>
+        ensures same { IfOk result (λ copy. copy ≡ self.now) }
+        ensures refusal { IsOkUnless result Refusal.NoMemory }
+    {
+        let first = copy_of(&self.first)?;
+        let second = copy_of(&self.second)?;
+        Ok(SlotState {
+            shape: self.shape,
+            slot: self.slot,
+            closed: self.closed,
+            first,
+            second,
+        })
+    }
+
+    /// The chains that are kept, in the order in which they were read: at most two, and no second one where there is no first.
+    pub fn kept(&self) -> (Option<&Kept>, Option<&Kept>)
+        ensures { self.now.kept ≡ option_to_list (option_map (λ k. k.now) result.0) ++ option_to_list (option_map (λ k. k.now) result.1) }
+    {
+        (self.first.as_ref(), self.second.as_ref())
+    }
+
+    /// What would become of the chain if it was read now, in the round after the closed ones. Nothing changes by it. Requires that the
+    /// slot has such a round: that at most f are closed.
+    pub fn fate(&self, chain: &Chain) -> Fate
+        requires within { self.now.closed ≤ self.now.shape.f }
+        ensures { IsFate self.now.shape self.now.slot (suc self.now.closed) self.now.kept chain.now result }
+    {
+        match chain.check(&self.shape, self.slot, self.closed + 1) {
+            Ok(()) => self.fate_beside(chain),
+            Err(fault) => Fate::Improper(fault),
+        }
     }
 
     /// Reads one more chain in the round after the closed ones. Requires that the slot has such a round: that at most f are
@@ -177,6 +215,27 @@ impl SlotState {
         }
     }
 
+    /// What becomes of a proper chain beside those that are kept.
+    fn fate_beside(&self, chain: &Chain) -> Fate
+        ensures { IsFateBeside self.now.kept (content chain.now.value) result }
+    {
+        if self.is_kept(chain) {
+            return Fate::NotNew;
+        }
+        match (&self.first, &self.second) {
+            (None, _) => Fate::First,
+            (Some(_), None) => Fate::Second,
+            (Some(_), Some(_)) => Fate::OneTooMany,
+        }
+    }
+
+    /// Whether a chain of the same content is kept.
+    fn is_kept(&self, chain: &Chain) -> bool
+        ensures { result ≡ is_kept (content chain.now.value) self.now.kept }
+    {
+        has_content(&self.first, chain) || has_content(&self.second, chain)
+    }
+
     /// Keeps the chain where it is proper for this round and new, and fewer than two are kept.
     fn keep(&mut self, round: u8, chain: Chain)
         requires some { 0 < round }
@@ -216,6 +275,27 @@ impl SlotState {
         ensures { result ≡ is_proper self.now.shape self.now.slot round chain.now }
     {
         chain.check(&self.shape, self.slot, round).is_ok()
+    }
+}
+
+/// The kept chain once more, where there is one.
+fn copy_of(kept: &Option<Kept>) -> Result<Option<Kept>, Refusal>
+    ensures same { IfOk result (λ copy. copy ≡ kept.now) }
+    ensures refusal { IsOkUnless result Refusal.NoMemory }
+{
+    match kept {
+        Some(kept) => Ok(Some(kept.try_copy()?)),
+        None => Ok(None),
+    }
+}
+
+/// Whether there is a kept chain, and it has the content of the other one.
+fn has_content(kept: &Option<Kept>, chain: &Chain) -> bool
+    ensures { result ≡ is_kept (content chain.now.value) (option_to_list kept.now) }
+{
+    match kept {
+        Some(kept) => kept.chain.same_content(chain),
+        None => false,
     }
 }
 

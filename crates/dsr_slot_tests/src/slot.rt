@@ -1,8 +1,8 @@
-use dsr_chain::{Batch, Chain, SignedRequest, SlotValue};
+use dsr_chain::{Batch, Chain, ChainFault, SignedRequest, SlotValue};
 use dsr_desk::{Key, Keys};
 use dsr_names::{Actor, ClientId, ReplicaId, Shape};
 use dsr_request::{Name, Op, Request};
-use dsr_slot::{Decision, SlotState};
+use dsr_slot::{Decision, Fate, SlotState};
 use std::alloc::Global;
 use std::process::Abort;
 use std::test::Fail;
@@ -550,4 +550,58 @@ fn decides_a_loyal_senders_value(rt: HostRuntime) -> Result<(), Fail> {
         given(4, 1, 1, &[4, 5, 6]),
     ];
     agrees(&rt, alloc, &desk, &gifts, Some(0))
+}
+
+/// Reads one chain more in the round after the closed ones, and returns what it was told would become of it.
+fn fate_of_next(rt: &impl Abort, state: &mut SlotState, chain: Chain) -> Fate {
+    // that at most f+1 rounds are closed is known from here on
+    let _closed = state.closed_rounds();
+    assert!(rt; state.decide().is_none());
+    let fate = state.fate(&chain);
+    state.read(chain);
+    fate
+}
+
+#[test]
+fn each_chain_has_its_fate(rt: HostRuntime) -> Result<(), Fail> {
+    let rows: [(u8, &'static [usize], Fate); 7] = [
+        (0, &[0, 1], Fate::Improper(ChainFault::WrongCount)),
+        (0, &[0], Fate::First),
+        (0, &[0], Fate::NotNew),
+        (1, &[1], Fate::Improper(ChainFault::WrongSender)),
+        (1, &[0], Fate::Second),
+        (2, &[0], Fate::OneTooMany),
+        (1, &[0], Fate::NotNew),
+    ];
+    let desk = open_desk(rt.alloc(), Shape::new(3, 1, 3, 0)?)?;
+    let mut state = SlotState::new(&desk.shape, 0);
+    for (client, signers, fate) in &rows {
+        let plan = Plan {
+            client: *client,
+            signers: *signers,
+        };
+        let chain = chain_of(rt.alloc(), &desk, 0, plan)?;
+        assert_eq!(rt; fate_of_next(&rt, &mut state, chain), *fate);
+    }
+    Ok(())
+}
+
+#[test]
+fn what_is_kept_is_lent(rt: HostRuntime) -> Result<(), Fail> {
+    let desk = open_desk(rt.alloc(), Shape::new(3, 1, 3, 0)?)?;
+    let mut state = SlotState::new(&desk.shape, 0);
+    let plan = Plan {
+        client: 1,
+        signers: &[0],
+    };
+    let chain = chain_of(rt.alloc(), &desk, 0, plan)?;
+    let content = chain.content();
+    read_next(&rt, &mut state, chain);
+    let copy = state.try_copy()?;
+    let (first, second) = copy.kept();
+    let first = first.ok_or("nothing is kept")?;
+    assert_eq!(rt; first.round, 1);
+    assert!(rt; first.chain.content() == content);
+    assert!(rt; second.is_none());
+    Ok(())
 }
