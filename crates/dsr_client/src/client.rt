@@ -11,7 +11,8 @@ ghost use Rattle.dsr_envelope.specs.declared.entry.Entry.TheVariants.{Post, Take
 ghost use Rattle.dsr_envelope.specs.declared.pick.Pick.TheVariants.{Begin};
 ghost use Rattle.dsr_client.specs.Client.{StandsFor, MayBegin, IsClientOf};
 ghost use Rattle.dsr_client.specs.Conduct.{ask_of, ask_to};
-ghost use Rattle.dsr_client.specs.State.{outstanding, accepted, seen};
+ghost use Rattle.dsr_client.specs.State.{state_after, outstanding, accepted, seen};
+ghost use Rattle.dsr_quorum.specs.Tally.{StandsFor as Counts};
 
 use dsr_chain::SignedRequest;
 use dsr_desk::Key;
@@ -74,6 +75,16 @@ impl Client {
     {
         let ask = self.outstanding.as_ref()?;
         Some(ask.request.number())
+    }
+
+    /// The votes for replies to the outstanding request.
+    pub fn tally(&self) -> &Tally
+        ensures same { result.now ≡ self.now.tally }
+        ensures f { result.now.f ≡ self.now.shape.f }
+        ensures n { result.now.n ≡ self.now.shape.n }
+        ensures stands { (log : List Entry) → StandsFor self.now log → Counts result.now (state_after self.now.shape log).notes }
+    {
+        &self.tally
     }
 
     /// The ask that `begin` would make of this operation; `None` where `begin` would refuse.

@@ -103,3 +103,14 @@ fn one_vote_is_enough_where_nobody_lies(rt: HostRuntime) {
     tally.note(ReplicaId::FIRST, reply_at(0));
     assert_eq!(rt; tally.winner(), Some(reply_at(0)));
 }
+
+#[test]
+fn each_reply_has_its_votes(rt: HostRuntime) -> Result<(), Fail> {
+    let tally = tally_of(&[(0, 5), (1, 6), (0, 6), (2, 5)])?;
+    assert_eq!(rt; tally.votes(&reply_at(5)), 2);
+    assert_eq!(rt; tally.votes(&reply_at(6)), 1);
+    assert_eq!(rt; tally.votes(&reply_at(7)), 0);
+    assert_eq!(rt; tally.vote_of(ReplicaId::FIRST), Some(reply_at(5)));
+    assert_eq!(rt; tally.vote_of(ReplicaId::of(3)), None);
+    Ok(())
+}

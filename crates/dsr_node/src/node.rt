@@ -144,6 +144,18 @@ impl Node {
         }
     }
 
+    /// The client. Requires a client.
+    pub fn client(&self) -> &Client
+        requires { IsClient self.now }
+        ensures { (shape : Shape) (c : ℕ) (log : List Entry) → Plays shape (ClientNumber c) log self.now
+            → (result.now.me ≡ c) × (result.now.shape ≡ shape) × StandsForClient result.now log }
+    {
+        match self {
+            Node::Client(customer) => customer.client(),
+            Node::Loyal(_) | Node::Traitor => unreachable!(),
+        }
+    }
+
     /// A client's seen front. Requires a client.
     pub fn seen(&self) -> u64
         requires { IsClient self.now }

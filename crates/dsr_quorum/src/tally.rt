@@ -1,7 +1,7 @@
 ghost use Rattle.std.specs.Prelude.{◌≡◌, ℕ, ◌<◌, ◌≤◌, ◌∷◌, [], List, None, Some, nat_lt, if◌then◌else◌};
 ghost use Rattle.dsr_quorum.specs.Tally.{StandsFor};
 ghost use Rattle.dsr_quorum.specs.Support.Tally.{vote_in, votes_in};
-ghost use Rattle.dsr_quorum.specs.Votes.{Note, winner};
+ghost use Rattle.dsr_quorum.specs.Votes.{Note, first_of, votes, winner};
 
 use dsr_ledger::Reply;
 use dsr_names::ReplicaId;
@@ -78,6 +78,14 @@ impl Tally {
         self.winner
     }
 
+    /// The reply that the replica, one below n, gave first; `None` while it gave none.
+    pub fn vote_of(&self, replica: ReplicaId) -> Option<Reply>
+        requires { replica < self.now.n }
+        ensures { (notes : List Note) → StandsFor self.now notes → result ≡ first_of replica notes }
+    {
+        self.firsts[replica.number() as usize]
+    }
+
     /// The reply, where more than f replicas gave it first.
     fn elected(&self, reply: Reply) -> Option<Reply>
         ensures { result ≡ (if nat_lt self.now.f (votes_in self.now reply) then Some reply else None) }
@@ -89,9 +97,10 @@ impl Tally {
         }
     }
 
-    /// How many replicas gave this reply first.
-    fn votes(&self, reply: &Reply) -> u8
-        ensures { result ≡ votes_in self.now reply.now }
+    /// How many replicas gave this reply first: at most n.
+    pub fn votes(&self, reply: &Reply) -> u8
+        ensures same { result ≡ votes_in self.now reply.now }
+        ensures stands { (notes : List Note) → StandsFor self.now notes → result ≡ votes self.now.n notes reply.now }
     {
         let mut count = 0;
         for place in 0..self.n as usize {

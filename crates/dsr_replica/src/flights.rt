@@ -63,6 +63,13 @@ impl Flights {
         self.round
     }
 
+    /// The slots in flight.
+    pub(crate) fn slots(&self) -> &[SlotState]
+        ensures { result.now ≡ self.now.slots }
+    {
+        self.slots.as_slice()
+    }
+
     /// Reads a chain in the round in progress: in that of the slots in flight which it is of.
     pub(crate) fn read(&mut self, chain: Chain)
         ensures { self.new ≡ record self.old { slots = map (λ s. with_chain s chain) self.old.slots } }

@@ -2,6 +2,7 @@ ghost use Rattle.std.specs.Prelude.{◌≡◌, ℕ, suc, ◌+◌, ◌<◌, ◌�
 ghost use Rattle.std.specs.Option.{option_map};
 ghost use Rattle.dsr_names.specs.Shape.{Shape, IsActor};
 ghost use Rattle.dsr_names.specs.Support.ActorEquality.{actor_eq};
+ghost use Rattle.dsr_base.specs.Member.{In};
 ghost use Rattle.dsr_chain.specs.Proper.{sender_of};
 ghost use Rattle.dsr_chain.specs.Content.{requests_in};
 ghost use Rattle.dsr_chain.specs.declared.slot_value.SlotValue.{SlotValue};
@@ -14,7 +15,8 @@ ghost use Rattle.dsr_envelope.specs.declared.due.Due.TheVariants.{Post as PostTo
 ghost use Rattle.dsr_envelope.specs.declared.pick.Pick.TheVariants.{From};
 ghost use Rattle.dsr_envelope.specs.declared.envelope.Envelope.{Envelope};
 ghost use Rattle.dsr_replica.specs.Conduct.{envelope_to, is_due, reply_to};
-ghost use Rattle.dsr_replica.specs.Decided.{decided_values, decided_requests};
+ghost use Rattle.dsr_replica.specs.Decided.{decided_values, decided_requests, slot_read};
+ghost use Rattle.dsr_slot.specs.SlotState.{SlotState as SlotStateOf, HasRead};
 ghost use Rattle.dsr_envelope.specs.Envelope.{chains_for, round_envelope};
 ghost use Rattle.dsr_replica.specs.Held.{held};
 ghost use Rattle.dsr_envelope.specs.Log.{due, rounds};
@@ -32,7 +34,7 @@ use dsr_desk::Key;
 use dsr_envelope::{Chains, Clients, Due, Envelope, Pick};
 use dsr_names::{Actor, ClientId, Refusal, ReplicaId, Shape};
 use dsr_request::Request;
-use dsr_slot::Decision;
+use dsr_slot::{Decision, SlotState};
 use std::alloc::Global;
 use std::marker::Model;
 
@@ -100,6 +102,15 @@ impl Replica {
         ensures most { self.now.round ≤ 2 ^ 36 }
     {
         self.due
+    }
+
+    /// The slots in flight in the round in progress, by their numbers: at most f+1. Each has read what came in its rounds so far.
+    pub fn in_flight(&self) -> &[SlotState]
+        ensures same { result.now ≡ self.now.slots }
+        ensures stands { (log : List Entry) (state : SlotStateOf) → StandsFor self.now log → In state result.now
+            → HasRead state (slot_read state.shape log state.slot) }
+    {
+        self.flights.slots()
     }
 
     /// Whether it may post to this replica by this choice: the post is due, there is such an envelope, and the round is below
