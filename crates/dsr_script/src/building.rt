@@ -117,7 +117,7 @@ fn are_links_held(
 }
 
 /// Whether the signature is by the holder of one of the keys, or is known.
-fn is_held(said: &Said, keys: &[Key], known: &Known) -> bool
+pub(crate) fn is_held(said: &Said, keys: &[Key], known: &Known) -> bool
     ensures { IsTrue result ↔ IsHeldOrKnown keys.now known.now.signatures said.now }
 {
     key_of(keys, said.signer()).is_some() || known.find(said).is_some()
