@@ -1,6 +1,6 @@
 -- How the parts of a world go on standing for its run, event by event.
 use Rattle.std.proofs.Common.{◌≡◌, ◌↔◌, ℕ, suc, ◌<◌, ◌^◌, ◌&&◌, ◌||◌, not, nat_lt, Bool, true, false, List, [], ◌∷◌, ◌++◌, Option, None, Some, length, length-append, reverse, if◌then◌else◌, ◌⊎◌, inl, inr, refl, ap, sym, ◌∙◌, arith}
-use Rattle.std.specs.Prelude.{Any, slice_set}
+use Rattle.std.specs.Prelude.{Any, slice_get, slice_set}
 use Rattle.std.specs.Option.{option_map, is_none}
 use Rattle.std.proofs.lemmas.Bool.{true≢false}
 use Rattle.std.proofs.lemmas.Bool.Decides.{nat_tests}
@@ -246,3 +246,15 @@ done_post shape run from to pick x e = record {
   went_on = refl;
   answers = post_answers shape run from to x;
 }
+
+-- the box holds the first envelope that was posted there and not taken
+pub box_holds : (box : MailBox Envelope) (posted taken : List Envelope) → IsBoxOf box posted taken → slice_get posted (length taken) ≡ box.item
+box_holds box posted taken is = ap (λ xs. slice_get xs (length taken)) is.holds ∙ (past taken (held_in box.item) ∙ first box.item)
+  where
+    past : (ys xs : List Envelope) → slice_get (ys ++ xs) (length ys) ≡ slice_get xs 0
+    past [] xs = refl
+    past (y ∷ ys) xs = past ys xs
+
+    first : (o : Option Envelope) → slice_get (held_in o) 0 ≡ o
+    first None = refl
+    first (Some x) = refl

@@ -1,8 +1,9 @@
 ghost use Rattle.std.specs.Prelude.{true, false, ◌++◌, IfSome, IsSome, ◌⊎◌, Any, OnOk, vec_len, vec_capacity, ◌≡◌, ◌≢◌, ◌↔◌, ◌&&◌, ℕ, ◌<◌, ◌≤◌, ◌+◌, [], ◌∷◌, List, Option, None, Some, Err, length, reverse, slice_index_or, IfOk, IsOk, OnErr, IsTrue, IsOkUnless};
-ghost use Rattle.std.specs.Option.{option_to_list};
+ghost use Rattle.std.specs.Option.{option_map, option_to_list};
 ghost use Rattle.dsr_names.specs.Shape.{IsActor, IsLoyal, is_traitor};
 ghost use Rattle.dsr_names.specs.declared.actor.Actor.TheVariants.{Replica as ReplicaNumber, Client as ClientNumber};
-ghost use Rattle.dsr_node.specs.Node.{Plays};
+ghost use Rattle.dsr_node.specs.Node.{Plays, PlaysReplica};
+ghost use Rattle.dsr_client.specs.Client.{StandsFor as StandsForClient};
 ghost use Rattle.dsr_names.specs.declared.refusal.Refusal.TheVariants.{NoActor, WrongRole};
 ghost use Rattle.dsr_envelope.specs.declared.envelope.Envelope.{Envelope};
 ghost use Rattle.dsr_envelope.specs.Limits.{IsEnvelope};
@@ -16,7 +17,7 @@ ghost use Rattle.dsr_desk.specs.Signature.{Signature};
 ghost use Rattle.dsr_envelope.specs.Envelope.{Carries};
 ghost use Rattle.dsr_names.specs.declared.actor.Actor.{Actor};
 ghost use Rattle.dsr_names.specs.declared.refusal.Refusal.{Refusal};
-ghost use Rattle.dsr_world.specs.Event.{HasDone, IsRefusedBy, IsForgedAtLast, is_full, is_used_up, refusal_of, first_of};
+ghost use Rattle.dsr_world.specs.Event.{in_box, HasDone, IsRefusedBy, IsForgedAtLast, is_full, is_used_up, refusal_of, first_of};
 ghost use Rattle.dsr_node.specs.Conduct.{is_actor, is_traitor_of, are_clients, is_own_client, are_two_clients, post_of};
 ghost use Rattle.dsr_envelope.specs.declared.entry.Entry.TheVariants.{Post as PostEntry};
 ghost use Rattle.dsr_envelope.specs.declared.pick.Pick.TheVariants.{Plain};
@@ -44,7 +45,7 @@ use dsr_node::{Customer, Node};
 use dsr_play::Event;
 use dsr_replica::Replica;
 use dsr_request::Request;
-use dsr_script::{Draft, Known, build};
+use dsr_script::{Draft, Forged, Known, build, forged_in};
 use dsr_slot::Decision;
 use std::alloc::Global;
 use std::marker::Model;
@@ -150,10 +151,9 @@ impl World {
         Ok(self.nodes[self.shape.place(&Actor::Client(client))].seen())
     }
 
-    /// What a loyal replica decided of its closed slots, by their numbers. `NoActor` where it is no replica of the shape, `WrongRole`
-    /// where it is a traitor.
-    pub fn decided(&self, replica: ReplicaId) -> Result<&[Decision], Refusal>
-        ensures same { IfOk result (λ values. values.now ≡ reverse (decided_at self.now.shape (log_of self.now.run) replica)) }
+    /// A loyal replica. `NoActor` where it is no replica of the shape, `WrongRole` where it is a traitor.
+    pub fn replica(&self, replica: ReplicaId) -> Result<&Replica, Refusal>
+        ensures plays { IfOk result (λ loyal. PlaysReplica self.now.shape replica (log_of self.now.run (ReplicaNumber replica)) loyal.now) }
         ensures when { IsOk result ↔ IsLoyal self.now.shape (ReplicaNumber replica) }
         ensures outside { (result ≡ Err Refusal.NoActor) ↔ self.now.shape.n ≤ replica }
         ensures refusal { OnErr result (result ≡ Err Refusal.NoActor ⊎ result ≡ Err Refusal.WrongRole) }
@@ -162,8 +162,52 @@ impl World {
             return Err(Refusal::NoActor);
         }
         match self.nodes[replica.number() as usize].replica() {
-            Some(loyal) => Ok(loyal.decided()),
+            Some(loyal) => Ok(loyal),
             None => Err(Refusal::WrongRole),
+        }
+    }
+
+    /// A client. `NoActor` where it is no client of the shape.
+    pub fn client(&self, client: ClientId) -> Result<&Client, Refusal>
+        ensures stands { IfOk result (λ c. StandsForClient c.now (log_of self.now.run (ClientNumber client))) }
+        ensures me { IfOk result (λ c. c.now.me ≡ client) }
+        ensures shape { IfOk result (λ c. c.now.shape ≡ self.now.shape) }
+        ensures when { IsOk result ↔ client < self.now.shape.m }
+        ensures refusal { IsOkUnless result Refusal.NoActor }
+    {
+        if client.number() >= self.shape.m() {
+            return Err(Refusal::NoActor);
+        }
+        Ok(self.nodes[self.shape.place(&Actor::Client(client))].client())
+    }
+
+    /// The letter in the box from one actor to another: the first that was posted there and not taken. Requires two actors of the shape.
+    pub fn in_box(&self, from: &Actor, to: &Actor) -> Option<&Letter>
+        requires from { IsActor self.now.shape from.now }
+        requires to { IsActor self.now.shape to.now }
+        ensures { option_map (λ letter. letter.now) result ≡ in_box (log_of self.now.run) from.now to.now }
+    {
+        let (poster, taker) = (self.shape.place(from), self.shape.place(to));
+        self.boxes.item(poster, taker)
+    }
+
+    /// A signature of the draft for which a traitor's post of it is refused as forged, by now: it is no traitor's, and no loyal actor
+    /// posted it. `None` where none is found; that one is found wherever `step` answers `Forged` is tested, not proved.
+    pub fn forged_in(&self, draft: &Draft) -> Option<Forged> {
+        forged_in(draft, self.keys.as_slice(), &self.known)
+    }
+
+    /// What a loyal replica decided of its closed slots, by their numbers. `NoActor` where it is no replica of the shape, `WrongRole`
+    /// where it is a traitor.
+    pub fn decided(&self, replica: ReplicaId) -> Result<&[Decision], Refusal>
+        ensures same { IfOk result (λ values. values.now ≡ reverse (decided_at self.now.shape (log_of self.now.run) replica)) }
+        ensures when { IsOk result ↔ IsLoyal self.now.shape (ReplicaNumber replica) }
+        ensures outside { (result ≡ Err Refusal.NoActor) ↔ self.now.shape.n ≤ replica }
+        ensures refusal { OnErr result (result ≡ Err Refusal.NoActor ⊎ result ≡ Err Refusal.WrongRole) }
+    {
+        match self.replica(replica) {
+            Ok(loyal) => Ok(loyal.decided()),
+            Err(refusal) => Err(refusal),
         }
     }
 

@@ -394,3 +394,56 @@ fn a_new_clients_node_may_only_begin(rt: HostRuntime) -> Result<(), Fail> {
     assert_eq!(rt; node.refusal(to, Pick::Begin(op)), None);
     Ok(())
 }
+
+/// Whether something lies in the box from one actor to another. Nothing does where one is no actor of the shape.
+fn lies(world: &World, from: &Actor, to: &Actor) -> bool {
+    world.shape().has(*from) && world.shape().has(*to) && world.in_box(from, to).is_some()
+}
+
+#[test]
+fn replicas_and_clients_are_lent(rt: HostRuntime) -> Result<(), Fail> {
+    let text = b"dsr-play 1 3 1 1 r0\nasks c0 begin write a 5\n";
+    let played = play_out(rt.alloc(), text.as_slice())?;
+    let world = &played.world;
+    assert_eq!(rt;
+        world.replica(ReplicaId::FIRST).err(),
+        Some(Refusal::WrongRole)
+    );
+    assert_eq!(rt;
+        world.replica(ReplicaId::of(3)).err(),
+        Some(Refusal::NoActor)
+    );
+    let slots = world.replica(ReplicaId::of(1))?.in_flight();
+    assert_eq!(rt; slots.len(), 1);
+    assert_eq!(rt; slots.first().ok_or("no slot")?.slot(), 0);
+    assert_eq!(rt; world.client(ClientId::of(1)).err(), Some(Refusal::NoActor));
+    let client = world.client(ClientId::FIRST)?;
+    assert_eq!(rt; client.outstanding(), Some(1));
+    assert!(rt; client.tally().winner().is_none());
+    Ok(())
+}
+
+#[test]
+fn what_lies_in_a_box_is_lent(rt: HostRuntime) -> Result<(), Fail> {
+    let text = b"dsr-play 1 3 1 1 r0\nplant r0 r1 seen 3\n";
+    let played = play_out(rt.alloc(), text.as_slice())?;
+    let (traitor, loyal) = (
+        Actor::Replica(ReplicaId::FIRST),
+        Actor::Replica(ReplicaId::of(1)),
+    );
+    assert!(rt; lies(&played.world, &traitor, &loyal));
+    assert!(rt; !lies(&played.world, &loyal, &traitor));
+    Ok(())
+}
+
+#[test]
+fn a_forged_signature_is_named(rt: HostRuntime) -> Result<(), Fail> {
+    let draft = Draft::read(rt.alloc(), b"ask c0#1:write:a:5~c0".as_slice())?.ok_or("no draft")?;
+    let before = play_out(rt.alloc(), b"dsr-play 1 3 1 1 r0\n".as_slice())?;
+    let forged = before.world.forged_in(&draft).ok_or("nothing is forged")?;
+    assert_eq!(rt; forged.signer, Actor::Client(ClientId::FIRST));
+    let text = b"dsr-play 1 3 1 1 r0\npost c0 r1 begin write a 5\n";
+    let after = play_out(rt.alloc(), text.as_slice())?;
+    assert!(rt; after.world.forged_in(&draft).is_none());
+    Ok(())
+}
