@@ -1,8 +1,10 @@
-//! Drafts read again where memory was refused. `tests/allocations.py` refuses each allocation of this test in turn, one in each
+//! Drafts read again, and signatures learnt again, where memory was refused. `tests/allocations.py` refuses each allocation of this test in turn, one in each
 //! run, and every run must pass: the call made again returns what it returns where nothing is refused.
 
-use dsr_names::Refusal;
-use dsr_script::Draft;
+use dsr_desk::{Key, Keys};
+use dsr_envelope::Envelope;
+use dsr_names::{Actor, ClientId, Refusal, Shape};
+use dsr_script::{Draft, Known, build};
 use std::alloc::Global;
 use std::test::Fail;
 
@@ -45,5 +47,54 @@ fn reads_again_what_memory_was_refused_for(rt: HostRuntime) -> Result<(), Fail> 
         assert!(rt; written(rt.alloc(), &draft)?.as_str() == text, "{text}");
     }
     assert!(rt; read(rt.alloc(), b"round 0 0/idle/r0+r0(0/idle/r0)")?.is_none());
+    Ok(())
+}
+
+/// The key of the first client of shape (1,0,1), if no memory is refused.
+fn tried_key(alloc: Global) -> Result<Option<Key>, Fail> {
+    match Keys::new(alloc, Shape::new(1, 0, 1, 0)?) {
+        Ok(mut keys) => Ok(Some(keys.take(Actor::Client(ClientId::FIRST)).ok_or("no key")?)),
+        Err(Refusal::NoMemory) => Ok(None),
+        Err(refusal) => Err(refusal)?,
+    }
+}
+
+/// The key, where at most one allocation is refused.
+fn key(alloc: Global) -> Result<Key, Fail> {
+    match tried_key(alloc)? {
+        Some(key) => Ok(key),
+        None => Ok(tried_key(alloc)?.ok_or("refused again")?),
+    }
+}
+
+/// Whether the first client's ask can be posted by one who has no key, but knows the signatures of this envelope.
+fn can_be_sent_on(alloc: Global, envelope: &Envelope, draft: &Draft) -> Result<bool, Fail> {
+    let mut known = Known::new(alloc);
+    match known.learn(envelope) {
+        Ok(()) => {}
+        Err(Refusal::NoMemory) => {
+            // nothing was learnt
+            assert_forged(build(alloc, draft, &[], &known))?;
+            known.learn(envelope)?;
+        }
+        Err(refusal) => Err(refusal)?,
+    }
+    Ok(build(alloc, draft, &[], &known)?.same(envelope))
+}
+
+/// Fails unless the envelope is refused as forged.
+fn assert_forged(built: Result<Envelope, Refusal>) -> Result<(), Fail> {
+    match built {
+        Err(Refusal::Forged) => Ok(()),
+        _ => Err("not forged")?,
+    }
+}
+
+#[test]
+fn learns_again_what_memory_was_refused_for(rt: HostRuntime) -> Result<(), Fail> {
+    let draft = read(rt.alloc(), b"ask c0#1:read:a~c0")?.ok_or("no draft")?;
+    let keys = [key(rt.alloc())?];
+    let envelope = build(rt.alloc(), &draft, &keys, &Known::new(rt.alloc()))?;
+    assert!(rt; can_be_sent_on(rt.alloc(), &envelope, &draft)?);
     Ok(())
 }
