@@ -1,11 +1,12 @@
 //! Looking at a box, sleeping until it is as one wants it, and waking who sleeps. None of these changes a box, and no contract speaks of it.
 //!
-//! Who waits looks a few times first, as sleeping and being woken takes longer than most waits. Who sleeps first notes at its own place the word on which it does; then the system looks whether the word is still as it was found, and only
-//! then has it sleep. Who publishes or releases looks afterwards whether the box's other end has noted that word. Words, notes and the system's
-//! look are in one order: so either the change comes before the look, and the sleeper does not sleep, or the note before the changer's
-//! look, and it is woken. No wake by a post or a take is lost. That needs three things more. A poster waits while the word is 2 or 3, a taker
-//! while it is 0 or 1: a claim and a fetch end neither wait, so they need not look. The word cannot come back to what was found without the
-//! sleeper itself. And a place has one writer, as a pass is not shared by threads. Where nobody sleeps, a wake is one load.
+//! Who waits looks a few times first, as sleeping and being woken takes longer than most waits. Who sleeps first notes at its own place the
+//! word on which it does; then the system looks whether the word is still as it was found, and only then has it sleep. Who publishes or
+//! releases looks afterwards whether the box's other end has noted that word. Words, notes and the system's look are in one order: so either
+//! the change comes before the look, and the sleeper does not sleep, or the note before the changer's look, and it is woken. No wake by a post
+//! or a take is lost. That needs three things more. A poster waits while the word is 2 or 3, a taker while it is 0 or 1: a claim and a fetch
+//! end neither wait, so they need not look. The word cannot come back to what was found without the sleeper itself. And a place has one writer,
+//! as a pass is not shared by threads. Where nobody sleeps, a wake is one load.
 
 ghost use Rattle.std.specs.Prelude.{◌≡◌, ◌<◌};
 ghost use Rattle.dsr_names.specs.Places.{size};

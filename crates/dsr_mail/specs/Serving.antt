@@ -13,6 +13,7 @@ is_unanswered c (Take (Replica q) x ∷ log) = is_unanswered c log
 is_unanswered c (Post (Client d) x ∷ log) = if d == c then false else is_unanswered c log
 is_unanswered c (Take (Client d) x ∷ log) = if d == c then true else is_unanswered c log
 
+-- the replica of this log has taken something of the client since it last posted to it
 abbrev pub IsUnanswered : ℕ → List Entry → Type 0
 IsUnanswered c log = is_unanswered c log ≡ true
 

@@ -121,6 +121,7 @@ impl ReplicaSeat {
     pub fn is_unanswered(&self, client: ClientId) -> bool
         ensures { IsTrue result ↔ IsUnanswered client self.now.log }
     {
+        // that the number is below 32 is known from here on
         let _number = client.number();
         self.serving.has(client)
     }

@@ -73,8 +73,3 @@ fn what_was_taken_in_one_call_is_answered_in_the_next(rt: HostRuntime) -> Result
     is_posted(&rt, rt.alloc(), 1, "")?;
     is_posted(&rt, rt.alloc(), 2, "reply 1 0 written\n")
 }
-
-#[test]
-fn it_is_answered_once(rt: HostRuntime) -> Result<(), Fail> {
-    is_posted(&rt, rt.alloc(), 8, "reply 1 0 written\n")
-}
