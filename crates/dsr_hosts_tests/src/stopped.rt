@@ -2,6 +2,7 @@
 
 use crate::gates::{ClientsShut, Late, Open, Shut, Until};
 use crate::outcome::{ended_by, entries, posts_to, serve_text};
+use dsr_check::check;
 use dsr_mail::Logs;
 use dsr_names::{Actor, ClientId, Refusal, ReplicaId};
 use dsr_record::Record;
@@ -51,6 +52,15 @@ fn all_have_posted<R: Abort>(rt: &R, alloc: Global, logs: &Logs) -> Result<(), F
     has_posted(rt, alloc, logs, &ReplicaId::of(2), Some(full.as_slice()))
 }
 
+/// Merges the logs, in which the hosts made some posts, and checks that they are those of a run.
+fn is_a_run<R: Abort>(rt: &R, alloc: Global, logs: &Logs) -> Result<(), Fail> {
+    let recorded = Record::of_logs(alloc, logs)?;
+    assert!(rt; recorded.entries().len() >= 3);
+    let verdict = check(alloc, &recorded)?;
+    assert_eq!(rt; verdict.history().len(), 0);
+    Ok(())
+}
+
 #[test]
 fn all_hosts_make_the_same_rounds(rt: HostRuntime) -> Result<(), Fail> {
     let script = too_many(rt.alloc())?;
@@ -79,9 +89,7 @@ fn one_stopped_replica_stops_a_service(rt: HostRuntime) -> Result<(), Fail> {
     let replica = ReplicaId::of(1);
     let outcome = serve_text(&rt, rt.alloc(), THREE, &Until { replica, turns: 7 })?;
     ended_by(&rt, &outcome, &Refusal::Stopped);
-    let recorded = Record::of_logs(rt.alloc(), &outcome.logs)?;
-    assert!(rt; recorded.entries().len() >= 3);
-    Ok(())
+    is_a_run(&rt, rt.alloc(), &outcome.logs)
 }
 
 #[test]
