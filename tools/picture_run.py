@@ -9,7 +9,7 @@ import re
 TITLE = "dsr-explain 1 "
 REFUSALS = {"E1": "BadShape", "E4": "Busy", "E5": "NotDue", "E6": "BoxFull", "E7": "BoxEmpty", "E8": "Forged", "E9": "Exhausted", "E12": "NoMemory",
             "E15": "NoActor", "E16": "WrongRole"}
-KEPT = ("first", "second")
+KEPT, UNKEPT = ("first", "second"), ("not-new", "one-too-many")
 # What is said of a chain that is not kept for a fault, after `is dropped: `.
 FAULTS = {
     "wrong-count": lambda run, c: f"{counted(len(c.signers), 'signature')}, and round {c.round} of a slot needs {c.round}",
@@ -40,9 +40,9 @@ def listed(items):
 
 
 def span(actors):
-    """Actors in short: three or more in a row as `r2 to r5`."""
+    """Actors in short, replicas before clients: three or more in a row as `r2 to r5`."""
     runs = []
-    for actor in actors:
+    for actor in sorted(actors, key=lambda actor: (actor[0] == "c", int(actor[1:]))):
         kind, number = actor[0], int(actor[1:])
         if runs and runs[-1][0] == kind and runs[-1][2] == number - 1:
             runs[-1][2] = number
@@ -74,6 +74,8 @@ class Chain:
         self.replica, slot, number, signers, self.content, self.fate = words
         self.slot, self.round = int(slot), int(number)
         self.signers = [] if signers == "-" else signers.split("+")
+        if self.fate not in (*KEPT, *UNKEPT, *FAULTS):
+            raise ValueError
 
 
 class Event:
@@ -127,7 +129,7 @@ class Run:
         for number, line in enumerate(lines[1:-1], 2):
             try:
                 self.read(line)
-            except (ValueError, IndexError):
+            except (ValueError, IndexError, KeyError):
                 raise BadData(f"line {number} is none that is known: {line[:80]}") from None
         self.pair()
         self.find_bands()
@@ -372,13 +374,13 @@ class Run:
             group("accepted", f"{note[0]} accepted number {note[1]}: place {note[2]}, {note[3]}", note[0])
 
     def lines_of_refused(self, band):
-        lines = []
+        groups = {}
         for event in band.events:
             if not event.is_done:
-                tried = f" {self.envelope_words(event)}" if event.envelope else ""
+                tried = f": {self.envelope_words(event)}" if event.envelope else ""
                 arrow = "←" if event.kind == "take" else "→"
-                lines.append(("refused", f"{event.a} {arrow} {event.b}{':' if tried else ''}{tried} refused, {self.refusal(event)}"))
-        return lines
+                groups.setdefault((event.a, arrow, f"{tried} refused, {self.refusal(event)}"), []).append(event.b)
+        return [("refused", f"{actor} {arrow} {span(dict.fromkeys(others))}{words}") for (actor, arrow, words), others in groups.items()]
 
     @staticmethod
     def refusal(event):
@@ -442,8 +444,9 @@ class Run:
         return f"{replica} has still to post to {other} in round {number}."
 
     def shape_words(self):
-        traitors = f"{listed(sorted(self.traitors, key=lambda t: int(t[1:])))} {'is a traitor' if len(self.traitors) == 1 else 'are traitors'}" if self.traitors else "no traitor"
-        return f"{counted(self.n, 'replica')}, f = {self.f}, {counted(self.m, 'client')}; {traitors}"
+        traitors = [replica for replica in self.replicas if replica in self.traitors]
+        told = f"{listed(traitors)} {'is a traitor' if len(traitors) == 1 else 'are traitors'}" if traitors else "no traitor"
+        return f"{counted(self.n, 'replica')}, f = {self.f}, {counted(self.m, 'client')}; {told}"
 
     # ---- slots
 

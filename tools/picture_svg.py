@@ -32,6 +32,7 @@ text{font:12px SANS;fill:ink}
 .k{text-anchor:middle}
 .w{fill:#fff}
 .z{font-size:10px}
+.zz{font-size:8.5px}
 .g path{fill:none}
 .e{stroke:quiet}.e path{marker-end:url(#e)}
 .l{stroke:loyal;stroke-width:1.5}.l path{marker-end:url(#l)}
@@ -133,7 +134,8 @@ class Lanes:
         for at, (band, y) in enumerate(zip(self.run.bands, self.rows)):
             if band.label:
                 begun = self.rows[at - 1] if at else y
-                drawing.rect(LEFT - 6, begun - 13, self.text_x + TEXT_WIDTH - LEFT + 6, (self.rows[at + 1] if at + 1 < self.shown else self.end) - begun, colour("band"), radius=4)
+                next_row = self.rows[at + 1] if at + 1 < self.shown else self.end
+                drawing.rect(LEFT - 6, begun - 13, self.text_x + TEXT_WIDTH - LEFT + 6, next_row - begun, colour("band"), radius=4)
                 drawing.text(10, (begun + y) / 2 + 4, band.label, "b s")
         for x in self.x.values():
             drawing.path(f"M{number(x)} {TOP}V{number(self.end - 8)}", stroke=colour("line"))
@@ -207,7 +209,7 @@ class Lanes:
             x, begun = self.x[actor], self.rows[event.mate.band]
             aside = self.gap * .3 if event.a == event.b else 0.16 * (self.x[event.b] - x)
             cross_y = y - 0.16 * (y - begun)
-            self.drawing.path(f"M{number(x + aside - 4)} {number(cross_y - 4)}l8 8m0-8l-8 8", "x")
+            cross(self.drawing, x + aside, cross_y)
         decided = event.of("decide")
         for at, (_, slot, _, content) in enumerate(decided):
             name = self.run.content_name(content)
@@ -228,7 +230,7 @@ class Lanes:
         aside = self.x.get(event.b, x) - x
         end = x + max(-60, min(60, aside or 20)) * (0.4 + 0.2 * at), y + 20 + 11 * at
         self.drawing.path(f"M{number(x)} {number(y)}L{number(end[0])} {number(end[1])}", "d")
-        self.drawing.path(f"M{number(end[0] - 4)} {number(end[1] - 4)}l8 8m0-8l-8 8", "x")
+        cross(self.drawing, *end)
 
 
 def wrapped(line):
@@ -260,9 +262,9 @@ class Grid:
             x = LEFT + self.cell * at
             drawing.text(x, y, f"round {at}", "s")
             for place, replica in enumerate(self.run.replicas):
-                if self.box >= 18:
-                    fill = colour("traitor") if replica in self.run.traitors else colour("soft")
-                    drawing.text(x + self.box * (place + 0.5) - 1, y + 14, replica, "k z", fill)
+                fill = colour("traitor") if replica in self.run.traitors else colour("soft")
+                words, size = (replica, "z") if self.box >= 18 else (replica[1:], "zz")
+                drawing.text(x + self.box * (place + 0.5) - 1, y + 14, words, f"k {size}", fill)
         drawing.text(LEFT + self.cell * self.rounds + 4, y, "decided", "s")
         y += 22
         for slot in range(self.rounds):
@@ -339,27 +341,45 @@ def draw_names(run, drawing, y):
     return row + 12
 
 
-def legend(run):
-    """What each sign means: a way to draw it at a place, how wide it is, and its words."""
-    def line(classes, marker):
-        return lambda d, x, y: d.add(f'<g class="g {classes}"><path d="M{number(x)} {y - 4}h24"/></g>')
+def dots(drawing, x, y):
+    for at, fill in [(5, colour("loyal")), (15, "#fff")]:
+        drawing.add(f'<circle cx="{number(x + at)}" cy="{number(y - 4)}" r="3.5" fill="{fill}" stroke="{colour("loyal")}"/>')
 
-    yield 34, line("l", "l"), "an envelope that says something"
-    yield 34, line("e", "e"), "an empty one"
+
+def stub(drawing, x, y):
+    drawing.path(f"M{number(x)} {number(y - 4)}h18", "d")
+    cross(drawing, x + 20, y - 4)
+
+
+def cross(drawing, x, y):
+    drawing.path(f"M{number(x - 4)} {number(y - 4)}l8 8m0-8l-8 8", "x")
+
+
+def legend(run):
+    """What each sign means: how wide it is, a way to draw it at a place, and its words."""
+    def line(classes):
+        return lambda d, x, y: d.add(f'<g class="g {classes}"><path d="M{number(x)} {number(y - 4)}h24"/></g>')
+
+    def box(fill, edge, radius=0):
+        return lambda d, x, y: d.rect(x, y - 11, 18, 14, fill, colour(edge), radius)
+
+    posts = [event for event in run.events if event.is_done and event.kind != "take"]
+    yield 34, line("l"), "an envelope that says something"
+    yield 34, line("e"), "an empty one"
     if run.traitors:
-        yield 34, line("t", "t"), "a traitor's"
-        yield 34, line("q", "q"), "a traitor's empty one"
-    if any(event.is_done and event.kind != "take" and event.mate is None for event in run.events):
-        yield 14, lambda d, x, y: d.path(f"M{number(x)} {y - 7}h6v6h-6z", stroke=colour("loyal"), more=' fill="none"'), "left in its box"
-    yield 24, lambda d, x, y: d.add(f'<circle cx="{number(x + 5)}" cy="{y - 4}" r="3.5" fill="{colour("loyal")}"/><circle cx="{number(x + 15)}" cy="{y - 4}" r="3.5" fill="#fff" stroke="{colour("loyal")}"/>'), "posts, takes"
+        yield 34, line("t"), "a traitor's"
+        yield 34, line("q"), "a traitor's empty one"
+    if any(event.mate is None for event in posts):
+        yield 14, lambda d, x, y: d.path(f"M{number(x)} {number(y - 7)}h6v6h-6z", stroke=colour("loyal"), more=' fill="none"'), "left in its box"
+    yield 24, dots, "posts, takes"
     if any(run.is_dropped(event) for event in run.events):
-        yield 16, lambda d, x, y: d.path(f"M{number(x)} {y - 8}l7 7m0-7l-7 7", "x"), "something of it is dropped"
+        yield 16, lambda d, x, y: cross(d, x + 4, y - 4), "something of it is dropped"
     if any(not event.is_done for event in run.events):
-        yield 32, lambda d, x, y: (d.path(f"M{number(x)} {y - 4}h18", "d"), d.path(f"M{number(x + 16)} {y - 8}l8 8m0-8l-8 8", "x")), "refused, as a forgery is"
-    yield 22, lambda d, x, y: d.rect(x, y - 11, 15, 14, colour("first"), colour("loyal")), "kept first"
-    yield 22, lambda d, x, y: d.rect(x, y - 11, 15, 14, colour("second"), colour("second-edge")), "kept second"
-    yield 24, lambda d, x, y: d.rect(x, y - 11, 18, 14, colour("decided"), colour("decided"), 7), "a decided value"
-    yield 24, lambda d, x, y: d.rect(x, y - 11, 18, 14, "#fff", colour("idle"), 7), "decided idle"
+        yield 32, stub, "refused, as a forgery is"
+    yield 24, box(colour("first"), "loyal"), "kept first"
+    yield 24, box(colour("second"), "second-edge"), "kept second"
+    yield 24, box(colour("decided"), "decided", 7), "a decided value"
+    yield 24, box("#fff", "idle", 7), "decided idle"
     yield 14, lambda d, x, y: d.text(x, y, "∅"), "the content idle"
     if any("(" in event.envelope for event in run.events):
         yield 12, lambda d, x, y: d.text(x, y + 1, "*"), "a signature on something else"
