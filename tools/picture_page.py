@@ -28,9 +28,12 @@ class Texts:
 
 
 def badges(run, event):
-    """What is written beside the actor's mark: pairs of a kind and a text."""
-    found = [["idle" if content == "idle" else "decided", f"{slot}: {run.content_name(content)}"] for _, slot, _, content in event.of("decide")]
-    return found + [["decided", f"✓ {number}"] for _, number, _, _ in event.of("accept")]
+    """What is written below the actor's mark: pairs of a kind and texts, of which the first is taken for which there is room."""
+    found = []
+    for _, slot, _, content in event.of("decide"):
+        name = run.content_name(content)
+        found.append(["idle" if content == "idle" else "decided", [f"{slot}: {name}", name, slot]])
+    return found + [["decided", [f"✓ {number}", "✓"]] for _, number, _, _ in event.of("accept")]
 
 
 def event_row(run, event, texts, places):
@@ -63,11 +66,12 @@ def data_of(run, title):
     return {
         "title": title, "shape": run.shape_words(), "n": run.n, "f": run.f, "actors": run.actors, "rounds": run.rounds(),
         "traitors": sorted(places[traitor] for traitor in run.traitors),
-        "bands": [[int(band.is_posts), band.events[0].index, band.events[-1].index, band.label, run.lines_of(band, MOST_LINES)] for band in run.bands],
+        "bands": [[int(band.is_posts), band.events[0].index, band.events[-1].index, band.label, run.lines_of(band, MOST_LINES)]
+                  for band in run.bands],
         "events": [event_row(run, event, texts, places) for event in run.events],
         "slots": slot_rows(run, places), "closed": closed,
         "names": [[run.names[request], request] for request in run.requests] if run.has_letters else [],
-        "waits": [run.waits_sentence(waits) for waits in run.waits],
+        "waits": list(run.waits_sentences()),
         "texts": texts.all,
     }
 

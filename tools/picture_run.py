@@ -86,7 +86,7 @@ class Event:
         self.band = None
         # the take of a post, the post of a take
         self.mate = None
-        # the round in which a loyal replica takes it
+        # the round in which a loyal replica takes it; of a post to a traitor, in which others take the same
         self.taken_in = None
 
     @property
@@ -148,7 +148,8 @@ class Run:
                 raise ValueError
             self.events.append(Event(int(index), int(at), kind, a, b, outcome, "" if envelope == "-" else envelope))
         elif word == "waits":
-            self.waits.append(rest.split(" "))
+            replica, told, other, number = rest.split(" ")
+            self.waits.append((replica, told, other, number))
         else:
             self.events[-1].notes.append((word, self.note(word, rest)))
 
@@ -198,6 +199,10 @@ class Run:
             event.band = len(self.bands) - 1
             self.bands[-1].events.append(event)
         for band in self.bands:
+            taken = {(event.a, event.envelope): event.taken_in for event in band.events if event.kind != "take" and event.taken_in is not None}
+            for event in band.events:
+                if event.kind != "take" and event.b in self.traitors:
+                    event.taken_in = taken.get((event.a, event.envelope))
             closed = sorted({int(number) for event in band.events for _, number in event.of("close")})
             band.label = f"round {closed[0]}" + (f"–{closed[-1]}" if len(closed) > 1 else "") if closed else ""
 
@@ -223,20 +228,25 @@ class Run:
     def has_letters(self):
         return len(self.requests) <= MOST_LETTERS
 
-    def content_name(self, content):
-        if content == "idle":
-            return content
-        return ("" if self.has_letters else ",").join(self.names.get(request, request) for request in content.split(","))
+    def joined(self, names, is_short):
+        """The names of the requests of a content. In short of a long list only the first is told, where there are no letters."""
+        names = list(names)
+        if self.has_letters:
+            return "".join(names)
+        return f"{names[0]} and {len(names) - 1} more" if is_short and len(names) > 2 else ",".join(names)
+
+    def content_name(self, content, is_short=False):
+        return content if content == "idle" else self.joined((self.names.get(request, request) for request in content.split(",")), is_short)
 
     def request_name(self, signed):
         """The name of a signed request, with a star where the signature beside it is not its client's on it."""
         request, _, beside = signed.partition("~")
         return self.names.get(request, request) + ("" if beside == request.split("#")[0] else "*")
 
-    def chain_name(self, chain):
+    def chain_name(self, chain, is_short):
         """A chain in short, as A/r0+r1. A star stands at a signature on something else than what fits there."""
         _, value, signatures = split(chain, "/")
-        content = value if value == "idle" else ("" if self.has_letters else ",").join(map(self.request_name, split(value, ",")))
+        content = value if value == "idle" else self.joined(map(self.request_name, split(value, ",")), is_short)
         signers = [signature.split("(")[0] + ("*" if "(" in signature else "") for signature in split(signatures, "+")]
         return f"{content}/{'+'.join(signers)}"
 
@@ -264,7 +274,7 @@ class Run:
         number, chains = rest[0], rest[1:]
         by_slot = {}
         for chain in chains[:most]:
-            by_slot.setdefault(chain.split("/", 1)[0], []).append(self.chain_name(chain))
+            by_slot.setdefault(chain.split("/", 1)[0], []).append(self.chain_name(chain, most == MOST_SHOWN))
         parts = [f"slot {slot} {', '.join(names)}" for slot, names in by_slot.items()]
         more = [f"{len(chains) - most} more chains"] if len(chains) > most else []
         return (f"as of round {number}: " if is_off else "") + ("; ".join(parts + more) or "no chain")
@@ -274,8 +284,8 @@ class Run:
         return event.envelope not in ("", "empty")
 
     def is_dropped(self, event):
-        """Whether a loyal replica drops something of what it takes."""
-        return self.says_other_round(event) or any(chain.fate in FAULTS for chain in event.chains)
+        """Whether this is a loyal replica's take of which it drops something."""
+        return event.kind == "take" and (self.says_other_round(event) or any(chain.fate in FAULTS for chain in event.chains))
 
     # ---- the lines beside a band: pairs of a kind and a text
 
@@ -339,7 +349,7 @@ class Run:
         for fate, by_replica in by_fate.items():
             is_many = any(len(chains) > MOST_SHOWN for chains in by_replica.values())
             for replica, chains in by_replica.items():
-                names = [f"slot {c.slot} {self.content_name(c.content)}/{'+'.join(c.signers) or '-'}" for c in chains]
+                names = [f"slot {c.slot} {self.content_name(c.content, True)}/{'+'.join(c.signers) or '-'}" for c in chains]
                 for name in [counted(len(chains), "chain")] if is_many else names:
                     yield f"{{}} dropped {name}: {fate.replace('-', ' ')}", replica
 
@@ -355,19 +365,19 @@ class Run:
 
     def group_note(self, event, word, note, group):
         if word == "chain":
-            content = self.content_name(note.content)
+            content = self.content_name(note.content, True)
             if note.fate == "first":
                 group("kept", f"{{}} kept {content} of slot {note.slot}", note.replica)
             elif note.fate == "second":
                 group("second", f"{{}} kept {content} of slot {note.slot} too", note.replica)
         elif word == "decide":
             replica, slot, kept, content = note
-            said = f"idle, {kept if kept != '0' else 'none'} kept" if content == "idle" else self.content_name(content)
+            said = f"idle, {kept if kept != '0' else 'none'} kept" if content == "idle" else self.content_name(content, True)
             group("idle" if content == "idle" else "decided", f"{{}} decided slot {slot}: {said}", replica)
         elif word == "act":
             group("acts", f"{{}}: {self.content_name(note[2])} acts at place {note[1]}", note[0])
         elif word == "stale":
-            group("stale", f"{{}}: {self.content_name(note[1])} does not act again", note[0])
+            group("stale", f"{{}}: {self.content_name(note[1])} does not act", note[0])
         elif word == "no-vote":
             group("no-vote", f"{note[0]} counts no vote of {{}}: {note[2]}", note[1])
         elif word == "accept":
@@ -403,7 +413,8 @@ class Run:
         if not event.is_done:
             found.append(("refused", f"Refused, {self.refusal(event)}: {'; '.join(event.of('why')) or 'nothing is changed'}."))
         if event.kind == "take" and self.says_other_round(event):
-            found.append(("dropped", f"The envelope says round {event.envelope.split(' ')[1]}, and this is round {event.taken_in}: it counts as no chains."))
+            said = event.envelope.split(" ")[1]
+            found.append(("dropped", f"The envelope says round {said}, and this is round {event.taken_in}: it counts as no chains."))
         return found + [self.note_sentence(word, note) for word, note in event.notes if word != "why"]
 
     def note_sentence(self, word, note):
@@ -413,8 +424,8 @@ class Run:
             return "plain", f"{note[0]} closes round {note[1]}."
         if word == "decide":
             replica, slot, kept, content = note
-            kind = "idle" if content == "idle" else "decided"
-            return kind, f"{replica} decides slot {slot}: {self.content_name(content)}. It kept {counted(int(kept), 'content') if kept != '0' else 'nothing'}."
+            told = counted(int(kept), "content") if kept != "0" else "nothing"
+            return "idle" if content == "idle" else "decided", f"{replica} decides slot {slot}: {self.content_name(content)}. It kept {told}."
         if word == "act":
             return "acts", f"{self.content_name(note[2])} acts at {note[0]}, at place {note[1]} of its history."
         if word == "stale":
@@ -437,11 +448,17 @@ class Run:
             return "plain", f"{name}: two other contents are kept already."
         return "dropped", f"{name} is dropped: {FAULTS[chain.fate](self, chain)}."
 
-    def waits_sentence(self, waits):
-        replica, word, other, number = waits
-        if word == "take":
-            return f"{replica} waits for {other}'s envelope of round {number}."
-        return f"{replica} has still to post to {other} in round {number}."
+    def waits_sentences(self):
+        """What replicas wait for at the end, and what they have still to do."""
+        groups = {}
+        for replica, word, other, number in self.waits:
+            groups.setdefault((word, other, number), []).append(replica)
+        for (word, other, number), replicas in groups.items():
+            one = len(replicas) == 1
+            if word == "take":
+                yield f"{span(replicas)} {'waits' if one else 'wait'} for {other}'s envelope of round {number}."
+            else:
+                yield f"{span(replicas)} {'has' if one else 'have'} still to post to {other} in round {number}."
 
     def shape_words(self):
         traitors = [replica for replica in self.replicas if replica in self.traitors]

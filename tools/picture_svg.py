@@ -205,21 +205,20 @@ class Lanes:
             self.drawing.add(f'<circle cx="{number(x)}" cy="{number(y)}" r="3.5" fill="{fill}" stroke="{edge}"/>')
 
     def draw_outcome(self, actor, y, event):
-        if self.run.is_dropped(event) and event.mate:
+        if self.run.is_dropped(event):
             x, begun = self.x[actor], self.rows[event.mate.band]
             aside = self.gap * .3 if event.a == event.b else 0.16 * (self.x[event.b] - x)
             cross_y = y - 0.16 * (y - begun)
             cross(self.drawing, x + aside, cross_y)
-        decided = event.of("decide")
-        for at, (_, slot, _, content) in enumerate(decided):
+        for at, (_, slot, _, content) in enumerate(event.of("decide")):
             name = self.run.content_name(content)
-            self.draw_badge(actor, y + 8 + 15 * at, name if self.gap < 60 else f"{slot}: {name}", "idle" if content == "idle" else "decided")
+            self.draw_badge(actor, y + 8 + 15 * at, [f"{slot}: {name}", name, slot], "idle" if content == "idle" else "decided")
         for _, accepted, _, _ in event.of("accept"):
-            self.draw_badge(actor, y + 8, f"✓ {accepted}", "decided")
+            self.draw_badge(actor, y + 8, [f"✓ {accepted}", "✓"], "decided")
 
-    def draw_badge(self, actor, y, words, kind):
-        most = int((self.gap - 8) / 5.6)
-        words = words if len(words) <= most else words[:most - 1] + "…"
+    def draw_badge(self, actor, y, choices, kind):
+        """Writes the first of these words for which there is room, else the last."""
+        words = next((choice for choice in choices if len(choice) <= (self.gap - 8) / 5.6), choices[-1])
         width = 8 + 5.8 * len(words)
         self.drawing.rect(self.x[actor] - width / 2, y, width, 14, "#fff" if kind == "idle" else colour(kind), colour(kind), 7)
         self.drawing.text(self.x[actor], y + 10.5, words, "k z" + ("" if kind == "idle" else " w"))
@@ -365,7 +364,8 @@ def legend(run):
 
     posts = [event for event in run.events if event.is_done and event.kind != "take"]
     yield 34, line("l"), "an envelope that says something"
-    yield 34, line("e"), "an empty one"
+    if not all(run.is_loud(event) for event in posts):
+        yield 34, line("e"), "an empty one"
     if run.traitors:
         yield 34, line("t"), "a traitor's"
         yield 34, line("q"), "a traitor's empty one"
@@ -376,11 +376,18 @@ def legend(run):
         yield 16, lambda d, x, y: cross(d, x + 4, y - 4), "something of it is dropped"
     if any(not event.is_done for event in run.events):
         yield 32, stub, "refused, as a forgery is"
-    yield 24, box(colour("first"), "loyal"), "kept first"
-    yield 24, box(colour("second"), "second-edge"), "kept second"
-    yield 24, box(colour("decided"), "decided", 7), "a decided value"
-    yield 24, box("#fff", "idle", 7), "decided idle"
-    yield 14, lambda d, x, y: d.text(x, y, "∅"), "the content idle"
+    fates = {chain.fate for event in run.events for chain in event.chains}
+    if "first" in fates:
+        yield 24, box(colour("first"), "loyal"), "kept first"
+    if "second" in fates:
+        yield 24, box(colour("second"), "second-edge"), "kept second"
+    decided = {content == "idle" for event in run.events for *_, content in event.of("decide")}
+    if False in decided:
+        yield 24, box(colour("decided"), "decided", 7), "a decided value"
+    if True in decided:
+        yield 24, box("#fff", "idle", 7), "decided idle"
+    if any(chain.content == "idle" and chain.fate in ("first", "second") for event in run.events for chain in event.chains):
+        yield 14, lambda d, x, y: d.text(x, y, "∅"), "the content idle"
     if any("(" in event.envelope for event in run.events):
         yield 12, lambda d, x, y: d.text(x, y + 1, "*"), "a signature on something else"
 
@@ -416,8 +423,8 @@ def svg_of(run, title=""):
     drawing.text(10, 48, f"{run.shape_words()}. Time goes down; each envelope goes from its post to its take.", "s")
     width, height = number(drawing.width + 10), number(drawing.height + 6)
     markers = "".join(
-        f'<marker id="{name}" viewBox="0 0 8 8" refX="7" refY="4" markerWidth="{size}" markerHeight="{size}" markerUnits="userSpaceOnUse" orient="auto">'
-        f'<path d="M0 1 7 4 0 7z" fill="{colour(fill)}"/></marker>'
+        f'<marker id="{name}" viewBox="0 0 8 8" refX="7" refY="4" markerWidth="{size}" markerHeight="{size}" markerUnits="userSpaceOnUse" '
+        f'orient="auto"><path d="M0 1 7 4 0 7z" fill="{colour(fill)}"/></marker>'
         for name, fill, size in [("e", "quiet", 7), ("l", "loyal", 9), ("q", "traitor-quiet", 7), ("t", "traitor", 9)]
     )
     hatch = (f'<pattern id="hatch" width="5" height="5" patternUnits="userSpaceOnUse" patternTransform="rotate(45)">'
