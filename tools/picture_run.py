@@ -283,9 +283,21 @@ class Run:
         """Whether the envelope says anything."""
         return event.envelope not in ("", "empty")
 
+    def reason_to_ignore(self, event):
+        """Why a loyal actor makes nothing of what it takes, which is no chain that it drops; None where that is not so."""
+        word = event.envelope.split(" ")[0]
+        if event.kind != "take" or not event.is_done or event.a in self.traitors or event.b[0] == "c" or word in ("", "empty"):
+            return None
+        if event.a[0] == "c":
+            return {"reply": None, "seen": "what a replica says it has seen counts for nothing"}.get(word, "it is no reply")
+        if word != "round":
+            return "it has no chains, as it is of no round"
+        said = event.envelope.split(" ")[1]
+        return f"it says round {said} in round {event.taken_in}, so it counts as no chains" if self.says_other_round(event) else None
+
     def is_dropped(self, event):
-        """Whether this is a loyal replica's take of which it drops something."""
-        return event.kind == "take" and (self.says_other_round(event) or any(chain.fate in FAULTS for chain in event.chains))
+        """Whether this is a loyal actor's take of which it makes nothing, or not all."""
+        return self.reason_to_ignore(event) is not None or event.kind == "take" and any(chain.fate in FAULTS for chain in event.chains)
 
     # ---- the lines beside a band: pairs of a kind and a text
 
@@ -325,9 +337,9 @@ class Run:
                 groups[kind, text].append(actor)
 
         for event in band.events:
-            if self.says_other_round(event):
-                words = event.envelope.split(" ")
-                group("dropped", f"{{}} took round {words[1]}'s envelope of {event.b} in round {event.taken_in}: no chains", event.a)
+            reason = self.reason_to_ignore(event)
+            if reason:
+                group("dropped", f"{{}} ignored what {event.b} posted: {reason}", event.a)
             for word, note in event.notes:
                 self.group_note(event, word, note, group)
         for text, replica in self.dropped_in(band):
@@ -412,9 +424,9 @@ class Run:
         found = []
         if not event.is_done:
             found.append(("refused", f"Refused, {self.refusal(event)}: {'; '.join(event.of('why')) or 'nothing is changed'}."))
-        if event.kind == "take" and self.says_other_round(event):
-            said = event.envelope.split(" ")[1]
-            found.append(("dropped", f"The envelope says round {said}, and this is round {event.taken_in}: it counts as no chains."))
+        reason = self.reason_to_ignore(event)
+        if reason:
+            found.append(("dropped", f"{event.a} ignores it: {reason}."))
         return found + [self.note_sentence(word, note) for word, note in event.notes if word != "why"]
 
     def note_sentence(self, word, note):

@@ -363,17 +363,17 @@ def legend(run):
         return lambda d, x, y: d.rect(x, y - 11, 18, 14, fill, colour(edge), radius)
 
     posts = [event for event in run.events if event.is_done and event.kind != "take"]
+    drawn = {(event.a in run.traitors, run.is_loud(event)) for event in posts}
     yield 34, line("l"), "an envelope that says something"
-    if not all(run.is_loud(event) for event in posts):
-        yield 34, line("e"), "an empty one"
-    if run.traitors:
-        yield 34, line("t"), "a traitor's"
-        yield 34, line("q"), "a traitor's empty one"
+    for is_traitor, is_loud, classes, words in [(False, False, "e", "an empty one"), (True, True, "t", "a traitor's"),
+                                                (True, False, "q", "a traitor's empty one")]:
+        if (is_traitor, is_loud) in drawn:
+            yield 34, line(classes), words
     if any(event.mate is None for event in posts):
         yield 14, lambda d, x, y: d.path(f"M{number(x)} {number(y - 7)}h6v6h-6z", stroke=colour("loyal"), more=' fill="none"'), "left in its box"
     yield 24, dots, "posts, takes"
     if any(run.is_dropped(event) for event in run.events):
-        yield 16, lambda d, x, y: cross(d, x + 4, y - 4), "something of it is dropped"
+        yield 16, lambda d, x, y: cross(d, x + 4, y - 4), "dropped, or something of it"
     if any(not event.is_done for event in run.events):
         yield 32, stub, "refused, as a forgery is"
     fates = {chain.fate for event in run.events for chain in event.chains}
