@@ -1,0 +1,243 @@
+#!/usr/bin/env python3
+"""A slow model of explanations, over the one of plays: tests/explain_model.py < PLAY.
+
+It gives the data lines of a play, from which tools/picture draws: each event and what came of it. The header of tools/picture has what
+lines there are. What replicas and clients do is told by tests/slow_play.py; why, by what stands here:
+
+- A chain is read as one of the slot that it says, so none is of another slot. Where that slot is not in flight it is `not-in-flight`, in the
+  round 0. Else it has the first fault that holds, in the order of docs/PROTOCOL.md; where none holds, it is `not-new` if its content is
+  kept, and `one-too-many` if two others are.
+- What traitors take has no notes. Nor have envelopes of another round: they count as no chains.
+- The envelope of an event that was refused stands there where the play says it, so of a `plant` alone.
+"""
+
+import sys
+
+import slow_play
+from transcript_text import shape_text
+
+TITLE = "dsr-explain 1"
+
+
+# ---- chains
+
+
+def signer_of(signature):
+    return signature.split("(")[0]
+
+
+def is_asked(shape, signed):
+    """Whether beside the request of a client of the shape stands that client's signature on it."""
+    request, beside = signed.split("~", 1)
+    client = request.split("#")[0]
+    return int(client[1:]) < shape.m and beside == client
+
+
+def fault_of(shape, chain, slot, round_of_slot):
+    """The first fault of the chain in this round of the slot that it says, or None."""
+    _, value, signatures = slow_play.parts_of(chain)
+    signers = [signer_of(signature) for signature in signatures]
+    faults = [
+        ("wrong-count", len(signers) != round_of_slot),
+        ("wrong-sender", signers[:1] != [f"r{slot % shape.n}"]),
+        ("no-replica", any(signer[0] != "r" or int(signer[1:]) >= shape.n for signer in signers)),
+        ("signed-twice", len(set(signers)) < len(signers)),
+        ("misfit", any("(" in signature for signature in signatures)),
+        ("bad-request", not all(is_asked(shape, signed) for signed in value)),
+    ]
+    return next((fault for fault, holds in faults if holds), None)
+
+
+class Reading:
+    """What a loyal replica makes of the chains of one envelope, one after another."""
+
+    def __init__(self, machine):
+        self.machine = machine
+        self.kept = {slot: [slow_play.content_of(slow_play.parts_of(chain)[1]) for _, chain in kept] for slot, kept in machine.kept.items()}
+
+    def note(self, chain):
+        slot, value, signatures = slow_play.parts_of(chain)
+        content, shape = slow_play.content_of(value), self.machine.shape
+        round_of_slot = self.machine.round - slot + 1
+        is_in_flight = 1 <= round_of_slot <= shape.f + 1
+        fate = self.fate(chain, slot, round_of_slot, content) if is_in_flight else "not-in-flight"
+        signers = "+".join(map(signer_of, signatures)) or "-"
+        return f"chain {self.machine.me} {slot} {round_of_slot if is_in_flight else 0} {signers} {content} {fate}"
+
+    def fate(self, chain, slot, round_of_slot, content):
+        fault = fault_of(self.machine.shape, chain, slot, round_of_slot)
+        if fault:
+            return fault
+        kept = self.kept.setdefault(slot, [])
+        if content in kept:
+            return "not-new"
+        if len(kept) == 2:
+            return "one-too-many"
+        kept.append(content)
+        return ["first", "second"][len(kept) - 1]
+
+
+# ---- notes on what was taken
+
+
+def notes_of_closing(machine, slots, kept, numbers, acted):
+    """The notes on a round that the replica has just closed, by what it had before: how many slots were decided, what was kept of them,
+    and which numbers and how many requests had acted."""
+    me = machine.me
+    notes = [f"close {me} {machine.round - 1}"]
+    for slot in range(slots, len(machine.decided)):
+        content = machine.decided[slot]
+        notes.append(f"decide {me} {slot} {len(kept.get(slot, []))} {content}")
+        for request in [] if content == "idle" else content.split(","):
+            client, number, _ = slow_play.runs.parts(request)
+            if number > numbers.get(client, 0):
+                numbers[client] = number
+                notes.append(f"act {me} {acted} {request}")
+                acted += 1
+            else:
+                notes.append(f"stale {me} {request}")
+    return notes
+
+
+def replica_takes(world, a, b):
+    """Makes the take of a loyal replica, and gives the notes on it."""
+    machine, envelope = world.machines[a], world.boxes.get((b, a), "")
+    slots, numbers, acted, closed = len(machine.decided), dict(machine.numbers), len(machine.acted), machine.round
+    reading, words = Reading(machine), envelope.split(" ")
+    is_read = b[0] == "r" and words[:2] == ["round", str(machine.round)]
+    notes = [reading.note(chain) for chain in words[2:]] if is_read else []
+    world.take(a, b)
+    if machine.round > closed:
+        notes += notes_of_closing(machine, slots, reading.kept, numbers, acted)
+    return notes
+
+
+def reason_for_no_vote(machine, replica, number):
+    if machine.ask is None:
+        return "no request is outstanding"
+    if number != str(machine.number):
+        return f"number {machine.number} is outstanding, and not {number}"
+    return f"{replica} has replied before" if replica in machine.votes else None
+
+
+def client_takes(world, a, b):
+    """Makes the take of a client, and gives the notes on it."""
+    machine, envelope = world.machines[a], world.boxes.get((b, a), "")
+    words, accepted = envelope.split(" "), len(machine.accepted)
+    is_reply = words[0] == "reply" and b[0] == "r"
+    reason = reason_for_no_vote(machine, b, words[1]) if is_reply else None
+    world.take(a, b)
+    if not is_reply:
+        return []
+    if reason:
+        return [f"no-vote {a} {b} {reason}"]
+    votes = list(machine.votes.values()).count(envelope)
+    return [f"vote {a} {b} {votes} {world.shape.f + 1}", *(f"accept {a} {reply}" for reply in machine.accepted[accepted:])]
+
+
+# ---- why an event was refused
+
+
+def why_not_due(world, word, a, b, pick):
+    """Why it is not the turn of this loyal actor to do that."""
+    machine = world.machines[a]
+    if a[0] == "c":
+        return f"a request of {a} is outstanding" if machine.ask else f"no request of {a} is outstanding"
+    if b[0] == "c":
+        return f"{a} has no reply for {b}"
+    due, other = machine.due()
+    if (due, other) != (word, b):
+        return f"{a} is to {due} {'to' if due == 'post' else 'from'} {other} next"
+    if b != "r0" or pick[0] != "from":
+        return f"{a} chooses at its post to r0, among the requests that it holds"
+    if machine.round % world.shape.n != int(a[1:]):
+        return f"slot {machine.round} is not {a}'s"
+    return f"{a} holds no request of {next(client for client in pick[1] if client not in machine.asks)}"
+
+
+def why_forged(world, a, envelope):
+    for signer, statement in slow_play.signatures_in(envelope):
+        if signer not in world.traitors and (signer, statement) not in world.known:
+            return f"{signer} is loyal, and has not signed {statement}"
+    return "nothing is forged"
+
+
+def why_refused(world, event, code):
+    word, a, b, *more = event
+    texts = {
+        5: lambda: why_not_due(world, word, a, b, more[0] if more else None),
+        6: lambda: f"an envelope lies in the box from {a} to {b}",
+        7: lambda: f"no envelope lies in the box from {b} to {a}",
+        8: lambda: why_forged(world, a, more[0]),
+        15: lambda: f"there is no {next(actor for actor in (a, b) if actor not in world.replicas + world.clients)}",
+        16: lambda: f"it is not the part of {a} to {word} {'from' if word == 'take' else 'to'} {b}",
+    }
+    return texts[code]()
+
+
+# ---- the lines
+
+
+def done(world, event):
+    """Makes this event, and gives its envelope and the notes on it."""
+    word, a, b = event[:3]
+    if word != "take":
+        world.step(event)
+        return world.boxes[a, b], []
+    takes = replica_takes if a in world.loyal else client_takes if a in world.clients else None
+    if takes is None or b not in world.replicas + world.clients or not world.machines[a].may_take(b):
+        world.step(event)
+        notes = []
+    else:
+        notes = takes(world, a, b)
+    return world.lines[-1].split(" ", 3)[3], notes
+
+
+def lines_of_event(world, index, number, event):
+    word, a, b, *more = event
+    try:
+        (envelope, notes), outcome = done(world, event), "done"
+    except slow_play.Refused as refusal:
+        code = refusal.args[0]
+        envelope, outcome = more[0] if word == "plant" else "-", f"E{code}"
+        notes = [f"why {why_refused(world, event, code)}"]
+    return [f"event {index} {number} {word} {a} {b} {outcome} {envelope}", *notes]
+
+
+def numbered_events(text, shape):
+    """Each event of a play with the number of its line."""
+    for number, line in enumerate(text.split(b"\n")[1:-1], 2):
+        for event in slow_play.events_of(line, shape):
+            yield number, event
+
+
+def waiting(world):
+    """What each loyal replica waits for at the end, or has still to do."""
+    for replica in world.loyal:
+        machine = world.machines[replica]
+        yield f"waits {replica} {' '.join(machine.due())} {machine.round}"
+
+
+def data_of(text):
+    """The data lines of a play that `dsr play` reads, as one text."""
+    play, fault = slow_play.read_play(text)
+    if fault:
+        raise ValueError(fault[2].decode())
+    world = slow_play.World(play[0])
+    lines = [f"{TITLE} {shape_text(play[0])}"]
+    for index, (number, event) in enumerate(numbered_events(text, play[0])):
+        lines += lines_of_event(world, index, number, event)
+    return "".join(f"{line}\n" for line in [*lines, *waiting(world)])
+
+
+def main():
+    try:
+        sys.stdout.write(data_of(sys.stdin.buffer.read()))
+    except ValueError as fault:
+        sys.stderr.write(str(fault))
+        return 1
+    return 0
+
+
+if __name__ == "__main__":
+    sys.exit(main())
