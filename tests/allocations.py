@@ -118,7 +118,8 @@ def rows():
             yield word, path, bytes_of(path), wanted_of(path[: -len(f".{word}")], "out")
     for path in sorted(glob.glob(f"{TOP}/examples/*.play") + glob.glob(f"{TOP}/examples/attacks/*.play")):
         yield from rows_of_play(path.removesuffix(".play"))
-    for words, status in [("--help", 0), ("play --help", 0), ("fly", 2), ("check --transcript", 2)]:
+    for words, status in [("--help", 0), ("play --help", 0), ("explain --help", 0), ("--version", 0), ("fly", 2), ("check --transcript", 2),
+                          ("explain --slot", 2), ("explain --slot 07", 2)]:
         yield words, "nothing", b"", (status, *run_of(words, b"")[1:])
 
 

@@ -62,6 +62,9 @@ fn each_list_of_words_does_its_task(rt: HostRuntime) {
         ["apply", "--transcript"],
         ["check", "--transcript"],
         ["play", "--transcripts"],
+        ["serve", "--strict"],
+        ["explain", "--slot"],
+        ["--version", "--help"],
     ] {
         runs(&rt, alloc, words.as_slice(), text, 2, "", "error: ");
     }
@@ -97,6 +100,81 @@ fn plays_are_reported(rt: HostRuntime) {
         "done 8\nrefused 0\nseen c0 0\nseen c1 0\ndecided r0 c1#1:remove:a,c0#1:write:a:1 idle\nhistory 2\n0 c1#1:remove:a\n1 c0#1:write:a:1\n",
         "",
     );
+}
+
+// A play with refused events, and its report.
+const REFUSING: &str = "dsr-play 1 3 1 2 r2\nposts r1 from c0\ntell c0 c1\ntake c1 c0\n";
+
+const REFUSED: &str =
+    "done 2\nrefused 3\nfirst 0 E5 NotDue\nseen c0 0\nseen c1 0\ndecided r0 -\ndecided r1 -\nhistory 0\n";
+
+const REFUSED_TRANSCRIPT: &str =
+    "dsr-transcript 1 3 1 2 r2\nc0 post c1 seen 0\nc1 take c0 seen 0\n";
+
+// The same is written of a strict play, but where an event was refused the status is 1.
+#[test]
+fn strict_plays_have_no_refused_event(rt: HostRuntime) {
+    let alloc = rt.alloc();
+    let strict = ["play", "--strict"];
+    let first = ["play", "--strict", "--transcript"];
+    let last = ["play", "--transcript", "--strict"];
+    runs(&rt, alloc, strict.as_slice(), PLAY, 0, REPORT, "");
+    runs(&rt, alloc, &["play"], REFUSING, 0, REFUSED, "");
+    runs(&rt, alloc, strict.as_slice(), REFUSING, 1, REFUSED, "");
+    for words in [first.as_slice(), last.as_slice()] {
+        runs(&rt, alloc, words, PLAY, 0, TRANSCRIPT, "");
+        runs(&rt, alloc, words, REFUSING, 1, REFUSED_TRANSCRIPT, "");
+    }
+    for words in [strict.as_slice(), first.as_slice()] {
+        runs(
+            &rt,
+            alloc,
+            words,
+            "dsr-play 1 1 0 1 -\n\n",
+            1,
+            "",
+            "dsr: bad text in line 2\n",
+        );
+    }
+}
+
+// Some text explains a play. One that cannot be read is refused as by `play`.
+#[test]
+fn plays_are_explained(rt: HostRuntime) {
+    let alloc = rt.alloc();
+    for (text, status, errors) in [
+        (PLAY, 0, ""),
+        (REFUSING, 0, ""),
+        ("dsr-play 1 1 0 1 -\n\n", 1, "dsr: bad text in line 2\n"),
+        ("dsr-play 1 2 1 1 -\n", 1, "dsr: the shape is not allowed\n"),
+    ] {
+        for words in [
+            ["explain"].as_slice(),
+            &["explain", "--refused", "--slot", "0"],
+            &["explain", "--data", "--actor", "r0"],
+        ] {
+            let mut out = Outside(Vec::new(alloc));
+            let mut err = Vec::new(alloc);
+            let ended = run(&rt, alloc, words, &mut text.as_bytes(), &mut out, &mut err);
+            assert_eq!(rt; ended, status, "at {words:?}");
+            assert_eq!(rt; err.as_slice(), errors.as_bytes(), "at {words:?}");
+        }
+    }
+    let mut out = Outside(Vec::new(alloc));
+    let mut err = Vec::new(alloc);
+    let words: [&str; 1] = ["explain"];
+    assert_eq!(rt;
+        run(
+            &rt,
+            alloc,
+            words.as_slice(),
+            &mut PLAY.as_bytes(),
+            &mut out,
+            &mut err
+        ),
+        0
+    );
+    assert!(rt; !out.0.is_empty());
 }
 
 // The transcript of that play, and the report on it.
@@ -329,6 +407,17 @@ fn help_goes_to_the_output(rt: HostRuntime) -> Result<(), Fail> {
     Ok(())
 }
 
+#[test]
+fn the_version_goes_to_the_output(rt: HostRuntime) -> Result<(), Fail> {
+    let alloc = rt.alloc();
+    let words: [&str; 1] = ["--version"];
+    let Reading::Version(line) = read_words(alloc, words.as_slice()) else {
+        return Err("no version")?;
+    };
+    runs(&rt, alloc, words.as_slice(), "", 0, line.as_str(), "");
+    Ok(())
+}
+
 // A reader and a writer that always fail.
 #[derive(Drop)]
 struct Broken;
@@ -408,6 +497,8 @@ fn a_play_that_cannot_be_read_is_told(rt: HostRuntime) {
     for words in [
         ["play"].as_slice(),
         &["play", "--transcript"],
+        &["play", "--strict"],
+        &["explain"],
         &["check"],
         &["serve"],
         &["serve", "--transcript"],

@@ -1,3 +1,4 @@
+mod ExplainedLemmas
 mod MergeLemmas
 mod PlayedLemmas
 mod ServedLemmas

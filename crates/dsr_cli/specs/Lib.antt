@@ -1,4 +1,5 @@
 pub mod Checked
+pub mod Explained
 pub mod Played
 pub mod Report
 pub mod Served

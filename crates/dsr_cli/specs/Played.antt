@@ -1,5 +1,5 @@
 -- What `play` leaves, by what it returns (this project).
-use Rattle.std.specs.Prelude.{◌≡◌, ◌↔◌, ◌⊎◌, ℕ, ◌<◌, ◌≤◌, All, List, [], length}
+use Rattle.std.specs.Prelude.{◌≡◌, ◌↔◌, ◌⊎◌, ℕ, ◌<◌, ◌≤◌, All, Bool, false, true, List, [], length}
 use Rattle.std.specs.Io.KnownBytes.{Keeps}
 use Rattle.dsr_names.specs.Limits.{most_bytes}
 use Rattle.dsr_names.specs.Shape.{Shape}
@@ -39,6 +39,11 @@ pub record IsTranscript (shape : Shape) (run : List Step) (end : RunEnd) (text :
   pub is : text ≡ record_text recorded
   pub spells : SpellsRecord text recorded
 
+-- the form in which a play is told, by whether that is the transcript
+abbrev pub form_of : Bool → Form
+form_of false = IsReport
+form_of true = IsTranscript
+
 -- ---- the play
 
 -- the text spells a play of this shape, whose events made this run of a new world and ended so; in it loyal replicas agree, and what
@@ -52,26 +57,27 @@ pub record HasRun (text : List ℕ) (shape : Shape) (run : List Step) (end : Run
   pub right : IsRight shape run
   pub ended : HasEnded shape run [] play.events end
 
--- the text spells a play that was played; so many of its events were refused because memory ran out; and it is told so
-pub record HasPlayed (Tells : Form) (text : List ℕ) (starved : ℕ) (told : List ℕ) : Type 0 where
+-- the text spells a play that was played; so many of its events were refused, and so many of those because memory ran out; and it is told so
+pub record HasPlayed (Tells : Form) (text : List ℕ) (refused starved : ℕ) (told : List ℕ) : Type 0 where
   pub shape : Shape
   pub run : List Step
   pub end : RunEnd
   pub played : HasRun text shape run end
+  pub refused_is : end.refused ≡ refused
   pub starved_is : end.starved ≡ starved
   pub tells : Tells shape run end told
 
 -- ---- what is left
 
--- all events of the play were done, or refused for another reason than memory, and all of what tells it went out
-pub record PlayedAll (Tells : Form) (s : Streams) : Type 0 where
+-- all events of the play were done, but for so many that were refused for another reason than memory, and all of what tells it went out
+pub record PlayedAll (Tells : Form) (refused : ℕ) (s : Streams) : Type 0 where
   pub text : List ℕ
   pub short : length text ≤ most_bytes
   pub given : IsTextOf s.input.left text
   pub starved : ℕ
   pub none_starved : starved ≡ 0
   pub told : List ℕ
-  pub played : HasPlayed Tells text starved told
+  pub played : HasPlayed Tells text refused starved told
   pub went_out : SentAll told s.output s.written
 
 -- some events of the play were refused because memory ran out, and all of what tells it went out
@@ -79,10 +85,11 @@ pub record PlayedStarved (Tells : Form) (s : Streams) : Type 0 where
   pub text : List ℕ
   pub short : length text ≤ most_bytes
   pub given : IsTextOf s.input.left text
+  pub refused : ℕ
   pub starved : ℕ
   pub some_starved : 0 < starved
   pub told : List ℕ
-  pub played : HasPlayed Tells text starved told
+  pub played : HasPlayed Tells text refused starved told
   pub went_out : SentAll told s.output s.written
 
 -- a prefix of what tells it went out; the sink was one that may not take all of it
@@ -90,9 +97,10 @@ pub record PlayedPart (Tells : Form) (s : Streams) : Type 0 where
   pub text : List ℕ
   pub short : length text ≤ most_bytes
   pub given : IsTextOf s.input.left text
+  pub refused : ℕ
   pub starved : ℕ
   pub told : List ℕ
-  pub played : HasPlayed Tells text starved told
+  pub played : HasPlayed Tells text refused starved told
   pub too_many : CanFailToTake (length told) s.output
   pub went_out : SentPrefix told s.output s.written
 

@@ -1,5 +1,5 @@
 -- What `serve` leaves, by what it returns (this project).
-use Rattle.std.specs.Prelude.{◌≡◌, ◌↔◌, ◌⊎◌, ℕ, ◌<◌, ◌≤◌, ◌++◌, All, List, Option, None, Some, length}
+use Rattle.std.specs.Prelude.{◌≡◌, ◌↔◌, ◌⊎◌, ℕ, ◌<◌, ◌≤◌, ◌++◌, All, Bool, false, true, List, Option, None, Some, length}
 use Rattle.std.specs.Io.KnownBytes.{Keeps}
 use Rattle.dsr_base.specs.Growth.{Extends}
 use Rattle.dsr_base.specs.Member.{In}
@@ -50,6 +50,11 @@ pub record IsServiceTranscript (logs : Logs) (text : List ℕ) : Type 0 where
   pub version : (recorded.version ≡ One) ↔ All (IsStepOf One) recorded.run
   pub is : text ≡ record_text recorded
   pub spells : SpellsRecord text recorded
+
+-- the form in which a service is told, by whether that is the transcript
+abbrev pub service_form_of : Bool → ServiceForm
+service_form_of false = IsServiceReport
+service_form_of true = IsServiceTranscript
 
 -- ---- the service
 

@@ -1,17 +1,20 @@
 -- What the program's exit status says (this project).
-use Rattle.std.specs.Prelude.{◌≡◌, ◌⊎◌, ℕ, List, length}
+use Rattle.std.specs.Prelude.{◌≡◌, ◌<◌, ◌⊎◌, ◌&&◌, Bool, false, true, ℕ, List, if◌then◌else◌, length, nat_lt}
 use Rattle.dsr_names.specs.Streams.{Output, Streams, CanFailToTake, SentAll, SentPrefix, Sent}
 use Rattle.dsr_names.specs.Refusal.{refusal_line}
 use Rattle.dsr_names.specs.declared.refusal.Refusal.{Refusal}
 use Rattle.dsr_names.specs.declared.refusal.Refusal.TheVariants.{NoMemory, WriteFailed}
 use Rattle.dsr_history.specs.Applied.{AppliedAll, WrittenAfter}
-use Rattle.dsr_command.specs.Asked.{Asked, task, help, unknown}
-use Rattle.dsr_command.specs.ShownTexts.{IsHelp, IsUsage}
+use Rattle.dsr_command.specs.Asked.{Asked, task, version, help, unknown}
+use Rattle.dsr_command.specs.ShownTexts.{IsHelp, IsUsage, version_line}
 use Rattle.dsr_command.specs.declared.Task.{Task}
-use Rattle.dsr_command.specs.declared.Task.TheVariants.{Apply, Check, Play, Serve, Transcribe, TranscribeService}
+use Rattle.dsr_command.specs.declared.Task.TheVariants.{Apply, Check, Explain, Play, Serve}
 use Rattle.dsr_cli.specs.Checked.{CheckedAll, LeftAfterCheck}
-use Rattle.dsr_cli.specs.Played.{IsReport, IsTranscript, LeftAfterPlay, PlayedAll}
-use Rattle.dsr_cli.specs.Served.{IsServiceReport, IsServiceTranscript, LeftAfterService, ServedAll}
+use Rattle.dsr_cli.specs.Explained.{ExplainedAll, LeftAfterExplain}
+use Rattle.dsr_cli.specs.Played.{LeftAfterPlay, PlayedAll, form_of}
+use Rattle.dsr_cli.specs.Served.{LeftAfterService, ServedAll, service_form_of}
+use Rattle.dsr_cli.specs.declared.Ending.{Ending}
+use Rattle.dsr_cli.specs.declared.Ending.TheVariants.{Done, Unmet}
 
 -- what a run of the program had and left: its input and output, and its error stream before and after
 pub record Run : Type 1 where
@@ -26,6 +29,10 @@ run_of io errors told = record { io = io; errors = errors; told = told }
 -- this was told on the error stream, and nothing else
 abbrev pub Told : List ℕ → Run → Type 0
 Told text run = Sent text run.errors run.told
+
+-- nothing was told on the error stream
+abbrev pub IsQuiet : Run → Type 0
+IsQuiet run = run.told.contents ≡ run.errors.contents
 
 -- nothing was written on the output
 abbrev pub IsUnwritten : Run → Type 0
@@ -44,28 +51,53 @@ pub record EndedBy (After : Refusal → Streams → Type 0) (status : ℕ) (run 
   pub left : After refusal run.io
 
 -- a task was done: all lines were answered; the whole report of a play, or the transcript of its run, went out, and no event of the play
--- was refused because memory ran out; all clients of a script were served, and the whole report of the service, or its transcript, went out; or
--- the whole report on a transcript's run did
+-- was refused because memory ran out, nor for another reason, where it was to be strict; all clients of a script were served, and the whole report
+-- of the service, or its transcript, went out; the whole report on a transcript's run did; or all of an explanation of a play
 abbrev pub IsDone : Task → Streams → Type 0
 IsDone Apply s = AppliedAll s
-IsDone Play s = PlayedAll IsReport s
-IsDone Transcribe s = PlayedAll IsTranscript s
-IsDone Serve s = ServedAll IsServiceReport s
-IsDone TranscribeService s = ServedAll IsServiceTranscript s
+IsDone (Play false transcript) s = (refused : ℕ) × PlayedAll (form_of transcript) refused s
+IsDone (Play true transcript) s = PlayedAll (form_of transcript) 0 s
+IsDone (Serve transcript) s = ServedAll (service_form_of transcript) s
 IsDone Check s = CheckedAll s
+IsDone (Explain narrowing) s = ExplainedAll s
+
+-- a play that was to be strict was played, and all of what tells it went out, but some of its events were refused, none because memory ran out
+abbrev pub IsUnmet : Task → Streams → Type 0
+IsUnmet (Play true transcript) s = (refused : ℕ) × (0 < refused) × PlayedAll (form_of transcript) refused s
+IsUnmet other s = ⊥
+
+-- how a task ended that was not refused
+abbrev pub HasEndedAs : Ending → Task → Streams → Type 0
+HasEndedAs Done named s = IsDone named s
+HasEndedAs Unmet named s = IsUnmet named s
+
+-- how a play ends of which so many events were refused
+abbrev pub ending_of : Bool → ℕ → Ending
+ending_of strict refused = if strict && nat_lt 0 refused then Unmet else Done
+
+-- the status of an ending
+abbrev pub status_after : Ending → ℕ
+status_after Done = 0
+status_after Unmet = 1
 
 -- what a refusal of a task leaves
 abbrev pub LeftAfter : Task → Refusal → Streams → Type 0
 LeftAfter Apply refusal s = WrittenAfter refusal s
-LeftAfter Play refusal s = LeftAfterPlay IsReport refusal s
-LeftAfter Transcribe refusal s = LeftAfterPlay IsTranscript refusal s
-LeftAfter Serve refusal s = LeftAfterService IsServiceReport refusal s
-LeftAfter TranscribeService refusal s = LeftAfterService IsServiceTranscript refusal s
+LeftAfter (Play strict transcript) refusal s = LeftAfterPlay (form_of transcript) refusal s
+LeftAfter (Serve transcript) refusal s = LeftAfterService (service_form_of transcript) refusal s
 LeftAfter Check refusal s = LeftAfterCheck refusal s
+LeftAfter (Explain narrowing) refusal s = LeftAfterExplain refusal s
 
--- after 0 the task was done; another status is that of a refusal
+-- the status is that of an ending, nothing was told, and what the ending says holds
+pub record EndedSo (named : Task) (status : ℕ) (run : Run) : Type 0 where
+  pub ending : Ending
+  pub status_is : status ≡ status_after ending
+  pub quiet : IsQuiet run
+  pub ended : HasEndedAs ending named run.io
+
+-- after 0 the task was done, and after 1 with nothing told a strict play had a refused event; else the status is that of a refusal
 abbrev pub WhatTaskLeft : Task → ℕ → Run → Type 0
-WhatTaskLeft named status run = ((status ≡ 0) × IsDone named run.io) ⊎ EndedBy (LeftAfter named) status run
+WhatTaskLeft named status run = EndedSo named status run ⊎ EndedBy (LeftAfter named) status run
 
 -- the status is 1, and that writing failed was told: a prefix of the text went out, to a sink that may not take all of it
 pub record ShowedPart (text : List ℕ) (status : ℕ) (run : Run) : Type 0 where
@@ -96,15 +128,17 @@ pub record ToldUsage (status : ℕ) (run : Run) : Type 0 where
   pub told : Told text run
   pub unwritten : IsUnwritten run
 
--- what the status says, by what was asked: the task was done or refused, help was shown or could not be, or nothing was
+-- what the status says, by what was asked: the task was done or refused, the version or help was shown or could not be, or nothing was
 -- asked that the program knows; in each case memory may have run out before anything was written
 abbrev pub StatusFor : Asked → ℕ → Run → Type 0
 StatusFor (task named) status run = WhatTaskLeft named status run ⊎ RanOut status run
+StatusFor version status run = WhatShowingLeft version_line status run ⊎ RanOut status run
 StatusFor help status run = ShowedHelp status run ⊎ RanOut status run
 StatusFor unknown status run = ToldUsage status run ⊎ RanOut status run
 
 -- P, where no task is asked for
 abbrev pub IfNoTask : Asked → Type 0 → Type 0
 IfNoTask (task t) P = Unit {0}
+IfNoTask version P = P
 IfNoTask help P = P
 IfNoTask unknown P = P

@@ -2,6 +2,7 @@
 #![tactic(auto)]
 
 mod check;
+mod explain;
 mod play;
 mod report;
 mod serve;
@@ -9,16 +10,17 @@ mod serve_report;
 mod transcribe;
 mod transcribe_service;
 
-ghost use Rattle.std.specs.Prelude.{◌≡◌, ◌+◌, ◌<◌, ◌≤◌, IfErr, OnOk, length, map};
+ghost use Rattle.std.specs.Prelude.{◌≡◌, ◌+◌, ◌<◌, ◌≤◌, Err, IfErr, IfOk, Ok, OnOk, length, map};
 ghost use Rattle.dsr_names.specs.Limits.{most_calls};
 ghost use Rattle.dsr_names.specs.Refusal.{refusal_line};
 ghost use Rattle.dsr_names.specs.declared.refusal.Refusal.TheVariants.{WriteFailed};
 ghost use Rattle.dsr_names.specs.Streams.{CanFailToTake, Sent, SentAll, SentPrefix, streams};
 ghost use Rattle.dsr_command.specs.Asked.{asked_of};
-ghost use Rattle.dsr_command.specs.Readings.{IfDo, IfHelp, IfUsage, OnNoMemory, OnNoTask};
-ghost use Rattle.dsr_cli.specs.Status.{StatusFor, RanOut, IsDone, LeftAfter, WhatShowingLeft, WhatTaskLeft, IfNoTask, run_of, status_of};
+ghost use Rattle.dsr_command.specs.Readings.{IfDo, IfHelp, IfUsage, IfVersion, OnNoMemory, OnNoTask};
+ghost use Rattle.dsr_cli.specs.Status.{StatusFor, RanOut, HasEndedAs, LeftAfter, WhatShowingLeft, WhatTaskLeft, IfNoTask, ending_of, run_of, status_after, status_of};
 
 use crate::check::run_check;
+use crate::explain::run_explain;
 use crate::play::run_play;
 use crate::serve::run_serve;
 use crate::transcribe::transcribe_play;
@@ -34,7 +36,7 @@ use std::thread::Threads;
 /// The exit status where all that was asked for was done.
 const DONE: u8 = 0;
 
-/// The exit status after a refusal other than running out of memory.
+/// The exit status after a refusal other than running out of memory, and after a strict play with a refused event.
 const REFUSED: u8 = 1;
 
 /// The exit status after words that the program does not know, or that are no text.
@@ -43,15 +45,25 @@ pub const USAGE_FAULT: u8 = 2;
 /// The exit status where memory ran out.
 pub const NO_MEMORY: u8 = 3;
 
+/// How a task ended that was not refused.
+#[derive(Clone, Copy)]
+enum Ending {
+    /// What was asked for was done.
+    Done,
+    /// All was done and written, but the play was to be strict, and an event of it was refused.
+    Unmet,
+}
+
 /// Does what the words ask for and answers the program's exit status: 0 where it was done, 1 after a refusal other
 /// than running out of memory, 2 after words that the program does not know, and 3 where memory ran out. The words are those
 /// after the program's own name; none means `apply`. A refusal is told on `errors` as `dsr: ` and its text, a usage
-/// fault by its text; the help goes to `output`. With 0 nothing is written on `errors`. Only a task
+/// fault by its text; the help and the version go to `output`. With 0 nothing is written on `errors`. Only a task
 /// reads the input. Each of the three is called at most `MOST_CALLS` times.
 ///
-/// The events of a play that are refused are no refusal of the play: its report counts them, and its transcript has nothing of them. But
-/// where memory ran out for some of them, the report or the transcript is written and then `NoMemory` told. So it is with what ends a
-/// service before all clients are served: the report or the transcript of what was done until then is written, and then the refusal told.
+/// The events of a play that are refused are no refusal of the play: its report counts them, and its transcript has nothing of them. Of a
+/// strict play the same is written, but the status is 1, with nothing told. But where memory ran out for some of them, the report or the
+/// transcript is written and then `NoMemory` told. So it is with what ends a service before all clients are served: the report or the
+/// transcript of what was done until then is written, and then the refusal told.
 ///
 /// A service starts threads, and waits for them; no other task does.
 ///
@@ -87,6 +99,8 @@ fn obey<R: Threads + Wait + Sync, I: Source, O: Sink, E: Sink>(
 ) -> u8
     ensures task { IfDo reading (λ named. WhatTaskLeft named result
         (run_of (streams (I.input input.old) (O.output output.old) (O.output output.new)) (E.output errors.old) (E.output errors.new))) }
+    ensures version { IfVersion reading (λ line. WhatShowingLeft line result
+        (run_of (streams (I.input input.old) (O.output output.old) (O.output output.new)) (E.output errors.old) (E.output errors.new))) }
     ensures help { IfHelp reading (λ text. WhatShowingLeft text result
         (run_of (streams (I.input input.old) (O.output output.old) (O.output output.new)) (E.output errors.old) (E.output errors.new))) }
     ensures usage { IfUsage reading (λ text. (result ≡ 2) × (O.output output.new).contents ≡ (O.output output.old).contents
@@ -104,7 +118,8 @@ fn obey<R: Threads + Wait + Sync, I: Source, O: Sink, E: Sink>(
             let done = perform(rt, alloc, task, input, output);
             status_after(done, errors)
         }
-        Reading::Help(text) => show_help(text.as_str(), output, errors),
+        Reading::Help(text) => show(text.as_str(), output, errors),
+        Reading::Version(line) => show(line.as_str(), output, errors),
         Reading::Usage(text) => {
             tell(errors, text.as_bytes());
             USAGE_FAULT
@@ -114,44 +129,77 @@ fn obey<R: Threads + Wait + Sync, I: Source, O: Sink, E: Sink>(
 }
 
 /// Does the task.
+#[tactic(auto, using(crate::proofs::StatusLemmas::endings))]
 fn perform<R: Threads + Wait + Sync, I: Source, O: Sink>(
     rt: &R,
     alloc: Global,
     task: Task,
     input: &mut I,
     output: &mut O,
-) -> Result<(), Refusal>
-    ensures done { OnOk result (IsDone task (streams (I.input input.old) (O.output output.old) (O.output output.new))) }
+) -> Result<Ending, Refusal>
+    ensures done { IfOk result (λ ending. HasEndedAs ending task (streams (I.input input.old) (O.output output.old) (O.output output.new))) }
     ensures refused { IfErr result (λ refusal. LeftAfter task refusal (streams (I.input input.old) (O.output output.old) (O.output output.new))) }
     ensures reads { (I.input input.new).calls ≤ (I.input input.old).calls + most_calls }
     ensures writes { (O.output output.new).calls ≤ (O.output output.old).calls + most_calls }
 {
     match task {
-        Task::Apply => run_apply(alloc, input, output),
-        Task::Play => run_play(alloc, input, output),
-        Task::Transcribe => transcribe_play(alloc, input, output),
-        Task::Serve => run_serve(rt, alloc, input, output),
-        Task::TranscribeService => transcribe_service(rt, alloc, input, output),
-        Task::Check => run_check(alloc, input, output),
+        Task::Apply => ended(run_apply(alloc, input, output)),
+        Task::Play {
+            strict,
+            transcript: false,
+        } => judged(strict, run_play(alloc, input, output)),
+        Task::Play {
+            strict,
+            transcript: true,
+        } => judged(strict, transcribe_play(alloc, input, output)),
+        Task::Serve { transcript: false } => ended(run_serve(rt, alloc, input, output)),
+        Task::Serve { transcript: true } => ended(transcribe_service(rt, alloc, input, output)),
+        Task::Check => ended(run_check(alloc, input, output)),
+        Task::Explain(narrowing) => ended(run_explain(alloc, &narrowing, input, output)),
     }
 }
 
-/// The status of a task that ended so. A refusal is told.
-fn status_after<E: Sink>(done: Result<(), Refusal>, errors: &mut E) -> u8
-    ensures done { OnOk done (result ≡ 0) }
+/// How a task ended that can be refused, and else is done.
+fn ended(done: Result<(), Refusal>) -> Result<Ending, Refusal>
+    ensures done { OnOk done (result ≡ Ok Ending.Done) }
+    ensures refused { IfErr done (λ refusal. result ≡ Err refusal) }
+{
+    match done {
+        Ok(()) => Ok(Ending::Done),
+        Err(refusal) => Err(refusal),
+    }
+}
+
+/// How a play ended of which so many events were refused, where it was to be strict or not.
+fn judged(strict: bool, played: Result<u64, Refusal>) -> Result<Ending, Refusal>
+    ensures done { IfOk played (λ refused. result ≡ Ok (ending_of strict refused)) }
+    ensures refused { IfErr played (λ refusal. result ≡ Err refusal) }
+{
+    match played {
+        Ok(refused) if strict && 0 < refused => Ok(Ending::Unmet),
+        Ok(_) => Ok(Ending::Done),
+        Err(refusal) => Err(refusal),
+    }
+}
+
+/// The status of a task that ended so. A refusal is told, and nothing else is.
+fn status_after<E: Sink>(done: Result<Ending, Refusal>, errors: &mut E) -> u8
+    ensures done { IfOk done (λ ending. result ≡ status_after ending) }
+    ensures silent { OnOk done (errors.new ≡ errors.old) }
     ensures refused { IfErr done (λ refusal. (result ≡ status_of refusal)
         × Sent (refusal_line refusal) (E.output errors.old) (E.output errors.new)) }
     ensures quiet { result ≡ 0 → errors.new ≡ errors.old }
     ensures tells { (E.output errors.new).calls ≤ (E.output errors.old).calls + most_calls }
 {
     match done {
-        Ok(()) => DONE,
+        Ok(Ending::Done) => DONE,
+        Ok(Ending::Unmet) => REFUSED,
         Err(refusal) => refuse(errors, refusal),
     }
 }
 
-/// Shows the help's text: 0 where all of it went out, and 1 where the sink failed, after a prefix of it.
-fn show_help<O: Sink, E: Sink>(text: &str, output: &mut O, errors: &mut E) -> u8
+/// Shows the text of the help or of the version: 0 where all of it went out, and 1 where the sink failed, after a prefix of it.
+fn show<O: Sink, E: Sink>(text: &str, output: &mut O, errors: &mut E) -> u8
     ensures whole { result ≡ 0 → SentAll text.now (O.output output.old) (O.output output.new) }
     ensures part { 0 < result → (result ≡ 1) × CanFailToTake (length text.now) (O.output output.old)
         × SentPrefix text.now (O.output output.old) (O.output output.new)

@@ -1,6 +1,6 @@
 //! Plays: from a text to the report of what came of it.
 
-ghost use Rattle.std.specs.Prelude.{◌≡◌, ◌⊎◌, ◌+◌, ◌<◌, ◌≤◌, Err, IfOk, IfErr, OnOk, OnErr, length, string_bytes};
+ghost use Rattle.std.specs.Prelude.{◌≡◌, ◌⊎◌, ◌+◌, ◌<◌, ◌≤◌, Err, IfOk, IfErr, OnErr, length, string_bytes};
 ghost use Rattle.dsr_names.specs.Limits.{most_calls};
 ghost use Rattle.dsr_names.specs.Streams.{CanFailToTake, SentAll, SentPrefix, streams};
 ghost use Rattle.dsr_play.specs.Play.{IsPlayRefusal};
@@ -19,10 +19,11 @@ pub(crate) struct Played {
     pub(crate) end: RunEnd,
 }
 
-/// The report of a play, and how many of its events were refused because memory ran out.
+/// The report of a play, how many of its events were refused, and how many of those because memory ran out.
 #[derive(Drop)]
 struct Outcome {
     report: String,
+    refused: u64,
     starved: u64,
 }
 
@@ -46,7 +47,7 @@ pub(crate) fn play_out(alloc: Global, text: &[u8]) -> Result<Played, Refusal>
 
 /// Plays the play that the text spells, and makes its report.
 fn outcome_of(alloc: Global, text: &[u8]) -> Result<Outcome, Refusal>
-    ensures played { IfOk result (λ outcome. HasPlayed IsReport text.now outcome.starved (string_bytes outcome.report)) }
+    ensures played { IfOk result (λ outcome. HasPlayed IsReport text.now outcome.refused outcome.starved (string_bytes outcome.report)) }
     ensures refused { IfErr result (IsPlayRefusal text.now) }
 {
     let played = match play_out(alloc, text) {
@@ -56,13 +57,17 @@ fn outcome_of(alloc: Global, text: &[u8]) -> Result<Outcome, Refusal>
     let Ok(report) = report_of(alloc, &played.world, &played.end) else {
         return Err(Refusal::NoMemory);
     };
-    let starved = played.end.starved;
+    let (refused, starved) = (played.end.refused, played.end.starved);
     forget(played);
-    Ok(Outcome { report, starved })
+    Ok(Outcome {
+        report,
+        refused,
+        starved,
+    })
 }
 
-/// Reads a play, plays it in a world of its own, and writes the report of what came of it. Nothing is played before the end of the
-/// text, and nothing written before the end of the play.
+/// Reads a play, plays it in a world of its own, writes the report of what came of it, and answers how many of its events were refused.
+/// Nothing is played before the end of the text, and nothing written before the end of the play.
 ///
 /// `BadShape` and `BadText` say what is wrong with the text; after them, and after `ReadFailed`, nothing was written. After
 /// `WriteFailed` a prefix of the report was. `NoMemory` where memory ran out: where some events were refused for that, the whole
@@ -72,8 +77,8 @@ pub(crate) fn run_play<S: Source, K: Sink>(
     alloc: Global,
     source: &mut S,
     sink: &mut K,
-) -> Result<(), Refusal>
-    ensures done { OnOk result (PlayedAll IsReport (streams (S.input source.old) (K.output sink.old) (K.output sink.new))) }
+) -> Result<u64, Refusal>
+    ensures done { IfOk result (λ refused. PlayedAll IsReport refused (streams (S.input source.old) (K.output sink.old) (K.output sink.new))) }
     ensures refused { IfErr result (λ e. LeftAfterPlay IsReport e (streams (S.input source.old) (K.output sink.old) (K.output sink.new))) }
     ensures reads { (S.input source.new).calls ≤ (S.input source.old).calls + most_calls }
     ensures writes { (K.output sink.new).calls ≤ (K.output sink.old).calls + most_calls }
@@ -86,9 +91,9 @@ pub(crate) fn run_play<S: Source, K: Sink>(
     give_out(sink, &outcome)
 }
 
-/// Writes the report, and then tells `NoMemory` where some events were refused for that.
-fn give_out<K: Sink>(sink: &mut K, outcome: &Outcome) -> Result<(), Refusal>
-    ensures done { OnOk result ((outcome.now.starved ≡ 0)
+/// Writes the report, and answers how many events were refused, or `NoMemory` where some were for that.
+fn give_out<K: Sink>(sink: &mut K, outcome: &Outcome) -> Result<u64, Refusal>
+    ensures done { IfOk result (λ refused. (refused ≡ outcome.now.refused) × (outcome.now.starved ≡ 0)
         × SentAll (string_bytes outcome.now.report) (K.output sink.old) (K.output sink.new)) }
     ensures starved { result ≡ Err Refusal.NoMemory → (0 < outcome.now.starved)
         × SentAll (string_bytes outcome.now.report) (K.output sink.old) (K.output sink.new) }
@@ -98,7 +103,7 @@ fn give_out<K: Sink>(sink: &mut K, outcome: &Outcome) -> Result<(), Refusal>
     ensures writes { (K.output sink.new).calls ≤ (K.output sink.old).calls + most_calls }
 {
     match write_output(sink, outcome.report.as_bytes()) {
-        Ok(()) if outcome.starved == 0 => Ok(()),
+        Ok(()) if outcome.starved == 0 => Ok(outcome.refused),
         Ok(()) => Err(Refusal::NoMemory),
         Err(refusal) => Err(refusal),
     }

@@ -1,6 +1,6 @@
 //! Plays: from a text to the transcript of what their actors did.
 
-ghost use Rattle.std.specs.Prelude.{◌≡◌, ◌⊎◌, ◌+◌, ◌<◌, ◌≤◌, Err, IfOk, IfErr, OnOk, OnErr, length};
+ghost use Rattle.std.specs.Prelude.{◌≡◌, ◌⊎◌, ◌+◌, ◌<◌, ◌≤◌, Err, IfOk, IfErr, OnErr, length};
 ghost use Rattle.dsr_names.specs.Limits.{most_calls};
 ghost use Rattle.dsr_names.specs.Streams.{CanFailToTake, SentAll, SentPrefix, streams};
 ghost use Rattle.dsr_play.specs.Play.{IsPlayRefusal};
@@ -13,16 +13,17 @@ use dsr_record::{Record, transcripts_spell_their_records, write};
 use std::alloc::Global;
 use std::mem::forget;
 
-/// What the actors of a play did, and how many of its events were refused because memory ran out.
+/// What the actors of a play did, how many of its events were refused, and how many of those because memory ran out.
 #[derive(Drop)]
 struct Recording {
     recorded: Record,
+    refused: u64,
     starved: u64,
 }
 
 /// Plays the play that the text spells, and records all steps.
 fn recording_of(alloc: Global, text: &[u8]) -> Result<Recording, Refusal>
-    ensures played { IfOk result (λ recording. HasPlayed IsTranscript text.now recording.starved (record_text recording.recorded)) }
+    ensures played { IfOk result (λ recording. HasPlayed IsTranscript text.now recording.refused recording.starved (record_text recording.recorded)) }
     ensures fits { IfOk result (λ recording. Fits recording.recorded) }
     ensures refused { IfErr result (IsPlayRefusal text.now) }
 {
@@ -34,10 +35,14 @@ fn recording_of(alloc: Global, text: &[u8]) -> Result<Recording, Refusal>
         return Err(Refusal::NoMemory);
     };
     transcripts_spell_their_records(&recorded);
-    let starved = played.end.starved;
+    let (refused, starved) = (played.end.refused, played.end.starved);
     // As in a play that is reported, the world is not freed.
     forget(played);
-    Ok(Recording { recorded, starved })
+    Ok(Recording {
+        recorded,
+        refused,
+        starved,
+    })
 }
 
 /// Reads a play, plays it as `run_play` does, and writes the transcript of all steps in place of the report. What is refused, and what stands
@@ -46,8 +51,8 @@ pub(crate) fn transcribe_play<S: Source, K: Sink>(
     alloc: Global,
     source: &mut S,
     sink: &mut K,
-) -> Result<(), Refusal>
-    ensures done { OnOk result (PlayedAll IsTranscript (streams (S.input source.old) (K.output sink.old) (K.output sink.new))) }
+) -> Result<u64, Refusal>
+    ensures done { IfOk result (λ refused. PlayedAll IsTranscript refused (streams (S.input source.old) (K.output sink.old) (K.output sink.new))) }
     ensures refused { IfErr result (λ e. LeftAfterPlay IsTranscript e (streams (S.input source.old) (K.output sink.old) (K.output sink.new))) }
     ensures reads { (S.input source.new).calls ≤ (S.input source.old).calls + most_calls }
     ensures writes { (K.output sink.new).calls ≤ (K.output sink.old).calls + most_calls }
@@ -62,10 +67,10 @@ pub(crate) fn transcribe_play<S: Source, K: Sink>(
     given
 }
 
-/// Writes the transcript, and then tells `NoMemory` where some events were refused for that.
-fn give_out<K: Sink>(alloc: Global, sink: &mut K, recording: &Recording) -> Result<(), Refusal>
+/// Writes the transcript, and answers how many events were refused, or `NoMemory` where some were for that.
+fn give_out<K: Sink>(alloc: Global, sink: &mut K, recording: &Recording) -> Result<u64, Refusal>
     requires { Fits recording.now.recorded }
-    ensures done { OnOk result ((recording.now.starved ≡ 0)
+    ensures done { IfOk result (λ refused. (refused ≡ recording.now.refused) × (recording.now.starved ≡ 0)
         × SentAll (record_text recording.now.recorded) (K.output sink.old) (K.output sink.new)) }
     ensures starved { result ≡ Err Refusal.NoMemory → (K.output sink.new).contents ≡ (K.output sink.old).contents
         ⊎ ((0 < recording.now.starved) × SentAll (record_text recording.now.recorded) (K.output sink.old) (K.output sink.new)) }
@@ -75,7 +80,7 @@ fn give_out<K: Sink>(alloc: Global, sink: &mut K, recording: &Recording) -> Resu
     ensures writes { (K.output sink.new).calls ≤ (K.output sink.old).calls + most_calls }
 {
     match write(alloc, &recording.recorded, sink) {
-        Ok(()) if recording.starved == 0 => Ok(()),
+        Ok(()) if recording.starved == 0 => Ok(recording.refused),
         Ok(()) => Err(Refusal::NoMemory),
         Err(refusal) => Err(refusal),
     }

@@ -3,7 +3,6 @@ use Rattle.std.proofs.Common.{◌≡◌, ◌≢◌, ◌∙◌, Bool, true, false
 use Rattle.std.specs.Borrow.{Bor}
 use Rattle.std.specs.List.{list_all}
 use Rattle.std.specs.Option.{option_eq, option_map, option_map_or}
-use Rattle.std.specs.Prelude.{if◌then◌else◌}
 use Rattle.std.specs.Str.{bytes_eq}
 use Rattle.clap.specs.Kinds.{HasKind, IsAmong, Kinds}
 use Rattle.clap.specs.Values.{kind_of}
@@ -16,8 +15,9 @@ use Rattle.clap.specs.declared.error.Error.{Error}
 use Rattle.clap.specs.declared.error.kind.ErrorKind.{ErrorKind}
 use Rattle.clap.specs.declared.error.kind.ErrorKind.TheVariants.{DisplayHelp, OutOfMemory}
 use Rattle.clap.proofs.WalkLemmas.{both, first_value-rows}
-use Rattle.dsr_command.specs.Asked.{Asked, asked_of, has_two_hyphens, help, task, unknown}
-use Rattle.dsr_command.specs.CommandLine.{command_line, entered_with_flag, task_entered}
+use Rattle.dsr_command.specs.Asked.{Asked, asked_of, has_two_hyphens, help, task, unknown, version}
+use Rattle.dsr_command.specs.CommandLine.{command_line, is_given, task_entered}
+use Rattle.dsr_command.specs.Wishes.{is_for_explain, is_for_version}
 use Rattle.dsr_command.specs.Readings.{OnHelp, OnUsage}
 use Rattle.dsr_command.specs.declared.Reading.{Reading}
 use Rattle.dsr_command.specs.declared.Reading.TheVariants as reading
@@ -27,6 +27,7 @@ use Rattle.dsr_command.proofs.WordLemmas.{Comes, IsEntered, IsRefused, asked, en
 -- what is said of a help text may say less
 on_help : (r : Reading) (P Q : Type 0) → (P → Q) → OnHelp r P → OnHelp r Q
 on_help (reading.Do t) P Q f h = h
+on_help (reading.Version text) P Q f h = h
 on_help (reading.Help text) P Q f h = f h
 on_help (reading.Usage text) P Q f h = h
 on_help reading.NoMemory P Q f h = h
@@ -34,6 +35,7 @@ on_help reading.NoMemory P Q f h = h
 -- the same of a usage fault
 on_usage : (r : Reading) (P Q : Type 0) → (P → Q) → OnUsage r P → OnUsage r Q
 on_usage (reading.Do t) P Q f h = h
+on_usage (reading.Version text) P Q f h = h
 on_usage (reading.Help text) P Q f h = h
 on_usage (reading.Usage text) P Q f h = f h
 on_usage reading.NoMemory P Q f h = h
@@ -50,6 +52,7 @@ refused_is_some kinds h none = true≢false (sym h ∙ ap is_refusal none)
 taken : (words : List Text) (a : Asked) (sep : Bool) (kinds : Kinds) → Comes a sep kinds → IsEntered words a → kinds ≡ [] → sep ≡ false
     → a ≡ task (task_entered (subcommand_of command_line words))
 taken words (task named) sep kinds h entered none without = entered
+taken words version sep kinds h entered none without = absurd h
 taken words help sep kinds h entered none without = absurd (call_is_some kinds h none)
 taken words unknown sep kinds (inl h) entered none without = absurd (refused_is_some kinds h none)
 taken words unknown sep kinds (inr h) entered none without = absurd (true≢false (sym h.1 ∙ without))
@@ -57,6 +60,7 @@ taken words unknown sep kinds (inr h) entered none without = absurd (true≢fals
 -- where it passes and a word is `--`, nothing known was
 separator_taken : (a : Asked) (sep : Bool) (kinds : Kinds) → Comes a sep kinds → kinds ≡ [] → sep ≡ true → a ≡ unknown
 separator_taken (task t) sep kinds h none with = absurd (true≢false (sym with ∙ h.1))
+separator_taken version sep kinds h none with = absurd h
 separator_taken help sep kinds h none with = absurd (call_is_some kinds h none)
 separator_taken unknown sep kinds h none with = refl
 
@@ -82,6 +86,7 @@ refused_is_other (k ∷ ks) h among = none_of_them (k ∷ ks) h among
 -- where the parse shows the help, the help was asked for
 called : (a : Asked) (sep : Bool) (kinds : Kinds) → Comes a sep kinds → IsAmong DisplayHelp kinds → a ≡ help
 called (task t) sep kinds h among = absurd (none_among _ kinds h.0 among)
+called version sep kinds h among = absurd h
 called help sep kinds h among = refl
 called unknown sep kinds (inl h) among = absurd (refused_is_other kinds h among)
 called unknown sep kinds (inr h) among = absurd (none_among _ kinds h.0 among)
@@ -89,6 +94,7 @@ called unknown sep kinds (inr h) among = absurd (none_among _ kinds h.0 among)
 -- where it fails otherwise, nothing known was
 faulted : (a : Asked) (sep : Bool) (kinds : Kinds) (k : ErrorKind) → Comes a sep kinds → IsAmong k kinds → k ≢ DisplayHelp → a ≡ unknown
 faulted (task t) sep kinds k h among other = absurd (none_among _ kinds h.0 among)
+faulted version sep kinds k h among other = absurd h
 faulted help sep kinds k h among other = go (subst (λ (ks : Kinds). IsAmong k ks) h among)
   where
     go : IsAmong k (DisplayHelp ∷ []) → help ≡ unknown
@@ -96,61 +102,66 @@ faulted help sep kinds k h among other = go (subst (λ (ks : Kinds). IsAmong k k
     go (inr h) = elim h [ ]
 faulted unknown sep kinds k h among other = refl
 
--- `clap` takes the words, and none of them is `--`
-pub taken_is_task : (words : List Text) (named : Task) → fault_of command_line words ≡ [] → has_two_hyphens words ≡ false
-    → named ≡ task_entered (subcommand_of command_line words) → asked_of words ≡ task named
-taken_is_task words named none without is =
-    taken words _ (has_two_hyphens words) (fault_of command_line words) (asked words) (entered_as_asked words) none without ∙ ap task (sym is)
+-- `clap` reads the words and takes them, and none of them is `--`
+pub taken_is_task : (words : List Text) (named : Task) → is_for_explain words ≡ false → is_for_version words ≡ false → fault_of command_line words ≡ []
+    → has_two_hyphens words ≡ false → named ≡ task_entered (subcommand_of command_line words) → asked_of words ≡ task named
+taken_is_task words named no_explain apart none without is =
+    taken words _ (has_two_hyphens words) (fault_of command_line words) (asked words no_explain apart) (entered_as_asked words no_explain) none without
+    ∙ ap task (sym is)
 
 -- `clap` takes the words, and one of them is `--`
-pub separator_is_unknown : (words : List Text) → fault_of command_line words ≡ [] → has_two_hyphens words ≡ true → asked_of words ≡ unknown
-separator_is_unknown words none with = separator_taken _ (has_two_hyphens words) (fault_of command_line words) (asked words) none with
+pub separator_is_unknown : (words : List Text) → is_for_explain words ≡ false → is_for_version words ≡ false → fault_of command_line words ≡ []
+    → has_two_hyphens words ≡ true → asked_of words ≡ unknown
+separator_is_unknown words no_explain apart none with =
+    separator_taken _ (has_two_hyphens words) (fault_of command_line words) (asked words no_explain apart) none with
 
 -- a usage fault where one is due
 pub on_separator : (r : Reading) (P : Type 0) → P → OnUsage r P
 on_separator (reading.Do t) P h = tt
+on_separator (reading.Version text) P h = tt
 on_separator (reading.Help text) P h = tt
 on_separator (reading.Usage text) P h = h
 on_separator reading.NoMemory P h = tt
 
 -- `clap` fails with a call for help
-pub call_is_help : (words : List Text) (e : Error) (r : Reading) → HasKind (fault_of command_line words) e → OnHelp r (kind_of e ≡ DisplayHelp) → OnHelp r (asked_of words ≡ help)
-call_is_help words e r has h = on_help r _ _ (go has) h
+pub call_is_help : (words : List Text) (e : Error) (r : Reading) → is_for_explain words ≡ false → is_for_version words ≡ false
+    → HasKind (fault_of command_line words) e → OnHelp r (kind_of e ≡ DisplayHelp) → OnHelp r (asked_of words ≡ help)
+call_is_help words e r no_explain apart has h = on_help r _ _ (go has) h
   where
     go : HasKind (fault_of command_line words) e → kind_of e ≡ DisplayHelp → asked_of words ≡ help
     go (inl memory) is = absurd (no_call OutOfMemory refl (sym is ∙ memory))
     go (inr among) is =
-        called _ (has_two_hyphens words) (fault_of command_line words) (asked words) (subst (λ (k : ErrorKind). IsAmong k (fault_of command_line words)) is among)
+        called _ (has_two_hyphens words) (fault_of command_line words) (asked words no_explain apart)
+        (subst (λ (k : ErrorKind). IsAmong k (fault_of command_line words)) is among)
 
 -- `clap` fails otherwise
-pub fault_is_unknown : (words : List Text) (e : Error) (r : Reading) → HasKind (fault_of command_line words) e
+pub fault_is_unknown : (words : List Text) (e : Error) (r : Reading) → is_for_explain words ≡ false → is_for_version words ≡ false
+    → HasKind (fault_of command_line words) e
     → OnUsage r ((kind_of e ≢ DisplayHelp) × (kind_of e ≢ OutOfMemory)) → OnUsage r (asked_of words ≡ unknown)
-fault_is_unknown words e r has h = on_usage r _ _ (go has) h
+fault_is_unknown words e r no_explain apart has h = on_usage r _ _ (go has) h
   where
     go : HasKind (fault_of command_line words) e → (kind_of e ≢ DisplayHelp) × (kind_of e ≢ OutOfMemory) → asked_of words ≡ unknown
     go (inl memory) other = absurd (other.1 memory)
-    go (inr among) other = faulted _ (has_two_hyphens words) (fault_of command_line words) (kind_of e) (asked words) among other.0
+    go (inr among) other = faulted _ (has_two_hyphens words) (fault_of command_line words) (kind_of e) (asked words no_explain apart) among other.0
 
--- what the clauses of `read_words` stand on
+-- what the clauses of `read_by_clap` stand on
 pub ruleset readings = (taken_is_task, separator_is_unknown, on_separator, call_is_help, fault_is_unknown)
 
--- ---- the flag `--transcript`
-
--- which of two tasks is meant, by the text of the flag
-abbrev by_text : Task → Task → Option Text → Task
-by_text plain flagged text = if option_map_or (λ given. bytes_eq given (codes "true")) text false then flagged else plain
+-- ---- flags
 
 -- the text is compared with that of a flag that is given
-pub flag_read : (plain flagged : Task) (f : Found) (text : Option (Bor Text)) (wanted : Bor Text) (same : Bool)
-    → option_map (λ s. s.now) text ≡ first_value f (codes "transcript") → wanted.now ≡ codes "true"
-    → same ≡ option_eq (λ a b. bytes_eq a.now b.now) text (Some wanted) → (if same then flagged else plain) ≡ entered_with_flag plain flagged (rows_of f)
-flag_read plain flagged f text wanted same is given compared =
-    ap (λ (b : Bool). if b then flagged else plain) compared ∙ go text ∙ ap (by_text plain flagged) (is ∙ first_value-rows f (codes "transcript"))
+pub given_read : (f : Found) (name : Text) (text : Option (Bor Text)) (wanted : Bor Text) (same : Bool)
+    → option_map (λ s. s.now) text ≡ first_value f name → wanted.now ≡ codes "true"
+    → same ≡ option_eq (λ a b. bytes_eq a.now b.now) text (Some wanted) → same ≡ is_given name (rows_of f)
+given_read f name text wanted same is given compared = compared ∙ go text ∙ ap by_text (is ∙ first_value-rows f name)
   where
-    go : (text : Option (Bor Text)) → (if option_eq (λ a b. bytes_eq a.now b.now) text (Some wanted) then flagged else plain)
-        ≡ by_text plain flagged (option_map (λ s. s.now) text)
+    by_text : Option Text → Bool
+    by_text text = option_map_or (λ given. bytes_eq given (codes "true")) text false
+
+    go : (text : Option (Bor Text)) → option_eq (λ a b. bytes_eq a.now b.now) text (Some wanted)
+        ≡ option_map_or (λ given. bytes_eq given (codes "true")) (option_map (λ s. s.now) text) false
     go None = refl
-    go (Some t) = ap (λ (w : Text). if bytes_eq t.now w then flagged else plain) given
+    go (Some t) = ap (λ (w : Text). bytes_eq t.now w) given
 
 -- ---- the command
 

@@ -1,14 +1,18 @@
 -- What each list of words asks for, the program's own name left out.
-use Rattle.std.specs.Prelude.{◌&&◌, ◌||◌, Bool, List, [], ◌∷◌, ℕ, codes, drop, if◌then◌else◌}
+use Rattle.std.specs.Prelude.{◌&&◌, ◌||◌, Bool, false, true, List, [], ◌∷◌, ℕ, None, Some, codes, drop, if◌then◌else◌, is_some, not}
 use Rattle.std.specs.Prelude.{nat_eq}
 use Rattle.std.specs.List.{list_any, starts_with}
+use Rattle.std.specs.Option.{option_map_or}
 use Rattle.std.specs.Str.{bytes_eq, chars}
+use Rattle.dsr_command.specs.Values.{actor_of, slot_of}
+use Rattle.dsr_command.specs.declared.narrowing.Narrowing.{Narrowing}
 use Rattle.dsr_command.specs.declared.Task.{Task}
-use Rattle.dsr_command.specs.declared.Task.TheVariants.{Apply, Check, Play, Serve, Transcribe, TranscribeService}
+use Rattle.dsr_command.specs.declared.Task.TheVariants.{Apply, Check, Explain, Play, Serve}
 
--- what words can ask for: a task, the text of the help, or nothing that the program knows
+-- what words can ask for: a task, the program's version, the text of the help, or nothing that the program knows
 pub data Asked : Type 0 where
   task : Task → Asked
+  version : Asked
   help : Asked
   unknown : Asked
 
@@ -30,18 +34,60 @@ abbrev pub asked_after : Task → List (List ℕ) → Asked
 asked_after named [] = task named
 asked_after named (word ∷ rest) = asked_by_other word
 
--- what is asked for by a task's name and the words after it, where the first of them may be `--transcript`: the one task
--- without it, the other one with it
-abbrev pub asked_after_flagged : Task → Task → List (List ℕ) → Asked
-asked_after_flagged plain flagged [] = task plain
-asked_after_flagged plain flagged (word ∷ rest) =
-    if bytes_eq word (codes "--transcript") then asked_after flagged rest else asked_by_other word
+-- what is asked for by `play` and the words after it, where words before them gave these flags: each of the two is given once at most
+abbrev pub asked_after_play : Bool → Bool → List (List ℕ) → Asked
+asked_after_play strict transcript [] = task (Play strict transcript)
+asked_after_play strict transcript (word ∷ rest) =
+    if bytes_eq word (codes "--strict") && not strict then asked_after_play true transcript rest
+    else (if bytes_eq word (codes "--transcript") && not transcript then asked_after_play strict true rest
+    else asked_by_other word)
+
+-- the same of `serve`, which has one of the flags
+abbrev pub asked_after_serve : Bool → List (List ℕ) → Asked
+asked_after_serve transcript [] = task (Serve transcript)
+asked_after_serve transcript (word ∷ rest) =
+    if bytes_eq word (codes "--transcript") && not transcript then asked_after_serve true rest else asked_by_other word
+
+-- all of a play is explained
+abbrev pub all_of_it : Narrowing
+all_of_it = record { slot = None; actor = None; refused = false; as_data = false }
+
+-- what the next word after `explain` is to be: an option, or the value of one
+pub data Next : Type 0 where
+  an_option : Next
+  a_slot : Next
+  an_actor : Next
+
+-- what is asked for by words after `explain`, where those before them narrow so far what is explained: each option is given once at most,
+-- and the value of an option is the word after it
+abbrev pub asked_after_explain : Next → Narrowing → List (List ℕ) → Asked
+asked_after_explain an_option so_far [] = task (Explain so_far)
+asked_after_explain an_option so_far (word ∷ rest) =
+    if bytes_eq word (codes "--slot") && not (is_some so_far.slot) then asked_after_explain a_slot so_far rest
+    else (if bytes_eq word (codes "--actor") && not (is_some so_far.actor) then asked_after_explain an_actor so_far rest
+    else (if bytes_eq word (codes "--refused") && not so_far.refused then asked_after_explain an_option (record so_far { refused = true }) rest
+    else (if bytes_eq word (codes "--data") && not so_far.as_data then asked_after_explain an_option (record so_far { as_data = true }) rest
+    else asked_by_other word)))
+asked_after_explain a_slot so_far [] = unknown
+asked_after_explain a_slot so_far (word ∷ rest) =
+    option_map_or (λ slot. asked_after_explain an_option (record so_far { slot = Some slot }) rest) (slot_of word) unknown
+asked_after_explain an_actor so_far [] = unknown
+asked_after_explain an_actor so_far (word ∷ rest) =
+    option_map_or (λ actor. asked_after_explain an_option (record so_far { actor = Some actor }) rest) (actor_of word) unknown
+
+-- what is asked for by `--version` and the words after it, of which there are none
+abbrev pub asked_after_version : List (List ℕ) → Asked
+asked_after_version [] = version
+asked_after_version (word ∷ rest) = unknown
 
 -- what the words ask for: `apply` is also what no word at all means
 abbrev pub asked_of : List (List ℕ) → Asked
 asked_of [] = task Apply
 asked_of (word ∷ rest) =
     if bytes_eq word (codes "apply") then asked_after Apply rest
-    else (if bytes_eq word (codes "play") then asked_after_flagged Play Transcribe rest
-    else (if bytes_eq word (codes "serve") then asked_after_flagged Serve TranscribeService rest
-    else (if bytes_eq word (codes "check") then asked_after Check rest else asked_by_other word)))
+    else (if bytes_eq word (codes "play") then asked_after_play false false rest
+    else (if bytes_eq word (codes "serve") then asked_after_serve false rest
+    else (if bytes_eq word (codes "check") then asked_after Check rest
+    else (if bytes_eq word (codes "explain") then asked_after_explain an_option all_of_it rest
+    else (if bytes_eq word (codes "--version") then asked_after_version rest
+    else asked_by_other word)))))

@@ -1,13 +1,18 @@
 -- What a clause says of a reading of the command line.
 use Rattle.std.specs.Prelude.{List, ℕ, string_bytes}
 use Rattle.dsr_command.specs.declared.Reading.{Reading}
-use Rattle.dsr_command.specs.declared.Reading.TheVariants.{Do, Help, NoMemory, Usage}
+use Rattle.dsr_command.specs.declared.Reading.TheVariants.{Do, Help, NoMemory, Usage, Version}
 use Rattle.dsr_command.specs.declared.Task.{Task}
 
 -- P of the task, where the reading is one
 abbrev pub IfDo : Reading → (Task → Type 0) → Type 0
 IfDo (Do task) P = P task
 IfDo _ P = Unit {0}
+
+-- P of the text, where the reading is the version
+abbrev pub IfVersion : Reading → (List ℕ → Type 0) → Type 0
+IfVersion (Version text) P = P (string_bytes text)
+IfVersion _ P = Unit {0}
 
 -- P of the text, where the reading is the help
 abbrev pub IfHelp : Reading → (List ℕ → Type 0) → Type 0
@@ -18,6 +23,11 @@ IfHelp _ P = Unit {0}
 abbrev pub IfUsage : Reading → (List ℕ → Type 0) → Type 0
 IfUsage (Usage text) P = P (string_bytes text)
 IfUsage _ P = Unit {0}
+
+-- P, where the reading is the version
+abbrev pub OnVersion : Reading → Type 0 → Type 0
+OnVersion (Version text) P = P
+OnVersion _ P = Unit {0}
 
 -- P, where the reading is the help
 abbrev pub OnHelp : Reading → Type 0 → Type 0

@@ -1,5 +1,9 @@
--- The texts that are shown where help is asked for, and where the words are unknown (this project).
+-- The texts that are shown where the version or help is asked for, and where the words are unknown (this project).
 use Rattle.std.specs.Prelude.{◌≡◌, ◌++◌, ◌≤◌, List, ℕ, codes, length}
+
+-- the line of the version: the program's, and the toolchain that it is proved with
+abbrev pub version_line : List ℕ
+version_line = codes "dsr 1.0.0 (rattle-kit-13f logic dac8208d650f15bf)\n"
 
 -- the sentence that each help begins with
 abbrev pub title : List ℕ

@@ -1,19 +1,29 @@
-//! The command line of the program `dsr`, read by `clap`.
+//! The command line of the program `dsr`, read by `clap`, but for `--version` and the words after `explain`.
 #![tactic(auto)]
 
-ghost use Rattle.std.specs.Prelude.{◌≡◌, ◌≢◌, ◌++◌, ◌≤◌, ◌↔◌, IfOk, IsTrue, codes, false, length, map};
+mod narrowing;
+
+ghost use Rattle.std.specs.Prelude.{◌≡◌, ◌≢◌, ◌++◌, ◌≤◌, IfOk, codes, false, length, map};
 ghost use Rattle.clap.specs.Words.{FailsBy, app_of, fault_of, found_of, kind_of, new_app, rows_of, rule_of, subcommand_of, subcommand_rows_of};
 ghost use Rattle.clap.specs.declared.builder.command.Command.TheViews.{out-Command as fields_of};
 ghost use Rattle.clap.specs.declared.error.kind.ErrorKind.TheVariants.{DisplayHelp, OutOfMemory, UnknownArgument};
-ghost use Rattle.dsr_command.specs.Asked.{asked_of, has_two_hyphens, help, task, unknown};
-ghost use Rattle.dsr_command.specs.CommandLine.{command_line, entered_with_flag, flagged_app, keeping, program, task_entered, transcript_rule};
-ghost use Rattle.dsr_command.specs.ShownTexts.{IsHelp, IsUsage, title, usage_title};
-ghost use Rattle.dsr_command.specs.Readings.{IfDo, IfHelp, IfUsage, OnHelp, OnUsage};
+ghost use Rattle.dsr_command.specs.Asked.{all_of_it, an_option, asked_after_explain, asked_of, has_two_hyphens, help, task, unknown, version};
+ghost use Rattle.dsr_command.specs.CommandLine.{command_line, flag_rule, is_given, keeping, play_app, program, serve_app, task_entered};
+ghost use Rattle.dsr_command.specs.ShownTexts.{IsHelp, IsUsage, title, usage_title, version_line};
+ghost use Rattle.dsr_command.specs.Readings.{IfDo, IfHelp, IfUsage, IfVersion, OnHelp, OnUsage, OnVersion};
+ghost use Rattle.dsr_command.specs.Wishes.{is_for_explain, is_for_version};
+ghost use Rattle.std.proofs.Common.{rules};
 
+use crate::narrowing::{Wish, wish_of};
 use clap::error::ErrorKind;
 use clap::{Arg, ArgAction, ArgMatches, Command, Error};
+use dsr_base::Exact;
+pub use narrowing::Narrowing;
 use std::alloc::{AllocError, Global};
 use std::convert::AsStr;
+
+/// The line of the version: the program's, and the toolchain that it is proved with, as `rt version` names it.
+const VERSION: &str = "dsr 1.0.0 (rattle-kit-13f logic dac8208d650f15bf)\n";
 
 /// The sentence that each help begins with.
 const TITLE: &str = "dsr keeps a directory of named registers, each free or holding a number.";
@@ -22,7 +32,8 @@ const ABOUT: &str =
     "Clients send it numbered requests: read, write, swap (compare-and-set), remove. It answers each of them.\n\
 `dsr apply` is one directory. `dsr play` is one that replicas keep together, though some of them are traitors,\n\
 `dsr serve` is one that replicas keep in threads, and `dsr check` tells whether what was recorded of such a play\n\
-or service is a run. Without a command it does what `dsr apply` does.";
+or service is a run. `dsr explain` tells why what came of a play came out so. Without a command it does what\n\
+`dsr apply` does.";
 
 const EXAMPLES: &str = "Example:\n  \
 $ printf 'c0 1 write a 5\\nc1 1 swap a 5 6\\nc0 2 read a\\n' | dsr apply\n  \
@@ -30,10 +41,11 @@ $ printf 'c0 1 write a 5\\nc1 1 swap a 5 6\\nc0 2 read a\\n' | dsr apply\n  \
 1 swapped\n  \
 2 held 6\n\n\
 `dsr apply --help` says how a request is written, and what its answer means; `dsr play --help` the same of plays\n\
-and reports, `dsr serve --help` of scripts, and `dsr check --help` of transcripts.\n\n\
+and reports, `dsr serve --help` of scripts, `dsr check --help` of transcripts, and `dsr explain --help` of what is\n\
+explained. `dsr --version` prints the version.\n\n\
 Exit status:\n  \
-0  the answers, the report, the transcript or the help was written\n  \
-1  the input was refused, a service ended early, or reading or writing failed\n  \
+0  the answers, the report, the transcript, the explanation, the help or the version was written\n  \
+1  the input or, with --strict, an event was refused, a service ended early, or reading or writing failed\n  \
 2  the words of the command line were not understood\n  \
 3  memory ran out";
 
@@ -74,7 +86,7 @@ const PLAY_ABOUT: &str =
 const PLAY_EXAMPLE: &str =
     "A play begins with the line `dsr-play 1 N F M TRAITORS`: N replicas, 1 to 16; at most F traitors among them, with\n\
 N >= 2F+1; M clients, 1 to 32; and who the traitors are, as r0+r2, or - for none. What follows is played line by\n\
-line. Each line ends with a line feed, the last one too.\n\n  \
+line. Each line ends with a line feed, the last one too. Replicas are r0 to r15, clients c0 to c31.\n\n  \
 post A B           the actor A posts to B what the protocol has it post\n  \
 post A B from C    the same; the replica A proposes what it holds of the clients C, as c0+c1\n  \
 post A B begin OP  the client A posts a new request to B; OP as in `dsr apply --help`\n  \
@@ -110,7 +122,8 @@ history 1\n  \
 Nothing is played before the end of the input, which has at most 16,777,216 bytes and stands for at most 1,000,000\n\
 events. Of a play with a bad line N nothing is played: `dsr: bad text in line N` is printed on standard error, and\n\
 the exit status is 1; where N, F, M or TRAITORS are outside their limits, it is `dsr: the shape is not allowed`.\n\
-Refused events are no fault: the status is 0, or 3 where one was refused because memory ran out.";
+Refused events are no fault: the status is 0, or 3 where one was refused because memory ran out. With --strict it is 1\n\
+where any was refused, or 3 as before; the same is written, and nothing on standard error for it.";
 
 const SERVE_ABOUT: &str =
     "Read a script from standard input, serve it by threads, and write what came of it";
@@ -143,6 +156,9 @@ dsr: no memory                   memory ran out\n\n\
 Nothing is served before the end of the input, which has at most 16,777,216 bytes. Of a script with a bad line N nothing\n\
 is served: `dsr: bad text in line N` is printed on standard error, and the exit status is 1; where N, F, M or TRAITORS\n\
 are outside their limits, it is `dsr: the shape is not allowed`.";
+
+/// What the help says of the flag of `play` alone.
+const STRICT_HELP: &str = "End with status 1 where an event was refused";
 
 /// What the help says of the flag of `play` and `serve`.
 const TRANSCRIPT_HELP: &str = "Write the steps of all actors in place of the report";
@@ -177,6 +193,39 @@ The step in that line is the first that may not follow those before it; the head
 on standard output, and the exit status is 1. Of a text with a bad line N it is `dsr: bad text in line N`; where N, F, M\n\
 or TRAITORS are outside their limits, `dsr: the shape is not allowed`. The input has at most 16,777,216 bytes.";
 
+const EXPLAIN_ABOUT: &str =
+    "Read a play from standard input, and write why what came of it came out so";
+
+const EXPLAIN_EXAMPLE: &str =
+    "The play is written and played as `dsr play --help` says. In place of the report it is written why things came out as\n\
+they did: why events were refused, why loyal replicas decided what they did, and why clients accepted their answers.\n\n  \
+NUM    a slot: 0 to 1099511627775, without leading zeros\n  \
+ACTOR  a replica, r0 to r15, or a client, c0 to c31\n\n\
+Each option is given once at most, in any order. Without one all is explained, and with several what all of them let\n\
+through.\n\n\
+Example:\n  \
+$ dsr explain --slot 0 --actor r1 < FILE\n\n\
+Nothing is played before the end of the input, which has at most 16,777,216 bytes and stands for at most 1,000,000\n\
+events. Of a play with a bad line N it is written where in the line the fault is, and what was expected there. Then\n\
+`dsr: bad text in line N` is printed on standard error, and the exit status is 1; where N, F, M or TRAITORS are outside\n\
+their limits, it is `dsr: the shape is not allowed`. Refused events are no fault.";
+
+/// What the help says of the options of `explain`.
+const SLOT_HELP: &str = "Explain this slot alone";
+
+const ACTOR_HELP: &str = "Explain this actor alone";
+
+const REFUSED_HELP: &str = "Explain refused events alone";
+
+const DATA_HELP: &str = "Write lines for programs in place of sentences";
+
+/// What is said of words after `explain` that have a wrong value.
+const EXPLAIN_VALUES: &str =
+    "--slot wants a number below 2^40 as the next word, and --actor an actor, as r0 or c31";
+
+/// What is said of a word `--`.
+const SEPARATOR: &str = "unexpected argument '--' found";
+
 /// What a text for unknown words begins with.
 const USAGE_TITLE: &str = "error: ";
 
@@ -199,35 +248,30 @@ const TOO_LONG: &str = "what is to be said of these words is too long to be show
 pub enum Task {
     /// Answer the request lines of standard input, one line for each.
     Apply,
-    /// Play the play of standard input, and report what came of it.
-    Play,
-    /// Play the play of standard input, and write the transcript of all steps.
-    Transcribe,
-    /// Serve the script of standard input by hosts in threads, and report what came of it.
-    Serve,
-    /// Serve the script of standard input by hosts in threads, and write the transcript of all steps.
-    TranscribeService,
+    /// Play the play of standard input, and tell what came of it.
+    Play {
+        /// Whether an event that is refused is a fault.
+        strict: bool,
+        /// Whether it is told by the transcript of all steps, in place of the report.
+        transcript: bool,
+    },
+    /// Serve the script of standard input by hosts in threads, and tell what came of it.
+    Serve {
+        /// Whether it is told by the transcript of all steps, in place of the report.
+        transcript: bool,
+    },
     /// Check the transcript of standard input, and report what the run gave.
     Check,
+    /// Explain why what came of the play of standard input came out so.
+    Explain(Narrowing),
 }
 
-impl Task {
-    /// The same task once more. It goes through `clone`, so that a clone is the same task too.
-    pub fn copy(&self) -> Task
-        ensures { result ≡ self.now }
-    {
-        match self.clone() {
-            Ok(task) => task,
-            Err(_) => *self,
-        }
-    }
+impl Exact for Task {
+    ghost use Rattle.dsr_command.specs.Support.TaskEquality.{task_eq-Decides};
 
-    /// Whether two tasks are the same task.
-    pub fn same(&self, other: &Task) -> bool
-        ensures { IsTrue result ↔ (self.now ≡ other.now) }
-    {
-        self == other
-    }
+    ghost decides = { task_eq-Decides };
+
+    ghost clones = { λ a b. Prim.search rules };
 }
 
 /// What a command line says.
@@ -235,6 +279,8 @@ impl Task {
 pub enum Reading {
     /// Do this.
     Do(Task),
+    /// The version was asked for: show this line on standard output and end with status 0.
+    Version(String),
     /// Help was asked for: show this text on standard output and end with status 0.
     Help(String),
     /// The words are none that the program knows: show this text on standard error and end with
@@ -246,9 +292,130 @@ pub enum Reading {
 
 /// Reads the words that follow the program's own name on its command line. `NoMemory` may come whatever the
 /// words are, and nothing else may.
-#[tactic(auto, using(crate::proofs::ReadingLemmas::readings))]
 pub fn read_words<S: AsStr>(alloc: Global, words: &[S]) -> Reading
     ensures task { IfDo result (λ done. asked_of (map S.text words.now) ≡ task done) }
+    ensures version { OnVersion result (asked_of (map S.text words.now) ≡ version) }
+    ensures help { OnHelp result (asked_of (map S.text words.now) ≡ help) }
+    ensures usage { OnUsage result (asked_of (map S.text words.now) ≡ unknown) }
+    ensures stated { IfVersion result (λ line. line ≡ version_line) }
+    ensures shown { IfHelp result IsHelp }
+    ensures told { IfUsage result IsUsage }
+{
+    if is_for_explain(words) {
+        read_explain(alloc, &words[1..])
+    } else if is_for_version(words) {
+        read_version(alloc)
+    } else {
+        read_by_clap(alloc, words)
+    }
+}
+
+/// Whether the first word is `explain`.
+fn is_for_explain<S: AsStr>(words: &[S]) -> bool
+    ensures { result ≡ is_for_explain (map S.text words.now) }
+{
+    match words {
+        [] => false,
+        [word, ..] => word.as_str() == "explain",
+    }
+}
+
+/// Whether the only word is `--version`.
+fn is_for_version<S: AsStr>(words: &[S]) -> bool
+    ensures { result ≡ is_for_version (map S.text words.now) }
+{
+    match words {
+        [word] => word.as_str() == "--version",
+        _ => false,
+    }
+}
+
+/// The version, as a text to show.
+fn read_version(alloc: Global) -> Reading
+    ensures task { IfDo result (λ _. ⊥) }
+    ensures help { OnHelp result ⊥ }
+    ensures usage { OnUsage result ⊥ }
+    ensures stated { IfVersion result (λ line. line ≡ version_line) }
+{
+    match String::from_str(alloc, VERSION) {
+        Ok(line) => Reading::Version(line),
+        Err(_) => Reading::NoMemory,
+    }
+}
+
+/// Reads the words after `explain`.
+fn read_explain<S: AsStr>(alloc: Global, words: &[S]) -> Reading
+    ensures task { IfDo result (λ done. asked_after_explain an_option all_of_it (map S.text words.now) ≡ task done) }
+    ensures version { OnVersion result ⊥ }
+    ensures help { OnHelp result (asked_after_explain an_option all_of_it (map S.text words.now) ≡ help) }
+    ensures usage { OnUsage result (asked_after_explain an_option all_of_it (map S.text words.now) ≡ unknown) }
+    ensures shown { IfHelp result IsHelp }
+    ensures told { IfUsage result IsUsage }
+{
+    match wish_of(words) {
+        Wish::Explain(narrowing) => Reading::Do(Task::Explain(narrowing)),
+        Wish::Help => explain_help(alloc),
+        Wish::Unknown => explain_refused(alloc, words),
+    }
+}
+
+/// The help of `explain`.
+fn explain_help(alloc: Global) -> Reading
+    ensures task { IfDo result (λ _. ⊥) }
+    ensures version { OnVersion result ⊥ }
+    ensures usage { OnUsage result ⊥ }
+    ensures shown { IfHelp result IsHelp }
+{
+    match explain_text(alloc) {
+        Ok(text) => titled(alloc, text.as_str()),
+        Err(_) => Reading::NoMemory,
+    }
+}
+
+fn explain_text(alloc: Global) -> Result<String, AllocError> {
+    let mut command = explain_command(alloc)?;
+    command.render_help()
+}
+
+/// The usage fault of words after `explain`, which ask for nothing known.
+fn explain_refused<S: AsStr>(alloc: Global, words: &[S]) -> Reading
+    ensures task { IfDo result (λ _. ⊥) }
+    ensures version { OnVersion result ⊥ }
+    ensures help { OnHelp result ⊥ }
+    ensures told { IfUsage result IsUsage }
+{
+    match explain_fault(alloc, words) {
+        Ok(text) => usage_of(alloc, text.as_str()),
+        Err(_) => Reading::NoMemory,
+    }
+}
+
+/// What is said of these words: what `clap` says, where it refuses them too, and else that one is `--`, or what the values of options are
+/// to be.
+fn explain_fault<S: AsStr>(alloc: Global, words: &[S]) -> Result<String, AllocError> {
+    let command = explain_command(alloc)?;
+    if let Err(error) = command.try_get_matches_from(words) {
+        if error.kind() != ErrorKind::DisplayHelp {
+            return error.to_string(alloc);
+        }
+    }
+    let said = if has_separator(words) {
+        SEPARATOR
+    } else {
+        EXPLAIN_VALUES
+    };
+    let mut command = explain_command(alloc)?;
+    let error = command.error(ErrorKind::ValueValidation, said)?;
+    error.to_string(alloc)
+}
+
+/// Reads words that `clap` reads: those that do not begin with `explain`, and are not `--version` alone.
+#[tactic(auto, using(crate::proofs::ReadingLemmas::readings))]
+fn read_by_clap<S: AsStr>(alloc: Global, words: &[S]) -> Reading
+    requires tasks { is_for_explain (map S.text words.now) ≡ false }
+    requires more { is_for_version (map S.text words.now) ≡ false }
+    ensures task { IfDo result (λ done. asked_of (map S.text words.now) ≡ task done) }
+    ensures version { OnVersion result ⊥ }
     ensures help { OnHelp result (asked_of (map S.text words.now) ≡ help) }
     ensures usage { OnUsage result (asked_of (map S.text words.now) ≡ unknown) }
     ensures shown { IfHelp result IsHelp }
@@ -276,22 +443,23 @@ fn task_of(matches: &ArgMatches<'_>) -> Task
     ensures { result ≡ task_entered (subcommand_rows_of matches.now) }
 {
     match matches.subcommand() {
-        Some(("play", given)) => by_flag(given, Task::Play, Task::Transcribe),
-        Some(("serve", given)) => by_flag(given, Task::Serve, Task::TranscribeService),
+        Some(("play", given)) => Task::Play {
+            strict: is_given(given, "strict"),
+            transcript: is_given(given, "transcript"),
+        },
+        Some(("serve", given)) => Task::Serve {
+            transcript: is_given(given, "transcript"),
+        },
         Some(("check", _)) => Task::Check,
         _ => Task::Apply,
     }
 }
 
-/// One of two tasks, by what was given after the word for both: the second one with the flag.
-fn by_flag(given: &ArgMatches<'_>, plain: Task, flagged: Task) -> Task
-    ensures { result ≡ entered_with_flag plain flagged (rows_of (found_of given.now)) }
+/// Whether the flag of this name was given.
+fn is_given(given: &ArgMatches<'_>, name: &str) -> bool
+    ensures { result ≡ is_given name.now (rows_of (found_of given.now)) }
 {
-    if given.get_str("transcript") == Some("true") {
-        flagged
-    } else {
-        plain
-    }
+    given.get_str(name) == Some("true")
 }
 
 /// Whether a word is `--`, which `clap` reads over and the program does not know.
@@ -309,6 +477,7 @@ fn has_separator<S: AsStr>(words: &[S]) -> bool
 /// The usage fault of a word `--`.
 fn separator_refused(alloc: Global) -> Reading
     ensures task { IfDo result (λ _. ⊥) }
+    ensures version { OnVersion result ⊥ }
     ensures help { OnHelp result ⊥ }
     ensures shown { IfHelp result IsHelp }
     ensures told { IfUsage result IsUsage }
@@ -323,12 +492,13 @@ fn separator_error(alloc: Global) -> Result<Error, AllocError>
     ensures { IfOk result (λ error. kind_of error ≡ UnknownArgument) }
 {
     let mut command = dsr_command(alloc)?;
-    command.error(ErrorKind::UnknownArgument, "unexpected argument '--' found")
+    command.error(ErrorKind::UnknownArgument, SEPARATOR)
 }
 
 /// What an error of the parse says to the user.
 fn reading_of(alloc: Global, error: &Error) -> Reading
     ensures task { IfDo result (λ _. ⊥) }
+    ensures version { OnVersion result ⊥ }
     ensures help { OnHelp result (kind_of error.now ≡ DisplayHelp) }
     ensures usage { OnUsage result ((kind_of error.now ≢ DisplayHelp)
         × (kind_of error.now ≢ OutOfMemory)) }
@@ -348,6 +518,7 @@ fn reading_of(alloc: Global, error: &Error) -> Reading
 /// The usage fault that says this, after its title, and before the tips.
 fn usage_of(alloc: Global, text: &str) -> Reading
     ensures task { IfDo result (λ _. ⊥) }
+    ensures version { OnVersion result ⊥ }
     ensures help { OnHelp result ⊥ }
     ensures told { IfUsage result IsUsage }
 {
@@ -361,6 +532,7 @@ fn usage_of(alloc: Global, text: &str) -> Reading
 /// The help that says this of the command, after the title.
 fn titled(alloc: Global, text: &str) -> Reading
     ensures task { IfDo result (λ _. ⊥) }
+    ensures version { OnVersion result ⊥ }
     ensures usage { OnUsage result ⊥ }
     ensures shown { IfHelp result IsHelp }
     ensures whole { length text.now ≤ 3700 → IfHelp result (λ shown. shown ≡ title ++ (codes "\n\n" ++ text.now)) }
@@ -390,7 +562,8 @@ fn dsr_command<'a>(alloc: Global) -> Result<Command<'a>, AllocError>
         × ((fields_of command).has_globals ≡ false)) }
 {
     let dsr = dsr_keeping(alloc)?;
-    dsr.subcommand(check_command(alloc))
+    let dsr = dsr.subcommand(check_command(alloc))?;
+    dsr.subcommand(explain_word(alloc))
 }
 
 /// The command with those of its tasks that keep a directory.
@@ -426,33 +599,35 @@ fn apply_command<'a>(alloc: Global) -> Command<'a>
 }
 
 fn play_command<'a>(alloc: Global) -> Result<Command<'a>, AllocError>
-    ensures { IfOk result (λ command. (app_of command ≡ flagged_app (codes "play"))
+    ensures { IfOk result (λ command. (app_of command ≡ play_app)
         × ((fields_of command).has_globals ≡ false)) }
 {
     let play = Command::new(alloc, "play")
         .about(PLAY_ABOUT)
         .after_help(PLAY_EXAMPLE);
-    play.arg(transcript_flag(alloc))
+    let play = play.arg(flag(alloc, "strict", STRICT_HELP))?;
+    play.arg(flag(alloc, "transcript", TRANSCRIPT_HELP))
 }
 
 fn serve_command<'a>(alloc: Global) -> Result<Command<'a>, AllocError>
-    ensures { IfOk result (λ command. (app_of command ≡ flagged_app (codes "serve"))
+    ensures { IfOk result (λ command. (app_of command ≡ serve_app)
         × ((fields_of command).has_globals ≡ false)) }
 {
     let serve = Command::new(alloc, "serve")
         .about(SERVE_ABOUT)
         .after_help(SERVE_EXAMPLE);
-    serve.arg(transcript_flag(alloc))
+    serve.arg(flag(alloc, "transcript", TRANSCRIPT_HELP))
 }
 
-fn transcript_flag<'a>(alloc: Global) -> Arg<'a>
-    ensures rule { rule_of result ≡ transcript_rule }
+/// The flag of this name, of which the help says this.
+fn flag<'a>(alloc: Global, name: &'a str, text: &'a str) -> Arg<'a>
+    ensures rule { rule_of result ≡ flag_rule name.now }
     ensures local { result.global ≡ false }
 {
-    Arg::new(alloc, "transcript")
-        .long("transcript")
+    Arg::new(alloc, name)
+        .long(name)
         .action(ArgAction::SetTrue)
-        .help(TRANSCRIPT_HELP)
+        .help(text)
 }
 
 fn check_command<'a>(alloc: Global) -> Command<'a>
@@ -462,4 +637,34 @@ fn check_command<'a>(alloc: Global) -> Command<'a>
     Command::new(alloc, "check")
         .about(CHECK_ABOUT)
         .after_help(CHECK_EXAMPLE)
+}
+
+/// `explain` as the list of commands has it.
+fn explain_word<'a>(alloc: Global) -> Command<'a>
+    ensures app { app_of result ≡ new_app (codes "explain") }
+    ensures local { (fields_of result).has_globals ≡ false }
+{
+    Command::new(alloc, "explain").about(EXPLAIN_ABOUT)
+}
+
+/// `explain` on its own, for its help, and for what is said of words after it.
+fn explain_command<'a>(alloc: Global) -> Result<Command<'a>, AllocError> {
+    let explain = Command::new(alloc, "explain")
+        .about(EXPLAIN_ABOUT)
+        .after_help(EXPLAIN_EXAMPLE)
+        .no_binary_name(true)
+        .bin_name("dsr explain")?;
+    let explain = explain.arg(option(alloc, "slot", "NUM", SLOT_HELP))?;
+    let explain = explain.arg(option(alloc, "actor", "ACTOR", ACTOR_HELP))?;
+    let explain = explain.arg(flag(alloc, "refused", REFUSED_HELP))?;
+    explain.arg(flag(alloc, "data", DATA_HELP))
+}
+
+/// The option of this name, whose value and of which the help says this.
+fn option<'a>(alloc: Global, name: &'a str, value: &'a str, text: &'a str) -> Arg<'a> {
+    Arg::new(alloc, name)
+        .long(name)
+        .value_name(value)
+        .action(ArgAction::Set)
+        .help(text)
 }

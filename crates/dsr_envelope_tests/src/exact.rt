@@ -1,6 +1,6 @@
 use dsr_base::Exact;
 use dsr_chain::{ChainFault, SignedRequest};
-use dsr_command::Task;
+use dsr_command::{Narrowing, Task};
 use dsr_desk::{Content, Keys};
 use dsr_envelope::{Clients, Due, Pick};
 use dsr_ledger::Reply;
@@ -107,21 +107,43 @@ fn choices_are_exact(rt: HostRuntime) -> Result<(), Fail> {
     Ok(())
 }
 
+/// The task of `play` with these flags.
+fn play(strict: bool, transcript: bool) -> Task {
+    Task::Play { strict, transcript }
+}
+
+/// What is explained, with these options.
+fn narrowing(slot: Option<u64>, actor: Option<Actor>, refused: bool, as_data: bool) -> Narrowing {
+    Narrowing {
+        slot,
+        actor,
+        refused,
+        as_data,
+    }
+}
+
 #[test]
 fn tasks_are_exact(rt: HostRuntime) {
-    assert!(rt; Task::Apply.copy().same(&Task::Apply));
-    assert!(rt; Task::Play.copy().same(&Task::Play));
-    assert!(rt; Task::Transcribe.copy().same(&Task::Transcribe));
-    assert!(rt; Task::Serve.copy().same(&Task::Serve));
-    assert!(rt;
-        Task::TranscribeService
-            .copy()
-            .same(&Task::TranscribeService)
+    differ(&rt, &Task::Apply, &Task::Check);
+    differ(&rt, &Task::Check, &play(false, false));
+    differ(&rt, &play(false, false), &play(true, false));
+    differ(&rt, &play(true, false), &play(true, true));
+    differ(&rt, &play(true, true), &Task::Serve { transcript: true });
+    differ(
+        &rt,
+        &Task::Serve { transcript: true },
+        &Task::Serve { transcript: false },
     );
-    assert!(rt; Task::Check.copy().same(&Task::Check));
-    assert!(rt; !Task::Apply.same(&Task::Play));
-    assert!(rt; !Task::Play.same(&Task::Transcribe));
-    assert!(rt; !Task::Transcribe.same(&Task::Serve));
-    assert!(rt; !Task::Serve.same(&Task::TranscribeService));
-    assert!(rt; !Task::TranscribeService.same(&Task::Check));
+    let all = Narrowing::ALL;
+    differ(&rt, &Task::Serve { transcript: false }, &Task::Explain(all));
+    let first = Some(Actor::Replica(ReplicaId::FIRST));
+    for other in [
+        narrowing(Some(0), None, false, false),
+        narrowing(None, first, false, false),
+        narrowing(None, None, true, false),
+        narrowing(None, None, false, true),
+    ] {
+        differ(&rt, &all, &other);
+        differ(&rt, &Task::Explain(all), &Task::Explain(other));
+    }
 }

@@ -1,11 +1,21 @@
-use dsr_command::{Reading, Task, read_words};
-use std::alloc::AllocError;
+use dsr_command::{Narrowing, Reading, Task, read_words};
+use dsr_names::{Actor, ClientId, ReplicaId};
+use std::alloc::{AllocError, Global};
+use std::process::Abort;
 
 /// The text that the reading shows.
 fn text_of(reading: &Reading) -> &str {
     match reading {
-        Reading::Help(text) | Reading::Usage(text) => text.as_str(),
+        Reading::Version(text) | Reading::Help(text) | Reading::Usage(text) => text.as_str(),
         Reading::Do(_) | Reading::NoMemory => "",
+    }
+}
+
+/// Whether the reading is this task.
+fn is_task(reading: &Reading, task: Task) -> bool {
+    match reading {
+        Reading::Do(done) => *done == task,
+        _ => false,
     }
 }
 
@@ -16,21 +26,131 @@ fn reads_the_task(rt: HostRuntime) {
         let reading = read_words(rt.alloc(), words);
         assert!(rt; matches!(&reading, Reading::Do(Task::Apply)));
     }
-    let reading = read_words(rt.alloc(), &["play"]);
-    assert!(rt; matches!(&reading, Reading::Do(Task::Play)));
-    let reading = read_words(rt.alloc(), &["play", "--transcript"]);
-    assert!(rt; matches!(&reading, Reading::Do(Task::Transcribe)));
+    let plain = (false, false);
+    let flags: [(&[&str], (bool, bool)); 5] = [
+        (&["play"], plain),
+        (&["play", "--strict"], (true, false)),
+        (&["play", "--transcript"], (false, true)),
+        (&["play", "--strict", "--transcript"], (true, true)),
+        (&["play", "--transcript", "--strict"], (true, true)),
+    ];
+    for (words, (strict, transcript)) in flags {
+        let reading = read_words(rt.alloc(), words);
+        assert!(rt; is_task(&reading, Task::Play { strict, transcript }));
+    }
     let reading = read_words(rt.alloc(), &["serve"]);
-    assert!(rt; matches!(&reading, Reading::Do(Task::Serve)));
+    assert!(rt; is_task(&reading, Task::Serve { transcript: false }));
     let reading = read_words(rt.alloc(), &["serve", "--transcript"]);
-    assert!(rt; matches!(&reading, Reading::Do(Task::TranscribeService)));
+    assert!(rt; is_task(&reading, Task::Serve { transcript: true }));
     let reading = read_words(rt.alloc(), &["check"]);
-    assert!(rt; matches!(&reading, Reading::Do(Task::Check)));
+    assert!(rt; is_task(&reading, Task::Check));
+}
+
+/// The last client.
+fn last_client() -> Option<Actor> {
+    Some(Actor::Client(ClientId::of(31)))
+}
+
+/// That the words ask for an explanation, with these options.
+fn explains(
+    rt: &impl Abort,
+    alloc: Global,
+    words: &[&str],
+    slot: Option<u64>,
+    actor: Option<Actor>,
+    (refused, as_data): (bool, bool),
+) {
+    let reading = read_words(alloc, words);
+    let wanted = Narrowing {
+        slot,
+        actor,
+        refused,
+        as_data,
+    };
+    assert!(rt; is_task(&reading, Task::Explain(wanted)), "{words:?}");
+}
+
+// What the words after `explain` narrow it to, in whatever order they are.
+#[test]
+fn reads_what_is_explained(rt: HostRuntime) {
+    let alloc = rt.alloc();
+    let replica = Some(Actor::Replica(ReplicaId::of(15)));
+    let all = (false, false);
+    explains(&rt, alloc, &["explain"], None, None, all);
+    let words = ["explain", "--slot", "3"];
+    explains(&rt, alloc, words.as_slice(), Some(3), None, all);
+    let words = ["explain", "--slot", "1099511627775"];
+    explains(
+        &rt,
+        alloc,
+        words.as_slice(),
+        Some(1_099_511_627_775),
+        None,
+        all,
+    );
+    let words = ["explain", "--actor", "r15"];
+    explains(&rt, alloc, words.as_slice(), None, replica, all);
+    let words = ["explain", "--refused"];
+    explains(&rt, alloc, words.as_slice(), None, None, (true, false));
+    let words = ["explain", "--data"];
+    explains(&rt, alloc, words.as_slice(), None, None, (false, true));
+    let words = ["explain", "--slot", "3", "--actor", "c31", "--refused"];
+    explains(
+        &rt,
+        alloc,
+        words.as_slice(),
+        Some(3),
+        last_client(),
+        (true, false),
+    );
+    let words = [
+        "explain",
+        "--slot",
+        "0",
+        "--actor",
+        "c31",
+        "--refused",
+        "--data",
+    ];
+    explains(
+        &rt,
+        alloc,
+        words.as_slice(),
+        Some(0),
+        last_client(),
+        (true, true),
+    );
+    let words = [
+        "explain",
+        "--data",
+        "--refused",
+        "--actor",
+        "c31",
+        "--slot",
+        "0",
+    ];
+    explains(
+        &rt,
+        alloc,
+        words.as_slice(),
+        Some(0),
+        last_client(),
+        (true, true),
+    );
+}
+
+// The version is one line, and only where no other word is.
+#[test]
+fn reads_a_call_for_the_version(rt: HostRuntime) {
+    let reading = read_words(rt.alloc(), &["--version"]);
+    assert!(rt; matches!(&reading, Reading::Version(_)));
+    assert!(rt; text_of(&reading).starts_with("dsr 1.0.0 (rattle-kit-"));
+    assert!(rt; text_of(&reading).ends_with(")\n"));
 }
 
 #[test]
 fn reads_calls_for_help(rt: HostRuntime) {
-    let lines: [&[&str]; 14] = [
+    let lines: [&[&str]; 20] = [
         &["--help"],
         &["-h"],
         &["apply", "--help"],
@@ -45,6 +165,20 @@ fn reads_calls_for_help(rt: HostRuntime) {
         &["serve", "-h", "--transcript"],
         &["check", "-h"],
         &["check", "--help", "--transcript"],
+        &["play", "--strict", "--help"],
+        &["play", "--strict", "--transcript", "-h", "--strict"],
+        &["explain", "--help"],
+        &["explain", "-h", "--slot"],
+        &["explain", "--slot", "0", "-h"],
+        &[
+            "explain",
+            "--refused",
+            "--data",
+            "--actor",
+            "r0",
+            "--help",
+            "fly",
+        ],
     ];
     for words in lines {
         let reading = read_words(rt.alloc(), words);
@@ -56,12 +190,16 @@ fn reads_calls_for_help(rt: HostRuntime) {
 
 #[test]
 fn refuses_other_words(rt: HostRuntime) {
-    let lines: [&[&str]; 39] = [
+    let lines: [&[&str]; 71] = [
         &["fly"],
         &["--help=now"],
         &["apply", "--help=now"],
         &["help"],
-        &["--version"],
+        &["--version", "--version"],
+        &["--version", "--help"],
+        &["--version", "apply"],
+        &["-V"],
+        &["apply", "--version"],
         &["--"],
         &[""],
         &["apply", "--transcript"],
@@ -96,12 +234,40 @@ fn refuses_other_words(rt: HostRuntime) {
         &["serve", "--transcript", "true"],
         &["serve", "--transcript", "--"],
         &["serve", "--transcripts"],
+        &["play", "--strict", "--strict"],
+        &["play", "--strict", "--transcript", "--strict"],
+        &["play", "--transcript", "--strict", "--transcript"],
+        &["play", "--strict=true"],
+        &["play", "--strict", "--"],
+        &["--strict", "play"],
+        &["serve", "--strict"],
+        &["explains"],
+        &["explain", "play"],
+        &["explain", "--"],
+        &["explain", "--slot"],
+        &["explain", "--slot=3"],
+        &["explain", "--slot", ""],
+        &["explain", "--slot", "03"],
+        &["explain", "--slot", "-1"],
+        &["explain", "--slot", "+1"],
+        &["explain", "--slot", "1099511627776"],
+        &["explain", "--slot", "--help"],
+        &["explain", "--slot", "x", "--help"],
+        &["explain", "--slot", "3", "--slot", "3"],
+        &["explain", "--actor"],
+        &["explain", "--actor", "r16"],
+        &["explain", "--actor", "c32"],
+        &["explain", "--actor", "r01"],
+        &["explain", "--actor", "r0+r1"],
+        &["explain", "--actor", "--refused"],
+        &["explain", "--refused", "--refused"],
+        &["explain", "--data", "true"],
     ];
     for words in lines {
         let reading = read_words(rt.alloc(), words);
         assert!(rt; matches!(&reading, Reading::Usage(_)));
         assert!(rt; text_of(&reading).starts_with("error: "));
-        assert!(rt; text_of(&reading).contains("Usage: dsr"));
+        assert!(rt; text_of(&reading).contains("For more information, try '--help'."));
     }
 }
 
@@ -111,15 +277,17 @@ dsr keeps a directory of named registers, each free or holding a number.
 Clients send it numbered requests: read, write, swap (compare-and-set), remove. It answers each of them.
 `dsr apply` is one directory. `dsr play` is one that replicas keep together, though some of them are traitors,
 `dsr serve` is one that replicas keep in threads, and `dsr check` tells whether what was recorded of such a play
-or service is a run. Without a command it does what `dsr apply` does.
+or service is a run. `dsr explain` tells why what came of a play came out so. Without a command it does what
+`dsr apply` does.
 
 Usage: dsr [COMMAND]
 
 Commands:
-  apply  Read request lines from standard input, and write one line for each
-  play   Read a play of replicas and clients from standard input, and write what came of it
-  serve  Read a script from standard input, serve it by threads, and write what came of it
-  check  Read a transcript from standard input, and tell whether it is a run, and what came of it
+  apply    Read request lines from standard input, and write one line for each
+  play     Read a play of replicas and clients from standard input, and write what came of it
+  serve    Read a script from standard input, serve it by threads, and write what came of it
+  check    Read a transcript from standard input, and tell whether it is a run, and what came of it
+  explain  Read a play from standard input, and write why what came of it came out so
 
 Options:
   -h, --help  Print help
@@ -131,11 +299,12 @@ Example:
   2 held 6
 
 `dsr apply --help` says how a request is written, and what its answer means; `dsr play --help` the same of plays
-and reports, `dsr serve --help` of scripts, and `dsr check --help` of transcripts.
+and reports, `dsr serve --help` of scripts, `dsr check --help` of transcripts, and `dsr explain --help` of what is
+explained. `dsr --version` prints the version.
 
 Exit status:
-  0  the answers, the report, the transcript or the help was written
-  1  the input was refused, a service ended early, or reading or writing failed
+  0  the answers, the report, the transcript, the explanation, the help or the version was written
+  1  the input or, with --strict, an event was refused, a service ended early, or reading or writing failed
   2  the words of the command line were not understood
   3  memory ran out
 ";
@@ -193,12 +362,13 @@ Read a play of replicas and clients from standard input, and write what came of 
 Usage: dsr play [OPTIONS]
 
 Options:
+      --strict      End with status 1 where an event was refused
       --transcript  Write the steps of all actors in place of the report
   -h, --help        Print help
 
 A play begins with the line `dsr-play 1 N F M TRAITORS`: N replicas, 1 to 16; at most F traitors among them, with
 N >= 2F+1; M clients, 1 to 32; and who the traitors are, as r0+r2, or - for none. What follows is played line by
-line. Each line ends with a line feed, the last one too.
+line. Each line ends with a line feed, the last one too. Replicas are r0 to r15, clients c0 to c31.
 
   post A B           the actor A posts to B what the protocol has it post
   post A B from C    the same; the replica A proposes what it holds of the clients C, as c0+c1
@@ -240,7 +410,8 @@ Example:
 Nothing is played before the end of the input, which has at most 16,777,216 bytes and stands for at most 1,000,000
 events. Of a play with a bad line N nothing is played: `dsr: bad text in line N` is printed on standard error, and
 the exit status is 1; where N, F, M or TRAITORS are outside their limits, it is `dsr: the shape is not allowed`.
-Refused events are no fault: the status is 0, or 3 where one was refused because memory ran out.
+Refused events are no fault: the status is 0, or 3 where one was refused because memory ran out. With --strict it is 1
+where any was refused, or 3 as before; the same is written, and nothing on standard error for it.
 ";
 
 const SERVE_HELP: &str = "\
@@ -335,6 +506,38 @@ on standard output, and the exit status is 1. Of a text with a bad line N it is 
 or TRAITORS are outside their limits, `dsr: the shape is not allowed`. The input has at most 16,777,216 bytes.
 ";
 
+const EXPLAIN_HELP: &str = "\
+dsr keeps a directory of named registers, each free or holding a number.
+
+Read a play from standard input, and write why what came of it came out so
+
+Usage: dsr explain [OPTIONS]
+
+Options:
+      --slot <NUM>     Explain this slot alone
+      --actor <ACTOR>  Explain this actor alone
+      --refused        Explain refused events alone
+      --data           Write lines for programs in place of sentences
+  -h, --help           Print help
+
+The play is written and played as `dsr play --help` says. In place of the report it is written why things came out as
+they did: why events were refused, why loyal replicas decided what they did, and why clients accepted their answers.
+
+  NUM    a slot: 0 to 1099511627775, without leading zeros
+  ACTOR  a replica, r0 to r15, or a client, c0 to c31
+
+Each option is given once at most, in any order. Without one all is explained, and with several what all of them let
+through.
+
+Example:
+  $ dsr explain --slot 0 --actor r1 < FILE
+
+Nothing is played before the end of the input, which has at most 16,777,216 bytes and stands for at most 1,000,000
+events. Of a play with a bad line N it is written where in the line the fault is, and what was expected there. Then
+`dsr: bad text in line N` is printed on standard error, and the exit status is 1; where N, F, M or TRAITORS are outside
+their limits, it is `dsr: the shape is not allowed`. Refused events are no fault.
+";
+
 const NO_SUCH_WORD: &str = "\
 error: unrecognized subcommand 'help'
 
@@ -358,6 +561,7 @@ fn shows_each_help(rt: HostRuntime) {
         (&["play", "-h"], PLAY_HELP),
         (&["serve", "-h"], SERVE_HELP),
         (&["check", "-h"], CHECK_HELP),
+        (&["explain", "-h"], EXPLAIN_HELP),
     ] {
         let reading = read_words(rt.alloc(), words);
         assert!(rt; text_of(&reading) == help, "{}", text_of(&reading));

@@ -5,4 +5,5 @@ pub returns-clause-status : goal.returns-clause-status
 returns-clause-status g c =
     let read = c.read_words-reading.ensures in
     let did = c.obey.ensures in
-    status_for _ c.read_words-reading.result _ _ read.task read.help read.usage read.shown read.told did.task did.help did.usage did.no_memory
+    status_for _ c.read_words-reading.result _ _ read.task read.version read.help read.usage read.stated read.shown read.told
+    did.task did.version did.help did.usage did.no_memory

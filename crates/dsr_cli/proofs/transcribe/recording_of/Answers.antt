@@ -14,6 +14,7 @@ returns-clause-played c =
       run = c.in-Ok.played.world.run;
       end = c.in-Ok.played.end;
       played = c.in-Ok.ensures.played;
+      refused_is = refl;
       starved_is = refl;
       tells = record {
         recorded = recorded;

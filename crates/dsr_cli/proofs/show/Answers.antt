@@ -3,7 +3,7 @@ use Rattle.dsr_names.specs.Refusal.{refusal_line}
 use Rattle.dsr_names.specs.Streams.{CanFailToTake, Sent, SentPrefix}
 use Rattle.dsr_names.specs.declared.refusal.Refusal.TheVariants.{WriteFailed}
 use Rattle.dsr_cli.specs.Status.{status_of}
-use Rattle.dsr_cli.proofs.show_help.Goals as goal
+use Rattle.dsr_cli.proofs.show.Goals as goal
 
 pub returns-in-Err-clause-part : goal.returns-in-Err-clause-part
 returns-in-Err-clause-part g c =

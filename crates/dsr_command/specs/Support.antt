@@ -1,0 +1,2 @@
+-- What `==` of tasks decides. This serves `==` alone.
+pub mod TaskEquality
