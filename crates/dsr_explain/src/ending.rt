@@ -1,0 +1,182 @@
+//! What stands at the end of a play: what each slot came to, and who waits for whom.
+
+use crate::reading::round_of;
+use crate::standing::content_of;
+use crate::story::{KeptBy, Story};
+use dsr_desk::Content;
+use dsr_envelope::Due;
+use dsr_names::{Actor, ClientId, Refusal, ReplicaId};
+use dsr_request::Requests;
+use dsr_world::World;
+use std::fmt::Write;
+
+impl Story {
+    /// Tells what each slot came to, and who waits for whom. `NoMemory` where memory runs out.
+    pub(crate) fn end(&mut self) -> Result<(), Refusal> {
+        if !self.wanted.data {
+            self.tell_slots()?;
+        }
+        for number in 0..self.world.shape().n() {
+            self.tell_wait_of_replica(number)?;
+        }
+        for number in 0..self.world.shape().m() {
+            self.tell_wait_of_client(number)?;
+        }
+        Ok(())
+    }
+
+    /// Tells what each slot came to.
+    fn tell_slots(&mut self) -> Result<(), Refusal> {
+        for slot in 0..self.kept.len() {
+            if !self.wanted.has_end_of(slot as u64) {
+                continue;
+            }
+            if let Some(kept) = self.kept.get(slot) {
+                write_slot(&mut self.out, &self.world, slot, kept)?;
+            }
+        }
+        Ok(())
+    }
+
+    /// Tells what the loyal replica of this number does next.
+    fn tell_wait_of_replica(&mut self, number: u8) -> Result<(), Refusal> {
+        let Ok(replica) = ReplicaId::new(number) else {
+            return Ok(());
+        };
+        if !self.wanted.has_wait_of(Actor::Replica(replica)) {
+            return Ok(());
+        }
+        let Some(next) = next_of(&self.world, replica) else {
+            return Ok(());
+        };
+        if self.wanted.data {
+            write_next_data(&mut self.out, replica, &next)
+        } else {
+            write_next(&mut self.out, replica, &next)
+        }
+    }
+
+    /// Tells what the client of this number waits for.
+    fn tell_wait_of_client(&mut self, number: u8) -> Result<(), Refusal> {
+        let Ok(id) = ClientId::new(number) else {
+            return Ok(());
+        };
+        if self.wanted.data || !self.wanted.has_wait_of(Actor::Client(id)) {
+            return Ok(());
+        }
+        let Ok(client) = self.world.client(id) else {
+            return Ok(());
+        };
+        if let Some(number) = client.outstanding() {
+            let needed = self.world.shape().f().saturating_add(1);
+            writeln!(
+                self.out,
+                "{id}: waits until {needed} replicas reply alike to its request {number}"
+            )?;
+        }
+        Ok(())
+    }
+}
+
+/// What a loyal replica does next with the other replicas.
+#[derive(Clone, Copy)]
+struct Next {
+    due: Due,
+    /// The round in progress.
+    round: u64,
+    /// Whether what it takes next is there.
+    is_there: bool,
+}
+
+/// What the replica does next. None where it is a traitor.
+fn next_of(world: &World, replica: ReplicaId) -> Option<Next> {
+    let Ok(loyal) = world.replica(replica) else {
+        return None;
+    };
+    let is_there = match loyal.due() {
+        Due::Take(from) => lies(world, from, replica),
+        Due::Post(_) => false,
+    };
+    Some(Next {
+        due: loyal.due(),
+        round: round_of(loyal),
+        is_there,
+    })
+}
+
+/// Whether something lies in the box from one replica to another.
+fn lies(world: &World, from: ReplicaId, to: ReplicaId) -> bool {
+    let (from, to) = (Actor::Replica(from), Actor::Replica(to));
+    world.shape().has(from) && world.shape().has(to) && world.in_box(&from, &to).is_some()
+}
+
+/// Writes what a replica does next.
+fn write_next(out: &mut String, replica: ReplicaId, next: &Next) -> Result<(), Refusal> {
+    let round = next.round;
+    match next.due {
+        Due::Post(to) => writeln!(
+            out,
+            "{replica}: next it posts its envelope of round {round} to {to}"
+        )?,
+        Due::Take(from) => {
+            if next.is_there {
+                writeln!(
+                    out,
+                    "{replica}: next it takes {from}'s envelope of round {round}, which is there"
+                )?;
+            } else {
+                writeln!(
+                    out,
+                    "{replica}: waits for {from}'s envelope of round {round}"
+                )?;
+            }
+        }
+    }
+    Ok(())
+}
+
+/// Writes what a replica does next, as a line of data.
+fn write_next_data(out: &mut String, replica: ReplicaId, next: &Next) -> Result<(), Refusal> {
+    let round = next.round;
+    match next.due {
+        Due::Post(to) => writeln!(out, "waits {replica} post {to} {round}")?,
+        Due::Take(from) => writeln!(out, "waits {replica} take {from} {round}")?,
+    }
+    Ok(())
+}
+
+/// Writes what a slot came to.
+fn write_slot(out: &mut String, world: &World, slot: usize, kept: &KeptBy) -> Result<(), Refusal> {
+    let sender = world.shape().sender(slot as u64);
+    write!(out, "slot {slot}, sent by {sender}")?;
+    if !world.shape().is_loyal(Actor::Replica(sender)) {
+        write!(out, ", a traitor")?;
+    }
+    let content = Content(decided_content(world, slot));
+    write!(out, ": {content}")?;
+    for number in 0..world.shape().n() {
+        if let Some(count) = kept[number as usize] {
+            match count {
+                0 => write!(out, "; r{number} kept nothing")?,
+                1 => write!(out, "; r{number} kept one content")?,
+                _ => write!(out, "; r{number} kept two contents")?,
+            }
+        }
+    }
+    writeln!(out)?;
+    Ok(())
+}
+
+/// What was decided of the slot, by the first loyal replica that has decided it.
+fn decided_content(world: &World, slot: usize) -> Option<Requests> {
+    for number in 0..world.shape().n() {
+        let Ok(replica) = ReplicaId::new(number) else {
+            continue;
+        };
+        let content = content_of(world, replica, slot as u64);
+        if content.is_some() {
+            return content;
+        }
+    }
+    None
+}

@@ -1,0 +1,31 @@
+use crate::note::Note;
+use dsr_names::Refusal;
+use std::alloc::Global;
+
+/// The notes of an event, in the order in which they are told.
+#[derive(Drop)]
+pub(crate) struct Notes {
+    items: Vec<Note>,
+}
+
+impl Notes {
+    /// No notes.
+    pub(crate) fn new(alloc: Global) -> Notes {
+        Notes {
+            items: Vec::new(alloc),
+        }
+    }
+
+    /// Adds a note. `NoMemory` where memory runs out.
+    pub(crate) fn push(&mut self, note: Note) -> Result<(), Refusal> {
+        match self.items.push(note) {
+            Ok(()) => Ok(()),
+            Err(_) => Err(Refusal::NoMemory),
+        }
+    }
+
+    /// The notes.
+    pub(crate) fn as_slice(&self) -> &[Note] {
+        self.items.as_slice()
+    }
+}

@@ -1,0 +1,154 @@
+//! What becomes of the chains of an envelope, told before it is taken: they are read by copies of the states of the slots in flight.
+
+use crate::note::{ChainFate, Note};
+use crate::notes::Notes;
+use dsr_chain::Chain;
+use dsr_envelope::Envelope;
+use dsr_names::{Actor, Refusal, ReplicaId};
+use dsr_replica::Replica;
+use dsr_slot::{Kept, SlotState};
+use dsr_world::World;
+use std::alloc::Global;
+
+/// Tells what becomes of the chains that the replica is to take from another one, and what it has kept then of the slot that closes with the
+/// round. Tells nothing where there is nothing to take.
+pub(crate) fn read_envelope(
+    alloc: Global,
+    world: &World,
+    replica: ReplicaId,
+    from: ReplicaId,
+    notes: &mut Notes,
+) -> Result<(), Refusal> {
+    let (at, poster) = (Actor::Replica(replica), Actor::Replica(from));
+    if !world.shape().has(at) || !world.shape().has(poster) {
+        return Ok(());
+    }
+    let Ok(loyal) = world.replica(replica) else {
+        return Ok(());
+    };
+    let Some(letter) = world.in_box(&poster, &at) else {
+        return Ok(());
+    };
+    let mut states = copies_of(alloc, loyal.in_flight())?;
+    read_chains(
+        letter.envelope(),
+        replica,
+        round_of(loyal),
+        &mut states,
+        notes,
+    )?;
+    if from.number() as usize + 1 == world.shape().n() as usize {
+        tell_kept(&states, replica, notes)?;
+    }
+    Ok(())
+}
+
+/// The round in progress: a slot begins with each.
+pub(crate) fn round_of(replica: &Replica) -> u64 {
+    match replica.in_flight().last() {
+        Some(newest) => newest.slot(),
+        None => 0,
+    }
+}
+
+/// Copies of the states.
+fn copies_of(alloc: Global, states: &[SlotState]) -> Result<Vec<SlotState>, Refusal> {
+    let mut copies = Vec::with_capacity(alloc, states.len())?;
+    for state in states {
+        copies.push(state.try_copy()?)?;
+    }
+    Ok(copies)
+}
+
+/// Reads the chains of the envelope, and tells what became of each.
+fn read_chains(
+    envelope: &Envelope,
+    replica: ReplicaId,
+    round: u64,
+    states: &mut Vec<SlotState>,
+    notes: &mut Notes,
+) -> Result<(), Refusal> {
+    match envelope {
+        Envelope::Empty => {}
+        Envelope::Round {
+            round: posted,
+            chains,
+        } if *posted == round => {
+            for chain in chains.as_slice() {
+                read_chain(chain, replica, states, notes)?;
+            }
+        }
+        _ => notes.push(Note::Silence { replica, round })?,
+    }
+    Ok(())
+}
+
+/// Reads the chain in its slot, if that is in flight, and tells what became of it.
+fn read_chain(
+    chain: &Chain,
+    replica: ReplicaId,
+    states: &mut Vec<SlotState>,
+    notes: &mut Notes,
+) -> Result<(), Refusal> {
+    for place in 0..states.len() {
+        if states[place].slot() == chain.slot() {
+            return read_in(&mut states[place], chain, replica, notes);
+        }
+    }
+    notes.push(Note::Chain {
+        replica,
+        chain: chain.try_copy()?,
+        fate: ChainFate::NotInFlight,
+    })?;
+    Ok(())
+}
+
+/// Reads the chain in this slot, and tells what became of it.
+fn read_in(
+    state: &mut SlotState,
+    chain: &Chain,
+    replica: ReplicaId,
+    notes: &mut Notes,
+) -> Result<(), Refusal> {
+    if state.closed_rounds() > state.shape().f() {
+        return Ok(());
+    }
+    let round = state.closed_rounds() + 1;
+    let fate = state.fate(chain);
+    notes.push(Note::Chain {
+        replica,
+        chain: chain.try_copy()?,
+        fate: ChainFate::Read { round, fate },
+    })?;
+    state.read(chain.try_copy()?);
+    Ok(())
+}
+
+/// Tells what is kept of the slot that is in its last round, if one is.
+fn tell_kept(
+    states: &Vec<SlotState>,
+    replica: ReplicaId,
+    notes: &mut Notes,
+) -> Result<(), Refusal> {
+    let Some(oldest) = states.first() else {
+        return Ok(());
+    };
+    if oldest.closed_rounds() < oldest.shape().f() {
+        return Ok(());
+    }
+    let (first, second) = oldest.kept();
+    tell_one(first, replica, notes)?;
+    tell_one(second, replica, notes)
+}
+
+/// Tells that the chain is kept, if there is one.
+fn tell_one(kept: Option<&Kept>, replica: ReplicaId, notes: &mut Notes) -> Result<(), Refusal> {
+    if let Some(kept) = kept {
+        notes.push(Note::Kept {
+            replica,
+            chain: kept.chain.try_copy()?,
+            round: kept.round,
+        })?;
+    }
+    Ok(())
+}

@@ -1,0 +1,136 @@
+//! What a take has a loyal replica do: it may close a round, decide a slot, and have requests act; or hold a request.
+
+use crate::before::Before;
+use crate::note::{Dropped, Note};
+use crate::notes::Notes;
+use crate::reading::round_of;
+use dsr_envelope::Envelope;
+use dsr_names::{Actor, ClientId, Refusal, ReplicaId};
+use dsr_replica::Replica;
+use dsr_request::Requests;
+use dsr_world::World;
+
+/// Tells what the take from another replica changed.
+pub(crate) fn tell_take(
+    world: &World,
+    replica: ReplicaId,
+    from: ReplicaId,
+    before: &Before,
+    notes: &mut Notes,
+) -> Result<(), Refusal> {
+    let Ok(loyal) = world.replica(replica) else {
+        return Ok(());
+    };
+    if from.number() as usize + 1 != world.shape().n() as usize {
+        return Ok(());
+    }
+    notes.push(Note::Closed {
+        replica,
+        round: round_of(loyal).saturating_sub(1),
+    })?;
+    if loyal.decided().len() > before.decided {
+        tell_decision(loyal, replica, before, notes)?;
+    }
+    Ok(())
+}
+
+/// Tells what was decided, and which of its requests acted.
+fn tell_decision(
+    loyal: &Replica,
+    replica: ReplicaId,
+    before: &Before,
+    notes: &mut Notes,
+) -> Result<(), Refusal> {
+    let Some(decision) = loyal.decided().last() else {
+        return Ok(());
+    };
+    let slot = before.decided as u64;
+    let kept = kept_among(notes.as_slice());
+    notes.push(Note::Decided {
+        replica,
+        slot,
+        kept,
+    })?;
+    if let Some(requests) = decision.content() {
+        tell_requests(loyal, replica, slot, &requests, before.acted, notes)?;
+    }
+    Ok(())
+}
+
+/// How many of the notes tell of a kept chain.
+fn kept_among(notes: &[Note]) -> u8 {
+    let mut count: u8 = 0;
+    for note in notes {
+        if let Note::Kept { .. } = note {
+            count = count.saturating_add(1);
+        }
+    }
+    count
+}
+
+/// Tells of each request whether it acted. Those that did are the history's last, in their order.
+fn tell_requests(
+    loyal: &Replica,
+    replica: ReplicaId,
+    slot: u64,
+    requests: &Requests,
+    acted: usize,
+    notes: &mut Notes,
+) -> Result<(), Refusal> {
+    let history = loyal.history();
+    let mut next = acted;
+    for request in requests.as_slice() {
+        let request = *request;
+        if next < history.len() && history[next] == request {
+            notes.push(Note::Acted {
+                replica,
+                slot,
+                place: next as u64,
+                request,
+            })?;
+            next += 1;
+        } else {
+            notes.push(Note::Stale {
+                replica,
+                slot,
+                request,
+            })?;
+        }
+    }
+    Ok(())
+}
+
+/// Tells whether the request that was taken of a client is held.
+pub(crate) fn tell_ask(
+    world: &World,
+    replica: ReplicaId,
+    client: ClientId,
+    envelope: &Envelope,
+    notes: &mut Notes,
+) -> Result<(), Refusal> {
+    let Ok(loyal) = world.replica(replica) else {
+        return Ok(());
+    };
+    let Envelope::Ask(ask) = envelope else {
+        notes.push(Note::Dropped {
+            replica,
+            why: Dropped::NoAsk,
+        })?;
+        return Ok(());
+    };
+    if loyal.held(client) == Some(ask.request) {
+        notes.push(Note::Held {
+            replica,
+            request: ask.request,
+        })?;
+        return Ok(());
+    }
+    let signed = ask.is_asked(world.shape()) && ask.signature.signer() == Actor::Client(client);
+    let why = if signed {
+        Dropped::Older
+    } else {
+        Dropped::NotSigned
+    };
+    notes.push(Note::Dropped { replica, why })?;
+    Ok(())
+}

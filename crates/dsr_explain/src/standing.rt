@@ -1,0 +1,25 @@
+//! What stands in a world, as notes tell it.
+
+use dsr_ledger::Reply;
+use dsr_names::{ClientId, ReplicaId};
+use dsr_request::Requests;
+use dsr_world::World;
+
+/// What the replica decided of the slot. None where it was decided idle, or is not decided.
+pub(crate) fn content_of(world: &World, replica: ReplicaId, slot: u64) -> Option<Requests> {
+    match world.replica(replica) {
+        Ok(loyal) => match loyal.decided().get(slot as usize) {
+            Some(decision) => decision.content(),
+            None => None,
+        },
+        Err(_) => None,
+    }
+}
+
+/// The reply that the client accepted last.
+pub(crate) fn accepted_last(world: &World, client: ClientId) -> Option<Reply> {
+    match world.accepted(client) {
+        Ok(replies) => replies.last().copied(),
+        Err(_) => None,
+    }
+}

@@ -1,0 +1,92 @@
+ghost use Rattle.std.specs.Prelude.{◌≡◌, None, IfOk, IfErr, IfSome, IsOkUnless};
+ghost use Rattle.dsr_play.specs.Play.{IsPlayRefusal};
+
+use crate::story::Story;
+use crate::trouble::trouble_of;
+use crate::wanted::Wanted;
+use dsr_base::split_once;
+use dsr_names::Refusal;
+use dsr_world::Play;
+use std::alloc::Global;
+
+/// What is told of a play, and the refusal that a reader of the play has, if it has one.
+#[derive(Drop)]
+pub struct Explained {
+    /// What is told: why the play came out as it did, or what is wrong with its text.
+    pub text: String,
+    /// `BadShape` or `BadText` where the text is no play.
+    pub refusal: Option<Refusal>,
+}
+
+/// Plays the play that the text spells, in a world of its own, and tells what is wanted of it: events, each with its line, what came of it and
+/// why; then what each slot came to, and who waits for whom. Where the text is no play, it tells the line, the column and what was expected
+/// there. `NoMemory` where memory runs out.
+pub fn explain(alloc: Global, text: &[u8], wanted: &Wanted) -> Result<Explained, Refusal>
+    ensures told { IfOk result (λ explained. IfSome explained.refusal (IsPlayRefusal text.now)) }
+    ensures refused { IfErr result (IsPlayRefusal text.now) }
+    ensures refusal { IsOkUnless result Refusal.NoMemory }
+{
+    match Play::read(alloc, text) {
+        Ok(play) => match tell_all(alloc, text, &play, wanted) {
+            Ok(explained) => Ok(explained),
+            Err(_) => Err(Refusal::NoMemory),
+        },
+        Err(Refusal::NoMemory) => Err(Refusal::NoMemory),
+        Err(refusal) => match trouble_of(alloc, text, &refusal) {
+            Ok(text) => Ok(Explained {
+                text,
+                refusal: Some(refusal),
+            }),
+            Err(_) => Err(Refusal::NoMemory),
+        },
+    }
+}
+
+/// Tells of each event of the play, line by line.
+fn tell_all(alloc: Global, text: &[u8], play: &Play, wanted: &Wanted) -> Result<Explained, Refusal>
+    ensures { IfOk result (λ explained. explained.refusal ≡ None) }
+{
+    let mut story = Story::begin(alloc, play.shape(), wanted)?;
+    if let Some((header, lines)) = split_once(text, b'\n') {
+        tell_lines(alloc, header, lines, &mut story)?;
+    }
+    story.end()?;
+    Ok(Explained {
+        text: story.out,
+        refusal: None,
+    })
+}
+
+/// Tells of the events of each line.
+fn tell_lines(
+    alloc: Global,
+    header: &[u8],
+    lines: &[u8],
+    story: &mut Story,
+) -> Result<(), Refusal> {
+    let mut rest = lines;
+    let mut number: u64 = 1;
+    // there are no more lines than bytes
+    for _ in 0..lines.len() {
+        let Some((line, after)) = split_once(rest, b'\n') else {
+            return Ok(());
+        };
+        number = number.saturating_add(1);
+        let play = play_of(alloc, header, line)?;
+        for event in play.events() {
+            story.tell(alloc, number, event)?;
+        }
+        rest = after;
+    }
+    Ok(())
+}
+
+/// The play of this one line after the header.
+fn play_of(alloc: Global, header: &[u8], line: &[u8]) -> Result<Play, Refusal> {
+    let mut text = Vec::new(alloc);
+    text.extend_from_slice(header)?;
+    text.push(b'\n')?;
+    text.extend_from_slice(line)?;
+    text.push(b'\n')?;
+    Play::read(alloc, text.as_slice())
+}

@@ -1,0 +1,299 @@
+//! Notes in words.
+
+use crate::note::{ChainFate, Dropped, NoVote, Note, Told, Why};
+use crate::standing::{accepted_last, content_of};
+use dsr_chain::{Chain, ChainFault};
+use dsr_desk::Content;
+use dsr_names::{Refusal, Shape};
+use dsr_slot::Fate;
+use dsr_world::{Event, World};
+use std::fmt::Write;
+
+/// Writes the note of this event as an indented line.
+pub(crate) fn write_note(
+    out: &mut String,
+    world: &World,
+    event: &Event,
+    note: &Note,
+) -> Result<(), Refusal> {
+    match note {
+        Note::Silence { replica, round } => {
+            writeln!(
+                out,
+                "    {replica} is in round {round}: this is not its envelope, and counts as no chains"
+            )?;
+        }
+        Note::Chain { chain, fate, .. } => write_chain(out, world.shape(), chain, fate)?,
+        Note::Kept {
+            replica,
+            chain,
+            round,
+        } => write_kept(out, replica.number(), chain, *round)?,
+        Note::Closed { replica, round } => writeln!(
+            out,
+            "    {replica} has taken from all replicas, and closes round {round}"
+        )?,
+        Note::Decided { .. } | Note::Acted { .. } | Note::Stale { .. } => {
+            write_decided(out, world, note)?;
+        }
+        Note::Held { replica, request } => writeln!(
+            out,
+            "    {replica} holds the request {request}"
+        )?,
+        Note::Dropped { replica, why } => write_dropped(out, replica.number(), why)?,
+        Note::Vote { .. } | Note::NoVote { .. } | Note::Accepted { .. } => {
+            write_vote(out, world, note)?;
+        }
+        Note::Refused(why) => write_why(out, world, event, why)?,
+    }
+    Ok(())
+}
+
+/// Writes what became of a chain.
+fn write_chain(
+    out: &mut String,
+    shape: &Shape,
+    chain: &Chain,
+    fate: &ChainFate,
+) -> Result<(), Refusal> {
+    let chain = Told::of(chain);
+    let slot = chain.slot;
+    let signers = chain.signers;
+    let content = Content(chain.content);
+    write!(
+        out,
+        "    chain of slot {slot}, signed by {signers}, for {content}: "
+    )?;
+    match fate {
+        ChainFate::NotInFlight => writeln!(out, "dropped, as the slot is not in flight")?,
+        ChainFate::Read { round, fate } => {
+            write!(out, "in round {round} of the slot ")?;
+            write_fate(out, shape, slot, fate)?;
+        }
+    }
+    Ok(())
+}
+
+/// Writes what reading a chain does.
+fn write_fate(out: &mut String, shape: &Shape, slot: u64, fate: &Fate) -> Result<(), Refusal> {
+    match fate {
+        Fate::First => writeln!(out, "kept, as the first content")?,
+        Fate::Second => writeln!(out, "kept, as the second content: the slot will be idle")?,
+        Fate::NotNew => writeln!(out, "not new, as this content is kept already")?,
+        Fate::OneTooMany => writeln!(out, "one too many, as two other contents are kept already")?,
+        Fate::Improper(fault) => {
+            let word = fault_word(fault);
+            write!(out, "not proper ({word}): {fault}")?;
+            if *fault == ChainFault::WrongSender {
+                let sender = shape.sender(slot);
+                write!(out, ", which is {sender}")?;
+            }
+            writeln!(out)?;
+        }
+    }
+    Ok(())
+}
+
+/// The name of the fault.
+pub(crate) fn fault_word(fault: &ChainFault) -> &'static str {
+    match fault {
+        ChainFault::OtherSlot => "other-slot",
+        ChainFault::WrongCount => "wrong-count",
+        ChainFault::WrongSender => "wrong-sender",
+        ChainFault::NoReplica => "no-replica",
+        ChainFault::SignedTwice => "signed-twice",
+        ChainFault::Misfit => "misfit",
+        ChainFault::BadRequest => "bad-request",
+    }
+}
+
+/// Writes that a chain is kept at the slot's end.
+fn write_kept(out: &mut String, replica: u8, chain: &Chain, round: u8) -> Result<(), Refusal> {
+    let chain = Told::of(chain);
+    let slot = chain.slot;
+    let signers = chain.signers;
+    let content = Content(chain.content);
+    writeln!(
+        out,
+        "    r{replica} has kept of slot {slot}: {content}, read in round {round}, signed by {signers}"
+    )?;
+    Ok(())
+}
+
+/// Writes what was decided, and what became of its requests.
+fn write_decided(out: &mut String, world: &World, note: &Note) -> Result<(), Refusal> {
+    match note {
+        Note::Decided {
+            replica,
+            slot,
+            kept,
+        } => {
+            let content = Content(content_of(world, *replica, *slot));
+            write!(out, "    {replica} decides slot {slot}: {content}")?;
+            match kept {
+                0 => writeln!(out, ", as it kept no chain")?,
+                1 => writeln!(out, ", the one content that it kept")?,
+                _ => writeln!(out, ", as it kept two contents")?,
+            }
+        }
+        Note::Acted {
+            replica,
+            place,
+            request,
+            ..
+        } => {
+            writeln!(
+                out,
+                "    {request} acts at {replica}, at place {place} of the history"
+            )?;
+        }
+        Note::Stale {
+            replica,
+            request,
+            ..
+        } => {
+            writeln!(
+                out,
+                "    {request} does not act at {replica}: its number is not above those of its client that acted"
+            )?;
+        }
+        _ => {}
+    }
+    Ok(())
+}
+
+/// Writes why a replica dropped what it took of a client.
+fn write_dropped(out: &mut String, replica: u8, why: &Dropped) -> Result<(), Refusal> {
+    match why {
+        Dropped::NoAsk => writeln!(out, "    r{replica} drops it: it is no ask")?,
+        Dropped::NotSigned => writeln!(
+            out,
+            "    r{replica} drops it: the client did not sign it as its own"
+        )?,
+        Dropped::Older => writeln!(
+            out,
+            "    r{replica} drops it: it holds an ask of a greater number"
+        )?,
+    }
+    Ok(())
+}
+
+/// Writes what a client made of a reply.
+fn write_vote(out: &mut String, world: &World, note: &Note) -> Result<(), Refusal> {
+    match note {
+        Note::Vote {
+            client,
+            replica,
+            count,
+            needed,
+        } => {
+            writeln!(
+                out,
+                "    a vote of {replica} at {client}: {count} of {needed} that are needed"
+            )?;
+        }
+        Note::NoVote {
+            client,
+            replica,
+            why,
+        } => {
+            write!(out, "    no vote of {replica} at {client}: ")?;
+            write_no_vote(out, why)?;
+            writeln!(out)?;
+        }
+        Note::Accepted { client } => {
+            if let Some(reply) = accepted_last(world, *client) {
+                let (number, place, answer) = (reply.number, reply.place, reply.answer);
+                writeln!(
+                    out,
+                    "    {client} accepts the reply to its request {number}: {answer}, at place {place}"
+                )?;
+            }
+        }
+        _ => {}
+    }
+    Ok(())
+}
+
+/// Writes why something is no vote.
+pub(crate) fn write_no_vote(out: &mut String, why: &NoVote) -> Result<(), Refusal> {
+    match why {
+        NoVote::NoReply => write!(out, "it is no reply")?,
+        NoVote::NothingOutstanding => write!(out, "no request is outstanding")?,
+        NoVote::OtherNumber { outstanding } => write!(out, "request {outstanding} is outstanding")?,
+        NoVote::HasVoted => write!(out, "it has voted, and only its first reply counts")?,
+    }
+    Ok(())
+}
+
+/// Writes why an event was refused, as an indented line.
+fn write_why(out: &mut String, world: &World, event: &Event, why: &Why) -> Result<(), Refusal> {
+    write!(out, "    because ")?;
+    write_reason(out, world, event, why)?;
+    writeln!(out)?;
+    Ok(())
+}
+
+/// Writes why an event was refused.
+pub(crate) fn write_reason(
+    out: &mut String,
+    world: &World,
+    event: &Event,
+    why: &Why,
+) -> Result<(), Refusal> {
+    match why {
+        Why::NoActor(actor) => write!(out, "{actor} is no actor of this shape")?,
+        Why::Traitor(actor) => write!(out, "{actor} is a traitor: what it posts is planted")?,
+        Why::Loyal(actor) => write!(out, "{actor} is loyal: only traitors plant")?,
+        Why::BothClients => write!(out, "clients post nothing to each other: they tell")?,
+        Why::NotTwoClients => write!(out, "only a client tells, and only another client")?,
+        Why::FromItself => write!(out, "a client takes nothing from itself")?,
+        Why::NotTaken => write!(out, "what was posted there before has not been taken")?,
+        Why::NothingPosted => write!(out, "nothing was posted there that has not been taken")?,
+        Why::Forged => write_forged(out, world, event)?,
+        Why::Exhausted => write!(out, "a counter would pass its limit")?,
+        _ => write_undue(out, why)?,
+    }
+    Ok(())
+}
+
+/// Writes which signature is forged.
+fn write_forged(out: &mut String, world: &World, event: &Event) -> Result<(), Refusal> {
+    if let Event::Plant { draft, .. } = event {
+        if let Some(forged) = world.forged_in(draft) {
+            let (signer, statement) = (forged.signer, forged.statement);
+            write!(
+                out,
+                "the signature of {signer} on {statement} is forged: {signer} is no traitor, and has not posted it"
+            )?;
+        }
+    }
+    Ok(())
+}
+
+/// Writes why an actor's conduct has no such step.
+fn write_undue(out: &mut String, why: &Why) -> Result<(), Refusal> {
+    match why {
+        Why::PostsFirst { to } => write!(out, "its next step with replicas is the post to {to}")?,
+        Why::TakesFirst { from } => write!(
+            out,
+            "its next step with replicas is the take from {from}"
+        )?,
+        Why::ChosenBefore => write!(out, "what it proposes is chosen at its post to r0")?,
+        Why::OtherSender { slot, sender } => {
+            write!(
+                out,
+                "the slot that begins with this round, {slot}, has the sender {sender}"
+            )?;
+        }
+        Why::NothingHeld => write!(out, "it does not hold an ask of each of these clients")?,
+        Why::BeginsNothing => write!(out, "a replica begins no request")?,
+        Why::NothingActed { client } => write!(out, "no request of {client} has acted there")?,
+        Why::NoChoice => write!(out, "a replica has no choice at a post to a client")?,
+        Why::ProposesNothing => write!(out, "a client proposes nothing")?,
+        Why::Outstanding(number) => write!(out, "its request {number} is outstanding")?,
+        Why::NothingOutstanding => write!(out, "no request of it is outstanding")?,
+        _ => {}
+    }
+    Ok(())
+}
