@@ -1,6 +1,7 @@
 -- What was left by a task, by showing a text, and what each reading of the words leads to.
 use Rattle.std.proofs.Common.{◌≡◌, ◌<◌, ℕ, zero, suc, Bool, false, true, List, ap, length, inl, inr, refl, subst, sym, zero-lt-suc}
 use Rattle.std.specs.Prelude.{Result, Ok, Err, IfErr, IfOk, OnOk, if◌then◌else◌, string_bytes}
+use Rattle.std.proofs.lemmas.Bool.{true≢false}
 use Rattle.std.proofs.lemmas.Bool.Decides.{Decides-ltb}
 use Rattle.dsr_command.specs.Asked.{Asked, task, version, help, unknown}
 use Rattle.dsr_command.specs.Readings.{IfDo, IfHelp, IfUsage, IfVersion, OnHelp, OnNoMemory, OnUsage, OnVersion}
@@ -13,7 +14,7 @@ use Rattle.dsr_names.specs.Refusal.{refusal_line}
 use Rattle.dsr_names.specs.Streams.{Streams, CanFailToTake, SentAll, SentPrefix}
 use Rattle.dsr_names.specs.declared.refusal.Refusal.{Refusal}
 use Rattle.dsr_names.specs.declared.refusal.Refusal.TheVariants.{WriteFailed}
-use Rattle.dsr_cli.specs.Played.{LeftAfterPlay, PlayedAll, form_of}
+use Rattle.dsr_cli.specs.Played.{IsReport, IsTranscript, LeftAfterPlay, PlayedAll, form_of}
 use Rattle.dsr_cli.specs.Status.{Run, HasEndedAs, IsDone, LeftAfter, RanOut, StatusFor, Told, IsQuiet, IsUnwritten, WhatShowingLeft, WhatTaskLeft, ending_of, status_after, status_of}
 use Rattle.dsr_cli.specs.declared.Ending.{Ending}
 use Rattle.dsr_cli.specs.declared.Ending.TheVariants.{Done, Unmet}
@@ -56,8 +57,33 @@ judged_refused strict transcript s (Ok refused) r is left all =
 judged_refused strict transcript s (Err refusal) r is left all =
     subst (λ (q : Result Ending Refusal). IfErr q (λ refusal. LeftAfter (Play strict transcript) refusal s)) (sym left) all
 
--- what the clauses of `perform` stand on
-pub ruleset endings = (ended_done, ended_refused, judged_done, judged_refused)
+-- the same of a play that is told by its report, and of one that is told by its transcript
+pub reported_done : (strict transcript : Bool) (s : Streams) (played : Result ℕ Refusal) (r : Result Ending Refusal) → transcript ≡ false
+    → IfOk played (λ refused. r ≡ Ok (ending_of strict refused)) → IfErr played (λ refusal. r ≡ Err refusal)
+    → IfOk played (λ refused. PlayedAll IsReport refused s) → IfOk r (λ ending. HasEndedAs ending (Play strict transcript) s)
+reported_done strict false s played r e is left all = judged_done strict false s played r is left all
+reported_done strict true s played r e is left all = absurd (true≢false e)
+
+pub reported_refused : (strict transcript : Bool) (s : Streams) (played : Result ℕ Refusal) (r : Result Ending Refusal) → transcript ≡ false
+    → IfOk played (λ refused. r ≡ Ok (ending_of strict refused)) → IfErr played (λ refusal. r ≡ Err refusal)
+    → IfErr played (λ refusal. LeftAfterPlay IsReport refusal s) → IfErr r (λ refusal. LeftAfter (Play strict transcript) refusal s)
+reported_refused strict false s played r e is left all = judged_refused strict false s played r is left all
+reported_refused strict true s played r e is left all = absurd (true≢false e)
+
+pub transcribed_done : (strict transcript : Bool) (s : Streams) (played : Result ℕ Refusal) (r : Result Ending Refusal) → transcript ≡ true
+    → IfOk played (λ refused. r ≡ Ok (ending_of strict refused)) → IfErr played (λ refusal. r ≡ Err refusal)
+    → IfOk played (λ refused. PlayedAll IsTranscript refused s) → IfOk r (λ ending. HasEndedAs ending (Play strict transcript) s)
+transcribed_done strict true s played r e is left all = judged_done strict true s played r is left all
+transcribed_done strict false s played r e is left all = absurd (true≢false (sym e))
+
+pub transcribed_refused : (strict transcript : Bool) (s : Streams) (played : Result ℕ Refusal) (r : Result Ending Refusal) → transcript ≡ true
+    → IfOk played (λ refused. r ≡ Ok (ending_of strict refused)) → IfErr played (λ refusal. r ≡ Err refusal)
+    → IfErr played (λ refusal. LeftAfterPlay IsTranscript refusal s) → IfErr r (λ refusal. LeftAfter (Play strict transcript) refusal s)
+transcribed_refused strict true s played r e is left all = judged_refused strict true s played r is left all
+transcribed_refused strict false s played r e is left all = absurd (true≢false (sym e))
+
+-- what the clauses of `perform` and `play` stand on
+pub ruleset endings = (ended_done, ended_refused, reported_done, reported_refused, transcribed_done, transcribed_refused)
 
 -- ---- what is left
 

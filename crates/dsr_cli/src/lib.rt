@@ -16,6 +16,7 @@ ghost use Rattle.dsr_names.specs.Refusal.{refusal_line};
 ghost use Rattle.dsr_names.specs.declared.refusal.Refusal.TheVariants.{WriteFailed};
 ghost use Rattle.dsr_names.specs.Streams.{CanFailToTake, Sent, SentAll, SentPrefix, streams};
 ghost use Rattle.dsr_command.specs.Asked.{asked_of};
+ghost use Rattle.dsr_command.specs.declared.Task.TheVariants.{Play};
 ghost use Rattle.dsr_command.specs.Readings.{IfDo, IfHelp, IfUsage, IfVersion, OnNoMemory, OnNoTask};
 ghost use Rattle.dsr_cli.specs.Status.{StatusFor, RanOut, HasEndedAs, LeftAfter, WhatShowingLeft, WhatTaskLeft, IfNoTask, ending_of, run_of, status_after, status_of};
 
@@ -144,18 +145,33 @@ fn perform<R: Threads + Wait + Sync, I: Source, O: Sink>(
 {
     match task {
         Task::Apply => ended(run_apply(alloc, input, output)),
-        Task::Play {
-            strict,
-            transcript: false,
-        } => judged(strict, run_play(alloc, input, output)),
-        Task::Play {
-            strict,
-            transcript: true,
-        } => judged(strict, transcribe_play(alloc, input, output)),
+        Task::Play { strict, transcript } => play(alloc, strict, transcript, input, output),
         Task::Serve { transcript: false } => ended(run_serve(rt, alloc, input, output)),
         Task::Serve { transcript: true } => ended(transcribe_service(rt, alloc, input, output)),
         Task::Check => ended(run_check(alloc, input, output)),
         Task::Explain(narrowing) => ended(run_explain(alloc, &narrowing, input, output)),
+    }
+}
+
+/// Plays the play, whether it is to be strict or not, and tells it by its transcript or by its report.
+#[tactic(auto, using(crate::proofs::StatusLemmas::endings))]
+fn play<I: Source, O: Sink>(
+    alloc: Global,
+    strict: bool,
+    transcript: bool,
+    input: &mut I,
+    output: &mut O,
+) -> Result<Ending, Refusal>
+    ensures done { IfOk result (λ ending. HasEndedAs ending (Play strict transcript) (streams (I.input input.old) (O.output output.old) (O.output output.new))) }
+    ensures refused { IfErr result (λ refusal. LeftAfter (Play strict transcript) refusal
+        (streams (I.input input.old) (O.output output.old) (O.output output.new))) }
+    ensures reads { (I.input input.new).calls ≤ (I.input input.old).calls + most_calls }
+    ensures writes { (O.output output.new).calls ≤ (O.output output.old).calls + most_calls }
+{
+    if transcript {
+        judged(strict, transcribe_play(alloc, input, output))
+    } else {
+        judged(strict, run_play(alloc, input, output))
     }
 }
 
