@@ -1,7 +1,6 @@
 -- What was left by a task, by showing a text, and what each reading of the words leads to.
 use Rattle.std.proofs.Common.{◌≡◌, ◌<◌, ℕ, zero, suc, Bool, false, true, List, ap, length, inl, inr, refl, subst, sym, zero-lt-suc}
 use Rattle.std.specs.Prelude.{Result, Ok, Err, IfErr, IfOk, OnOk, if◌then◌else◌, string_bytes}
-use Rattle.std.proofs.lemmas.Bool.{true≢false}
 use Rattle.std.proofs.lemmas.Bool.Decides.{Decides-ltb}
 use Rattle.dsr_command.specs.Asked.{Asked, task, version, help, unknown}
 use Rattle.dsr_command.specs.Readings.{IfDo, IfHelp, IfUsage, IfVersion, OnHelp, OnNoMemory, OnUsage, OnVersion}
@@ -14,7 +13,7 @@ use Rattle.dsr_names.specs.Refusal.{refusal_line}
 use Rattle.dsr_names.specs.Streams.{Streams, CanFailToTake, SentAll, SentPrefix}
 use Rattle.dsr_names.specs.declared.refusal.Refusal.{Refusal}
 use Rattle.dsr_names.specs.declared.refusal.Refusal.TheVariants.{WriteFailed}
-use Rattle.dsr_cli.specs.Played.{IsReport, IsTranscript, LeftAfterPlay, PlayedAll, form_of}
+use Rattle.dsr_cli.specs.Played.{PlayedAll, form_of}
 use Rattle.dsr_cli.specs.Status.{Run, HasEndedAs, IsDone, LeftAfter, RanOut, StatusFor, Told, IsQuiet, IsUnwritten, WhatShowingLeft, WhatTaskLeft, ending_of, status_after, status_of}
 use Rattle.dsr_cli.specs.declared.Ending.{Ending}
 use Rattle.dsr_cli.specs.declared.Ending.TheVariants.{Done, Unmet}
@@ -33,7 +32,7 @@ ended_refused named s (Ok nothing) r is refused left = subst (λ (q : Result End
 ended_refused named s (Err refusal) r is refused left = subst (λ (q : Result Ending Refusal). IfErr q (λ refusal. LeftAfter named refusal s)) (sym refused) left
 
 -- a play of which so many events were refused
-play_ended : (strict transcript : Bool) (s : Streams) (refused : ℕ) → PlayedAll (form_of transcript) refused s
+pub play_ended : (strict transcript : Bool) (s : Streams) (refused : ℕ) → PlayedAll (form_of transcript) refused s
     → HasEndedAs (ending_of strict refused) (Play strict transcript) s
 play_ended false transcript s refused all = (refused, all)
 play_ended true transcript s zero all = all
@@ -41,49 +40,8 @@ play_ended true transcript s (suc n) all =
     subst (λ (ending : Ending). HasEndedAs ending (Play true transcript) s)
     (sym (ap (λ b. if b then Unmet else Done) ((Decides-ltb 0 (suc n)).1 (zero-lt-suc n)))) (suc n, zero-lt-suc n, all)
 
-pub judged_done : (strict transcript : Bool) (s : Streams) (played : Result ℕ Refusal) (r : Result Ending Refusal)
-    → IfOk played (λ refused. r ≡ Ok (ending_of strict refused)) → IfErr played (λ refusal. r ≡ Err refusal)
-    → IfOk played (λ refused. PlayedAll (form_of transcript) refused s) → IfOk r (λ ending. HasEndedAs ending (Play strict transcript) s)
-judged_done strict transcript s (Ok refused) r is left all =
-    subst (λ (q : Result Ending Refusal). IfOk q (λ ending. HasEndedAs ending (Play strict transcript) s)) (sym is) (play_ended strict transcript s refused all)
-judged_done strict transcript s (Err refusal) r is left all =
-    subst (λ (q : Result Ending Refusal). IfOk q (λ ending. HasEndedAs ending (Play strict transcript) s)) (sym left) tt
-
-pub judged_refused : (strict transcript : Bool) (s : Streams) (played : Result ℕ Refusal) (r : Result Ending Refusal)
-    → IfOk played (λ refused. r ≡ Ok (ending_of strict refused)) → IfErr played (λ refusal. r ≡ Err refusal)
-    → IfErr played (λ refusal. LeftAfterPlay (form_of transcript) refusal s) → IfErr r (λ refusal. LeftAfter (Play strict transcript) refusal s)
-judged_refused strict transcript s (Ok refused) r is left all =
-    subst (λ (q : Result Ending Refusal). IfErr q (λ refusal. LeftAfter (Play strict transcript) refusal s)) (sym is) tt
-judged_refused strict transcript s (Err refusal) r is left all =
-    subst (λ (q : Result Ending Refusal). IfErr q (λ refusal. LeftAfter (Play strict transcript) refusal s)) (sym left) all
-
--- the same of a play that is told by its report, and of one that is told by its transcript
-pub reported_done : (strict transcript : Bool) (s : Streams) (played : Result ℕ Refusal) (r : Result Ending Refusal) → transcript ≡ false
-    → IfOk played (λ refused. r ≡ Ok (ending_of strict refused)) → IfErr played (λ refusal. r ≡ Err refusal)
-    → IfOk played (λ refused. PlayedAll IsReport refused s) → IfOk r (λ ending. HasEndedAs ending (Play strict transcript) s)
-reported_done strict false s played r e is left all = judged_done strict false s played r is left all
-reported_done strict true s played r e is left all = absurd (true≢false e)
-
-pub reported_refused : (strict transcript : Bool) (s : Streams) (played : Result ℕ Refusal) (r : Result Ending Refusal) → transcript ≡ false
-    → IfOk played (λ refused. r ≡ Ok (ending_of strict refused)) → IfErr played (λ refusal. r ≡ Err refusal)
-    → IfErr played (λ refusal. LeftAfterPlay IsReport refusal s) → IfErr r (λ refusal. LeftAfter (Play strict transcript) refusal s)
-reported_refused strict false s played r e is left all = judged_refused strict false s played r is left all
-reported_refused strict true s played r e is left all = absurd (true≢false e)
-
-pub transcribed_done : (strict transcript : Bool) (s : Streams) (played : Result ℕ Refusal) (r : Result Ending Refusal) → transcript ≡ true
-    → IfOk played (λ refused. r ≡ Ok (ending_of strict refused)) → IfErr played (λ refusal. r ≡ Err refusal)
-    → IfOk played (λ refused. PlayedAll IsTranscript refused s) → IfOk r (λ ending. HasEndedAs ending (Play strict transcript) s)
-transcribed_done strict true s played r e is left all = judged_done strict true s played r is left all
-transcribed_done strict false s played r e is left all = absurd (true≢false (sym e))
-
-pub transcribed_refused : (strict transcript : Bool) (s : Streams) (played : Result ℕ Refusal) (r : Result Ending Refusal) → transcript ≡ true
-    → IfOk played (λ refused. r ≡ Ok (ending_of strict refused)) → IfErr played (λ refusal. r ≡ Err refusal)
-    → IfErr played (λ refusal. LeftAfterPlay IsTranscript refusal s) → IfErr r (λ refusal. LeftAfter (Play strict transcript) refusal s)
-transcribed_refused strict true s played r e is left all = judged_refused strict true s played r is left all
-transcribed_refused strict false s played r e is left all = absurd (true≢false (sym e))
-
--- what the clauses of `perform` and `play` stand on
-pub ruleset endings = (ended_done, ended_refused, reported_done, reported_refused, transcribed_done, transcribed_refused)
+-- what the clauses of `perform` stand on
+pub ruleset endings = (ended_done, ended_refused)
 
 -- ---- what is left
 

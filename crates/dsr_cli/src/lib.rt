@@ -18,6 +18,7 @@ ghost use Rattle.dsr_names.specs.Streams.{CanFailToTake, Sent, SentAll, SentPref
 ghost use Rattle.dsr_command.specs.Asked.{asked_of};
 ghost use Rattle.dsr_command.specs.declared.Task.TheVariants.{Play};
 ghost use Rattle.dsr_command.specs.Readings.{IfDo, IfHelp, IfUsage, IfVersion, OnNoMemory, OnNoTask};
+ghost use Rattle.dsr_cli.specs.Played.{LeftAfterPlay, PlayedAll, form_of};
 ghost use Rattle.dsr_cli.specs.Status.{StatusFor, RanOut, HasEndedAs, LeftAfter, WhatShowingLeft, WhatTaskLeft, IfNoTask, ending_of, run_of, status_after, status_of};
 
 use crate::check::run_check;
@@ -145,7 +146,7 @@ fn perform<R: Threads + Wait + Sync, I: Source, O: Sink>(
 {
     match task {
         Task::Apply => ended(run_apply(alloc, input, output)),
-        Task::Play { strict, transcript } => play(alloc, strict, transcript, input, output),
+        Task::Play { strict, transcript } => perform_play(alloc, strict, transcript, input, output),
         Task::Serve { transcript: false } => ended(run_serve(rt, alloc, input, output)),
         Task::Serve { transcript: true } => ended(transcribe_service(rt, alloc, input, output)),
         Task::Check => ended(run_check(alloc, input, output)),
@@ -154,8 +155,7 @@ fn perform<R: Threads + Wait + Sync, I: Source, O: Sink>(
 }
 
 /// Plays the play, whether it is to be strict or not, and tells it by its transcript or by its report.
-#[tactic(auto, using(crate::proofs::StatusLemmas::endings))]
-fn play<I: Source, O: Sink>(
+fn perform_play<I: Source, O: Sink>(
     alloc: Global,
     strict: bool,
     transcript: bool,
@@ -168,10 +168,30 @@ fn play<I: Source, O: Sink>(
     ensures reads { (I.input input.new).calls ≤ (I.input input.old).calls + most_calls }
     ensures writes { (O.output output.new).calls ≤ (O.output output.old).calls + most_calls }
 {
+    match tell_play(alloc, transcript, input, output) {
+        Ok(refused) => Ok(play_ending(strict, refused)),
+        Err(refusal) => Err(refusal),
+    }
+}
+
+/// Plays the play, tells it by its transcript or by its report, and returns how many of its events were refused.
+fn tell_play<I: Source, O: Sink>(
+    alloc: Global,
+    transcript: bool,
+    input: &mut I,
+    output: &mut O,
+) -> Result<u64, Refusal>
+    ensures done { IfOk result (λ refused. PlayedAll (form_of transcript) refused
+        (streams (I.input input.old) (O.output output.old) (O.output output.new))) }
+    ensures refused { IfErr result (λ refusal. LeftAfterPlay (form_of transcript) refusal
+        (streams (I.input input.old) (O.output output.old) (O.output output.new))) }
+    ensures reads { (I.input input.new).calls ≤ (I.input input.old).calls + most_calls }
+    ensures writes { (O.output output.new).calls ≤ (O.output output.old).calls + most_calls }
+{
     if transcript {
-        judged(strict, transcribe_play(alloc, input, output))
+        transcribe_play(alloc, input, output)
     } else {
-        judged(strict, run_play(alloc, input, output))
+        run_play(alloc, input, output)
     }
 }
 
@@ -186,15 +206,14 @@ fn ended(done: Result<(), Refusal>) -> Result<Ending, Refusal>
     }
 }
 
-/// How a play ended of which so many events were refused, where it was to be strict or not.
-fn judged(strict: bool, played: Result<u64, Refusal>) -> Result<Ending, Refusal>
-    ensures done { IfOk played (λ refused. result ≡ Ok (ending_of strict refused)) }
-    ensures refused { IfErr played (λ refusal. result ≡ Err refusal) }
+/// How a play ends of which so many events were refused.
+fn play_ending(strict: bool, refused: u64) -> Ending
+    ensures { result ≡ ending_of strict refused }
 {
-    match played {
-        Ok(refused) if strict && 0 < refused => Ok(Ending::Unmet),
-        Ok(_) => Ok(Ending::Done),
-        Err(refusal) => Err(refusal),
+    if strict && 0 < refused {
+        Ending::Unmet
+    } else {
+        Ending::Done
     }
 }
 
