@@ -8,7 +8,7 @@
    what the program writes.
 4. Texts that are no play: the line, the column, and what was expected there; and what stands on standard error is what `dsr play` has there.
 5. What is told with options is told without them too.
-6. An explanation takes at most three times the processor time of its play.
+6. To tell what was refused takes at most three times the processor time of the play. What it takes to tell of all events is printed.
 
 The last line is `N passed, M failed`.
 """
@@ -192,7 +192,7 @@ def processor_time(words, play):
 
 
 def fault_of_time():
-    """Whether an explanation takes too long, and what it takes."""
+    """Whether it takes too long to tell what was refused, and what explanations take."""
     play = long_play()
     plain, told = processor_time(["play"], play), processor_time(["explain", "--refused"], play)
     whole = processor_time(["explain"], play)

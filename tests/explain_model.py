@@ -128,7 +128,7 @@ def client_takes(world, a, b):
     reason = reason_for_no_vote(machine, b, words[1]) if is_reply else None
     world.take(a, b)
     if not is_reply:
-        return []
+        return [f"no-vote {a} {b} it is no reply"] if b[0] == "r" else []
     if reason:
         return [f"no-vote {a} {b} {reason}"]
     votes = list(machine.votes.values()).count(envelope)

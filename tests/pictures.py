@@ -1,5 +1,5 @@
 #!/usr/bin/env python3
-"""The pictures of the attacks, and tools/picture: tests/pictures.py, or with `--write` it writes the pictures anew.
+"""The pictures of the attacks, and tools/picture: tests/pictures.py, or with `--write` it writes the pictures anew. It runs the built program.
 
 1. Each play of examples/attacks/: what its explanation says was decided, acted and accepted is what the .out beside it says; the .svg beside it is
    what tools/picture makes of the explanation, is well formed, asks for nothing from elsewhere, and has less than 60,000 bytes. The page that
@@ -19,10 +19,10 @@ import subprocess
 import sys
 import xml.etree.ElementTree
 
-import explain_model
 import runs
 
 TOP = os.path.dirname(os.path.dirname(os.path.realpath(__file__)))
+PROGRAM = f"{TOP}/crates/dsr/out/dsr"
 ATTACKS = f"{TOP}/examples/attacks"
 MOST_BYTES = 60_000
 RANDOM_PLAYS = 60
@@ -31,8 +31,8 @@ ELSEWHERE = re.compile(r"""(?:src|href)\s*=|url\((?!["']?#)|@import|https?://(?!
 
 
 def explanation_of(play):
-    """The data lines of this play, both as bytes. This is the one place that says where they come from."""
-    return explain_model.data_of(play).encode()
+    """The data lines of this play, both as bytes, as the built program prints them."""
+    return subprocess.run([PROGRAM, "explain", "--data"], input=play, capture_output=True, timeout=120).stdout
 
 
 def bytes_of(path):

@@ -21,6 +21,8 @@ FAULTS = {
     "other-slot": lambda run, c: "it is of another slot",
     "not-in-flight": lambda run, c: f"slot {c.slot} is not in flight",
 }
+# Notes that are not drawn, and how many parts each has.
+UNDRAWN = {"silence": 2, "kept": 5, "hold": 2, "drop": 2}
 MOST_LETTERS = 26
 MOST_SHOWN = 3
 
@@ -150,6 +152,10 @@ class Run:
         elif word == "waits":
             replica, told, other, number = rest.split(" ")
             self.waits.append((replica, told, other, number))
+        elif word in UNDRAWN:
+            # what the event and other notes show already
+            if len(rest.split(" ")) != UNDRAWN[word] or not self.events:
+                raise ValueError
         else:
             self.events[-1].notes.append((word, self.note(word, rest)))
 
