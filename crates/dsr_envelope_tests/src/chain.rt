@@ -315,12 +315,12 @@ fn gives_the_chain_back(rt: HostRuntime) -> Result<(), Fail> {
     let act = value(&rt, &[SignedRequest::by(request(0)?, &desk.c0)]);
     let chain = Chain::start(rt.alloc(), 7, act, &desk.r0)?;
     let equal = Chain::start(rt.alloc(), 7, act, &desk.r0)?;
-    match extended(&rt, rt.alloc(), chain, &desk.r1) {
+    match tried_extended(&rt, rt.alloc(), chain, &desk.r1) {
         Ok(longer) => is_longer(&rt, &longer, &desk.r1),
         Err((back, refusal)) => {
             assert!(rt; back.same(&equal));
             assert_eq!(rt; refusal, Refusal::NoMemory);
-            match extended(&rt, rt.alloc(), back, &desk.r1) {
+            match tried_extended(&rt, rt.alloc(), back, &desk.r1) {
                 Ok(longer) => is_longer(&rt, &longer, &desk.r1),
                 Err((_, refusal)) => return Err(refusal)?,
             }
@@ -329,8 +329,8 @@ fn gives_the_chain_back(rt: HostRuntime) -> Result<(), Fail> {
     Ok(())
 }
 
-/// The chain, extended by the key's holder.
-fn extended(
+/// The chain, extended by the key's holder, or what comes back.
+fn tried_extended(
     rt: &impl Abort,
     alloc: Global,
     chain: Chain,
