@@ -395,8 +395,10 @@ fn explain_refused<S: AsStr>(alloc: Global, words: &[S]) -> Reading
 fn explain_fault<S: AsStr>(alloc: Global, words: &[S]) -> Result<String, AllocError> {
     let command = explain_command(alloc)?;
     if let Err(error) = command.try_get_matches_from(words) {
-        if error.kind() != ErrorKind::DisplayHelp {
-            return error.to_string(alloc);
+        match error.kind() {
+            ErrorKind::OutOfMemory => return Err(AllocError),
+            ErrorKind::DisplayHelp => {}
+            _ => return error.to_string(alloc),
         }
     }
     let said = if has_separator(words) {
