@@ -118,6 +118,10 @@ def rows():
             yield word, path, bytes_of(path), wanted_of(path[: -len(f".{word}")], "out")
     for path in sorted(glob.glob(f"{TOP}/examples/*.play") + glob.glob(f"{TOP}/examples/attacks/*.play")):
         yield from rows_of_play(path.removesuffix(".play"))
+    for path in sorted(glob.glob(f"{TOP}/examples/why/*.play")):
+        yield "explain", path, bytes_of(path), (0, bytes_of(f"{path.removesuffix('.play')}.explained"), b"")
+    bad = bytes_of(f"{TOP}/examples/bad-play-line.play")
+    yield "explain", f"{TOP}/examples/bad-play-line.play", bad, (1, *run_of("explain", bad)[1:])
     for words, status in [("--help", 0), ("play --help", 0), ("explain --help", 0), ("--version", 0), ("fly", 2), ("check --transcript", 2),
                           ("explain --slot", 2), ("explain --slot 07", 2)]:
         yield words, "nothing", b"", (status, *run_of(words, b"")[1:])

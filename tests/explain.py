@@ -2,7 +2,8 @@
 """What `dsr explain` tells: tests/explain.py, or with `--write` it writes the explanations in examples/why/ anew. It runs the built program.
 
 1. Each play of examples/, and random plays: the lines of data are those of tests/explain_model.py, a slow model that was written anew, but for
-   the words in which a reason is put, and for what a replica keeps, holds or drops, which the model does not tell.
+   the words in which a reason is put, and for what a replica keeps, holds or drops, which the model does not tell. Where an event is refused as
+   forged, a signature is named.
 2. Each attack of examples/attacks/: there are lines that name what stopped it: the fault of a chain or what became of it, the slot, and the replica.
 3. Each play of examples/why/, which is wrong in one line: the first refused event is of the line that is named here, and the explanation beside it is
    what the program writes.
@@ -117,6 +118,10 @@ def fault_of_data(play):
     status, data, told = program(["explain", "--data"], play)
     if status != 0 or told:
         return f"status {status}, {told!r}"
+    lines = data.decode().splitlines()
+    for line, why in zip(lines, lines[1:]):
+        if line.startswith("event ") and line.split(" ")[6] == "E8" and not why.startswith("why the signature of "):
+            return f"no signature is named as forged after `{line[:80]}`"
     found, wanted = shared(data), shared(explain_model.data_of(play).encode())
     if found == wanted:
         return None
