@@ -41,7 +41,7 @@ signature_of a (t ∷ rest) h = elim (head_or_rest (λ u. u.signer ≡ a) t rest
 ]
 
 -- who is among the signers signed
-signed_from_signers : (a : Actor) (signatures : List Signature) → Any (λ b. b ≡ a) (signers_of signatures) → Any (λ s. s.signer ≡ a) signatures
+pub signed_from_signers : (a : Actor) (signatures : List Signature) → Any (λ b. b ≡ a) (signers_of signatures) → Any (λ s. s.signer ≡ a) signatures
 signed_from_signers a [] h = absurd (none_in_nil (λ b. b ≡ a) h)
 signed_from_signers a (s ∷ rest) h = elim (head_or_rest (λ b. b ≡ a) s.signer (signers_of rest) h) [
   | inl first ↦ at_head (λ t. t.signer ≡ a) s rest first

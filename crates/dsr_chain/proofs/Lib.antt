@@ -1,8 +1,8 @@
 mod Blindness
 mod ChainLaws
 mod Contents
+mod Keeping
 mod FaultLemmas
-mod Fitting
 pub mod Lemmas
 mod ProperDecides
 mod Sameness

@@ -1,10 +1,11 @@
-ghost use Rattle.std.specs.Prelude.{◌≡◌, ◌<◌, ◌≤◌, ◌+◌, ◌↔◌, ◌++◌, ◌∷◌, [], Any, length, IfOk, IfErr, IsTrue, IsOkUnless};
+ghost use Rattle.std.specs.Prelude.{◌≡◌, ◌<◌, ◌≤◌, ◌+◌, ◌↔◌, ◌++◌, ◌∷◌, [], Any, Some, length, slice_get, IfOk, IfErr, IsTrue, IsOkUnless};
 ghost use Rattle.dsr_chain.specs.Chain.{signers_of as signers_in};
 
 use crate::shared_value::SharedValue;
+use crate::signatures::Signatures;
 use crate::signed_request::SignedRequest;
 use crate::slot_value::SlotValue;
-use dsr_desk::{Key, Signature, Signers, Statement};
+use dsr_desk::{Key, Links, Signature, Signers, Statement};
 use dsr_names::{Actor, Refusal};
 use dsr_request::Requests;
 use std::alloc::Global;
@@ -16,7 +17,7 @@ use std::sync::Arc;
 struct Body {
     slot: u64,
     value: SharedValue,
-    signatures: Vec<Signature>,
+    signatures: Signatures,
 }
 
 /// The value of a slot with at most 16 signatures beside it. A chain is never changed: copies share what
@@ -27,33 +28,39 @@ pub struct Chain {
 }
 
 impl Model for Chain {
-    ghost use Rattle.std.specs.Prelude.{length, ◌≤◌};
     ghost use Rattle.std.specs.Arc.{arc_value};
     ghost use Rattle.dsr_chain.specs.Chain.{Chain, chain_of};
+    ghost use Rattle.dsr_chain.specs.Support.Signatures.{signatures_in, AreKept};
 
     ghost Value = { Chain };
 
-    ghost view = { λ c. chain_of (arc_value c.body).slot (arc_value c.body).value (arc_value c.body).signatures.items };
+    ghost view = { λ c. chain_of (arc_value c.body).slot (arc_value c.body).value (signatures_in (arc_value c.body).signatures) };
 
-    ghost invariant = { λ c. length (arc_value c.body).signatures.items ≤ 16 };
+    ghost invariant = { λ c. AreKept (arc_value c.body).slot (arc_value c.body).value (arc_value c.body).signatures };
 }
 
 impl Chain {
     ghost use Rattle.dsr_chain.specs.Content.{content, signed_in};
     ghost use Rattle.dsr_chain.specs.Chain.{chain_of, started, extended};
+    ghost use Rattle.dsr_chain.specs.Faults.{HasMisfit};
+    ghost use Rattle.dsr_chain.specs.Support.Signatures.{signatures_in, AreKept};
 
     /// The chain of this value with the key's signature alone. `NoMemory` where memory runs out.
     pub fn start(alloc: Global, slot: u64, value: SlotValue, key: &Key) -> Result<Chain, Refusal>
         ensures started { IfOk result (λ chain. chain ≡ started slot value key.now) }
         ensures refusal { IsOkUnless result Refusal.NoMemory }
     {
-        let link = Statement::Link {
-            slot,
-            value: value.content(),
-            before: Signers::new(),
-        };
-        let signatures = with_one_more(alloc, &[], key.sign(link))?;
-        Chain::of(alloc, slot, value, signatures)
+        let links = Links::start(alloc, slot, &value.content(), key)?;
+        let value = SharedValue::of(alloc, value)?;
+        let signatures = Signatures::InTurn(links);
+        Chain::share(
+            alloc,
+            Body {
+                slot,
+                value,
+                signatures,
+            },
+        )
     }
 
     /// The chain with the key's signature put at its end, on the link that fits there. Requires that it has
@@ -84,14 +91,7 @@ impl Chain {
         ensures refusal { IsOkUnless result Refusal.NoMemory }
     {
         let value = SharedValue::of(alloc, value)?;
-        Chain::share(
-            alloc,
-            Body {
-                slot,
-                value,
-                signatures,
-            },
-        )
+        Chain::of_shared(alloc, slot, value, signatures)
     }
 
     /// The same chain once more. It shares what this one holds. `NoMemory` where one handle more is refused.
@@ -126,12 +126,36 @@ impl Chain {
         self.body.value.content()
     }
 
-    /// The signatures in their order, at most 16.
-    pub fn signatures(&self) -> &[Signature]
-        ensures same { result.now ≡ self.now.signatures }
-        ensures few { length self.now.signatures ≤ 16 }
+    /// How many signatures there are, at most 16.
+    pub fn signature_count(&self) -> usize
+        ensures same { result ≡ length self.now.signatures }
+        ensures few { result ≤ 16 }
     {
-        self.body.signatures.as_slice()
+        match &self.body.signatures {
+            Signatures::InTurn(links) => links.signers().len(),
+            Signatures::Given(list) => list.len(),
+        }
+    }
+
+    /// The signature at this place, counted from 0. Requires that there is one.
+    pub fn signature(&self, place: usize) -> Signature
+        requires { place < length self.now.signatures }
+        ensures { slice_get self.now.signatures place ≡ Some result }
+    {
+        match &self.body.signatures {
+            Signatures::InTurn(links) => links.signature(place),
+            Signatures::Given(list) => list[place],
+        }
+    }
+
+    /// Who signed, in their order.
+    pub fn signers(&self) -> Signers
+        ensures { result ≡ signers_in self.now.signatures }
+    {
+        match &self.body.signatures {
+            Signatures::InTurn(links) => links.signers(),
+            Signatures::Given(list) => signers_of(list.as_slice()),
+        }
     }
 
     /// The signed requests of the value, none where it is idle.
@@ -145,9 +169,7 @@ impl Chain {
     pub fn has_signer(&self, actor: Actor) -> bool
         ensures { IsTrue result ↔ Any (λ signature. signature.signer ≡ actor) self.now.signatures }
     {
-        self.signatures()
-            .iter()
-            .any(|signature| signature.signer() == actor)
+        stands_in(actor, self.signers().as_slice())
     }
 
     /// Whether the values of two chains have the same content: the same requests in the same order, whatever
@@ -163,14 +185,68 @@ impl Chain {
         ensures { IsTrue result ↔ (self.now ≡ other.now) }
     {
         self.slot() == other.slot()
-            && same_signatures(self.signatures(), other.signatures())
             && self.body.value.same(&other.body.value)
+            && self.has_same_signatures(other)
+    }
+
+    /// Whether one of the signatures is on a statement that does not fit its place.
+    pub(crate) fn has_misfit(&self) -> bool
+        ensures { IsTrue result ↔ HasMisfit self.now }
+    {
+        match &self.body.signatures {
+            Signatures::InTurn(_) => false,
+            Signatures::Given(_) => true,
+        }
+    }
+
+    /// Whether two chains of one slot and value have the same signatures.
+    fn has_same_signatures(&self, other: &Chain) -> bool
+        requires slot { self.now.slot ≡ other.now.slot }
+        requires value { self.now.value ≡ other.now.value }
+        ensures { IsTrue result ↔ (self.now.signatures ≡ other.now.signatures) }
+    {
+        match (&self.body.signatures, &other.body.signatures) {
+            (Signatures::InTurn(ours), Signatures::InTurn(theirs)) => {
+                ours.signers().same(&theirs.signers())
+            }
+            (Signatures::Given(ours), Signatures::Given(theirs)) => {
+                same_signatures(ours.as_slice(), theirs.as_slice())
+            }
+            (Signatures::InTurn(_), Signatures::Given(_)) => false,
+            (Signatures::Given(_), Signatures::InTurn(_)) => false,
+        }
+    }
+
+    /// The chain of these parts, whatever they are.
+    fn of_shared(
+        alloc: Global,
+        slot: u64,
+        value: SharedValue,
+        signatures: Vec<Signature>,
+    ) -> Result<Chain, Refusal>
+        requires { length signatures.items ≤ 16 }
+        ensures made { IfOk result (λ chain. chain ≡ chain_of slot value signatures.items) }
+        ensures refusal { IsOkUnless result Refusal.NoMemory }
+    {
+        let links = Links::of(alloc, slot, &value.content(), signatures.as_slice())?;
+        let signatures = match links {
+            Some(links) => Signatures::InTurn(links),
+            None => Signatures::Given(signatures),
+        };
+        Chain::share(
+            alloc,
+            Body {
+                slot,
+                value,
+                signatures,
+            },
+        )
     }
 
     /// The chain of this body.
     fn share(alloc: Global, body: Body) -> Result<Chain, Refusal>
-        requires { length body.signatures.items ≤ 16 }
-        ensures made { IfOk result (λ chain. chain ≡ chain_of body.slot body.value body.signatures.items) }
+        requires { AreKept body.slot body.value body.signatures }
+        ensures made { IfOk result (λ chain. chain ≡ chain_of body.slot body.value (signatures_in body.signatures)) }
         ensures refusal { IsOkUnless result Refusal.NoMemory }
     {
         let body = Arc::new(alloc, body)?;
@@ -183,26 +259,34 @@ impl Chain {
         ensures extended { IfOk result (λ chain. chain ≡ extended self.now key.now) }
         ensures refusal { IsOkUnless result Refusal.NoMemory }
     {
-        let link = Statement::Link {
-            slot: self.slot(),
-            value: self.content(),
-            before: signers_of(self.signatures()),
-        };
-        let signatures = with_one_more(alloc, self.signatures(), key.sign(link))?;
         let value = self.body.value.try_share()?;
-        Chain::share(
-            alloc,
-            Body {
-                slot: self.slot(),
-                value,
-                signatures,
-            },
-        )
+        match &self.body.signatures {
+            Signatures::InTurn(links) => {
+                let signatures = Signatures::InTurn(links.extend(key)?);
+                Chain::share(
+                    alloc,
+                    Body {
+                        slot: self.slot(),
+                        value,
+                        signatures,
+                    },
+                )
+            }
+            Signatures::Given(list) => {
+                let link = Statement::Link {
+                    slot: self.slot(),
+                    value: self.content(),
+                    before: signers_of(list.as_slice()),
+                };
+                let signatures = with_one_more(alloc, list.as_slice(), key.sign(link))?;
+                Chain::of_shared(alloc, self.slot(), value, signatures)
+            }
+        }
     }
 }
 
 /// Who signed, in their order.
-pub(crate) fn signers_of(signatures: &[Signature]) -> Signers
+fn signers_of(signatures: &[Signature]) -> Signers
     requires { length signatures.now ≤ 16 }
     ensures { result ≡ signers_in signatures.now }
 {
@@ -211,6 +295,13 @@ pub(crate) fn signers_of(signatures: &[Signature]) -> Signers
         signers.push(signature.signer());
     }
     signers
+}
+
+/// Whether the actor is one of the signers.
+pub(crate) fn stands_in(actor: Actor, signers: &[Actor]) -> bool
+    ensures { IsTrue result ↔ Any (λ a. a ≡ actor) signers.now }
+{
+    signers.iter().any(|signer| *signer == actor)
 }
 
 /// Whether two lists have the same signatures in the same order.

@@ -1,15 +1,12 @@
 ghost use Rattle.std.specs.Prelude.{◌≡◌, ◌<◌, ◌≤◌, ◌↔◌, ◌+◌, Any, Some, length, slice_get, IsTrue, IsOk, IfErr, IfSome, IfNone};
 ghost use Rattle.dsr_names.specs.declared.actor.Actor.{Actor};
-ghost use Rattle.dsr_desk.specs.declared.statement.Statement.{Statement};
 ghost use Rattle.dsr_chain.specs.Proper.{IsReplica, IsAsked, IsProper};
-ghost use Rattle.dsr_chain.specs.Faults.{StandsTwice, HasMisfit, HasNoFault, IsFirstFault};
+ghost use Rattle.dsr_chain.specs.Faults.{StandsTwice, HasNoFault, IsFirstFault};
 
-use crate::chain::{Chain, signers_of};
+use crate::chain::{Chain, stands_in};
 use crate::fault::ChainFault;
 use crate::signed_request::SignedRequest;
-use dsr_desk::{Signature, Signers, Statement};
 use dsr_names::{Actor, ReplicaId, Shape};
-use dsr_request::Requests;
 
 impl Chain {
     /// Whether the chain is proper for this round of the slot. Otherwise the first fault that holds, in
@@ -31,11 +28,11 @@ impl Chain {
         ensures some { IfSome result (IsFirstFault shape.now slot round self.now) }
         ensures none { IfNone result (HasNoFault shape.now slot round self.now) }
     {
-        let signers = signers_of(self.signatures());
+        let signers = self.signers();
         let signers = signers.as_slice();
         if self.slot() != slot {
             Some(ChainFault::OtherSlot)
-        } else if self.signatures().len() != round as usize {
+        } else if signers.len() != round as usize {
             Some(ChainFault::WrongCount)
         } else if !begins_with(signers, shape.sender(slot)) {
             Some(ChainFault::WrongSender)
@@ -51,35 +48,6 @@ impl Chain {
             None
         }
     }
-
-    /// Whether one of the signatures is on a statement that does not fit its place.
-    fn has_misfit(&self) -> bool
-        ensures { IsTrue result ↔ HasMisfit self.now }
-    {
-        let slot = self.slot();
-        let value = self.content();
-        let signatures = self.signatures();
-        let mut before = Signers::new();
-        for signature in signatures {
-            if !is_on_link(signature, slot, &value, &before) {
-                return true;
-            }
-            before.push(signature.signer());
-        }
-        false
-    }
-}
-
-/// Whether the signature is on the link of this slot and value after these signers.
-fn is_on_link(signature: &Signature, slot: u64, value: &Option<Requests>, before: &Signers) -> bool
-    ensures { IsTrue result ↔ (signature.now.statement ≡ Statement.Link slot value.now before.now) }
-{
-    let link = Statement::Link {
-        slot,
-        value: *value,
-        before: *before,
-    };
-    signature.statement().same(&link)
 }
 
 /// Whether the actor is a replica of the shape.
@@ -101,13 +69,6 @@ fn has_no_replica(shape: &Shape, signers: &[Actor]) -> bool
     ensures { IsTrue result ↔ Any (λ a. ¬ IsReplica shape.now a) signers.now }
 {
     signers.iter().any(|signer| !is_replica(shape, *signer))
-}
-
-/// Whether the actor is one of the signers.
-fn stands_in(actor: Actor, signers: &[Actor]) -> bool
-    ensures { IsTrue result ↔ Any (λ a. a ≡ actor) signers.now }
-{
-    signers.iter().any(|signer| *signer == actor)
 }
 
 /// Whether one of the signers stands twice.

@@ -7,6 +7,7 @@ mod check;
 mod fault;
 mod laws;
 mod shared_value;
+mod signatures;
 mod signed_request;
 mod slot_value;
 

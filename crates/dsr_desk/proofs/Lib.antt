@@ -1,2 +1,3 @@
 mod Flags
+pub mod LinksLemmas
 mod StatementLemmas

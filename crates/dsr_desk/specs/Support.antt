@@ -1,5 +1,6 @@
 -- What `==` of contents, signers, statements and signatures decides. These serve `==`, and tests that definitions branch on.
 pub mod ContentEquality
+pub mod SharedContent
 pub mod SignatureEquality
 pub mod SignersEquality
 pub mod StatementEquality

@@ -42,8 +42,8 @@ impl Model for Key {
     ghost view = { λ k. k.holder };
 }
 
-/// That an actor signed a statement. It comes from `Key::sign` alone, and is copied without taking
-/// memory.
+/// That an actor signed a statement. It comes from `Key::sign`, and from `Links`, which come from keys and signatures; it is copied
+/// without allocating.
 #[derive(Clone, Copy, Debug, PartialEq, Eq)]
 pub struct Signature {
     signer: Actor,
@@ -137,6 +137,15 @@ impl Key {
 }
 
 impl Signature {
+    ghost use Rattle.dsr_desk.specs.Signature.{signed};
+
+    /// The signature of this signer on the statement, for those who keep what it takes to know that the signer made it.
+    pub(crate) fn by(signer: Actor, statement: Statement) -> Signature
+        ensures { result ≡ signed signer statement }
+    {
+        Signature { signer, statement }
+    }
+
     /// Who signed.
     pub fn signer(&self) -> Actor
         ensures { result ≡ self.now.signer }
