@@ -1,6 +1,6 @@
 //! Whether what an envelope carries is within the limits of the texts that spell it.
 
-ghost use Rattle.std.specs.Prelude.{◌↔◌, IsTrue};
+ghost use Rattle.std.specs.Prelude.{◌↔◌, All, IsTrue};
 ghost use Rattle.dsr_envelope.specs.Limits.{IsSignature, IsSigned, IsChain, AreChains, IsReply};
 
 use dsr_base::Token;
@@ -37,11 +37,20 @@ fn chain_fits(chain: &Chain) -> bool
     chain.slot() < NUMBER_END
         && chain.signed().len() <= MOST_REQUESTS
         && chain.signed().iter().all(|ask| signed_fits(ask))
-        && chain.signatures().len() <= MOST_SIGNATURES
-        && chain
-            .signatures()
-            .iter()
-            .all(|signature| signature_fits(signature))
+        && chain.signature_count() <= MOST_SIGNATURES
+        && signatures_fit(chain)
+}
+
+/// Whether each of the chain's signatures is within the limits.
+fn signatures_fit(chain: &Chain) -> bool
+    ensures { IsTrue result ↔ All IsSignature chain.now.signatures }
+{
+    for place in 0..chain.signature_count() {
+        if !signature_fits(&chain.signature(place)) {
+            return false;
+        }
+    }
+    true
 }
 
 /// Whether the request and the signature beside it are within the limits.

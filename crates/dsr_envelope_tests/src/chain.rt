@@ -62,7 +62,7 @@ fn value(rt: &impl Abort, signed: &[SignedRequest]) -> SlotValue {
 
 /// The chain that the key's holder signs next.
 fn extended(alloc: Global, chain: Chain, key: &Key) -> Result<Chain, Fail> {
-    if chain.signatures().len() == 16 {
+    if chain.signature_count() == 16 {
         return Err("a long chain")?;
     }
     match chain.extend(alloc, key) {
@@ -268,7 +268,7 @@ fn has_parts(rt: &impl Abort, chain: &Chain, act: SlotValue, request: Request) {
             .iter()
             .all(|signed| signed.request == request)
     );
-    assert_eq!(rt; chain.signatures().len(), 1);
+    assert_eq!(rt; chain.signature_count(), 1);
     assert!(rt; chain.has_signer(R0));
     assert!(rt; !chain.has_signer(Actor::Client(ClientId::FIRST)));
 }
@@ -336,13 +336,13 @@ fn tried_extended(
     chain: Chain,
     key: &Key,
 ) -> Result<Chain, (Chain, Refusal)> {
-    assert!(rt; chain.signatures().len() < 16);
+    assert!(rt; chain.signature_count() < 16);
     chain.extend(alloc, key)
 }
 
 /// Whether the chain has two signatures, one of them by the key's holder.
 fn is_longer(rt: &impl Abort, longer: &Chain, key: &Key) {
-    assert_eq!(rt; longer.signatures().len(), 2);
+    assert_eq!(rt; longer.signature_count(), 2);
     assert!(rt; longer.has_signer(key.signer()));
 }
 
@@ -398,7 +398,7 @@ fn grown(
 ) -> Result<Chain, Fail> {
     let signer = replica(number)?;
     let chain = extended(alloc, chain, &key(keys, signer)?)?;
-    assert_eq!(rt; chain.signatures().len(), number as usize + 1);
+    assert_eq!(rt; chain.signature_count(), number as usize + 1);
     assert!(rt; chain.has_signer(signer));
     assert!(rt; chain.try_copy()?.same(&chain));
     Ok(chain)
@@ -413,7 +413,7 @@ fn grows_to_sixteen_signatures(rt: HostRuntime) -> Result<(), Fail> {
     for number in 1..16u8 {
         chain = grown(&rt, rt.alloc(), chain, &mut keys, number)?;
     }
-    assert_eq!(rt; chain.signatures().len(), 16);
+    assert_eq!(rt; chain.signature_count(), 16);
     assert!(rt; chain.value().same(&act));
     Ok(())
 }
@@ -422,12 +422,80 @@ fn grows_to_sixteen_signatures(rt: HostRuntime) -> Result<(), Fail> {
 fn is_made_of_none_and_of_sixteen(rt: HostRuntime) -> Result<(), Fail> {
     let desk = open_desk(rt.alloc())?;
     let none = Chain::of(rt.alloc(), 0, SlotValue::Idle, Vec::new(rt.alloc()))?;
-    assert!(rt; none.signatures().is_empty());
+    assert!(rt; none.signature_count() == 0);
     let signature = desk.c0.sign(Statement::Ask(request(0)?));
     let signatures = [signature; 16].as_slice().to_vec(rt.alloc())?;
     assert!(rt; signatures.len() == 16);
     let most = Chain::of(rt.alloc(), 0, SlotValue::Idle, signatures)?;
-    assert!(rt; most.signatures() == [signature; 16].as_slice());
+    assert_eq!(rt; most.signature_count(), 16);
+    for place in 0..16usize {
+        assert!(rt; most.signature(place).same(&signature));
+    }
+    Ok(())
+}
+
+/// Each signature of a chain is its signer's on the link after those before it, and the chain of these signatures is the same chain.
+#[test]
+fn tells_each_signature(rt: HostRuntime) -> Result<(), Fail> {
+    let desk = open_desk(rt.alloc())?;
+    signs_in_turn(&rt, rt.alloc(), &desk)
+}
+
+/// The chain that two extend, beside the one that is made of their signatures.
+fn signs_in_turn(rt: &impl Abort, alloc: Global, desk: &Desk) -> Result<(), Fail> {
+    let act = value(rt, &[SignedRequest::by(request(0)?, &desk.c0)]);
+    let chain = chain_by(alloc, act, &desk.r0, &desk.r1)?;
+    let [first, second] = links_of_two(act, desk);
+    assert_eq!(rt; chain.signature_count(), 2);
+    assert!(rt; chain.signature(0).same(&first));
+    assert!(rt; chain.signature(1).same(&second));
+    assert!(rt; chain.signers().as_slice() == [R0, desk.r1.signer()].as_slice());
+    let made = Chain::of(alloc, 0, act, listed(rt, alloc, [first, second])?)?;
+    assert!(rt; made.same(&chain));
+    Ok(())
+}
+
+/// The signatures of the replicas 0 and 1, in turn, on the links of slot 0 and this value.
+fn links_of_two(value: SlotValue, desk: &Desk) -> [Signature; 2] {
+    let mut before = Signers::new();
+    before.push(R0);
+    [
+        link(value, 0, &desk.r0, Signers::new()),
+        link(value, 0, &desk.r1, before),
+    ]
+}
+
+/// The two signatures as a list.
+fn listed(
+    rt: &impl Abort,
+    alloc: Global,
+    signatures: [Signature; 2],
+) -> Result<Vec<Signature>, Fail> {
+    let list = signatures.as_slice().to_vec(alloc)?;
+    assert!(rt; list.len() == 2);
+    Ok(list)
+}
+
+/// Signatures that do not fit their places are kept as they were given, and after them one more.
+#[test]
+fn keeps_what_does_not_fit(rt: HostRuntime) -> Result<(), Fail> {
+    let desk = open_desk(rt.alloc())?;
+    let act = value(&rt, &[SignedRequest::by(request(0)?, &desk.c0)]);
+    let chain = chain_by(rt.alloc(), act, &desk.r0, &desk.r1)?;
+    let [first, second] = links_of_two(act, &desk);
+    let swapped = Chain::of(
+        rt.alloc(),
+        0,
+        act,
+        listed(&rt, rt.alloc(), [second, first])?,
+    )?;
+    assert!(rt; !swapped.same(&chain) && !chain.same(&swapped));
+    assert!(rt; swapped.same(&swapped.try_copy()?));
+    let longer = extended(rt.alloc(), swapped, &desk.c0)?;
+    assert_eq!(rt; longer.signature_count(), 3);
+    assert!(rt; longer.signature(0).same(&second) && longer.signature(1).same(&first));
+    assert!(rt; longer.signature(2).signer() == desk.c0.signer());
+    assert!(rt; longer.signers().as_slice() == [desk.r1.signer(), R0, desk.c0.signer()].as_slice());
     Ok(())
 }
 
@@ -470,7 +538,7 @@ fn goes_on_late(rt: &impl Abort, alloc: Global, desk: &Desk) -> Result<(), Fail>
     assert!(rt; copy.slot() == LATE);
     let longer = extended(alloc, copy, &desk.r1)?;
     assert!(rt; longer.slot() == LATE);
-    assert!(rt; longer.signatures().len() == 2);
+    assert!(rt; longer.signature_count() == 2);
     let shape = shape(2)?;
     assert!(rt; shape.f() == 1);
     assert_eq!(rt; longer.check(&shape, LATE, 2), Ok(()));

@@ -1,4 +1,4 @@
-use dsr_desk::{Content, Key, Keys, Signers, Statement, read_content};
+use dsr_desk::{Content, Key, Keys, Links, Signature, Signers, Statement, read_content};
 use dsr_names::{Actor, ClientId, Refusal, ReplicaId, Shape};
 use dsr_request::{Name, Op, Request, Requests};
 use std::alloc::Global;
@@ -261,5 +261,49 @@ fn may_be_sent<T: Send>(_: &T) {}
 fn a_key_goes_into_a_thread(rt: HostRuntime) -> Result<(), Fail> {
     let mut keys = Keys::new(rt.alloc(), Shape::new(1, 0, 1, 0)?)?;
     may_be_sent(&keys.take(R0).ok_or("no key")?);
+    Ok(())
+}
+
+/// The key's signature on the link of slot 7 and this content after these signers.
+fn signed_link(key: &Key, content: &Option<Requests>, before: Signers) -> Signature {
+    key.sign(link(7, *content, before))
+}
+
+/// Two sign the idle content, and one of a request.
+#[test]
+fn signs_in_turn(rt: HostRuntime) -> Result<(), Fail> {
+    let mut keys = keys(rt.alloc())?;
+    let by = (key_of(&rt, &mut keys, R0), key_of(&rt, &mut keys, C0));
+    for content in [None, Requests::of(&[read_a(1)?])] {
+        two_sign(&rt, rt.alloc(), &content, (&by.0, &by.1))?;
+    }
+    Ok(())
+}
+
+/// What two sign in turn are the signatures that each would make alone, and is made of these too.
+fn two_sign(
+    rt: &impl Abort,
+    alloc: Global,
+    content: &Option<Requests>,
+    by: (&Key, &Key),
+) -> Result<(), Fail> {
+    let links = Links::start(alloc, 7, content, by.0)?;
+    assert_eq!(rt; links.signers().len(), 1);
+    let links = links.extend(by.1)?;
+    assert!(rt; links.signers().as_slice() == [R0, C0].as_slice());
+    let mut before = Signers::new();
+    before.push(R0);
+    let first = signed_link(by.0, content, Signers::new());
+    let second = signed_link(by.1, content, before);
+    assert!(rt; links.signature(0).same(&first) && links.signature(1).same(&second));
+    let again = Links::of(alloc, 7, content, &[first, second])?;
+    assert!(rt;
+        again
+            .expect(rt, "they fit")
+            .signers()
+            .same(&links.signers())
+    );
+    assert!(rt; Links::of(alloc, 8, content, &[first, second])?.is_none());
+    assert!(rt; Links::of(alloc, 7, content, &[second, first])?.is_none());
     Ok(())
 }

@@ -1,5 +1,5 @@
 use dsr_chain::Chain;
-use dsr_desk::{MOST_SIGNERS, Signers};
+use dsr_desk::{Signers};
 use dsr_names::{Actor, ClientId, ReplicaId};
 use dsr_request::{Request, Requests};
 use dsr_slot::Fate;
@@ -92,16 +92,9 @@ pub(crate) struct Told {
 impl Told {
     /// The chain, as far as it is told.
     pub(crate) fn of(chain: &Chain) -> Told {
-        let mut signers = Signers::new();
-        for signature in chain.signatures() {
-            // a chain has no more signatures than that
-            if signers.len() < MOST_SIGNERS {
-                signers.push(signature.signer());
-            }
-        }
         Told {
             slot: chain.slot(),
-            signers,
+            signers: chain.signers(),
             content: chain.content(),
         }
     }

@@ -205,7 +205,7 @@ fn check_envelope<R: Abort>(rt: &R, envelope: &Envelope) -> Result<(), Fail> {
     assert_eq!(rt; chains.as_slice().len(), 2);
     for (slot, chain) in chains.as_slice().iter().enumerate() {
         assert_eq!(rt; chain.slot(), slot as u64);
-        assert_eq!(rt; chain.signatures().len(), 2 - slot);
+        assert_eq!(rt; chain.signature_count(), 2 - slot);
         assert_eq!(rt; chain.signed().len(), 1);
         let ask = chain.signed().first().ok_or("no request")?;
         assert_eq!(rt; ask.request.client().number() as usize, 1 - slot);

@@ -2,12 +2,11 @@ ghost use Rattle.std.specs.Prelude.{◌≡◌, ℕ, ◌≤◌, ◌<◌, ◌+◌,
 ghost use Rattle.dsr_base.specs.Member.{In};
 ghost use Rattle.dsr_desk.specs.Signature.{Signature};
 ghost use Rattle.dsr_envelope.specs.declared.envelope.Envelope.{Envelope};
-ghost use Rattle.dsr_chain.specs.Content.{signed_in};
 ghost use Rattle.dsr_script.specs.Support.Carried.{carried, on_chain};
 ghost use Rattle.dsr_script.specs.Support.Noted.{noted, noted_all, beside};
 
 use crate::said::Said;
-use dsr_chain::{Chain, SignedRequest, SlotValue};
+use dsr_chain::{Chain, SignedRequest};
 use dsr_desk::Signature;
 use dsr_envelope::Envelope;
 use dsr_names::Refusal;
@@ -144,30 +143,18 @@ impl Known {
         ensures noted { self.new.signatures ≡ noted_all self.old.signatures (on_chain chain.now) }
         ensures room { self.old.room ≤ self.new.room + 24 }
     {
-        self.note_all(chain.signatures());
-        self.note_value(&chain.value());
+        self.note_own(chain);
+        self.note_beside(chain.signed());
     }
 
-    /// Notes the signatures beside the requests of a value.
-    fn note_value(&mut self, value: &SlotValue)
-        requires { 8 ≤ self.old.room }
-        ensures noted { self.new.signatures ≡ noted_all self.old.signatures (beside (signed_in value.now)) }
-        ensures room { self.old.room ≤ self.new.room + 8 }
+    /// Notes the chain's own signatures.
+    fn note_own(&mut self, chain: &Chain)
+        requires { length chain.now.signatures ≤ self.old.room }
+        ensures noted { self.new.signatures ≡ noted_all self.old.signatures chain.now.signatures }
+        ensures room { self.old.room ≤ self.new.room + length chain.now.signatures }
     {
-        match value {
-            SlotValue::Idle => {}
-            SlotValue::Act(batch) => self.note_beside(batch.as_slice()),
-        }
-    }
-
-    /// Notes these signatures.
-    fn note_all(&mut self, signatures: &[Signature])
-        requires { length signatures.now ≤ self.old.room }
-        ensures noted { self.new.signatures ≡ noted_all self.old.signatures signatures.now }
-        ensures room { self.old.room ≤ self.new.room + length signatures.now }
-    {
-        for signature in signatures {
-            self.note(signature);
+        for place in 0..chain.signature_count() {
+            self.note(&chain.signature(place));
         }
     }
 

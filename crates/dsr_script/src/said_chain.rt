@@ -2,7 +2,7 @@ ghost use Rattle.std.specs.Prelude.{◌≡◌, ◌≤◌, [], All, length, IfOk,
 ghost use Rattle.dsr_desk.specs.declared.statement.Statement.TheVariants.{Link};
 ghost use Rattle.dsr_chain.specs.Chain.{chain_of};
 ghost use Rattle.dsr_chain.specs.Support.SignedLists.{value_of, content_of as content_in};
-ghost use Rattle.dsr_chain.specs.Content.{signed_in};
+ghost use Rattle.dsr_chain.specs.Content.{content, signed_in};
 ghost use Rattle.dsr_envelope.specs.Limits.{IsChain, IsSigned};
 ghost use Rattle.dsr_script.specs.ChainText.{spelled_links, IsValue, IsSpelledChain};
 ghost use Rattle.dsr_script.specs.Support.Links.{AreKept, said_by};
@@ -11,7 +11,7 @@ use crate::brief::Brief;
 use crate::said::{Said, SaidRequest};
 use crate::spelled::Spelled;
 use dsr_chain::{Chain, SignedRequest, SlotValue};
-use dsr_desk::{Signature, Signers, Statement};
+use dsr_desk::{Signers, Statement};
 use dsr_names::Refusal;
 use dsr_request::Requests;
 use std::alloc::Global;
@@ -49,7 +49,7 @@ impl SaidChain {
         ensures refusal { IsOkUnless result Refusal.NoMemory }
     {
         let asks = said_value(alloc, &chain.value())?;
-        let links = links_of(alloc, chain.slot(), &chain.content(), chain.signatures())?;
+        let links = links_of(alloc, chain)?;
         Ok(SaidChain {
             slot: chain.slot(),
             asks,
@@ -159,21 +159,18 @@ impl SaidChains {
     }
 }
 
-/// What a text says of these signatures of a chain of this slot and content.
-fn links_of(
-    alloc: Global,
-    slot: u64,
-    content: &Option<Requests>,
-    signatures: &[Signature],
-) -> Result<Vec<Brief>, Refusal>
-    requires { length signatures.now ≤ 16 }
-    ensures same { IfOk result (λ links. links.items ≡ spelled_links slot content.now [] signatures.now) }
+/// What a text says of the chain's signatures.
+fn links_of(alloc: Global, chain: &Chain) -> Result<Vec<Brief>, Refusal>
+    ensures same { IfOk result (λ links. links.items ≡ spelled_links chain.now.slot (content chain.now.value) [] chain.now.signatures) }
     ensures refusal { IsOkUnless result Refusal.NoMemory }
 {
-    let mut links = Vec::with_capacity(alloc, signatures.len())?;
+    let content = chain.content();
+    let count = chain.signature_count();
+    let mut links = Vec::with_capacity(alloc, count)?;
     let mut before = Signers::new();
-    for signature in signatures {
-        let spelled = Spelled::at(&Said::of(signature), &link_at(slot, content, before));
+    for place in 0..count {
+        let signature = chain.signature(place);
+        let spelled = Spelled::at(&Said::of(&signature), &link_at(chain.slot(), &content, before));
         links.push(Brief::of(alloc, &spelled)?)?;
         before.push(signature.signer());
     }

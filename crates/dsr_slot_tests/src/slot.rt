@@ -53,7 +53,7 @@ fn value_of(desk: &Desk, client: u8) -> Result<SlotValue, Fail> {
 
 /// The chain that the key's holder signs next.
 pub(crate) fn extended(alloc: Global, chain: Chain, key: &Key) -> Result<Chain, Fail> {
-    if chain.signatures().len() == 16 {
+    if chain.signature_count() == 16 {
         return Err("a long chain")?;
     }
     match chain.extend(alloc, key) {
