@@ -1,6 +1,7 @@
 mod Agreement
 mod Blindness
 mod Deciding
+mod Fates
 mod Fields
 mod KeepLemmas
 mod Keeps

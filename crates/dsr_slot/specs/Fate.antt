@@ -26,3 +26,11 @@ IsFate shape slot round kept chain Second = IsProper shape slot round chain × I
 IsFate shape slot round kept chain NotNew = IsProper shape slot round chain × IsFateBeside kept (content chain.value) NotNew
 IsFate shape slot round kept chain OneTooMany = IsProper shape slot round chain × IsFateBeside kept (content chain.value) OneTooMany
 IsFate shape slot round kept chain (Improper fault) = IsFirstFault shape slot round chain fault
+
+-- a chain of this fate is kept
+abbrev pub IsKeptSo : Fate → Type 0
+IsKeptSo First = Unit {0}
+IsKeptSo Second = Unit {0}
+IsKeptSo NotNew = ⊥
+IsKeptSo OneTooMany = ⊥
+IsKeptSo (Improper fault) = ⊥

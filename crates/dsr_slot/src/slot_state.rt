@@ -1,10 +1,10 @@
-ghost use Rattle.std.specs.Prelude.{◌≡◌, ℕ, suc, ◌+◌, ◌<◌, ◌≤◌, ◌↔◌, ◌++◌, ◌∷◌, List, [], Some, All, IfOk, IfSome, IsOk, IsSome, false, length, vec_capacity, IsOkUnless};
+ghost use Rattle.std.specs.Prelude.{◌≡◌, ℕ, suc, ◌+◌, ◌<◌, ◌≤◌, ◌↔◌, ◌++◌, ◌∷◌, List, [], Some, All, IfOk, IfSome, IsOk, IsSome, IsNone, IsTrue, false, length, vec_capacity, IsOkUnless};
 ghost use Rattle.dsr_chain.specs.Chain.{Chain};
 ghost use Rattle.std.specs.Option.{option_map, option_to_list};
 ghost use Rattle.dsr_chain.specs.Content.{content, signed_in};
 ghost use Rattle.dsr_chain.specs.Proper.{IsAsked};
 ghost use Rattle.dsr_chain.specs.ProperTest.{is_proper};
-ghost use Rattle.dsr_slot.specs.Fate.{IsFate, IsFateBeside};
+ghost use Rattle.dsr_slot.specs.Fate.{IsFate, IsFateBeside, IsKeptSo};
 ghost use Rattle.dsr_slot.specs.Keeping.{kept_after, keep_one, is_kept, is_news};
 ghost use Rattle.dsr_slot.specs.Conduct.{relayed, is_relayed};
 ghost use Rattle.dsr_slot.specs.Support.SlotState.{IsOfSomeRound};
@@ -101,7 +101,8 @@ impl SlotState {
 
     /// The chains that are kept, in the order in which they were read: at most two, and no second one where there is no first.
     pub fn kept(&self) -> (Option<&Kept>, Option<&Kept>)
-        ensures { self.now.kept ≡ option_to_list (option_map (λ k. k.now) result.0) ++ option_to_list (option_map (λ k. k.now) result.1) }
+        ensures kept { self.now.kept ≡ option_to_list (option_map (λ k. k.now) result.0) ++ option_to_list (option_map (λ k. k.now) result.1) }
+        ensures order { IsNone result.0 → IsNone result.1 }
     {
         (self.first.as_ref(), self.second.as_ref())
     }
@@ -110,12 +111,10 @@ impl SlotState {
     /// slot has such a round: that at most f are closed.
     pub fn fate(&self, chain: &Chain) -> Fate
         requires within { self.now.closed ≤ self.now.shape.f }
-        ensures { IsFate self.now.shape self.now.slot (suc self.now.closed) self.now.kept chain.now result }
+        ensures fate { IsFate self.now.shape self.now.slot (suc self.now.closed) self.now.kept chain.now result }
+        ensures keeps { IsTrue (is_news self.now.shape self.now.slot (suc self.now.closed) self.now.kept chain.now) ↔ IsKeptSo result }
     {
-        match chain.check(&self.shape, self.slot, self.closed + 1) {
-            Ok(()) => self.fate_beside(chain),
-            Err(fault) => Fate::Improper(fault),
-        }
+        self.fate_of(chain)
     }
 
     /// Reads one more chain in the round after the closed ones. Requires that the slot has such a round: that at most f are
@@ -212,6 +211,17 @@ impl SlotState {
         match (self.first, self.second) {
             (Some(kept), None) => Decision::of(kept.chain),
             _ => Decision::idle(),
+        }
+    }
+
+    /// What becomes of a chain that is read in the round after the closed ones.
+    fn fate_of(&self, chain: &Chain) -> Fate
+        requires { self.now.closed ≤ self.now.shape.f }
+        ensures { IsFate self.now.shape self.now.slot (suc self.now.closed) self.now.kept chain.now result }
+    {
+        match chain.check(&self.shape, self.slot, self.closed + 1) {
+            Ok(()) => self.fate_beside(chain),
+            Err(fault) => Fate::Improper(fault),
         }
     }
 
