@@ -54,14 +54,14 @@ fn not_due(world: &World, event: &Event) -> Why {
             to,
             pick,
         } => match world.replica(*replica) {
-            Ok(loyal) => undue_post(loyal, *replica, to, pick),
+            Ok(loyal) => undue_post(loyal, *replica, to, &pick.pick()),
             Err(_) => Why::Exhausted,
         },
         Event::Post {
             from: Actor::Client(client),
             pick,
             ..
-        } => undue_ask(world, *client, pick),
+        } => undue_ask(world, *client, &pick.pick()),
         Event::Take {
             at: Actor::Replica(replica),
             ..

@@ -115,7 +115,7 @@ fn replica_tries(
     ensures { IsSameSeat seat.old seat.new }
 {
     match event {
-        Event::Post { to, pick, .. } => post(seat, alloc, mail, to, pick),
+        Event::Post { to, pick, .. } => post(seat, alloc, mail, to, &pick.pick()),
         Event::Take { from, .. } => take(seat, mail, from),
         Event::Plant { .. } | Event::Tell { .. } => Err(Refusal::WrongRole),
     }
@@ -186,7 +186,7 @@ fn client_tries(
     ensures { IsSameSeat seat.old seat.new }
 {
     match event {
-        Event::Post { to, pick, .. } => ask(seat, alloc, mail, to, pick),
+        Event::Post { to, pick, .. } => ask(seat, alloc, mail, to, &pick.pick()),
         Event::Take { from, .. } => match hear(seat, mail, from) {
             Ok(_) => Ok(()),
             Err(refusal) => Err(refusal),

@@ -136,7 +136,7 @@ impl Office {
     /// Has the event happen by the seat of its actor. `NoActor` where the actor has none of that kind.
     pub fn step(&mut self, alloc: Global, event: &Event) -> Result<(), Refusal> {
         match event {
-            Event::Post { from, to, pick } => self.post(alloc, from, to, pick),
+            Event::Post { from, to, pick } => self.post(alloc, from, to, &pick.pick()),
             Event::Plant { from, to, draft } => self.plant(alloc, from, to, draft),
             Event::Take { at, from } => self.take(at, from),
             Event::Tell { from, to } => self.tell(alloc, from, to),

@@ -1,8 +1,8 @@
-use dsr_envelope::Pick;
+use crate::choice::Choice;
 use dsr_names::Actor;
 use dsr_script::Draft;
 
-/// One thing that is to happen in a world.
+/// One thing that is to happen in a world. It takes little room, since a play can have a million: whatever is large is kept apart.
 #[derive(Drop)]
 pub enum Event {
     /// A loyal actor posts what its conduct has it post.
@@ -12,7 +12,7 @@ pub enum Event {
         /// To whom.
         to: Actor,
         /// What it chooses, where its conduct leaves a choice.
-        pick: Pick,
+        pick: Choice,
     },
     /// A traitor posts an envelope of its own.
     Plant {
@@ -38,3 +38,6 @@ pub enum Event {
         to: Actor,
     },
 }
+
+/// An event takes 24 bytes.
+const _: () = prove!(size_of::<Event>() == 24);

@@ -18,7 +18,7 @@ pub fn each_event_has_a_line(event: &Event)
         Event::Post { from, to, pick } => {
             number_actor(from);
             number_actor(to);
-            spell_pick(pick);
+            spell_pick(&pick.pick());
         }
         Event::Plant { from, to, draft } => {
             number_actor(from);

@@ -4,6 +4,7 @@ ghost use Rattle.dsr_envelope.specs.declared.pick.Pick.TheVariants.{Plain};
 ghost use Rattle.dsr_play.specs.declared.event.Event.TheVariants.{Post, Plant, Take};
 ghost use Rattle.dsr_play.specs.PlayText.{events_of, pick_for, posts_by, takes_at, with_each, with_each_loyal};
 
+use crate::choice::Choice;
 use crate::event::Event;
 use crate::play_line::PlayLine;
 use dsr_envelope::Pick;
@@ -24,8 +25,8 @@ pub(crate) fn add_events(
 {
     match line {
         PlayLine::One(event) => add(event, events),
-        PlayLine::Posts { by, pick } => add_posts(shape, &Actor::Replica(by), &pick, events),
-        PlayLine::PostsAll => add_all_posts(shape, events),
+        PlayLine::Posts { by, pick } => add_posts(alloc, shape, &Actor::Replica(by), &pick, events),
+        PlayLine::PostsAll => add_all_posts(alloc, shape, events),
         PlayLine::Plants { by, draft } => add_plants(
             alloc,
             shape,
@@ -35,7 +36,7 @@ pub(crate) fn add_events(
         ),
         PlayLine::Takes { at } => add_takes(shape, &at, events),
         PlayLine::TakesAll => add_all_takes(shape, events),
-        PlayLine::Asks { by, pick } => add_posts(shape, &Actor::Client(by), &pick, events),
+        PlayLine::Asks { by, pick } => add_posts(alloc, shape, &Actor::Client(by), &pick, events),
         PlayLine::Hears { from } => add_hears(shape, &Actor::Client(from), events),
         PlayLine::Replies { to } => add_replies(shape, &Actor::Client(to), events),
     }
@@ -71,18 +72,24 @@ fn pick_for(pick: &Pick, number: u8) -> Pick
 }
 
 /// Adds the actor's posts to each replica, the first with this choice.
-fn add_posts(shape: &Shape, by: &Actor, pick: &Pick, events: &mut Vec<Event>) -> Result<(), Refusal>
+fn add_posts(
+    alloc: Global,
+    shape: &Shape,
+    by: &Actor,
+    pick: &Pick,
+    events: &mut Vec<Event>,
+) -> Result<(), Refusal>
     ensures added { OnOk result (events.new.items ≡ events.old.items ++ posts_by shape.now by.now pick.now) }
     ensures refusal { IsOkUnless result Refusal.NoMemory }
 {
     for number in 0..shape.n() {
         let to = replica_of(number);
-        let chosen = pick_for(pick, number);
+        let pick = Choice::of(alloc, pick_for(pick, number))?;
         add(
             Event::Post {
                 from: *by,
                 to,
-                pick: chosen,
+                pick,
             },
             events,
         )?;
@@ -91,13 +98,13 @@ fn add_posts(shape: &Shape, by: &Actor, pick: &Pick, events: &mut Vec<Event>) ->
 }
 
 /// Adds the posts of each loyal replica to each replica.
-fn add_all_posts(shape: &Shape, events: &mut Vec<Event>) -> Result<(), Refusal>
+fn add_all_posts(alloc: Global, shape: &Shape, events: &mut Vec<Event>) -> Result<(), Refusal>
     ensures added { OnOk result (events.new.items ≡ events.old.items ++ with_each_loyal shape.now (λ p. posts_by shape.now (Replica p) Plain)) }
     ensures refusal { IsOkUnless result Refusal.NoMemory }
 {
     for number in 0..shape.n() {
         if shape.is_loyal(replica_of(number)) {
-            add_posts(shape, &replica_of(number), &Pick::Plain, events)?;
+            add_posts(alloc, shape, &replica_of(number), &Pick::Plain, events)?;
         }
     }
     Ok(())
@@ -175,7 +182,7 @@ fn add_replies(shape: &Shape, to: &Actor, events: &mut Vec<Event>) -> Result<(),
     for number in 0..shape.n() {
         if shape.is_loyal(replica_of(number)) {
             let from = replica_of(number);
-            let pick = Pick::Plain;
+            let pick = Choice::plain();
             add(
                 Event::Post {
                     from,

@@ -8,6 +8,7 @@ ghost use Rattle.dsr_play.specs.Support.PlayParts.{AreEnds, two_text, IsPosted, 
 ghost use Rattle.dsr_play.specs.Support.PlayParts.{AreSpelledClients, clients_text, IsPlanted, planted_text, IsEnd, end_text};
 ghost use Rattle.dsr_play.specs.Support.PlayParts.{IsPlantedForAll, planted_for_all_text};
 
+use crate::choice::Choice;
 use crate::event::Event;
 use dsr_base::{Few, split_once};
 use dsr_envelope::{Clients, Pick};
@@ -83,7 +84,7 @@ fn read_rest(alloc: Global, word: &[u8], rest: &[u8]) -> Result<Option<PlayLine>
     ensures refusal { IsOkUnless result Refusal.NoMemory }
 {
     if word == b"post".as_slice() {
-        Ok(read_post(rest))
+        read_post(alloc, rest)
     } else if word == b"plant".as_slice() {
         read_plant(alloc, rest)
     } else if word == b"take".as_slice() {
@@ -108,19 +109,28 @@ fn read_rest(alloc: Global, word: &[u8], rest: &[u8]) -> Result<Option<PlayLine>
 }
 
 /// The post whose line has these bytes after its word.
-fn read_post(rest: &[u8]) -> Option<PlayLine>
-    ensures { Reads (IsLineOf (codes "post")) line_rest rest.now result }
+fn read_post(alloc: Global, rest: &[u8]) -> Result<Option<PlayLine>, Refusal>
+    ensures read { IfOk result (Reads (IsLineOf (codes "post")) line_rest rest.now) }
+    ensures refusal { IsOkUnless result Refusal.NoMemory }
 {
-    post_line(read_posted(rest))
+    let line = post_line(alloc, read_posted(rest))?;
+    Ok(line)
 }
 
 /// The line of this post, where there is one.
-fn post_line(posted: Option<(Actor, (Actor, Pick))>) -> Option<PlayLine>
-    ensures { result ≡ post_line posted }
+fn post_line(
+    alloc: Global,
+    posted: Option<(Actor, (Actor, Pick))>,
+) -> Result<Option<PlayLine>, Refusal>
+    ensures line { IfOk result (λ line. line ≡ post_line posted) }
+    ensures refusal { IsOkUnless result Refusal.NoMemory }
 {
     match posted {
-        None => None,
-        Some((from, (to, pick))) => Some(PlayLine::One(Event::Post { from, to, pick })),
+        None => Ok(None),
+        Some((from, (to, pick))) => {
+            let pick = Choice::of(alloc, pick)?;
+            Ok(Some(PlayLine::One(Event::Post { from, to, pick })))
+        }
     }
 }
 

@@ -1,6 +1,7 @@
-use dsr_envelope::Pick;
-use dsr_names::Refusal;
-use dsr_play::{Event, Play};
+use dsr_envelope::{Clients, Pick};
+use dsr_names::{ClientId, Refusal};
+use dsr_play::{Choice, Event, Play};
+use dsr_request::Op;
 use std::alloc::Global;
 use std::fmt::Write;
 use std::process::Abort;
@@ -66,7 +67,7 @@ fn told(alloc: Global, text: &[u8]) -> Result<String, Fail> {
     let mut words = String::new(alloc);
     for event in play.events() {
         let (word, one, other, pick) = match event {
-            Event::Post { from, to, pick } => ("post", from, to, word_of(pick)),
+            Event::Post { from, to, pick } => ("post", from, to, word_of(&pick.pick())),
             Event::Plant { from, to, .. } => ("plant", from, to, "draft"),
             Event::Take { at, from } => ("take", at, from, "envelope"),
             Event::Tell { from, to } => ("tell", from, to, "front"),
@@ -168,6 +169,43 @@ fn a_play_has_its_shape_and_the_events_of_its_lines_in_order(rt: HostRuntime) ->
     assert_eq!(rt; play.shape().traitors(), 2);
     let wanted = "tell c0 c1 front,post r0 c1 plain,post r2 c1 plain,take c1 c0 envelope,";
     assert!(rt; told(rt.alloc(), text)?.as_str() == wanted);
+    Ok(())
+}
+
+#[test]
+fn a_choice_is_what_was_chosen(rt: HostRuntime) -> Result<(), Fail> {
+    let clients = Clients::of(&[ClientId::new(31)?, ClientId::FIRST]).ok_or("no clients")?;
+    let op = Op::read(b"swap a none 5", b' ').ok_or("no operation")?;
+    for pick in [Pick::Plain, Pick::From(clients), Pick::Begin(op)] {
+        assert_eq!(rt; Choice::of(rt.alloc(), pick)?.pick(), pick);
+    }
+    assert_eq!(rt; Choice::plain().pick(), Pick::Plain);
+    Ok(())
+}
+
+#[test]
+fn the_choices_of_posts_are_those_that_are_spelled(rt: HostRuntime) -> Result<(), Fail> {
+    let clients = Clients::of(&[ClientId::new(1)?, ClientId::FIRST]).ok_or("no clients")?;
+    let op = Op::read(b"write a 5", b' ').ok_or("no operation")?;
+    let text =
+        b"dsr-play 1 1 0 2 -\npost r0 r0 from c1+c0\nposts r0 from c1+c0\nasks c1 begin write a 5\n\
+        post c1 r0 begin write a 5\npost c1 r0\n";
+    let play = Play::read(rt.alloc(), text.as_slice())?;
+    let wanted = [
+        Pick::From(clients),
+        Pick::From(clients),
+        Pick::Begin(op),
+        Pick::Begin(op),
+        Pick::Plain,
+    ];
+    assert_eq!(rt; play.events().len(), 5);
+    for (event, wanted) in play.events().iter().zip(wanted) {
+        if let Event::Post { pick, .. } = event {
+            assert_eq!(rt; pick.pick(), wanted);
+        } else {
+            assert!(rt; false, "no post");
+        }
+    }
     Ok(())
 }
 

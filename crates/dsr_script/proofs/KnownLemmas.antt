@@ -1,10 +1,11 @@
 -- What is known after signatures were noted.
-use Rattle.std.proofs.Common.{◌≡◌, ◌↔◌, Bool, true, false, List, [], ◌∷◌, Some, ◌⊎◌, inl, inr, refl, ap, sym, subst, ◌∙◌}
-use Rattle.std.specs.Prelude.{flat_map, IsSome, IfSome, cond, if◌then◌else◌}
-use Rattle.std.specs.Map.{keys_of, lookup}
+use Rattle.std.proofs.Common.{◌≡◌, ◌↔◌, ◌++◌, All, Bool, true, false, List, [], ◌∷◌, Some, ◌⊎◌, inl, inr, refl, ap, sym, subst, ◌∙◌}
+use Rattle.std.specs.Prelude.{◌||◌, flat_map, map, IsSome, IfSome, cond, if◌then◌else◌}
+use Rattle.std.specs.List.{find, list_any}
+use Rattle.std.proofs.lemmas.List.Elements.{All-head, All-tail}
 use Rattle.dsr_base.specs.Member.{In, here, there}
 use Rattle.dsr_base.proofs.MemberLemmas.{In-append_cases, In-append_left, In-append_right, In-one}
-use Rattle.indexmap.specs.IndexMap.{insert_entry}
+use Rattle.indexmap.specs.IndexSet.{insert_key}
 use Rattle.dsr_desk.specs.Signature.{Signature}
 use Rattle.dsr_chain.specs.Chain.{Chain}
 use Rattle.dsr_chain.specs.Content.{signed_in}
@@ -13,51 +14,56 @@ use Rattle.dsr_envelope.specs.declared.envelope.Envelope.{Envelope}
 use Rattle.dsr_envelope.specs.declared.envelope.Envelope.TheVariants.{Empty, Round, Ask, Reply, Seen}
 use Rattle.dsr_script.specs.Known.{StandFor}
 use Rattle.dsr_script.specs.Support.Carried.{carried, on_chain}
-use Rattle.dsr_script.specs.Support.Noted.{noted, noted_all, beside, AreOwn}
+use Rattle.dsr_script.specs.Support.Noted.{noted, noted_all, beside}
 use Rattle.dsr_script.specs.Support.SaidEquality.{said_eq, said_eq-Decides}
+use Rattle.dsr_script.specs.Support.Sought.{said_of, sought_eq, IsSeen}
+use Rattle.dsr_script.specs.declared.sought.Sought.{Sought}
 
--- ---- an entry for a signature
+-- ---- a key for a signature
 
--- the keys after an entry was put
-pub keys_noted : (es : List (Signature × Signature)) (s v : Signature) → keys_of (insert_entry said_eq es s v) ≡ noted (keys_of es) s
-keys_noted [] s v = refl
-keys_noted (e ∷ es) s v = by (said_eq s e.0) (keys_noted es s v)
+-- the signatures after a key was put
+pub keys_noted : (ks : List Sought) (s : Sought) → map said_of (insert_key sought_eq ks s) ≡ noted (map said_of ks) (said_of s)
+keys_noted [] s = refl
+keys_noted (k ∷ ks) s = by (sought_eq s k) (list_any (sought_eq s) ks) (keys_noted ks s)
   where
-    by : (b : Bool) → keys_of (insert_entry said_eq es s v) ≡ noted (keys_of es) s
-        → keys_of (if b then (e.0, v) ∷ es else e ∷ insert_entry said_eq es s v) ≡ (if b then e.0 ∷ keys_of es else e.0 ∷ noted (keys_of es) s)
-    by true rest = refl
-    by false rest = ap (λ ks. e.0 ∷ ks) rest
+    by : (b c : Bool) → map said_of (if c then ks else ks ++ s ∷ []) ≡ noted (map said_of ks) (said_of s)
+        → map said_of (if b || c then k ∷ ks else k ∷ (ks ++ s ∷ []))
+        ≡ (if b then said_of k ∷ map said_of ks else said_of k ∷ noted (map said_of ks) (said_of s))
+    by true c rest = refl
+    by false true rest = ap (λ xs. said_of k ∷ xs) rest
+    by false false rest = ap (λ xs. said_of k ∷ xs) rest
 
--- each entry has its own signature still
-pub own_noted : (es : List (Signature × Signature)) (s : Signature) → AreOwn es → AreOwn (insert_entry said_eq es s s)
-own_noted [] s own = (refl, tt)
-own_noted (e ∷ es) s own = by (said_eq s e.0) refl (own_noted es s own.1)
+-- the key that is found says what is asked for
+pub found_says : (ks : List Sought) (s : Sought) → IfSome (find (sought_eq s) ks) (λ k. said_of k ≡ said_of s)
+found_says [] s = tt
+found_says (k ∷ ks) s = by (sought_eq s k) refl (found_says ks s)
   where
-    by : (b : Bool) → said_eq s e.0 ≡ b → AreOwn (insert_entry said_eq es s s) → AreOwn (if b then (e.0, s) ∷ es else e ∷ insert_entry said_eq es s s)
-    by true same rest = ((said_eq-Decides s e.0).0 same, own.1)
-    by false other rest = (own.0, rest)
-
--- what is found at a key is the signature that it says
-pub found_own : (es : List (Signature × Signature)) (s : Signature) → AreOwn es → IfSome (lookup (said_eq s) es) (λ x. x ≡ s)
-found_own [] s own = tt
-found_own (e ∷ es) s own = by (said_eq s e.0) refl (found_own es s own.1)
-  where
-    by : (b : Bool) → said_eq s e.0 ≡ b → IfSome (lookup (said_eq s) es) (λ x. x ≡ s) → IfSome (cond b (Some e.1) (lookup (said_eq s) es)) (λ x. x ≡ s)
-    by true same rest = own.0 ∙ sym ((said_eq-Decides s e.0).0 same)
+    by : (b : Bool) → sought_eq s k ≡ b → IfSome (find (sought_eq s) ks) (λ x. said_of x ≡ said_of s)
+        → IfSome (cond b (Some k) (find (sought_eq s) ks)) (λ x. said_of x ≡ said_of s)
+    by true same rest = sym ((said_eq-Decides (said_of s) (said_of k)).0 same)
     by false other rest = rest
 
--- and something is found exactly where the key stands
-pub found_in : (es : List (Signature × Signature)) (s : Signature) → IsSome (lookup (said_eq s) es) ↔ In s (keys_of es)
-found_in [] s = (λ h. absurd cc, λ h. elim h [ ])
-found_in (e ∷ es) s = by (said_eq s e.0) refl (found_in es s)
+-- and is a signature
+pub found_seen : (ks : List Sought) (s : Sought) → All IsSeen ks → IfSome (find (sought_eq s) ks) IsSeen
+found_seen [] s seen = tt
+found_seen (k ∷ ks) s seen = by (sought_eq s k) (found_seen ks s (All-tail IsSeen k ks seen))
   where
-    by : (b : Bool) → said_eq s e.0 ≡ b → (IsSome (lookup (said_eq s) es) ↔ In s (keys_of es))
-        → IsSome (cond b (Some e.1) (lookup (said_eq s) es)) ↔ In s (e.0 ∷ keys_of es)
-    by true same rest = (λ h. here (sym ((said_eq-Decides s e.0).0 same)), λ h. refl)
+    by : (b : Bool) → IfSome (find (sought_eq s) ks) IsSeen → IfSome (cond b (Some k) (find (sought_eq s) ks)) IsSeen
+    by true rest = All-head IsSeen k ks seen
+    by false rest = rest
+
+-- and one is found exactly where a key says that
+pub found_in : (ks : List Sought) (s : Sought) → IsSome (find (sought_eq s) ks) ↔ In (said_of s) (map said_of ks)
+found_in [] s = (λ h. absurd cc, λ h. elim h [ ])
+found_in (k ∷ ks) s = by (sought_eq s k) refl (found_in ks s)
+  where
+    by : (b : Bool) → sought_eq s k ≡ b → (IsSome (find (sought_eq s) ks) ↔ In (said_of s) (map said_of ks))
+        → IsSome (cond b (Some k) (find (sought_eq s) ks)) ↔ In (said_of s) (said_of k ∷ map said_of ks)
+    by true same rest = (λ h. here (sym ((said_eq-Decides (said_of s) (said_of k)).0 same)), λ h. refl)
     by false other rest = (
       λ h. there (rest.0 h),
       λ h. elim h [
-        | here is ↦ absurd (let yes : said_eq s e.0 ≡ true = (said_eq-Decides s e.0).1 (sym is) in cc)
+        | here is ↦ absurd (let yes : sought_eq s k ≡ true = (said_eq-Decides (said_of s) (said_of k)).1 (sym is) in cc)
         | there later ↦ rest.1 later
       ],
     )

@@ -12,4 +12,5 @@ pub mod PlaceHash
 pub mod PlainSaid
 pub mod SaidEquality
 pub mod SaidHash
+pub mod Sought
 pub mod SpelledText

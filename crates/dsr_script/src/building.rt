@@ -30,7 +30,19 @@ pub fn build(alloc: Global, draft: &Draft, keys: &[Key], known: &Known) -> Resul
     ensures refusal { IfErr result (λ refusal. (refusal ≡ Refusal.Forged) ⊎ (refusal ≡ Refusal.NoMemory)) }
     ensures within { IsEnvelope draft.now }
 {
-    let plan = draft.plan();
+    match draft.plan() {
+        None => Ok(Envelope::Empty),
+        Some(plan) => build_plan(alloc, plan, keys, known),
+    }
+}
+
+/// The envelope that the plan describes, as `build` makes it.
+fn build_plan(alloc: Global, plan: &Plan, keys: &[Key], known: &Known) -> Result<Envelope, Refusal>
+    ensures same { IfOk result (λ envelope. envelope ≡ described plan.now) }
+    ensures unforged { IfOk result (λ envelope. IsUnforged keys.now known.now.signatures envelope) }
+    ensures forged { (result ≡ Err Refusal.Forged) ↔ (¬ IsUnforged keys.now known.now.signatures (described plan.now)) }
+    ensures refusal { IfErr result (λ refusal. (refusal ≡ Refusal.Forged) ⊎ (refusal ≡ Refusal.NoMemory)) }
+{
     if is_unforged(plan, keys, known) {
         envelope_of(alloc, plan, keys, known)
     } else {
@@ -45,7 +57,7 @@ fn is_unforged(plan: &Plan, keys: &[Key], known: &Known) -> bool
     match plan {
         Plan::Round { chains, .. } => are_chains_held(chains.as_slice(), keys, known),
         Plan::Ask(ask) => is_held(&ask.said(), keys, known),
-        Plan::Empty | Plan::Reply(_) | Plan::Seen(_) => true,
+        Plan::Reply(_) | Plan::Seen(_) => true,
     }
 }
 
@@ -56,7 +68,6 @@ fn envelope_of(alloc: Global, plan: &Plan, keys: &[Key], known: &Known) -> Resul
     ensures refusal { IsOkUnless result Refusal.NoMemory }
 {
     Ok(match plan {
-        Plan::Empty => Envelope::Empty,
         Plan::Round { round, chains } => {
             let chains = chains_of(alloc, chains.as_slice(), keys, known)?;
             Envelope::Round {

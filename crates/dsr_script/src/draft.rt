@@ -1,9 +1,10 @@
 ghost use Rattle.std.specs.Prelude.{◌≡◌, IfOk, IsOkUnless};
+ghost use Rattle.std.specs.Option.{option_map};
 ghost use Rattle.dsr_request.specs.AnswerText.{IsAnswer};
 ghost use Rattle.dsr_envelope.specs.Limits.{IsEnvelope};
 ghost use Rattle.dsr_envelope.specs.declared.envelope.Envelope.TheVariants.{Empty};
 ghost use Rattle.dsr_script.specs.EnvelopeText.{IsSpelledEnvelope};
-ghost use Rattle.dsr_script.specs.Support.Described.{described};
+ghost use Rattle.dsr_script.specs.Support.Described.{described, drafted};
 
 use crate::plan::Plan;
 use crate::said::SaidRequest;
@@ -16,10 +17,10 @@ use std::marker::Model;
 
 /// An envelope as data: where an envelope has a signature, a draft has its signer and its statement alone. Only `build` makes an
 /// envelope of it. Each draft has a text, so it is within the limits of envelopes. Contracts see a draft as the envelope that it
-/// describes.
+/// describes. It takes little room: its cases are kept apart, and there are none where it is the draft of the empty envelope.
 #[derive(Drop)]
 pub struct Draft {
-    plan: Plan,
+    plan: Option<Box<Plan, Global>>,
 }
 
 impl Model for Draft {
@@ -27,12 +28,14 @@ impl Model for Draft {
 
     ghost Value = { Envelope };
 
+    ghost use Rattle.std.specs.Prelude.{box_value};
+    ghost use Rattle.std.specs.Option.{option_map};
     ghost use Rattle.dsr_script.specs.EnvelopeText.{IsSpelledEnvelope};
-    ghost use Rattle.dsr_script.specs.Support.Described.{described};
+    ghost use Rattle.dsr_script.specs.Support.Described.{drafted};
 
-    ghost view = { λ d. described d.plan };
+    ghost view = { λ d. drafted (option_map box_value d.plan) };
 
-    ghost invariant = { λ d. IsSpelledEnvelope (described d.plan) };
+    ghost invariant = { λ d. IsSpelledEnvelope (drafted (option_map box_value d.plan)) };
 }
 
 impl Draft {
@@ -40,7 +43,7 @@ impl Draft {
     pub fn empty() -> Draft
         ensures { result ≡ Empty }
     {
-        Draft { plan: Plan::Empty }
+        Draft { plan: None }
     }
 
     /// The draft of an envelope, which is to be within the limits. `NoMemory` where memory runs out.
@@ -51,7 +54,7 @@ impl Draft {
         ensures refusal { IsOkUnless result Refusal.NoMemory }
     {
         let plan = match envelope {
-            Envelope::Empty => Plan::Empty,
+            Envelope::Empty => return Ok(Draft::empty()),
             Envelope::Round { round, chains } => {
                 let chains = SaidChains::of(alloc, chains.as_slice())?;
                 Plan::Round {
@@ -66,7 +69,7 @@ impl Draft {
             }
             Envelope::Seen(front) => Plan::Seen(*front),
         };
-        Ok(Draft { plan })
+        Draft::of_plan(alloc, plan)
     }
 
     /// A draft of the same envelope. `NoMemory` where memory runs out.
@@ -74,34 +77,32 @@ impl Draft {
         ensures same { IfOk result (λ draft. draft ≡ self.now) }
         ensures refusal { IsOkUnless result Refusal.NoMemory }
     {
-        let plan = match &self.plan {
-            Plan::Empty => Plan::Empty,
-            Plan::Round { round, chains } => Plan::Round {
-                round: *round,
-                chains: chains.try_copy(alloc)?,
-            },
-            Plan::Ask(ask) => Plan::Ask(ask.try_copy(alloc)?),
-            Plan::Reply(reply) => Plan::Reply(*reply),
-            Plan::Seen(front) => Plan::Seen(*front),
-        };
-        Ok(Draft { plan })
+        match self.plan() {
+            None => Ok(Draft::empty()),
+            Some(plan) => Draft::of_plan(alloc, plan.try_copy(alloc)?),
+        }
     }
 
-    /// The draft of these cases.
-    pub(crate) fn of_plan(plan: Plan) -> Draft
+    /// The draft of these cases. `NoMemory` where memory runs out.
+    pub(crate) fn of_plan(alloc: Global, plan: Plan) -> Result<Draft, Refusal>
         requires { IsSpelledEnvelope (described plan) }
-        ensures { result ≡ described plan }
+        ensures same { IfOk result (λ draft. draft ≡ described plan) }
+        ensures refusal { IsOkUnless result Refusal.NoMemory }
     {
-        Draft { plan }
+        let plan = Box::new(alloc, plan)?;
+        Ok(Draft { plan: Some(plan) })
     }
 
-    /// The cases of the draft.
-    pub(crate) fn plan(&self) -> &Plan
-        ensures same { described result.now ≡ self.now }
+    /// The cases of the draft, none where it is of the empty envelope.
+    pub(crate) fn plan(&self) -> Option<&Plan>
+        ensures same { drafted (option_map (λ p. p.now) result) ≡ self.now }
         ensures spelled { IsSpelledEnvelope self.now }
         ensures within { IsEnvelope self.now }
     {
-        &self.plan
+        match &self.plan {
+            Some(plan) => Some(&**plan),
+            None => None,
+        }
     }
 }
 

@@ -1,4 +1,4 @@
-ghost use Rattle.std.specs.Prelude.{◌≡◌, ◌↔◌, ◌++◌, codes, Some, IfOk, IsOkUnless};
+ghost use Rattle.std.specs.Prelude.{◌≡◌, ◌≢◌, ◌↔◌, ◌++◌, codes, Some, IfOk, IsOkUnless};
 ghost use Rattle.std.specs.Option.{option_map};
 ghost use Rattle.std.specs.Fmt.{decimal};
 ghost use Rattle.dsr_base.specs.Reads.{Reads};
@@ -30,8 +30,11 @@ impl Draft {
         ensures read { IfOk result (λ draft. Reads IsSpelledEnvelope envelope_text bytes.now draft) }
         ensures refusal { IsOkUnless result Refusal.NoMemory }
     {
+        if bytes == b"empty".as_slice() {
+            return Ok(Some(Draft::empty()));
+        }
         match read_plan(alloc, bytes)? {
-            Some(plan) => Ok(Some(Draft::of_plan(plan))),
+            Some(plan) => Ok(Some(Draft::of_plan(alloc, plan)?)),
             None => Ok(None),
         }
     }
@@ -43,31 +46,30 @@ impl fmt::Display for Draft {
 
     fn fmt<W: fmt::Write>(&self, f: &mut fmt::Formatter<W>) -> fmt::Result {
         match self.plan() {
-            Plan::Empty => f.write_str("empty"),
-            Plan::Round { round, chains } => {
+            None => f.write_str("empty"),
+            Some(Plan::Round { round, chains }) => {
                 write!(f, "round {round}")?;
                 write_more(chains.as_slice(), f)
             }
-            Plan::Ask(ask) => write!(f, "ask {ask}"),
-            Plan::Reply(reply) => {
+            Some(Plan::Ask(ask)) => write!(f, "ask {ask}"),
+            Some(Plan::Reply(reply)) => {
                 let number = reply.number;
                 let place = reply.place;
                 let answer = reply.answer;
                 write!(f, "reply {number} {place} {answer}")
             }
-            Plan::Seen(front) => write!(f, "seen {front}"),
+            Some(Plan::Seen(front)) => write!(f, "seen {front}"),
         }
     }
 }
 
-/// The cases of the draft that the bytes spell.
+/// The cases of the draft that the bytes spell, where they are not those of the empty one.
 fn read_plan(alloc: Global, bytes: &[u8]) -> Result<Option<Plan>, Refusal>
-    ensures read { IfOk result (λ plan. Reads IsSpelledEnvelope envelope_text bytes.now (option_map described plan)) }
+    ensures read { bytes.now ≢ codes "empty"
+        → IfOk result (λ plan. Reads IsSpelledEnvelope envelope_text bytes.now (option_map described plan)) }
     ensures refusal { IsOkUnless result Refusal.NoMemory }
 {
-    if bytes == b"empty".as_slice() {
-        Ok(Some(Plan::Empty))
-    } else if let Some(rest) = bytes.strip_prefix(b"round ".as_slice()) {
+    if let Some(rest) = bytes.strip_prefix(b"round ".as_slice()) {
         read_round(alloc, rest)
     } else if let Some(rest) = bytes.strip_prefix(b"ask ".as_slice()) {
         read_ask(alloc, rest)

@@ -31,9 +31,9 @@ pub fn forged_in(draft: &Draft, keys: &[Key], known: &Known) -> Option<Forged>
     ensures { IfSome result (λ forged. ¬ IsHeldOrKnown keys.now known.now.signatures (signed forged.signer forged.statement)) }
 {
     match draft.plan() {
-        Plan::Round { chains, .. } => forged_in_chains(chains.as_slice(), keys, known),
-        Plan::Ask(ask) => forged_request(ask, keys, known),
-        Plan::Empty | Plan::Reply(_) | Plan::Seen(_) => None,
+        Some(Plan::Round { chains, .. }) => forged_in_chains(chains.as_slice(), keys, known),
+        Some(Plan::Ask(ask)) => forged_request(ask, keys, known),
+        None | Some(Plan::Reply(_) | Plan::Seen(_)) => None,
     }
 }
 

@@ -6,11 +6,12 @@ ghost use Rattle.dsr_script.specs.Support.Carried.{carried, on_chain};
 ghost use Rattle.dsr_script.specs.Support.Noted.{noted, noted_all, beside};
 
 use crate::said::Said;
+use crate::sought::Sought;
 use dsr_chain::{Chain, SignedRequest};
 use dsr_desk::Signature;
 use dsr_envelope::Envelope;
 use dsr_names::Refusal;
-use indexmap::IndexMap;
+use indexmap::IndexSet;
 use std::alloc::Global;
 use std::marker::Model;
 
@@ -23,20 +24,21 @@ const MOST_CARRIED: usize = 768;
 /// The signatures that were seen, which can be sent on: a set, in which a signature is found by a hash of what it says.
 #[derive(Drop)]
 pub struct Known {
-    seen: IndexMap<Said, Signature>,
+    seen: IndexSet<Sought>,
 }
 
 impl Model for Known {
-    ghost use Rattle.indexmap.specs.IndexMap.{keys, spare};
+    ghost use Rattle.std.specs.Prelude.{All, map};
+    ghost use Rattle.indexmap.specs.IndexSet.{spare};
     ghost use Rattle.dsr_script.specs.Known.{Known};
 
     ghost Value = { Known };
 
-    ghost use Rattle.dsr_script.specs.Support.Noted.{AreOwn};
+    ghost use Rattle.dsr_script.specs.Support.Sought.{said_of, IsSeen};
 
-    ghost view = { λ k. record { signatures = keys k.seen; room = spare k.seen } };
+    ghost view = { λ k. record { signatures = map said_of k.seen.keys; room = spare k.seen } };
 
-    ghost invariant = { λ k. AreOwn k.seen.entries };
+    ghost invariant = { λ k. All IsSeen k.seen.keys };
 }
 
 impl Known {
@@ -48,7 +50,7 @@ impl Known {
         ensures none { result.signatures ≡ [] }
     {
         Known {
-            seen: IndexMap::new(alloc),
+            seen: IndexSet::new(alloc),
         }
     }
 
@@ -84,7 +86,11 @@ impl Known {
         ensures found { IfSome result (λ signature. signature ≡ said.now) }
         ensures when { IsSome result ↔ In said.now self.now.signatures }
     {
-        self.seen.get(said).copied()
+        match self.seen.get(&Sought::Asked(*said)) {
+            None => None,
+            Some(Sought::Seen(signature)) => Some(signature.copy()),
+            Some(Sought::Asked(_)) => None,
+        }
     }
 
     /// Notes the signatures of the envelope, after there is room for all of them.
@@ -175,7 +181,6 @@ impl Known {
         ensures noted { self.new.signatures ≡ noted self.old.signatures signature.now }
         ensures room { self.old.room ≤ self.new.room + 1 }
     {
-        let said = Said::of(signature);
-        self.seen.insert(said, signature.copy()).unwrap();
+        self.seen.insert(Sought::Seen(signature.copy())).unwrap();
     }
 }

@@ -21,6 +21,7 @@ mod said_text;
 mod same;
 mod script;
 mod serve_line;
+mod sought;
 mod spelled;
 
 pub use building::build;

@@ -20,12 +20,12 @@ impl Draft {
         ensures { IsTrue result ↔ IsPlain self.now }
     {
         match self.plan() {
-            Plan::Empty | Plan::Seen(_) => true,
-            Plan::Round { chains, .. } => {
+            None | Some(Plan::Seen(_)) => true,
+            Some(Plan::Round { chains, .. }) => {
                 chains.as_slice().iter().all(|chain| is_plain_chain(chain))
             }
-            Plan::Ask(ask) => is_plain_ask(ask),
-            Plan::Reply(reply) => is_plain_answer(&reply.answer),
+            Some(Plan::Ask(ask)) => is_plain_ask(ask),
+            Some(Plan::Reply(reply)) => is_plain_answer(&reply.answer),
         }
     }
 }

@@ -2,18 +2,18 @@
 //! part alone, and each must still be found at once.
 
 ghost use Rattle.std.specs.Prelude.{◌≡◌, fold, flat_map};
-ghost use Rattle.dsr_script.specs.Support.SaidHash.{actor_fed, op_fed, request_fed, said_fed, said_fed_alike};
+ghost use Rattle.dsr_script.specs.Support.SaidHash.{actor_fed, op_fed, request_fed, sought_fed, sought_fed_alike};
 
-use crate::said::Said;
+use crate::sought::Sought;
 use dsr_desk::Statement;
 use dsr_names::Actor;
 use dsr_request::{Op, Request};
 use std::hash::{Hash, Hasher};
 
-impl Hash for Said {
-    ghost hash_input = { said_fed };
+impl Hash for Sought {
+    ghost hash_input = { sought_fed };
 
-    ghost respects_eq = { said_fed_alike };
+    ghost respects_eq = { sought_fed_alike };
 
     fn hash<H: Hasher>(&self, state: &mut H) {
         feed_actor(&self.signer(), state);

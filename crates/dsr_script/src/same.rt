@@ -21,7 +21,11 @@ impl Draft {
     pub fn same(&self, other: &Draft) -> bool
         ensures { IsTrue result ↔ (self.now ≡ other.now) }
     {
-        are_same_plans(self.plan(), other.plan())
+        match (self.plan(), other.plan()) {
+            (None, None) => true,
+            (Some(ours), Some(theirs)) => are_same_plans(ours, theirs),
+            _ => false,
+        }
     }
 }
 
@@ -30,7 +34,6 @@ fn are_same_plans(ours: &Plan, theirs: &Plan) -> bool
     ensures { IsTrue result ↔ (described ours.now ≡ described theirs.now) }
 {
     match (ours, theirs) {
-        (Plan::Empty, Plan::Empty) => true,
         (
             Plan::Round { round, chains },
             Plan::Round {

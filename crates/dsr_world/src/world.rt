@@ -247,7 +247,7 @@ impl World {
         ensures shape { self.new.shape ≡ self.old.shape }
     {
         match event {
-            Event::Post { from, to, pick } => self.post(alloc, from, to, pick),
+            Event::Post { from, to, pick } => self.post(alloc, from, to, &pick.pick()),
             Event::Plant { from, to, draft } => self.plant(alloc, from, to, draft),
             Event::Take { at, from } => self.take(alloc, at, from),
             Event::Tell { from, to } => self.tell(alloc, from, to),

@@ -1,13 +1,18 @@
 -- A draft as the envelope that it describes.
+use Rattle.std.specs.Prelude.{Option, None, Some}
 use Rattle.dsr_envelope.specs.declared.envelope.Envelope.{Envelope}
 use Rattle.dsr_envelope.specs.declared.envelope.Envelope.TheVariants as envelope
 use Rattle.dsr_script.specs.declared.plan.Plan.{Plan}
-use Rattle.dsr_script.specs.declared.plan.Plan.TheVariants.{Empty, Round, Ask, Reply, Seen}
+use Rattle.dsr_script.specs.declared.plan.Plan.TheVariants.{Round, Ask, Reply, Seen}
 
 -- the envelope with the same case and the same parts
 abbrev pub described : Plan → Envelope
-described Empty = envelope.Empty
 described (Round round chains) = envelope.Round round chains
 described (Ask request) = envelope.Ask request
 described (Reply reply) = envelope.Reply reply
 described (Seen front) = envelope.Seen front
+
+-- the same of a draft, which has no cases where it is of the empty envelope
+abbrev pub drafted : Option Plan → Envelope
+drafted None = envelope.Empty
+drafted (Some plan) = described plan

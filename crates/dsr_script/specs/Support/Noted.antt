@@ -16,8 +16,3 @@ noted_all known signatures = fold noted known signatures
 -- the signatures beside these requests
 abbrev pub beside : List SignedRequest → List Signature
 beside asks = map (λ ask. ask.signature) asks
-
--- each entry has the signature that its key says
-abbrev pub AreOwn : List (Signature × Signature) → Type 0
-AreOwn [] = Unit {0}
-AreOwn (e ∷ es) = (e.1 ≡ e.0) × AreOwn es

@@ -1,0 +1,56 @@
+ghost use Rattle.std.specs.Prelude.{◌≡◌};
+ghost use Rattle.dsr_script.specs.Support.Sought.{said_of};
+
+use crate::said::Said;
+use dsr_desk::{Signature, Statement};
+use dsr_names::Actor;
+
+/// A key of a set of signatures: a signature that was seen, or, to look one up, what it says. Two keys are equal where both say the same, so
+/// the one finds the other.
+#[derive(Drop)]
+pub(crate) enum Sought {
+    /// A signature.
+    Seen(Signature),
+    /// What a signature says. Anybody can make it.
+    Asked(Said),
+}
+
+impl Sought {
+    /// Who signed, or is to have signed.
+    pub(crate) fn signer(&self) -> Actor
+        ensures { result ≡ (said_of self.now).signer }
+    {
+        match self {
+            Sought::Seen(signature) => signature.signer(),
+            Sought::Asked(said) => said.signer(),
+        }
+    }
+
+    /// What was signed, or is to be signed.
+    pub(crate) fn statement(&self) -> &Statement
+        ensures { result.now ≡ (said_of self.now).statement }
+    {
+        match self {
+            Sought::Seen(signature) => signature.statement(),
+            Sought::Asked(said) => said.statement(),
+        }
+    }
+}
+
+impl PartialEq for Sought {
+    ghost use Rattle.dsr_script.specs.Support.Sought.{sought_eq, sought_eq-per};
+
+    ghost eq = { sought_eq };
+
+    ghost laws = { sought_eq-per };
+
+    fn eq(&self, other: &Sought) -> bool {
+        self.signer() == other.signer() && self.statement() == other.statement()
+    }
+}
+
+impl Eq for Sought {
+    ghost use Rattle.dsr_script.specs.Support.Sought.{sought_eq-equiv};
+
+    ghost laws = { sought_eq-equiv };
+}
