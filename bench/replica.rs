@@ -59,11 +59,12 @@ fn ask_of(client: &Key, round: u64) -> Option<SignedRequest> {
     Some(SignedRequest::by(request, client))
 }
 
-fn take_ask(replica: &mut Replica, ask: SignedRequest) -> Option<()> {
+fn take_ask(alloc: Global, replica: &mut Replica, ask: SignedRequest) -> Option<()> {
     if replica.shape().m() == 0 {
         return None;
     }
-    replica.ask_taken(ClientId::FIRST, Envelope::Ask(ask));
+    let envelope = Envelope::ask(alloc, ask).ok()?;
+    replica.ask_taken(ClientId::FIRST, envelope);
     Some(())
 }
 
@@ -131,7 +132,7 @@ fn go_through_round(
     let n = group.replicas.len();
     for number in 0..n {
         let replica = group.replicas.get_mut(number)?;
-        take_ask(replica, ask)?;
+        take_ask(alloc, replica, ask)?;
         let proposes = round.checked_rem(n as u64)? == number as u64;
         post_all(alloc, replica, boxes, proposes)?;
     }

@@ -1,5 +1,5 @@
 -- What a client may ask next, and that a post accepts nothing.
-use Rattle.std.proofs.Common.{◌≡◌, ℕ, List, ◌∷◌, Option, None, Some, refl, sym, ◌∙◌, subst}
+use Rattle.std.proofs.Common.{◌≡◌, ℕ, ◌<◌, List, ◌∷◌, Option, None, Some, refl, ap, sym, ◌∙◌, subst}
 use Rattle.std.specs.Option.{option_map}
 use Rattle.std.proofs.lemmas.Option.{none-some, same_Some}
 use Rattle.dsr_names.specs.Shape.{Shape}
@@ -17,18 +17,23 @@ use Rattle.dsr_client.specs.State.{State, accepted, asked_beside, outstanding, s
 use Rattle.dsr_client.proofs.Lemmas.{chosen_ask, choice_told, plain_ask, new_ask}
 
 module _ (shape : Shape) (me : ℕ) (log : List Entry) where
-  asked_again : (o : Option SignedRequest) (pick : Pick) (ask : SignedRequest) (current : Envelope) → pick ≡ told_choice o ask
-      → option_map Ask o ≡ Some current → pick ≡ Plain
+  -- where a request is outstanding, that may be asked for again
+  pub next_plain : (q : ℕ) (ask : SignedRequest) → q < shape.n → outstanding shape log ≡ Some ask → IsNext shape me log (Post (Replica q) (Ask ask))
+  next_plain q ask inside some = (inside, (Plain, plain_ask shape me log ∙ ap (option_map Ask) some))
+
+  asked_again : (o : Option SignedRequest) (pick : Pick) (ask current : SignedRequest) → pick ≡ told_choice o ask → o ≡ Some current → pick ≡ Plain
   asked_again None pick ask current told some = absurd (none-some current some)
   asked_again (Some other) pick ask current told some = told
 
-  -- where a request is outstanding, that is asked for again
-  pub next_again : (q : ℕ) (ask : SignedRequest) (current : Envelope) → option_map Ask (outstanding shape log) ≡ Some current
-      → IsNext shape me log (Post (Replica q) (Ask ask)) → current ≡ Ask ask
+  -- and nothing else
+  pub next_again : (q : ℕ) (ask current : SignedRequest) → outstanding shape log ≡ Some current → IsNext shape me log (Post (Replica q) (Ask ask))
+      → current ≡ ask
   next_again q ask current some next =
       let pick = next.1.0 in
       let plain = asked_again (outstanding shape log) pick ask current (choice_told shape me log pick ask next.1.1) some in
-      same_Some current (Ask ask) (sym some ∙ (sym (plain_ask shape me log) ∙ subst (λ p. ask_to shape me log p ≡ Some (Ask ask)) plain next.1.1))
+      let same = sym (ap (option_map Ask) some) ∙ (sym (plain_ask shape me log) ∙ subst (λ p. ask_to shape me log p ≡ Some (Ask ask)) plain next.1.1) in
+      let envelopes : Ask current ≡ Ask ask = same_Some (Ask current) (Ask ask) same in
+      cc
 
   begun_beside : (o : Option SignedRequest) (pick : Pick) (ask : SignedRequest) → pick ≡ told_choice o ask → o ≡ None → pick ≡ Begin ask.request.op
   begun_beside None pick ask told none = told

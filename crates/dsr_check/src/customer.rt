@@ -6,17 +6,16 @@ ghost use Rattle.dsr_envelope.specs.Limits.{IsEnvelope};
 ghost use Rattle.dsr_envelope.specs.declared.envelope.Envelope.TheVariants.{Ask, Seen};
 ghost use Rattle.dsr_envelope.specs.declared.entry.Entry.{Entry};
 ghost use Rattle.dsr_envelope.specs.declared.entry.Entry.TheVariants.{Post, Take};
-ghost use Rattle.dsr_chain.specs.declared.signed_request.SignedRequest.{SignedRequest as AnAsk};
 ghost use Rattle.dsr_client.specs.Client.{StandsFor};
 ghost use Rattle.dsr_client.specs.Conduct.{IsNext};
 ghost use Rattle.dsr_client.specs.State.{outstanding, seen};
 ghost use Rattle.dsr_check.specs.Support.Party.{PlaysClient};
 
+use dsr_chain::SignedRequest;
 use dsr_client::Client;
 use dsr_envelope::Envelope;
 use dsr_ledger::Reply;
 use dsr_names::{Actor, Refusal, ReplicaId};
-use dsr_request::Op;
 use std::alloc::Global;
 
 /// A client, and the replies that it accepted, in their order.
@@ -81,34 +80,34 @@ fn asks(client: &mut Client, to: ReplicaId, envelope: &Envelope) -> bool
     ensures not { (log : List Entry) → StandsFor client.old log → IsEnvelope envelope.now
         → OnFalse result (¬ IsNext client.old.shape client.old.me log (Post (ReplicaNumber to) envelope.now)) }
 {
+    let Envelope::Ask(ask) = envelope else {
+        return false;
+    };
     match client.ask_for(to) {
-        Some(current) => current.same(envelope),
-        None => match envelope {
-            Envelope::Ask(ask) => begins(client, to, &ask.request.op(), envelope),
-            _ => false,
-        },
+        Some(current) => current.same(ask.signed()),
+        None => begins(client, to, ask.signed()),
     }
 }
 
-/// Whether the client, with which nothing is outstanding, begins a request of this operation by posting this envelope to this replica. If
-/// so, it has begun it.
-fn begins(client: &mut Client, to: ReplicaId, op: &Op, envelope: &Envelope) -> bool
+/// Whether the client, with which nothing is outstanding, begins a request by asking this of this replica. If so, it has begun it.
+fn begins(client: &mut Client, to: ReplicaId, ask: &SignedRequest) -> bool
     ensures me { client.new.me ≡ client.old.me }
     ensures shape { client.new.shape ≡ client.old.shape }
     ensures begins { (log : List Entry) → StandsFor client.old log → to < client.old.shape.n
-        → OnTrue result (IsNext client.old.shape client.old.me log (Post (ReplicaNumber to) envelope.now)
-        × StandsFor client.new (Post (ReplicaNumber to) envelope.now ∷ log)) }
-    ensures not { (log : List Entry) (ask : AnAsk) → StandsFor client.old log → outstanding client.old.shape log ≡ None
-        → envelope.now ≡ Ask ask → ask.request.op ≡ op.now → IsEnvelope envelope.now
-        → OnFalse result (¬ IsNext client.old.shape client.old.me log (Post (ReplicaNumber to) envelope.now)) }
+        → OnTrue result (IsNext client.old.shape client.old.me log (Post (ReplicaNumber to) (Ask ask.now))
+        × StandsFor client.new (Post (ReplicaNumber to) (Ask ask.now) ∷ log)) }
+    ensures not { (log : List Entry) → StandsFor client.old log → outstanding client.old.shape log ≡ None
+        → IsEnvelope (Ask ask.now)
+        → OnFalse result (¬ IsNext client.old.shape client.old.me log (Post (ReplicaNumber to) (Ask ask.now))) }
 {
-    let Some(first) = client.first_ask(*op) else {
+    let op = ask.request.op();
+    let Some(first) = client.first_ask(op) else {
         return false;
     };
-    if !first.same(envelope) {
+    if !first.same(ask) {
         return false;
     }
-    let Ok(_number) = client.begin(*op) else {
+    let Ok(_number) = client.begin(op) else {
         unreachable!()
     };
     true

@@ -3,8 +3,8 @@ ghost use Rattle.std.specs.Option.{option_map};
 ghost use Rattle.dsr_names.specs.Shape.{IsActor};
 ghost use Rattle.dsr_names.specs.declared.actor.Actor.{Actor};
 ghost use Rattle.dsr_names.specs.declared.actor.Actor.TheVariants.{Replica, Client as AClient};
+ghost use Rattle.dsr_chain.specs.declared.signed_request.SignedRequest.{SignedRequest};
 ghost use Rattle.dsr_envelope.specs.Limits.{IsEnvelope};
-ghost use Rattle.dsr_envelope.specs.declared.envelope.Envelope.{Envelope};
 ghost use Rattle.dsr_envelope.specs.declared.envelope.Envelope.TheVariants.{Ask, Reply as AReply, Seen};
 ghost use Rattle.dsr_envelope.specs.declared.entry.Entry.{Entry};
 ghost use Rattle.dsr_envelope.specs.declared.entry.Entry.TheVariants.{Post, Take};
@@ -87,15 +87,14 @@ impl Client {
         &self.tally
     }
 
-    /// The ask that `begin` would make of this operation; `None` where `begin` would refuse.
-    pub fn first_ask(&self, op: Op) -> Option<Envelope>
-        ensures ask { IfSome result (λ envelope. envelope ≡ Ask (ask_of self.now.me (suc self.now.accepted) op)) }
+    /// The signed request that `begin` would make of this operation; `None` where `begin` would refuse.
+    pub fn first_ask(&self, op: Op) -> Option<SignedRequest>
+        ensures ask { IfSome result (λ ask. ask ≡ ask_of self.now.me (suc self.now.accepted) op) }
         ensures when { IsSome result ↔ MayBegin self.now }
         ensures stands { (log : List Entry) → StandsFor self.now log
-            → IfSome result (λ envelope. ask_to self.now.shape self.now.me log (Begin op) ≡ Some envelope) }
+            → IfSome result (λ ask. ask_to self.now.shape self.now.me log (Begin op) ≡ Some (Ask ask)) }
     {
-        let ask = self.next_ask(op)?;
-        Some(Envelope::Ask(ask))
+        self.next_ask(op)
     }
 
     /// Makes a request of this operation the outstanding one, and returns its number: one more than the count of accepted
@@ -125,17 +124,17 @@ impl Client {
         Ok(ask.request.number())
     }
 
-    /// The ask of the outstanding request, to be posted to this replica; `None` where nothing is outstanding. It may be posted to any
+    /// The outstanding request, signed, to be asked of this replica; `None` where nothing is outstanding. It may be posted to any
     /// replica at any time, which changes nothing of the client.
-    pub fn ask_for(&self, _replica: ReplicaId) -> Option<Envelope>
-        ensures same { result ≡ option_map Ask self.now.outstanding }
+    pub fn ask_for(&self, _replica: ReplicaId) -> Option<SignedRequest>
+        ensures same { result ≡ self.now.outstanding }
         ensures stands { (log : List Entry) → StandsFor self.now log
-            → result ≡ option_map Ask (outstanding self.now.shape log) }
-        ensures posted { (log : List Entry) (q : ℕ) (envelope : Envelope) → StandsFor self.now log
-            → result ≡ Some envelope → StandsFor self.now (Post (Replica q) envelope ∷ log) }
+            → result ≡ outstanding self.now.shape log }
+        ensures posted { (log : List Entry) (q : ℕ) (ask : SignedRequest) → StandsFor self.now log
+            → result ≡ Some ask → StandsFor self.now (Post (Replica q) (Ask ask) ∷ log) }
     {
         let ask = self.outstanding.as_ref()?;
-        Some(Envelope::Ask(*ask))
+        Some(*ask)
     }
 
     /// Takes the envelope, and returns the reply that is accepted by it. Requires that it comes from another actor of the

@@ -3,6 +3,7 @@ ghost use Rattle.dsr_envelope.specs.Limits.{IsEnvelope};
 
 use crate::chains::Chains;
 use crate::limits::{chains_fit, reply_fits, signed_fits};
+use crate::shared_ask::SharedAsk;
 use dsr_chain::SignedRequest;
 use dsr_ledger::Reply;
 use dsr_names::{NUMBER_END, Refusal};
@@ -21,7 +22,7 @@ pub enum Envelope {
         chains: Chains,
     },
     /// A client's request.
-    Ask(SignedRequest),
+    Ask(SharedAsk),
     /// A replica's reply to a client.
     Reply(Reply),
     /// A client's seen front: one more than the greatest place of the history that it knows of, 0 where it knows of none.
@@ -29,8 +30,19 @@ pub enum Envelope {
 }
 
 impl Envelope {
-    /// The same envelope once more: its chains share what they hold. `NoMemory` where memory runs out or one
-    /// handle more is refused.
+    ghost use Rattle.dsr_envelope.specs.declared.envelope.Envelope.TheVariants.{Ask};
+
+    /// The envelope of a client's request. `NoMemory` where memory runs out.
+    pub fn ask(alloc: Global, ask: SignedRequest) -> Result<Envelope, Refusal>
+        ensures made { IfOk result (λ envelope. envelope ≡ Ask ask) }
+        ensures refusal { IsOkUnless result Refusal.NoMemory }
+    {
+        let ask = SharedAsk::of(alloc, ask)?;
+        Ok(Envelope::Ask(ask))
+    }
+
+    /// The same envelope once more: its chains or its request share what they hold. `NoMemory` where memory
+    /// runs out or one handle more is refused.
     pub fn try_copy(&self, alloc: Global) -> Result<Envelope, Refusal>
         ensures same { IfOk result (λ copy. copy ≡ self.now) }
         ensures refusal { IsOkUnless result Refusal.NoMemory }
@@ -44,7 +56,7 @@ impl Envelope {
                     chains,
                 })
             }
-            Envelope::Ask(request) => Ok(Envelope::Ask(*request)),
+            Envelope::Ask(ask) => Ok(Envelope::Ask(ask.try_copy()?)),
             Envelope::Reply(reply) => Ok(Envelope::Reply(*reply)),
             Envelope::Seen(front) => Ok(Envelope::Seen(*front)),
         }
@@ -60,7 +72,7 @@ impl Envelope {
             Envelope::Round { round, chains } => {
                 *round < NUMBER_END && chains_fit(chains.as_slice())
             }
-            Envelope::Ask(ask) => signed_fits(ask),
+            Envelope::Ask(ask) => signed_fits(ask.signed()),
             Envelope::Reply(reply) => reply_fits(reply),
             Envelope::Seen(front) => *front < NUMBER_END,
         }
@@ -79,7 +91,7 @@ impl Envelope {
                     chains: other_chains,
                 },
             ) => round == other_round && chains.same(other_chains),
-            (Envelope::Ask(request), Envelope::Ask(other)) => request.same(other),
+            (Envelope::Ask(ask), Envelope::Ask(other)) => ask.signed().same(other.signed()),
             (Envelope::Reply(reply), Envelope::Reply(other)) => reply == other,
             (Envelope::Seen(front), Envelope::Seen(other)) => front == other,
             _ => false,

@@ -9,6 +9,7 @@ mod envelope;
 mod letter;
 mod limits;
 mod pick;
+mod shared_ask;
 
 pub use chains::Chains;
 pub use clients::Clients;
@@ -17,3 +18,4 @@ pub use entry::Entry;
 pub use envelope::Envelope;
 pub use letter::Letter;
 pub use pick::Pick;
+pub use shared_ask::SharedAsk;

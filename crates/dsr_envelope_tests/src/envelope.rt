@@ -1,6 +1,6 @@
 use dsr_chain::{Chain, SignedRequest, SlotValue};
 use dsr_desk::{Key, Keys};
-use dsr_envelope::{Chains, Clients, Entry, Envelope, Letter};
+use dsr_envelope::{Chains, Clients, Entry, Envelope, Letter, SharedAsk};
 use dsr_ledger::Reply;
 use dsr_names::{Actor, ClientId, ReplicaId, Shape};
 use dsr_request::{Answer, Name, Op, Request};
@@ -58,8 +58,8 @@ fn samples(alloc: Global) -> Result<Vec<Envelope>, Fail> {
     all.push(round_of(alloc, 5, &[3, 4])?)?;
     all.push(round_of(alloc, 4, &[4, 3])?)?;
     all.push(round_of(alloc, 4, &[3])?)?;
-    all.push(Envelope::Ask(ask_of(alloc, 1)?))?;
-    all.push(Envelope::Ask(ask_of(alloc, 2)?))?;
+    all.push(Envelope::ask(alloc, ask_of(alloc, 1)?)?)?;
+    all.push(Envelope::ask(alloc, ask_of(alloc, 2)?)?)?;
     all.push(reply_of(1, 0))?;
     all.push(reply_of(1, 1))?;
     all.push(Envelope::Seen(0))?;
@@ -92,6 +92,18 @@ fn a_letter_lends_its_envelope_to_every_copy(rt: HostRuntime) -> Result<(), Fail
 }
 
 #[test]
+fn a_shared_ask_lends_its_request_to_every_copy(rt: HostRuntime) -> Result<(), Fail> {
+    let ask = ask_of(rt.alloc(), 1)?;
+    let shared = SharedAsk::of(rt.alloc(), ask)?;
+    let copy = shared.try_copy()?;
+    assert!(rt; shared.signed().same(&ask));
+    drop(shared);
+    assert!(rt; copy.signed().same(&ask));
+    assert!(rt; !copy.signed().same(&ask_of(rt.alloc(), 2)?));
+    Ok(())
+}
+
+#[test]
 fn chains_come_out_as_they_went_in(rt: HostRuntime) -> Result<(), Fail> {
     let chains = chains_of(rt.alloc(), &[7, 2])?;
     let copy = chains.try_copy(rt.alloc())?;
@@ -117,7 +129,7 @@ fn an_envelope_fits_up_to_each_limit(rt: HostRuntime) -> Result<(), Fail> {
         (round_of(rt.alloc(), most, &[most + 1])?, false),
         (round_of(rt.alloc(), 0, &thirty_two)?, true),
         (round_of(rt.alloc(), 0, &thirty_three)?, false),
-        (Envelope::Ask(ask_of(rt.alloc(), most)?), true),
+        (Envelope::ask(rt.alloc(), ask_of(rt.alloc(), most)?)?, true),
         (reply_of(most, most), true),
         (reply_of(0, 0), false),
         (reply_of(most + 1, 0), false),
@@ -164,6 +176,11 @@ fn an_entry_takes_16_bytes(rt: HostRuntime) {
     assert_eq!(rt; size_of::<Entry>(), 16);
 }
 
+#[test]
+fn an_envelope_takes_48_bytes(rt: HostRuntime) {
+    assert_eq!(rt; size_of::<Envelope>(), 48);
+}
+
 /// What one thread makes and another takes may be handed over.
 fn may_send<T: Send>(_: &T) {}
 
@@ -174,6 +191,7 @@ fn may_share<T: Send + Sync>(_: &T) {}
 fn may_go_between_threads(rt: HostRuntime) -> Result<(), Fail> {
     let envelope = round_of(rt.alloc(), 4, &[3, 4])?;
     may_share(&envelope);
+    may_share(&SharedAsk::of(rt.alloc(), ask_of(rt.alloc(), 1)?)?);
     let letter = Letter::of(rt.alloc(), envelope)?;
     may_share(&letter);
     let to = Actor::Replica(ReplicaId::FIRST);

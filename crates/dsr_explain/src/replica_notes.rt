@@ -118,6 +118,7 @@ pub(crate) fn tell_ask(
         })?;
         return Ok(());
     };
+    let ask = ask.signed();
     if loyal.held(client) == Some(ask.request) {
         notes.push(Note::Held {
             replica,

@@ -60,7 +60,7 @@ impl Node {
         match self {
             Node::Loyal(replica) => replica_envelope(alloc, replica, to, pick),
             Node::Traitor => unreachable!(),
-            Node::Client(customer) => client_envelope(customer.client(), to, pick),
+            Node::Client(customer) => client_envelope(alloc, customer.client(), to, pick),
         }
     }
 
@@ -187,7 +187,7 @@ impl Node {
     {
         match (self, envelope) {
             (Node::Client(customer), Envelope::Ask(ask)) => {
-                customer.client().outstanding() == Some(ask.request.number())
+                customer.client().outstanding() == Some(ask.signed().request.number())
             }
             _ => false,
         }
@@ -287,19 +287,27 @@ fn replica_envelope(
 }
 
 /// The envelope that a client posts to this actor by this choice.
-fn client_envelope(client: &Client, to: Actor, pick: Pick) -> Result<Envelope, Refusal>
+fn client_envelope(
+    alloc: Global,
+    client: &Client,
+    to: Actor,
+    pick: Pick,
+) -> Result<Envelope, Refusal>
     ensures given { (log : List Entry) → StandsForClient client.now log
         → post_refusal client.now.shape log (ClientNumber client.now.me) to pick ≡ None
         → IfOk result (λ envelope. post_of client.now.shape log (ClientNumber client.now.me) to pick ≡ Some envelope) }
     ensures refusal { (log : List Entry) → StandsForClient client.now log
-        → post_refusal client.now.shape log (ClientNumber client.now.me) to pick ≡ None → IsOk result }
+        → post_refusal client.now.shape log (ClientNumber client.now.me) to pick ≡ None → IsOkUnless result Refusal.NoMemory }
 {
-    let envelope = match pick {
+    let ask = match pick {
         Pick::Plain => client.ask_for(ReplicaId::FIRST),
         Pick::From(_) => None,
         Pick::Begin(op) => client.first_ask(op),
     };
-    envelope.ok_or(Refusal::NotDue)
+    match ask {
+        Some(ask) => Envelope::ask(alloc, ask),
+        None => Err(Refusal::NotDue),
+    }
 }
 
 /// Whether the take from this replica is due.

@@ -57,7 +57,7 @@ impl Asks {
         ensures { self.new ≡ asks_with shape.now client self.old envelope }
     {
         match &envelope {
-            Envelope::Ask(ask) => self.hold(shape, client, *ask),
+            Envelope::Ask(ask) => self.hold(shape, client, *ask.signed()),
             _ => {}
         }
     }

@@ -1,5 +1,6 @@
 ghost use Rattle.std.specs.Prelude.{◌≡◌, IfOk};
 
+use dsr_chain::SignedRequest;
 use dsr_client::Client;
 use dsr_desk::Keys;
 use dsr_envelope::Envelope;
@@ -141,11 +142,8 @@ fn what_is_told_raises_the_front(rt: HostRuntime) -> Result<(), Fail> {
     Ok(())
 }
 
-/// Whether the envelope is client 0's signed request of this number, to write 5 to `a`.
-fn is_ask(envelope: &Envelope, number: u64) -> Result<bool, Fail> {
-    let Envelope::Ask(ask) = envelope else {
-        return Ok(false);
-    };
+/// Whether this is client 0's signed request of this number, to write 5 to `a`.
+fn is_ask(ask: &SignedRequest, number: u64) -> Result<bool, Fail> {
     let request = Request::new(ClientId::FIRST, number, write_5()?)?;
     let shape = Shape::new(3, 1, 2, 0)?;
     Ok(ask.request == request && ask.is_asked(&shape))

@@ -185,7 +185,7 @@ fn go_through_round(
     let ask = ask_of(exchange, round)?;
     for number in 0..N as usize {
         if let Some(Some(replica)) = exchange.replicas.get_mut(number) {
-            replica.take_ask(asker_of(round)?, Envelope::Ask(ask))?;
+            replica.take_ask(asker_of(round)?, Envelope::ask(alloc, ask)?)?;
         }
     }
     let mut sent = Vec::new(alloc);

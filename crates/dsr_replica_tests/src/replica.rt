@@ -52,11 +52,12 @@ fn from_client() -> Result<Pick, Fail>
 }
 
 /// Lets the replica take client 0's request of this number.
-fn ask(one: &mut Alone, number: u64) -> Result<(), Fail> {
+fn ask(alloc: Global, one: &mut Alone, number: u64) -> Result<(), Fail> {
     if one.replica.shape().m() == 0 {
         return Err("a shape without clients")?;
     }
-    let envelope = Envelope::Ask(SignedRequest::by(request(number)?, &one.client));
+    let ask = SignedRequest::by(request(number)?, &one.client);
+    let envelope = Envelope::ask(alloc, ask)?;
     one.replica.ask_taken(ClientId::FIRST, envelope);
     Ok(())
 }
@@ -111,8 +112,8 @@ fn a_request_that_is_not_held_is_not_proposed(rt: HostRuntime) -> Result<(), Fai
 #[test]
 fn the_ask_of_the_greatest_number_is_held(rt: HostRuntime) -> Result<(), Fail> {
     let mut one = begin_alone(rt.alloc())?;
-    ask(&mut one, 2)?;
-    ask(&mut one, 1)?;
+    ask(rt.alloc(), &mut one, 2)?;
+    ask(rt.alloc(), &mut one, 1)?;
     assert!(rt; one.replica.held(ClientId::FIRST) == Some(request(2)?));
     Ok(())
 }
@@ -120,7 +121,7 @@ fn the_ask_of_the_greatest_number_is_held(rt: HostRuntime) -> Result<(), Fail> {
 #[test]
 fn one_replica_decides_and_replies(rt: HostRuntime) -> Result<(), Fail> {
     let mut one = begin_alone(rt.alloc())?;
-    ask(&mut one, 1)?;
+    ask(rt.alloc(), &mut one, 1)?;
     let envelope = propose(rt.alloc(), &mut one.replica)?;
     take(&mut one.replica, envelope)?;
     has_decided(&rt, &one.replica)

@@ -191,7 +191,11 @@ fn take_ask(alloc: Global, replica: &mut Replica) -> Result<(), Fail> {
         return Err("a shape without clients")?;
     }
     let ask = ask_of(alloc, 0)?;
-    replica.ask_taken(ClientId::FIRST, Envelope::Ask(ask));
+    let envelope = match unless_refused(Envelope::ask(alloc, ask))? {
+        Some(envelope) => envelope,
+        None => Envelope::ask(alloc, ask)?,
+    };
+    replica.ask_taken(ClientId::FIRST, envelope);
     Ok(())
 }
 

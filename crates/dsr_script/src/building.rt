@@ -75,7 +75,7 @@ fn envelope_of(alloc: Global, plan: &Plan, keys: &[Key], known: &Known) -> Resul
                 chains: Chains::of(chains),
             }
         }
-        Plan::Ask(ask) => Envelope::Ask(request_of(ask, keys, known)),
+        Plan::Ask(ask) => Envelope::ask(alloc, request_of(ask, keys, known))?,
         Plan::Reply(reply) => Envelope::Reply(*reply),
         Plan::Seen(front) => Envelope::Seen(*front),
     })

@@ -62,7 +62,7 @@ impl Draft {
                     chains,
                 }
             }
-            Envelope::Ask(ask) => Plan::Ask(SaidRequest::of(alloc, ask)?),
+            Envelope::Ask(ask) => Plan::Ask(SaidRequest::of(alloc, ask.signed())?),
             Envelope::Reply(reply) => {
                 spell_answer(reply.answer);
                 Plan::Reply(*reply)

@@ -112,7 +112,7 @@ impl Known {
             }
             Envelope::Ask(ask) => {
                 self.reserve(1)?;
-                self.note(&ask.signature);
+                self.note(&ask.signed().signature);
                 Ok(())
             }
             Envelope::Empty | Envelope::Reply(_) | Envelope::Seen(_) => Ok(()),

@@ -81,7 +81,7 @@ fn what_has_no_signature_is_always_built(rt: HostRuntime) -> Result<(), Fail> {
 #[test]
 fn a_held_key_signs_an_ask(rt: HostRuntime) -> Result<(), Fail> {
     let known = Known::new(rt.alloc());
-    let ask = Envelope::Ask(ask_of(rt.alloc(), 1)?);
+    let ask = Envelope::ask(rt.alloc(), ask_of(rt.alloc(), 1)?)?;
     let own = one_key(rt.alloc(), ASKER)?;
     let other = one_key(rt.alloc(), SENDER)?;
     assert!(rt; is_built(rt.alloc(), &ask, &own, &known)?);
@@ -96,7 +96,7 @@ fn a_chain_wants_each_of_its_signatures(rt: HostRuntime) -> Result<(), Fail> {
     let round = round_of(rt.alloc(), 0, 1)?;
     let sender = one_key(rt.alloc(), SENDER)?;
     assert!(rt; !is_built(rt.alloc(), &round, &sender, &known)?);
-    known.learn(&Envelope::Ask(ask_of(rt.alloc(), 1)?))?;
+    known.learn(&Envelope::ask(rt.alloc(), ask_of(rt.alloc(), 1)?)?)?;
     assert!(rt; is_built(rt.alloc(), &round, &sender, &known)?);
     assert!(rt; !is_built(rt.alloc(), &round, &[], &known)?);
     Ok(())
@@ -111,7 +111,7 @@ fn what_was_learned_is_sent_on_and_nothing_else(rt: HostRuntime) -> Result<(), F
     assert!(rt;
         is_built(
             rt.alloc(),
-            &Envelope::Ask(ask_of(rt.alloc(), 1)?),
+            &Envelope::ask(rt.alloc(), ask_of(rt.alloc(), 1)?)?,
             &[],
             &known
         )?
@@ -120,7 +120,7 @@ fn what_was_learned_is_sent_on_and_nothing_else(rt: HostRuntime) -> Result<(), F
     assert!(rt;
         !is_built(
             rt.alloc(),
-            &Envelope::Ask(ask_of(rt.alloc(), 2)?),
+            &Envelope::ask(rt.alloc(), ask_of(rt.alloc(), 2)?)?,
             &[],
             &known
         )?
@@ -131,7 +131,7 @@ fn what_was_learned_is_sent_on_and_nothing_else(rt: HostRuntime) -> Result<(), F
 #[test]
 fn room_is_made_and_what_is_known_stays(rt: HostRuntime) -> Result<(), Fail> {
     let mut known = Known::new(rt.alloc());
-    let ask = Envelope::Ask(ask_of(rt.alloc(), 1)?);
+    let ask = Envelope::ask(rt.alloc(), ask_of(rt.alloc(), 1)?)?;
     known.learn(&ask)?;
     known.room()?;
     known.learn(&round_of(rt.alloc(), 0, 1)?)?;
