@@ -7,7 +7,7 @@ ghost use Rattle.dsr_replica.specs.Support.Asks.{asks_with};
 
 use dsr_base::Few;
 use dsr_chain::{Batch, SignedRequest};
-use dsr_envelope::Envelope;
+use dsr_envelope::{Envelope, SharedAsk};
 use dsr_names::{ClientId, Refusal, Shape};
 use std::alloc::Global;
 use std::marker::Model;
@@ -15,7 +15,7 @@ use std::marker::Model;
 /// The ask that is held of each client of a shape, if one is.
 #[derive(Drop)]
 pub(crate) struct Asks {
-    list: Vec<Option<SignedRequest>>,
+    list: Vec<Option<SharedAsk>>,
 }
 
 impl Model for Asks {
@@ -46,8 +46,8 @@ impl Asks {
         ensures { result ≡ ask_of self.now client }
     {
         match self.list.as_slice().get(client.number() as usize) {
-            Some(ask) => *ask,
-            None => None,
+            Some(Some(ask)) => Some(*ask.signed()),
+            _ => None,
         }
     }
 
@@ -56,19 +56,19 @@ impl Asks {
         requires { client < length self.old }
         ensures { self.new ≡ asks_with shape.now client self.old envelope }
     {
-        match &envelope {
-            Envelope::Ask(ask) => self.hold(shape, client, *ask.signed()),
+        match envelope {
+            Envelope::Ask(ask) => self.hold(shape, client, ask),
             _ => {}
         }
     }
 
     /// Holds the client's ask, if it signed it as its own and no ask of a greater number is held.
-    fn hold(&mut self, shape: &Shape, client: ClientId, ask: SignedRequest)
+    fn hold(&mut self, shape: &Shape, client: ClientId, ask: SharedAsk)
         requires { client < length self.old }
         ensures { self.new ≡ asks_with shape.now client self.old (Ask ask) }
     {
         let place = client.number() as usize;
-        if is_to_be_held(shape, client, &self.list[place], &ask) {
+        if is_to_be_held(shape, client, &self.list[place], ask.signed()) {
             self.list[place] = Some(ask);
         }
     }
@@ -114,7 +114,7 @@ impl Asks {
 fn is_to_be_held(
     shape: &Shape,
     client: ClientId,
-    held: &Option<SignedRequest>,
+    held: &Option<SharedAsk>,
     ask: &SignedRequest,
 ) -> bool
     ensures { result ≡ (is_own_ask shape.now client ask.now && gives_way held.now ask.now.request.number) }
@@ -130,11 +130,11 @@ fn is_own_ask(shape: &Shape, client: ClientId, ask: &SignedRequest) -> bool
 }
 
 /// Whether what is held gives way to an ask of this number.
-fn gives_way(held: &Option<SignedRequest>, number: u64) -> bool
+fn gives_way(held: &Option<SharedAsk>, number: u64) -> bool
     ensures { result ≡ gives_way held.now number }
 {
     match held {
-        Some(ask) => ask.request.number() <= number,
+        Some(ask) => ask.signed().request.number() <= number,
         None => true,
     }
 }
