@@ -51,7 +51,7 @@ impl Chain {
         ensures refusal { IsOkUnless result Refusal.NoMemory }
     {
         let links = Links::start(alloc, slot, &value.content(), key)?;
-        let value = SharedValue::of(alloc, value)?;
+        let value = SharedValue::of(alloc, &value)?;
         let signatures = Signatures::InTurn(links);
         Chain::share(
             alloc,
@@ -90,7 +90,7 @@ impl Chain {
         ensures made { IfOk result (λ chain. chain ≡ chain_of slot value signatures.items) }
         ensures refusal { IsOkUnless result Refusal.NoMemory }
     {
-        let value = SharedValue::of(alloc, value)?;
+        let value = SharedValue::of(alloc, &value)?;
         Chain::of_shared(alloc, slot, value, signatures)
     }
 
@@ -158,9 +158,10 @@ impl Chain {
         }
     }
 
-    /// The signed requests of the value, none where it is idle.
+    /// The signed requests of the value, at most 8, none where it is idle.
     pub fn signed(&self) -> &[SignedRequest]
-        ensures { result.now ≡ signed_in self.now.value }
+        ensures same { result.now ≡ signed_in self.now.value }
+        ensures few { length (signed_in self.now.value) ≤ 8 }
     {
         self.body.value.signed()
     }

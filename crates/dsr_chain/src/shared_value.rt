@@ -31,8 +31,8 @@ impl Model for SharedValue {
 
 impl SharedValue {
     /// The value, to be shared.
-    pub(crate) fn of(alloc: Global, value: SlotValue) -> Result<SharedValue, Refusal>
-        ensures made { IfOk result (λ shared. shared ≡ value) }
+    pub(crate) fn of(alloc: Global, value: &SlotValue) -> Result<SharedValue, Refusal>
+        ensures made { IfOk result (λ shared. shared ≡ value.now) }
         ensures refusal { IsOkUnless result Refusal.NoMemory }
     {
         let mut signed = Vec::new(alloc);

@@ -13,7 +13,7 @@ use Rattle.dsr_check.proofs.shown.last_clients.Goals as goal
 pub returns-in-len1-up-clause-shown : goal.returns-in-len1-up-clause-shown
 returns-in-len1-up-clause-shown c =
     let value = last_is Idle c.args.chains.now c.last-item.result c.in-len1-up.len_at_least c.last-item.is in
-    let asks = c.signed.ensures in
+    let asks = c.signed.ensures.same in
     subst (λ v. IsPick (choice_of (map (λ (r : Request). r.client) (map (λ (a : SignedRequest). a.request) v)))
     → IfOk c.clients_in.result (λ clients. choice_by clients ≡ choice_of (map (λ (r : Request). r.client) (map (λ (a : SignedRequest). a.request) v))))
     (asks ∙ ap signed_in (sym value)) c.clients_in.ensures.shown
