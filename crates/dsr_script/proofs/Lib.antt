@@ -9,6 +9,7 @@ mod KnownLemmas
 mod OneEnvelope
 mod OneValue
 mod PairLemmas
+mod Places
 mod PlainLemmas
 mod SameLemmas
 mod ScriptLemmas

@@ -1,5 +1,5 @@
 -- Signatures noted in turn, each once.
-use Rattle.std.specs.Prelude.{◌≡◌, List, [], ◌∷◌, fold, map, if◌then◌else◌}
+use Rattle.std.specs.Prelude.{List, [], ◌∷◌, fold, map, if◌then◌else◌}
 use Rattle.dsr_desk.specs.Signature.{Signature}
 use Rattle.dsr_chain.specs.declared.signed_request.SignedRequest.{SignedRequest}
 use Rattle.dsr_script.specs.Support.SaidEquality.{said_eq}

@@ -1,5 +1,5 @@
 -- What of a signature is hashed: its signer, and all of its statement.
-use Rattle.std.specs.Prelude.{◌≡◌, ℕ, Option, None, Some, List, [], true, ◌++◌, ◌+◌, flat_map}
+use Rattle.std.specs.Prelude.{◌≡◌, Option, None, Some, List, [], true, ◌++◌, ◌+◌, flat_map}
 use Rattle.std.specs.Hash as fed
 use Rattle.std.proofs.Common.{ap}
 use Rattle.dsr_names.specs.declared.actor.Actor.{Actor}

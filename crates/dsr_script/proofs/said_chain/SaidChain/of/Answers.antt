@@ -8,25 +8,19 @@ pub invariant_of-result : goal.invariant_of-result
 invariant_of-result c =
     let x = c.args.chain.now in
     let links = c.in_ok-links.links.items in
-    let links_are : links ≡ spelled_links x.slot (content x.value) [] x.signatures =
-    subst (λ ss. links ≡ spelled_links x.slot (content x.value) [] ss) c.signatures.ensures.same
-    (subst (λ n. links ≡ spelled_links n (content x.value) [] c.signatures.result.now) c.slot.ensures
-    (subst (λ v. links ≡ spelled_links c.slot.result v [] c.signatures.result.now) c.content.ensures c.in_ok-links.ensures.same)) in
-    let parts : HasParts c.slot-2.result c.in_ok-asks.asks.items links x =
-    record { slot_is = c.slot-2.ensures; value_is = c.in_ok-asks.ensures.same ∙ c.value.ensures; links_are = links_are } in
-    kept_here c.slot-2.result c.in_ok-asks.asks.items links x parts c.in_ok-asks.ensures.few c.signatures.ensures.few
+    let links_are : links ≡ spelled_links x.slot (content x.value) [] x.signatures = c.in_ok-links.ensures.same in
+    let parts : HasParts c.slot.result c.in_ok-asks.asks.items links x =
+    record { slot_is = c.slot.ensures; value_is = c.in_ok-asks.ensures.same ∙ c.value.ensures; links_are = links_are } in
+    kept_here c.slot.result c.in_ok-asks.asks.items links x parts c.in_ok-asks.ensures.few c.requires.few_signatures
 
 pub returns-clause-same : goal.returns-clause-same
 returns-clause-same c =
     let x = c.args.chain.now in
     let links = c.in_ok-links.links.items in
-    let links_are : links ≡ spelled_links x.slot (content x.value) [] x.signatures =
-    subst (λ ss. links ≡ spelled_links x.slot (content x.value) [] ss) c.signatures.ensures.same
-    (subst (λ n. links ≡ spelled_links n (content x.value) [] c.signatures.result.now) c.slot.ensures
-    (subst (λ v. links ≡ spelled_links c.slot.result v [] c.signatures.result.now) c.content.ensures c.in_ok-links.ensures.same)) in
-    let parts : HasParts c.slot-2.result c.in_ok-asks.asks.items links x =
-    record { slot_is = c.slot-2.ensures; value_is = c.in_ok-asks.ensures.same ∙ c.value.ensures; links_are = links_are } in
-    same_chain c.slot-2.result c.in_ok-asks.asks.items links x parts
+    let links_are : links ≡ spelled_links x.slot (content x.value) [] x.signatures = c.in_ok-links.ensures.same in
+    let parts : HasParts c.slot.result c.in_ok-asks.asks.items links x =
+    record { slot_is = c.slot.ensures; value_is = c.in_ok-asks.ensures.same ∙ c.value.ensures; links_are = links_are } in
+    same_chain c.slot.result c.in_ok-asks.asks.items links x parts
 
 pub returns-clause-spelled : goal.returns-clause-spelled
 returns-clause-spelled c =
