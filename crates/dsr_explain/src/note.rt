@@ -1,5 +1,5 @@
 use dsr_chain::Chain;
-use dsr_desk::{Signers};
+use dsr_desk::Signers;
 use dsr_names::{Actor, ClientId, ReplicaId};
 use dsr_request::{Request, Requests};
 use dsr_slot::Fate;

@@ -170,7 +170,10 @@ fn links_of(alloc: Global, chain: &Chain) -> Result<Vec<Brief>, Refusal>
     let mut before = Signers::new();
     for place in 0..count {
         let signature = chain.signature(place);
-        let spelled = Spelled::at(&Said::of(&signature), &link_at(chain.slot(), &content, before));
+        let spelled = Spelled::at(
+            &Said::of(&signature),
+            &link_at(chain.slot(), &content, before),
+        );
         links.push(Brief::of(alloc, &spelled)?)?;
         before.push(signature.signer());
     }
