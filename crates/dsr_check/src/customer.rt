@@ -100,14 +100,13 @@ fn begins(client: &mut Client, to: ReplicaId, ask: &SignedRequest) -> bool
         → IsEnvelope (Ask ask.now)
         → OnFalse result (¬ IsNext client.old.shape client.old.me log (Post (ReplicaNumber to) (Ask ask.now))) }
 {
-    let op = ask.request.op();
-    let Some(first) = client.first_ask(op) else {
+    let Some(first) = client.first_ask(ask.request.op()) else {
         return false;
     };
     if !first.same(ask) {
         return false;
     }
-    let Ok(_number) = client.begin(op) else {
+    let Ok(_number) = client.begin(ask.request.op()) else {
         unreachable!()
     };
     true
