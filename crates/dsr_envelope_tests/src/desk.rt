@@ -264,46 +264,60 @@ fn a_key_goes_into_a_thread(rt: HostRuntime) -> Result<(), Fail> {
     Ok(())
 }
 
-/// The key's signature on the link of slot 7 and this content after these signers.
-fn signed_link(key: &Key, content: &Option<Requests>, before: Signers) -> Signature {
+/// The keys of replica 0 and client 0.
+fn two_keys(rt: &impl Abort, alloc: Global) -> Result<(Key, Key), Refusal> {
+    let mut keys = keys(alloc)?;
+    let first = key_of(rt, &mut keys, R0);
+    let second = key_of(rt, &mut keys, C0);
+    Ok((first, second))
+}
+
+/// The signature of replica 0 on the first link of slot 7 and this content.
+fn first_link(content: &Option<Requests>, key: &Key) -> Signature {
+    key.sign(link(7, *content, Signers::new()))
+}
+
+/// The key's signature on the link after replica 0's.
+fn second_link(content: &Option<Requests>, key: &Key) -> Signature {
+    let mut before = Signers::new();
+    before.push(R0);
     key.sign(link(7, *content, before))
 }
 
-/// Two sign the idle content, and one of a request.
+/// What two sign in turn, of the idle content and of a request, are the signatures that each would make alone.
 #[test]
-fn signs_in_turn(rt: HostRuntime) -> Result<(), Fail> {
-    let mut keys = keys(rt.alloc())?;
-    let by = (key_of(&rt, &mut keys, R0), key_of(&rt, &mut keys, C0));
+fn two_sign_in_turn(rt: HostRuntime) -> Result<(), Fail> {
+    let (first, second) = two_keys(&rt, rt.alloc())?;
     for content in [None, Requests::of(&[read_a(1)?])] {
-        two_sign(&rt, rt.alloc(), &content, (&by.0, &by.1))?;
+        sign_in_turn(&rt, rt.alloc(), &content, &first, &second)?;
     }
     Ok(())
 }
 
-/// What two sign in turn are the signatures that each would make alone, and is made of these too.
-fn two_sign(
+fn sign_in_turn(
     rt: &impl Abort,
     alloc: Global,
     content: &Option<Requests>,
-    by: (&Key, &Key),
+    first: &Key,
+    second: &Key,
 ) -> Result<(), Fail> {
-    let links = Links::start(alloc, 7, content, by.0)?;
-    assert_eq!(rt; links.signers().len(), 1);
-    let links = links.extend(by.1)?;
-    assert!(rt; links.signers().as_slice() == [R0, C0].as_slice());
-    let mut before = Signers::new();
-    before.push(R0);
-    let first = signed_link(by.0, content, Signers::new());
-    let second = signed_link(by.1, content, before);
-    assert!(rt; links.signature(0).same(&first) && links.signature(1).same(&second));
-    let again = Links::of(alloc, 7, content, &[first, second])?;
-    assert!(rt;
-        again
-            .expect(rt, "they fit")
-            .signers()
-            .same(&links.signers())
-    );
-    assert!(rt; Links::of(alloc, 8, content, &[first, second])?.is_none());
-    assert!(rt; Links::of(alloc, 7, content, &[second, first])?.is_none());
+    let alone = Links::start(alloc, 7, content, first)?;
+    assert_eq!(rt; alone.signers().len(), 1);
+    let links = alone.extend(second)?;
+    assert_eq!(rt; links.signers().len(), 2);
+    assert!(rt; links.signature(0).same(&first_link(content, first)));
+    assert!(rt; links.signature(1).same(&second_link(content, second)));
+    Ok(())
+}
+
+/// Signatures are in turn on one slot, and in one order.
+#[test]
+fn signatures_are_in_turn_or_not(rt: HostRuntime) -> Result<(), Fail> {
+    let (first, second) = two_keys(&rt, rt.alloc())?;
+    let content = Requests::of(&[read_a(1)?]);
+    let (one, two) = (first_link(&content, &first), second_link(&content, &second));
+    assert!(rt; Links::of(rt.alloc(), 7, &content, &[one, two])?.is_some());
+    assert!(rt; Links::of(rt.alloc(), 8, &content, &[one, two])?.is_none());
+    assert!(rt; Links::of(rt.alloc(), 7, &content, &[two, one])?.is_none());
     Ok(())
 }

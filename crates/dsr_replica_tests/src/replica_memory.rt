@@ -190,10 +190,9 @@ fn take_ask(alloc: Global, replica: &mut Replica) -> Result<(), Fail> {
     if replica.shape().m() == 0 {
         return Err("a shape without clients")?;
     }
-    let ask = ask_of(alloc, 0)?;
-    let envelope = match unless_refused(Envelope::ask(alloc, ask))? {
+    let envelope = match unless_refused(Envelope::ask(alloc, ask_of(alloc, 0)?))? {
         Some(envelope) => envelope,
-        None => Envelope::ask(alloc, ask)?,
+        None => Envelope::ask(alloc, ask_of(alloc, 0)?)?,
     };
     replica.ask_taken(ClientId::FIRST, envelope);
     Ok(())

@@ -34,6 +34,11 @@ fn ask_of(alloc: Global, number: u64) -> Result<SignedRequest, Fail> {
     Ok(SignedRequest::by(request, &key))
 }
 
+/// The envelope of client 0's request of this number.
+fn ask_envelope(alloc: Global, number: u64) -> Result<Envelope, Fail> {
+    Ok(Envelope::ask(alloc, ask_of(alloc, number)?)?)
+}
+
 /// The chain of this slot that replica 0 starts, with client 0's request of this number.
 fn chain_of(alloc: Global, slot: u64, number: u64) -> Result<Chain, Fail> {
     let key = key_of(alloc, SENDER)?;
@@ -81,7 +86,7 @@ fn what_has_no_signature_is_always_built(rt: HostRuntime) -> Result<(), Fail> {
 #[test]
 fn a_held_key_signs_an_ask(rt: HostRuntime) -> Result<(), Fail> {
     let known = Known::new(rt.alloc());
-    let ask = Envelope::ask(rt.alloc(), ask_of(rt.alloc(), 1)?)?;
+    let ask = ask_envelope(rt.alloc(), 1)?;
     let own = one_key(rt.alloc(), ASKER)?;
     let other = one_key(rt.alloc(), SENDER)?;
     assert!(rt; is_built(rt.alloc(), &ask, &own, &known)?);
@@ -96,7 +101,7 @@ fn a_chain_wants_each_of_its_signatures(rt: HostRuntime) -> Result<(), Fail> {
     let round = round_of(rt.alloc(), 0, 1)?;
     let sender = one_key(rt.alloc(), SENDER)?;
     assert!(rt; !is_built(rt.alloc(), &round, &sender, &known)?);
-    known.learn(&Envelope::ask(rt.alloc(), ask_of(rt.alloc(), 1)?)?)?;
+    known.learn(&ask_envelope(rt.alloc(), 1)?)?;
     assert!(rt; is_built(rt.alloc(), &round, &sender, &known)?);
     assert!(rt; !is_built(rt.alloc(), &round, &[], &known)?);
     Ok(())
@@ -108,30 +113,18 @@ fn what_was_learned_is_sent_on_and_nothing_else(rt: HostRuntime) -> Result<(), F
     let round = round_of(rt.alloc(), 0, 1)?;
     known.learn(&round)?;
     assert!(rt; is_built(rt.alloc(), &round, &[], &known)?);
-    assert!(rt;
-        is_built(
-            rt.alloc(),
-            &Envelope::ask(rt.alloc(), ask_of(rt.alloc(), 1)?)?,
-            &[],
-            &known
-        )?
-    );
     assert!(rt; !is_built(rt.alloc(), &round_of(rt.alloc(), 1, 1)?, &[], &known)?);
-    assert!(rt;
-        !is_built(
-            rt.alloc(),
-            &Envelope::ask(rt.alloc(), ask_of(rt.alloc(), 2)?)?,
-            &[],
-            &known
-        )?
-    );
+    let carried = ask_envelope(rt.alloc(), 1)?;
+    let other = ask_envelope(rt.alloc(), 2)?;
+    assert!(rt; is_built(rt.alloc(), &carried, &[], &known)?);
+    assert!(rt; !is_built(rt.alloc(), &other, &[], &known)?);
     Ok(())
 }
 
 #[test]
 fn room_is_made_and_what_is_known_stays(rt: HostRuntime) -> Result<(), Fail> {
     let mut known = Known::new(rt.alloc());
-    let ask = Envelope::ask(rt.alloc(), ask_of(rt.alloc(), 1)?)?;
+    let ask = ask_envelope(rt.alloc(), 1)?;
     known.learn(&ask)?;
     known.room()?;
     known.learn(&round_of(rt.alloc(), 0, 1)?)?;
