@@ -7,7 +7,7 @@
 #![tactic(auto)]
 
 ghost use Rattle.std.specs.Prelude.{◌≡◌, ◌∷◌, [], IfSome, if◌then◌else◌};
-ghost use Rattle.dsr_replica.specs.declared.step.Pick.TheVariants.{Plain, From};
+ghost use Rattle.dsr_envelope.specs.declared.pick.Pick.TheVariants.{Plain, From};
 
 use dsr_chain::SignedRequest;
 use dsr_desk::{Key, Keys};
