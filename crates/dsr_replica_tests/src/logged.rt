@@ -59,25 +59,23 @@ impl Logged {
 
     /// Posts to this replica, with nothing in particular proposed, and returns the envelope.
     pub(crate) fn post(&mut self, alloc: Global, to: ReplicaId) -> Result<Envelope, Fail> {
-        let entries = one_more(self.entries)?;
-        let envelope = self.replica.envelope_for(alloc, to, Pick::Plain)?;
-        if !self.replica.allows(to, Pick::Plain) {
-            return Err("a post that is not allowed")?;
-        }
-        self.replica.posted(to, Pick::Plain);
-        self.entries = entries;
-        Ok(envelope)
+        self.post_by(alloc, to, &Pick::Plain)
     }
 
     /// Posts to replica 0, with the ask proposed that is held of this client, and returns the envelope.
     pub(crate) fn propose(&mut self, alloc: Global, client: ClientId) -> Result<Envelope, Fail> {
+        let clients = Clients::of(&[client]).ok_or("no clients")?;
+        self.post_by(alloc, ReplicaId::FIRST, &Pick::From(clients))
+    }
+
+    /// Posts to this replica by this choice, and returns the envelope.
+    fn post_by(&mut self, alloc: Global, to: ReplicaId, pick: &Pick) -> Result<Envelope, Fail> {
         let entries = one_more(self.entries)?;
-        let first = ReplicaId::FIRST;
-        let envelope = self.replica.envelope_for(alloc, first, from_one(client)?)?;
-        if !self.replica.allows(first, from_one(client)?) {
+        let envelope = self.replica.envelope_for(alloc, to, *pick)?;
+        if !self.replica.allows(to, *pick) {
             return Err("a post that is not allowed")?;
         }
-        self.replica.posted(first, from_one(client)?);
+        self.replica.posted(to, *pick);
         self.entries = entries;
         Ok(envelope)
     }

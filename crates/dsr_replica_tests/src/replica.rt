@@ -64,11 +64,17 @@ fn ask(alloc: Global, one: &mut Alone, number: u64) -> Result<(), Fail> {
 
 /// Posts client 0's held request to replica 0, and returns the envelope.
 fn propose(alloc: Global, replica: &mut Replica) -> Result<Envelope, Fail> {
-    let envelope = replica.envelope_for(alloc, ReplicaId::FIRST, from_client()?)?;
-    if !replica.allows(ReplicaId::FIRST, from_client()?) {
+    let clients = Clients::of(&[ClientId::FIRST]).ok_or("no clients")?;
+    propose_by(alloc, replica, &Pick::From(clients))
+}
+
+/// Posts by this choice to replica 0, and returns the envelope.
+fn propose_by(alloc: Global, replica: &mut Replica, pick: &Pick) -> Result<Envelope, Fail> {
+    let envelope = replica.envelope_for(alloc, ReplicaId::FIRST, *pick)?;
+    if !replica.allows(ReplicaId::FIRST, *pick) {
         return Err("a post that is not allowed")?;
     }
-    replica.posted(ReplicaId::FIRST, from_client()?);
+    replica.posted(ReplicaId::FIRST, *pick);
     Ok(envelope)
 }
 

@@ -67,6 +67,28 @@ fn key(alloc: Global) -> Result<Key, Fail> {
     }
 }
 
+/// The envelope that is built, or none where memory was refused. Another refusal is a failure.
+fn tried_build(
+    alloc: Global,
+    draft: &Draft,
+    keys: &[Key],
+    known: &Known,
+) -> Result<Option<Envelope>, Fail> {
+    match build(alloc, draft, keys, known) {
+        Ok(envelope) => Ok(Some(envelope)),
+        Err(Refusal::NoMemory) => Ok(None),
+        Err(refusal) => Err(refusal)?,
+    }
+}
+
+/// The envelope that is built, where at most one allocation is refused.
+fn built(alloc: Global, draft: &Draft, keys: &[Key], known: &Known) -> Result<Envelope, Fail> {
+    match tried_build(alloc, draft, keys, known)? {
+        Some(envelope) => Ok(envelope),
+        None => Ok(tried_build(alloc, draft, keys, known)?.ok_or("refused again")?),
+    }
+}
+
 /// Whether the first client's ask can be posted by one who has no key, but knows the signatures of this envelope.
 fn can_be_sent_on(alloc: Global, envelope: &Envelope, draft: &Draft) -> Result<bool, Fail> {
     let mut known = Known::new(alloc);
@@ -79,7 +101,7 @@ fn can_be_sent_on(alloc: Global, envelope: &Envelope, draft: &Draft) -> Result<b
         }
         Err(refusal) => Err(refusal)?,
     }
-    Ok(build(alloc, draft, &[], &known)?.same(envelope))
+    Ok(built(alloc, draft, &[], &known)?.same(envelope))
 }
 
 /// Fails unless the envelope is refused as forged.
@@ -94,7 +116,7 @@ fn assert_forged(built: Result<Envelope, Refusal>) -> Result<(), Fail> {
 fn learns_again_what_memory_was_refused_for(rt: HostRuntime) -> Result<(), Fail> {
     let draft = read(rt.alloc(), b"ask c0#1:read:a~c0")?.ok_or("no draft")?;
     let keys = [key(rt.alloc())?];
-    let envelope = build(rt.alloc(), &draft, &keys, &Known::new(rt.alloc()))?;
+    let envelope = built(rt.alloc(), &draft, &keys, &Known::new(rt.alloc()))?;
     assert!(rt; can_be_sent_on(rt.alloc(), &envelope, &draft)?);
     Ok(())
 }
