@@ -44,14 +44,30 @@ impl Chain {
     ghost use Rattle.dsr_chain.specs.Chain.{chain_of, started, extended};
     ghost use Rattle.dsr_chain.specs.Faults.{HasMisfit};
     ghost use Rattle.dsr_chain.specs.Support.Signatures.{signatures_in, AreKept};
+    ghost use Rattle.dsr_chain.specs.Support.SignedLists.{value_of};
 
     /// The chain of this value with the key's signature alone. `NoMemory` where memory runs out.
     pub fn start(alloc: Global, slot: u64, value: SlotValue, key: &Key) -> Result<Chain, Refusal>
         ensures started { IfOk result (λ chain. chain ≡ started slot value key.now) }
         ensures refusal { IsOkUnless result Refusal.NoMemory }
     {
+        Chain::start_with(alloc, slot, value.signed(), key)
+    }
+
+    /// The chain with the key's signature alone of the value that has these signed requests, idle where there are none. Requires
+    /// that they are at most 8. `NoMemory` where memory runs out.
+    pub fn start_with(
+        alloc: Global,
+        slot: u64,
+        signed: &[SignedRequest],
+        key: &Key,
+    ) -> Result<Chain, Refusal>
+        requires few { length signed.now ≤ 8 }
+        ensures started { IfOk result (λ chain. chain ≡ started slot (value_of signed.now) key.now) }
+        ensures refusal { IsOkUnless result Refusal.NoMemory }
+    {
+        let value = SharedValue::of(alloc, signed)?;
         let links = Links::start(alloc, slot, &value.content(), key)?;
-        let value = SharedValue::of(alloc, &value)?;
         let signatures = Signatures::InTurn(links);
         Chain::share(
             alloc,
@@ -90,7 +106,7 @@ impl Chain {
         ensures made { IfOk result (λ chain. chain ≡ chain_of slot value signatures.items) }
         ensures refusal { IsOkUnless result Refusal.NoMemory }
     {
-        let value = SharedValue::of(alloc, &value)?;
+        let value = SharedValue::of(alloc, value.signed())?;
         Chain::of_shared(alloc, slot, value, signatures)
     }
 
@@ -191,7 +207,7 @@ impl Chain {
     }
 
     /// Whether one of the signatures is on a statement that does not fit its place.
-    pub(crate) fn has_misfit(&self) -> bool
+    pub fn has_misfit(&self) -> bool
         ensures { IsTrue result ↔ HasMisfit self.now }
     {
         match &self.body.signatures {
