@@ -40,11 +40,10 @@ impl Model for Chain {
 }
 
 impl Chain {
-    ghost use Rattle.dsr_chain.specs.Content.{content, signed_in};
+    ghost use Rattle.dsr_chain.specs.Content.{content, signed_in, value_of};
     ghost use Rattle.dsr_chain.specs.Chain.{chain_of, started, extended};
     ghost use Rattle.dsr_chain.specs.Faults.{HasMisfit};
     ghost use Rattle.dsr_chain.specs.Support.Signatures.{signatures_in, AreKept};
-    ghost use Rattle.dsr_chain.specs.Support.SignedLists.{value_of};
 
     /// The chain of this value with the key's signature alone. `NoMemory` where memory runs out.
     pub fn start(alloc: Global, slot: u64, value: SlotValue, key: &Key) -> Result<Chain, Refusal>
@@ -178,6 +177,7 @@ impl Chain {
     pub fn signed(&self) -> &[SignedRequest]
         ensures same { result.now ≡ signed_in self.now.value }
         ensures few { length (signed_in self.now.value) ≤ 8 }
+        ensures value { value_of (signed_in self.now.value) ≡ self.now.value }
     {
         self.body.value.signed()
     }

@@ -1,6 +1,5 @@
 ghost use Rattle.std.specs.Prelude.{◌≡◌, ◌≤◌, ◌↔◌, map, length, IsTrue, IfOk, IsOkUnless};
-ghost use Rattle.dsr_chain.specs.Content.{content, signed_in};
-ghost use Rattle.dsr_chain.specs.Support.SignedLists.{value_of};
+ghost use Rattle.dsr_chain.specs.Content.{content, signed_in, value_of};
 
 use crate::batch::Batch;
 use crate::signed_request::SignedRequest;
@@ -21,7 +20,7 @@ impl Model for SharedValue {
     ghost use Rattle.std.specs.Prelude.{length, ◌≤◌};
     ghost use Rattle.std.specs.Arc.{arc_value};
     ghost use Rattle.dsr_chain.specs.declared.slot_value.SlotValue.{SlotValue};
-    ghost use Rattle.dsr_chain.specs.Support.SignedLists.{value_of};
+    ghost use Rattle.dsr_chain.specs.Content.{value_of};
 
     ghost Value = { SlotValue };
 
@@ -67,6 +66,7 @@ impl SharedValue {
     pub(crate) fn signed(&self) -> &[SignedRequest]
         ensures same { result.now ≡ signed_in self.now }
         ensures few { length result.now ≤ 8 }
+        ensures value { value_of result.now ≡ self.now }
     {
         self.signed.as_slice()
     }

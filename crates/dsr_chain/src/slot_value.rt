@@ -1,5 +1,5 @@
 ghost use Rattle.std.specs.Prelude.{◌≡◌, ◌<◌, ◌≤◌, ◌↔◌, ◌∷◌, [], length, map, IsTrue, IfSome, IfNone};
-ghost use Rattle.dsr_chain.specs.Support.SignedLists.{content_of as content_in, value_of};
+ghost use Rattle.dsr_chain.specs.Support.SignedLists.{content_of as content_in};
 
 use crate::batch::Batch;
 use crate::signed_request::SignedRequest;
@@ -15,7 +15,7 @@ pub enum SlotValue {
 }
 
 impl SlotValue {
-    ghost use Rattle.dsr_chain.specs.Content.{content, requests_in, signed_in};
+    ghost use Rattle.dsr_chain.specs.Content.{content, requests_in, signed_in, value_of};
 
     /// What a link of a chain covers: the requests without their signatures, or nothing.
     pub fn content(&self) -> Option<Requests>

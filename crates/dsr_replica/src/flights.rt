@@ -2,7 +2,7 @@ ghost use Rattle.std.specs.Prelude.{◌≡◌, ℕ, suc, ◌+◌, ◌<◌, ◌�
 ghost use Rattle.dsr_names.specs.Shape.{Shape};
 ghost use Rattle.dsr_chain.specs.Content.{signed_in};
 ghost use Rattle.dsr_chain.specs.Proper.{IsAsked};
-ghost use Rattle.dsr_chain.specs.Support.SignedLists.{value_of};
+ghost use Rattle.dsr_chain.specs.Content.{value_of};
 ghost use Rattle.dsr_rotation.specs.Calendar.{closed_slots};
 ghost use Rattle.dsr_slot.specs.SlotState.{SlotState, opened, with_chain, with_closed};
 ghost use Rattle.dsr_replica.specs.Support.Flights.{AreInFlight, HasOpenRound, IsFirstLast, AreOf, with_chains, is_begun, slot_post, posts_of, rest_of, next_flights, first_decided, decided_with};

@@ -102,9 +102,7 @@ impl Asks {
         ensures room { vec_capacity list.new ≡ vec_capacity list.old }
     {
         if let [first, rest @ ..] = clients {
-            if let Some(ask) = self.get(*first) {
-                list.push_reserved(*ask);
-            }
+            list.push_reserved(*self.get(*first).unwrap());
             self.add_to(rest, list);
         }
     }

@@ -1,5 +1,5 @@
 ghost use Rattle.std.specs.Prelude.{◌≡◌, ◌<◌, ◌≤◌, Some, List, length, IfOk, IsSome, IsOkUnless};
-ghost use Rattle.dsr_chain.specs.Support.SignedLists.{value_of};
+ghost use Rattle.dsr_chain.specs.Content.{value_of};
 ghost use Rattle.dsr_chain.specs.declared.signed_request.SignedRequest.{SignedRequest};
 ghost use Rattle.dsr_chain.specs.declared.slot_value.SlotValue.TheVariants.{Idle, Act};
 ghost use Rattle.dsr_replica.specs.Replica.{asks_of};
@@ -20,7 +20,7 @@ pub(crate) struct Proposal {
 
 impl Model for Proposal {
     ghost use Rattle.dsr_chain.specs.declared.slot_value.SlotValue.{SlotValue};
-    ghost use Rattle.dsr_chain.specs.Support.SignedLists.{value_of};
+    ghost use Rattle.dsr_chain.specs.Content.{value_of};
     ghost use Rattle.dsr_replica.specs.Support.ProposalFields.{IsProposalFields};
 
     ghost Value = { SlotValue };

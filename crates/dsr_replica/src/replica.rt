@@ -5,7 +5,7 @@ ghost use Rattle.dsr_names.specs.Support.ActorEquality.{actor_eq};
 ghost use Rattle.dsr_base.specs.Member.{In};
 ghost use Rattle.dsr_chain.specs.Proper.{sender_of};
 ghost use Rattle.dsr_chain.specs.Content.{requests_in};
-ghost use Rattle.dsr_chain.specs.Support.SignedLists.{value_of as value_with};
+ghost use Rattle.dsr_chain.specs.Content.{value_of as value_with};
 ghost use Rattle.dsr_chain.specs.declared.slot_value.SlotValue.{SlotValue};
 ghost use Rattle.dsr_history.specs.History.{acted};
 ghost use Rattle.dsr_rotation.specs.Calendar.{closed_slots};
@@ -300,6 +300,8 @@ impl Replica {
         ensures refusal { IsOkUnless result Refusal.NoMemory }
         ensures in_flight { AreInFlight self.now.shape self.now.round self.now.slots (closed_slots self.now.shape self.now.round) }
     {
+        // that the slots are in flight is known from here on
+        let _round = self.flights.round();
         let clients = clients.as_slice();
         let mut asks = Vec::with_capacity(alloc, clients.len())?;
         self.asks.add_to(clients, &mut asks);

@@ -1,7 +1,7 @@
 use Rattle.std.proofs.Common.{◌≡◌, ◌∙◌, ◌+◌, ◌++◌, ◌∷◌, [], ap, ap₂, sym, take, add-one}
 use Rattle.std.specs.Prelude.{slice_index_or}
 use Rattle.std.proofs.Math.Seq.{take-suc}
-use Rattle.dsr_chain.specs.Support.SignedLists.{value_of}
+use Rattle.dsr_chain.specs.Content.{value_of}
 use Rattle.dsr_replica.specs.Support.Flights.{slot_post, posts_of}
 use Rattle.dsr_replica.proofs.InFlight.{posts_more}
 use Rattle.dsr_replica.proofs.flights.Flights.posts.Goals as goal

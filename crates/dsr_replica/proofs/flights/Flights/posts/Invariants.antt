@@ -1,5 +1,5 @@
 use Rattle.std.proofs.Common.{◌≡◌, take}
-use Rattle.dsr_chain.specs.Support.SignedLists.{value_of}
+use Rattle.dsr_chain.specs.Content.{value_of}
 use Rattle.dsr_replica.specs.Support.Flights.{posts_of}
 use Rattle.dsr_replica.proofs.flights.Flights.posts.Given as goal
 
