@@ -1,20 +1,38 @@
 -- Decimals without sign or leading zero are what `decimal` writes, and nothing else.
-use Rattle.std.proofs.Common.{◌≡◌, ℕ, zero, suc, ◌<◌, ◌^◌, None, Some, Option, length, List, [], ◌∷◌, get_or, arith, refl, sym, ◌∙◌, ap}
+use Rattle.std.proofs.Common.{◌≡◌, ℕ, zero, suc, ◌+◌, ◌-◌, ◌*◌, ◌<◌, ◌≤◌, ◌^◌, true, false, None, Some, Option, length, List, [], ◌∷◌, get_or, take, arith, refl, sym, ◌∙◌, ap}
 use Rattle.std.specs.Option.{SomeIff}
-use Rattle.std.specs.Str.{IsUtf8}
+use Rattle.std.specs.Char.{is_ascii_digit, digit_value}
+use Rattle.std.specs.Int.{IsInRange}
 use Rattle.std.specs.Fmt.{decimal}
 use Rattle.std.specs.Str.Parse.{IsNumeral, AllDigits, digits_value}
-use Rattle.std.proofs.lemmas.Str.Parse.{IsNumeralModel, numerals_by_value, tells_digits}
-use Rattle.std.proofs.lemmas.Fmt.{IsAscii-from_digits, first_decimal, decimal-digits_value, decimal_digit, decimal_is_IsNumeral}
-use Rattle.std.proofs.lemmas.Str.{IsUtf8-from_ascii}
+use Rattle.std.proofs.lemmas.Str.Parse.{IsNumeralModel, numerals_by_value, tells_digits, digit_at, digits_value-take-le}
+use Rattle.std.proofs.lemmas.Fmt.{first_decimal, decimal-digits_value, decimal_digit, decimal_is_IsNumeral}
+use Rattle.std.proofs.lemmas.Bool.Decides.{nat_tests}
+use Rattle.std.proofs.lemmas.Int.Digits.{digits_more, digits_value_more}
 use Rattle.dsr_base.specs.Reads.{Reads}
 
 pub own : IsNumeralModel (AllDigits 10) (digits_value 10)
 own = numerals_by_value (AllDigits 10) tells_digits
 
--- a numeral is text
-pub numeral_is_text : (bs : List ℕ) → IsNumeral 10 bs → IsUtf8 bs
-numeral_is_text bs h = IsUtf8-from_ascii bs (IsAscii-from_digits bs h.1)
+-- a byte that is no digit stands in no numeral
+pub only_digits : (bs : List ℕ) (i : ℕ) → i < length bs → is_ascii_digit (get_or bs i 0) ≡ false → ¬ (IsNumeral 10 bs)
+only_digits bs i inside other h =
+    let digit : IsInRange 48 57 (get_or bs i 0) = digit_at bs i h.1 inside in
+    grind (arith, nat_tests)
+
+-- one digit further than the first i bytes, which write n
+pub further_digit : (bs : List ℕ) (i n : ℕ) → i < length bs → is_ascii_digit (get_or bs i 0) ≡ true → AllDigits 10 (take i bs)
+    → n ≡ digits_value 10 (take i bs) → AllDigits 10 (take (i + 1) bs) × (n * 10 + (get_or bs i 0 - 48) ≡ digits_value 10 (take (i + 1) bs))
+further_digit bs i n inside digit all value =
+    let worth : digit_value (get_or bs i 0) ≡ get_or bs i 0 - 48 = grind (arith, nat_tests) in
+    let small : digit_value (get_or bs i 0) < 10 = grind (arith, nat_tests) in
+    (digits_more 10 bs i inside all small, rw (digits_value_more 10 bs i inside, worth, value))
+
+-- where a front writes 2^64 or more, the whole does
+pub too_large : (bs : List ℕ) (i n : ℕ) → 2 ^ 64 ≤ n → n ≤ digits_value 10 (take i bs) → ¬ (digits_value 10 bs < 2 ^ 64)
+too_large bs i n large front small =
+    let whole = digits_value-take-le 10 bs i (omega arith) in
+    omega arith
 
 -- no number's decimal has a zero before another digit
 pub no_leading_zero : (bs : List ℕ) (n : ℕ) → 1 < length bs → get_or bs 0 0 ≡ 48 → n < 2 ^ 64 → bs ≡ decimal n → ⊥

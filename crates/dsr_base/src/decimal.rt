@@ -4,8 +4,6 @@ ghost use Rattle.std.specs.Fmt.{decimal};
 ghost use Rattle.std.specs.Str.Parse.{IsNumeral, digits_value};
 ghost use Rattle.dsr_base.specs.Reads.{Reads};
 
-use std::str;
-
 /// The number below 2^64 whose decimal the bytes are: no sign, and no leading zero but in `0` itself.
 /// `None` exactly where they are no such decimal.
 pub fn read_decimal(bytes: &[u8]) -> Option<u64>
@@ -21,11 +19,15 @@ pub fn read_decimal(bytes: &[u8]) -> Option<u64>
 fn digits(bytes: &[u8]) -> Option<u64>
     ensures { SomeIff result (IsNumeral 10 bytes.now × (digits_value 10 bytes.now < 2 ^ 64)) (digits_value 10 bytes.now) }
 {
-    if !bytes.is_empty() && bytes[0] == b'+' {
+    if bytes.is_empty() {
         return None;
     }
-    match str::from_utf8(bytes) {
-        Ok(text) => text.parse().ok(),
-        Err(_) => None,
+    let mut number = 0u64;
+    for &byte in bytes {
+        if !byte.is_ascii_digit() {
+            return None;
+        }
+        number = number.checked_mul(10)?.checked_add(u64::from(byte - b'0'))?;
     }
+    Some(number)
 }

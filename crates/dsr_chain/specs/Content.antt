@@ -1,6 +1,6 @@
 -- What a slot carries (Dolev and Strong 1983: the value that the sender signs; that it is a list of requests, and
 -- that links cover the requests alone, is this project's).
-use Rattle.std.specs.Prelude.{List, [], Option, None, Some, map}
+use Rattle.std.specs.Prelude.{List, [], ◌∷◌, Option, None, Some, map}
 use Rattle.dsr_names.specs.declared.actor.Actor.{Actor}
 use Rattle.dsr_request.specs.Request.{Request}
 use Rattle.dsr_desk.specs.Signature.{signed}
@@ -17,6 +17,11 @@ signed_by request signer = record { request = request; signature = signed signer
 abbrev pub signed_in : SlotValue → List SignedRequest
 signed_in Idle = []
 signed_in (Act batch) = batch
+
+-- the value with these signed requests, idle where there are none
+abbrev pub value_of : List SignedRequest → SlotValue
+value_of [] = Idle
+value_of (s ∷ ss) = Act (s ∷ ss)
 
 -- what a link covers: the requests without the signatures beside them, or nothing where the value is idle
 abbrev pub content : SlotValue → Option (List Request)

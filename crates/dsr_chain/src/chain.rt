@@ -40,7 +40,7 @@ impl Model for Chain {
 }
 
 impl Chain {
-    ghost use Rattle.dsr_chain.specs.Content.{content, signed_in};
+    ghost use Rattle.dsr_chain.specs.Content.{content, signed_in, value_of};
     ghost use Rattle.dsr_chain.specs.Chain.{chain_of, started, extended};
     ghost use Rattle.dsr_chain.specs.Faults.{HasMisfit};
     ghost use Rattle.dsr_chain.specs.Support.Signatures.{signatures_in, AreKept};
@@ -50,8 +50,23 @@ impl Chain {
         ensures started { IfOk result (λ chain. chain ≡ started slot value key.now) }
         ensures refusal { IsOkUnless result Refusal.NoMemory }
     {
+        Chain::start_with(alloc, slot, value.signed(), key)
+    }
+
+    /// The chain with the key's signature alone of the value that has these signed requests, idle where there are none. Requires
+    /// that they are at most 8. `NoMemory` where memory runs out.
+    pub fn start_with(
+        alloc: Global,
+        slot: u64,
+        signed: &[SignedRequest],
+        key: &Key,
+    ) -> Result<Chain, Refusal>
+        requires few { length signed.now ≤ 8 }
+        ensures started { IfOk result (λ chain. chain ≡ started slot (value_of signed.now) key.now) }
+        ensures refusal { IsOkUnless result Refusal.NoMemory }
+    {
+        let value = SharedValue::of(alloc, signed)?;
         let links = Links::start(alloc, slot, &value.content(), key)?;
-        let value = SharedValue::of(alloc, &value)?;
         let signatures = Signatures::InTurn(links);
         Chain::share(
             alloc,
@@ -90,7 +105,7 @@ impl Chain {
         ensures made { IfOk result (λ chain. chain ≡ chain_of slot value signatures.items) }
         ensures refusal { IsOkUnless result Refusal.NoMemory }
     {
-        let value = SharedValue::of(alloc, &value)?;
+        let value = SharedValue::of(alloc, value.signed())?;
         Chain::of_shared(alloc, slot, value, signatures)
     }
 
@@ -162,6 +177,7 @@ impl Chain {
     pub fn signed(&self) -> &[SignedRequest]
         ensures same { result.now ≡ signed_in self.now.value }
         ensures few { length (signed_in self.now.value) ≤ 8 }
+        ensures value { value_of (signed_in self.now.value) ≡ self.now.value }
     {
         self.body.value.signed()
     }
@@ -191,7 +207,7 @@ impl Chain {
     }
 
     /// Whether one of the signatures is on a statement that does not fit its place.
-    pub(crate) fn has_misfit(&self) -> bool
+    pub fn has_misfit(&self) -> bool
         ensures { IsTrue result ↔ HasMisfit self.now }
     {
         match &self.body.signatures {

@@ -1,5 +1,5 @@
 ghost use Rattle.std.specs.Prelude.{◌≡◌, ◌≤◌, ◌↔◌, map, length, IsTrue, IfOk, IsOkUnless};
-ghost use Rattle.dsr_chain.specs.Content.{content, signed_in};
+ghost use Rattle.dsr_chain.specs.Content.{content, signed_in, value_of};
 
 use crate::batch::Batch;
 use crate::signed_request::SignedRequest;
@@ -20,7 +20,7 @@ impl Model for SharedValue {
     ghost use Rattle.std.specs.Prelude.{length, ◌≤◌};
     ghost use Rattle.std.specs.Arc.{arc_value};
     ghost use Rattle.dsr_chain.specs.declared.slot_value.SlotValue.{SlotValue};
-    ghost use Rattle.dsr_chain.specs.Support.SignedLists.{value_of};
+    ghost use Rattle.dsr_chain.specs.Content.{value_of};
 
     ghost Value = { SlotValue };
 
@@ -30,15 +30,13 @@ impl Model for SharedValue {
 }
 
 impl SharedValue {
-    /// The value, to be shared.
-    pub(crate) fn of(alloc: Global, value: &SlotValue) -> Result<SharedValue, Refusal>
-        ensures made { IfOk result (λ shared. shared ≡ value.now) }
+    /// The value with these signed requests, to be shared.
+    pub(crate) fn of(alloc: Global, signed: &[SignedRequest]) -> Result<SharedValue, Refusal>
+        requires few { length signed.now ≤ 8 }
+        ensures made { IfOk result (λ shared. shared ≡ value_of signed.now) }
         ensures refusal { IsOkUnless result Refusal.NoMemory }
     {
-        let mut signed = Vec::new(alloc);
-        if let SlotValue::Act(batch) = value {
-            signed = batch.as_slice().to_vec(alloc)?;
-        }
+        let signed = signed.to_vec(alloc)?;
         let signed = Arc::new(alloc, signed)?;
         Ok(SharedValue { signed })
     }
@@ -68,6 +66,7 @@ impl SharedValue {
     pub(crate) fn signed(&self) -> &[SignedRequest]
         ensures same { result.now ≡ signed_in self.now }
         ensures few { length result.now ≤ 8 }
+        ensures value { value_of result.now ≡ self.now }
     {
         self.signed.as_slice()
     }

@@ -1,4 +1,5 @@
 ghost use Rattle.std.specs.Prelude.{◌≡◌, ◌↔◌, IsTrue};
+ghost use Rattle.dsr_desk.specs.declared.statement.Statement.TheVariants.{Ask};
 
 use dsr_desk::{Key, Signature, Statement};
 use dsr_names::{Actor, Shape};
@@ -35,10 +36,7 @@ impl SignedRequest {
         let client = self.request.client();
         client.number() < shape.m()
             && self.signature.signer() == Actor::Client(client)
-            && self
-                .signature
-                .statement()
-                .same(&Statement::Ask(self.request))
+            && is_ask_of(self.signature.statement(), &self.request)
     }
 
     /// Whether two requests are the same and have the same signature beside them.
@@ -46,5 +44,15 @@ impl SignedRequest {
         ensures { IsTrue result ↔ (self.now ≡ other.now) }
     {
         self == other
+    }
+}
+
+/// Whether it is this request that is signed.
+fn is_ask_of(statement: &Statement, request: &Request) -> bool
+    ensures { IsTrue result ↔ (statement.now ≡ Ask request.now) }
+{
+    match statement {
+        Statement::Ask(asked) => asked == request,
+        Statement::Link { .. } => false,
     }
 }

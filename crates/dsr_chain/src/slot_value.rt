@@ -1,9 +1,9 @@
-ghost use Rattle.std.specs.Prelude.{◌≡◌, ◌≤◌, ◌↔◌, [], length, IsTrue, IfSome, IfNone};
+ghost use Rattle.std.specs.Prelude.{◌≡◌, ◌<◌, ◌≤◌, ◌↔◌, ◌∷◌, [], length, map, IsTrue, IfSome, IfNone};
 ghost use Rattle.dsr_chain.specs.Support.SignedLists.{content_of as content_in};
 
 use crate::batch::Batch;
 use crate::signed_request::SignedRequest;
-use dsr_request::{MOST_REQUESTS, Request, Requests};
+use dsr_request::{Request, Requests};
 
 /// What a slot is given: nothing, or signed requests. It is copied without allocating.
 #[derive(Clone, Copy, Debug, PartialEq, Eq)]
@@ -15,7 +15,7 @@ pub enum SlotValue {
 }
 
 impl SlotValue {
-    ghost use Rattle.dsr_chain.specs.Content.{content, requests_in};
+    ghost use Rattle.dsr_chain.specs.Content.{content, requests_in, signed_in, value_of};
 
     /// What a link of a chain covers: the requests without their signatures, or nothing.
     pub fn content(&self) -> Option<Requests>
@@ -23,9 +23,18 @@ impl SlotValue {
         ensures requests { IfSome result (λ requests. requests ≡ requests_in self.now) }
         ensures idle { IfNone result (requests_in self.now ≡ []) }
     {
+        content_of(self.signed())
+    }
+
+    /// Its signed requests, at most 8, none where it is idle.
+    pub fn signed(&self) -> &[SignedRequest]
+        ensures same { result.now ≡ signed_in self.now }
+        ensures few { length (signed_in self.now) ≤ 8 }
+        ensures value { value_of (signed_in self.now) ≡ self.now }
+    {
         match self {
-            SlotValue::Idle => None,
-            SlotValue::Act(batch) => content_of(batch.as_slice()),
+            SlotValue::Idle => &[],
+            SlotValue::Act(batch) => batch.as_slice(),
         }
     }
 
@@ -52,12 +61,20 @@ pub(crate) fn content_of(signed: &[SignedRequest]) -> Option<Requests>
     requires { length signed.now ≤ 8 }
     ensures { result ≡ content_in signed.now }
 {
-    if signed.is_empty() {
-        return None;
+    match signed {
+        [] => None,
+        [first, rest @ ..] => Some(requests_of(first.request, rest)),
     }
-    let mut requests: [Request; MOST_REQUESTS] = [signed[0].request; MOST_REQUESTS];
-    for i in 0..signed.len() {
-        requests[i] = signed[i].request;
+}
+
+/// This request and then the others, without their signatures.
+fn requests_of(first: Request, rest: &[SignedRequest]) -> Requests
+    requires { length rest.now < 8 }
+    ensures { result ≡ first ∷ map (λ s. s.request) rest.now }
+{
+    let mut requests = Requests::one(first);
+    for signed in rest {
+        requests.push(signed.request);
     }
-    Requests::of(&requests[..signed.len()])
+    requests
 }

@@ -129,10 +129,23 @@ fn is_on_link(
 ) -> bool
     ensures { IsTrue result ↔ (signature.now.statement ≡ Link slot content.now before.now) }
 {
-    let link = Statement::Link {
-        slot,
-        value: *content,
-        before: *before,
-    };
-    signature.statement().same(&link)
+    match signature.statement() {
+        Statement::Ask(_) => false,
+        Statement::Link {
+            slot: signed_slot,
+            value,
+            before: signers,
+        } => *signed_slot == slot && is_content(value, content) && signers.same(before),
+    }
+}
+
+/// Whether two contents are the same: the same requests in the same order, or none.
+fn is_content(value: &Option<Requests>, content: &Option<Requests>) -> bool
+    ensures { IsTrue result ↔ (value.now ≡ content.now) }
+{
+    match (value, content) {
+        (None, None) => true,
+        (Some(ours), Some(theirs)) => ours.same(theirs),
+        _ => false,
+    }
 }

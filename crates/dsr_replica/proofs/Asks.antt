@@ -1,7 +1,6 @@
 -- Where held asks are from, and what may be proposed.
 use Rattle.std.proofs.Common.{◌≡◌, ℕ, ◌==◌, ◌&&◌, Bool, true, false, List, [], ◌∷◌, length, Option, None, Some, if◌then◌else◌, ◌⊎◌, inl, inr, refl, ap, sym, ◌∙◌, subst, arith}
 use Rattle.std.specs.Prelude.{◌≢◌, All, AllPairs, map}
-use Rattle.std.specs.Option.{option_map}
 use Rattle.std.proofs.Math.ListN.{get_or-map}
 use Rattle.std.proofs.lemmas.Simd.{map-map}
 use Rattle.std.proofs.lemmas.List.{length-map}
@@ -18,10 +17,9 @@ use Rattle.dsr_envelope.specs.Log.{rounds}
 use Rattle.dsr_envelope.specs.Pick.{IsClients, IsPick}
 use Rattle.dsr_replica.specs.Posts.{MayPropose}
 use Rattle.dsr_names.specs.declared.actor.Actor.{Actor}
-use Rattle.dsr_names.specs.Support.ActorEquality.{actor_eq}
 use Rattle.dsr_names.specs.Shape.{Shape}
 use Rattle.dsr_names.specs.declared.actor.Actor.TheVariants.{Replica, Client}
-use Rattle.dsr_chain.specs.Proper.{IsAsked, sender_of}
+use Rattle.dsr_chain.specs.Proper.{IsAsked}
 use Rattle.dsr_chain.specs.ProperTest.{is_asked}
 use Rattle.dsr_chain.specs.declared.signed_request.SignedRequest.{SignedRequest}
 use Rattle.dsr_chain.proofs.Lemmas.{asked-Decides}
@@ -99,7 +97,7 @@ module _ (shape : Shape) (client : ℕ) where
 
 -- ---- the asks held of some clients
 
-put_parts : {A : Type 0} (first : Option A) (more : Option (List A)) (all : List A) → put_before first more ≡ Some all
+pub put_parts : {A : Type 0} (first : Option A) (more : Option (List A)) (all : List A) → put_before first more ≡ Some all
     → (x : A) × (xs : List A) × (first ≡ Some x) × (more ≡ Some xs) × (x ∷ xs ≡ all)
 put_parts None more all e = absurd (none-some all e)
 put_parts (Some x) None all e = absurd (none-some all e)

@@ -1,14 +1,16 @@
 -- What a choice gives, by the replica and by its log, and that a replica stands for its log after a post; over plain variables.
-use Rattle.std.proofs.Common.{◌≡◌, ℕ, zero, suc, ◌-◌, ◌<◌, ◌≤◌, ◌==◌, Bool, true, false, List, [], ◌∷◌, ◌++◌, length, Option, None, Some, if◌then◌else◌, inl, inr, refl, ap, ap₂, sym, ◌∙◌, subst, arith}
+use Rattle.std.proofs.Common.{◌≡◌, ℕ, zero, suc, ◌-◌, ◌<◌, ◌≤◌, ◌==◌, Bool, true, false, List, [], ◌∷◌, ◌++◌, length, Option, None, Some, if◌then◌else◌, inl, inr, refl, ap, ap₂, sym, ◌∙◌, subst, append_assoc, arith}
 use Rattle.std.specs.Prelude.{◌^◌, IsSome, slice_get, slice_index_or, take, drop}
-use Rattle.std.specs.Option.{SomeIff, option_map}
+use Rattle.std.specs.Option.{option_map}
 use Rattle.std.proofs.lemmas.Bool.{cases_lt, false_from_ne_true, false≢true}
 use Rattle.std.proofs.lemmas.Bool.Decides.{nat_tests, Decides-eqb}
 use Rattle.std.proofs.lemmas.List.{take_all}
 use Rattle.std.proofs.lemmas.Option.{none-some, same_Some}
 use Rattle.dsr_names.specs.declared.actor.Actor.TheVariants.{Replica as ReplicaNumber}
 use Rattle.dsr_chain.specs.declared.signed_request.SignedRequest.{SignedRequest}
+use Rattle.dsr_chain.specs.Content.{value_of}
 use Rattle.dsr_chain.specs.declared.slot_value.SlotValue.{SlotValue}
+use Rattle.dsr_chain.specs.declared.slot_value.SlotValue.TheVariants.{Act}
 use Rattle.dsr_envelope.specs.declared.envelope.Envelope.{Envelope}
 use Rattle.dsr_envelope.specs.declared.entry.Entry.{Entry}
 use Rattle.dsr_envelope.specs.declared.entry.Entry.TheVariants.{Post}
@@ -22,41 +24,38 @@ use Rattle.dsr_replica.specs.Held.{put_before, all_held}
 use Rattle.dsr_envelope.specs.Log.{posted_to, taken_from, due, rounds}
 use Rattle.dsr_replica.specs.Replica.{Replica, IsLaterPost, StandsFor, ask_of, asks_of, value_at, value_for, Allows}
 use Rattle.dsr_replica.specs.Support.ReplicaFields.{IsWithin, after_post_to}
+use Rattle.dsr_replica.proofs.Asks.{put_parts}
 use Rattle.dsr_replica.proofs.Counting.{after_post}
 use Rattle.dsr_replica.proofs.Joining.{get_last}
 use Rattle.dsr_replica.proofs.Standing.{some_replica, rounds_are, kept_unmoved, values_unmoved, envelope_unmoved}
 
 -- ---- the asks of several clients
 
-some_from : {A : Type 0} {P : Type 0} (o : Option A) (v : A) → SomeIff o P v → P → o ≡ Some v
-some_from None v h p = absurd (h p)
-some_from (Some x) v h p = ap Some h.1
-
-put_some : {A : Type 0} (o : Option A) (os : Option (List A)) (found : List A) → put_before o os ≡ Some found
-    → (xs : List A) × (os ≡ Some xs) × (length found ≡ suc (length xs))
-put_some None os found e = absurd (none-some found e)
-put_some (Some x) None found e = absurd (none-some found e)
-put_some (Some x) (Some xs) found e = (xs, refl, ap length (sym (same_Some (x ∷ xs) found e)))
-
-all_count : (asks : List (Option SignedRequest)) (clients : List ℕ) (found : List SignedRequest) → asks_of asks clients ≡ Some found
+-- there are as many as clients
+pub all_count : (asks : List (Option SignedRequest)) (clients : List ℕ) (found : List SignedRequest) → asks_of asks clients ≡ Some found
     → length found ≡ length clients
 all_count asks [] found e = ap length (sym (same_Some [] found e))
 all_count asks (client ∷ more) found e =
-    let rest = put_some (ask_of asks client) (asks_of asks more) found e in
-    rest.2 ∙ ap suc (all_count asks more rest.0 rest.1)
+    let parts = put_parts (ask_of asks client) (asks_of asks more) found e in
+    sym (ap length parts.4) ∙ ap suc (all_count asks more parts.1 parts.3)
 
--- the asks of the first client and of the others
-pub asks_of_more : (asks : List (Option SignedRequest)) (clients : List ℕ) (first : ℕ) (ask : SignedRequest) (found : List SignedRequest)
-    (r : Option (List SignedRequest)) → first ≡ slice_index_or clients 0 first → 2 ≤ length clients → length clients ≤ 8
-    → Some ask ≡ ask_of asks first → Some found ≡ asks_of asks (take (length clients - 1) (drop 1 clients))
-    → SomeIff r (length found < 8) (ask ∷ found) → r ≡ asks_of asks clients
-asks_of_more asks [] first ask found r is some few one rest put = absurd (omega (arith, some))
-asks_of_more asks (client ∷ more) first ask found r is some few one rest put =
-    let whole : take (length (client ∷ more) - 1) more ≡ more = take_all (length (client ∷ more) - 1) more (omega arith) in
-    let others : asks_of asks more ≡ Some found = ap (asks_of asks) (sym whole) ∙ sym rest in
-    let own : ask_of asks client ≡ Some ask = ap (ask_of asks) (sym is) ∙ sym one in
-    let count = all_count asks more found others in
-    some_from r (ask ∷ found) put (omega (arith, count, few)) ∙ sym (ap₂ put_before own others)
+-- the ask of the first client and those of the others stand after what was there
+pub added_more : (asks : List (Option SignedRequest)) (clients : List ℕ) (first : ℕ) (ask : SignedRequest) (before after all : List SignedRequest)
+    → first ≡ slice_index_or clients 0 first → 1 ≤ length clients → Some ask ≡ ask_of asks first
+    → ((more : List SignedRequest) → asks_of asks (take (length clients - 1) (drop 1 clients)) ≡ Some more → after ≡ (before ++ ask ∷ []) ++ more)
+    → asks_of asks clients ≡ Some all → after ≡ before ++ all
+added_more asks [] first ask before after all is some one added e = absurd (omega (arith, some))
+added_more asks (client ∷ rest) first ask before after all is some one added e =
+    let whole : take (length (client ∷ rest) - 1) rest ≡ rest = take_all (length (client ∷ rest) - 1) rest (omega arith) in
+    let parts = put_parts (ask_of asks client) (asks_of asks rest) all e in
+    let own : ask ≡ parts.0 = same_Some ask parts.0 (one ∙ (ap (ask_of asks) is ∙ parts.2)) in
+    added parts.1 (ap (asks_of asks) whole ∙ parts.3)
+    ∙ (append_assoc before (ask ∷ []) parts.1 ∙ ap (λ xs. before ++ xs) (ap (λ x. x ∷ parts.1) own ∙ parts.4))
+
+-- asks of some clients are a value that acts
+pub acting_value : (list : List SignedRequest) → 0 < length list → value_of list ≡ Act list
+acting_value [] some = absurd (omega (arith, some))
+acting_value (ask ∷ more) some = refl
 
 -- ---- options
 

@@ -1,11 +1,10 @@
 -- What a take changes of the asks that are held.
-use Rattle.std.proofs.Common.{◌≡◌, ◌≢◌, ℕ, ◌<◌, ◌≤◌, ◌==◌, ◌&&◌, not, nat_lt, Bool, true, false, List, ◌∷◌, Option, None, Some, if◌then◌else◌, refl, ap, ap₂, sym, ◌∙◌, arith}
+use Rattle.std.proofs.Common.{◌≡◌, ◌≢◌, ℕ, ◌<◌, ◌≤◌, ◌==◌, ◌&&◌, not, nat_lt, Bool, true, false, List, ◌∷◌, Option, None, Some, if◌then◌else◌, refl, ap, ap₂, ◌∙◌, arith}
 use Rattle.std.proofs.lemmas.Bool.{false_from_ne_true}
 use Rattle.std.proofs.lemmas.Bool.Decides.{Decides-eqb, nat_tests}
 use Rattle.dsr_names.specs.Shape.{Shape}
 use Rattle.dsr_names.specs.declared.actor.Actor.TheVariants.{Client}
 use Rattle.dsr_chain.specs.Proper.{IsAsked}
-use Rattle.dsr_chain.specs.ProperTest.{is_asked}
 use Rattle.dsr_chain.specs.declared.signed_request.SignedRequest.{SignedRequest}
 use Rattle.dsr_chain.proofs.Lemmas.{asked-Decides}
 use Rattle.dsr_envelope.specs.declared.envelope.Envelope.{Envelope}
@@ -13,7 +12,7 @@ use Rattle.dsr_envelope.specs.declared.envelope.Envelope.TheVariants.{Empty, Rou
 use Rattle.dsr_envelope.specs.declared.entry.Entry.{Entry}
 use Rattle.dsr_envelope.specs.declared.entry.Entry.TheVariants.{Take}
 use Rattle.dsr_replica.specs.Held.{is_own_ask, gives_way, held_with, held}
-use Rattle.dsr_replica.proofs.Asks.{IsOwnAsk, own_parts}
+use Rattle.dsr_replica.proofs.Asks.{own_parts}
 
 module _ (shape : Shape) (client : ℕ) where
   own_test : (ask : SignedRequest) → ask.request.client ≡ client → IsAsked shape ask → is_own_ask shape client ask ≡ true

@@ -1,5 +1,5 @@
 -- That held asks can be proposed, by the sender and by no one else.
-use Rattle.std.proofs.Common.{◌≡◌, ◌≢◌, ℕ, true, false, Bool, List, [], ◌∷◌, Option, None, Some, if◌then◌else◌, refl, ap, ap₂, sym, ◌∙◌, subst}
+use Rattle.std.proofs.Common.{◌≡◌, ◌≢◌, ℕ, true, false, Bool, List, [], ◌∷◌, Option, None, Some, if◌then◌else◌, refl, ap, ap₂, ◌∙◌, subst}
 use Rattle.std.specs.Prelude.{IsSome, map}
 use Rattle.std.specs.Option.{option_map}
 use Rattle.std.proofs.lemmas.Bool.{false_from_ne_true, false≢true}
@@ -10,7 +10,6 @@ use Rattle.dsr_names.specs.declared.actor.Actor.{Actor}
 use Rattle.dsr_names.specs.Support.ActorEquality.{actor_eq, actor_eq-Decides}
 use Rattle.dsr_chain.specs.Proper.{sender_of}
 use Rattle.dsr_chain.specs.declared.signed_request.SignedRequest.{SignedRequest}
-use Rattle.dsr_chain.specs.declared.slot_value.SlotValue.{SlotValue}
 use Rattle.dsr_chain.specs.declared.slot_value.SlotValue.TheVariants.{Act}
 use Rattle.dsr_envelope.specs.Log.{due, rounds}
 use Rattle.dsr_envelope.specs.declared.envelope.Envelope.{Envelope}

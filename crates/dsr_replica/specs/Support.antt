@@ -4,4 +4,5 @@ pub mod Decisions
 pub mod DecisionsFields
 pub mod Flights
 pub mod FlightsFields
+pub mod ProposalFields
 pub mod ReplicaFields

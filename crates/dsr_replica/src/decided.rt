@@ -115,6 +115,11 @@ fn process(machine: &mut Machine, decision: &Decision)
     ensures few { length machine.new.history ≤ length machine.old.history + 8 }
     ensures clients { machine.new.clients ≡ machine.old.clients }
 {
+    // one request, as most values have, is taken out alone: a content moves the room for eight
+    if let [only] = decision.signed() {
+        accept(machine, &[only.request]);
+        return;
+    }
     match decision.content() {
         Some(requests) => accept(machine, requests.as_slice()),
         None => accept(machine, &[]),

@@ -1,12 +1,13 @@
-ghost use Rattle.std.specs.Prelude.{◌≡◌, ℕ, suc, ◌+◌, ◌<◌, ◌≤◌, ◌^◌, ◌∷◌, ◌++◌, [], All, map, false, None, IfOk, IfSome, IsOkUnless, vec_capacity, if◌then◌else◌};
+ghost use Rattle.std.specs.Prelude.{◌≡◌, ℕ, suc, ◌+◌, ◌<◌, ◌≤◌, ◌^◌, ◌∷◌, ◌++◌, [], All, length, map, false, None, IfOk, IfSome, IsOkUnless, vec_capacity, if◌then◌else◌};
 ghost use Rattle.dsr_names.specs.Shape.{Shape};
 ghost use Rattle.dsr_chain.specs.Content.{signed_in};
 ghost use Rattle.dsr_chain.specs.Proper.{IsAsked};
+ghost use Rattle.dsr_chain.specs.Content.{value_of};
 ghost use Rattle.dsr_rotation.specs.Calendar.{closed_slots};
 ghost use Rattle.dsr_slot.specs.SlotState.{SlotState, opened, with_chain, with_closed};
 ghost use Rattle.dsr_replica.specs.Support.Flights.{AreInFlight, HasOpenRound, IsFirstLast, AreOf, with_chains, is_begun, slot_post, posts_of, rest_of, next_flights, first_decided, decided_with};
 
-use dsr_chain::{Chain, SlotValue};
+use dsr_chain::{Chain, SignedRequest};
 use dsr_desk::Key;
 use dsr_names::{Actor, Refusal, Shape};
 use dsr_rotation::Calendar;
@@ -110,21 +111,22 @@ impl Flights {
         decision
     }
 
-    /// What the key's holder posts in the round in progress, where it proposes this value: for each slot in flight the
-    /// chains that it relays, and the one that it starts. `NoMemory` where memory runs out or one handle more
-    /// is refused.
+    /// What the key's holder posts in the round in progress, where it proposes the value with these signed requests: for each slot
+    /// in flight the chains that it relays, and the one that it starts. Requires that they are at most 8. `NoMemory` where memory
+    /// runs out or one handle more is refused.
     pub(crate) fn posts(
         &self,
         alloc: Global,
         key: &Key,
-        value: &SlotValue,
+        signed: &[SignedRequest],
     ) -> Result<Vec<Chain>, Refusal>
-        ensures posts { IfOk result (λ chains. chains.items ≡ posts_of key.now value.now self.now.slots) }
+        requires { length signed.now ≤ 8 }
+        ensures posts { IfOk result (λ chains. chains.items ≡ posts_of key.now (value_of signed.now) self.now.slots) }
         ensures refusal { IsOkUnless result Refusal.NoMemory }
     {
         let mut chains = Vec::new(alloc);
         for slot in self.slots.as_slice() {
-            let mut part = slot_post(alloc, slot, key, value)?;
+            let mut part = slot_post(alloc, slot, key, signed)?;
             chains.append(&mut part)?;
         }
         Ok(chains)
@@ -159,19 +161,20 @@ fn close_each(slots: &mut Vec<SlotState>)
     }
 }
 
-/// What the key's holder posts of the slot in the round after its closed ones, where it proposes this value.
+/// What the key's holder posts of the slot in the round after its closed ones, where it proposes the value with these signed requests.
 fn slot_post(
     alloc: Global,
     slot: &SlotState,
     key: &Key,
-    value: &SlotValue,
+    signed: &[SignedRequest],
 ) -> Result<Vec<Chain>, Refusal>
-    ensures posts { IfOk result (λ chains. chains.items ≡ slot_post key.now value.now slot.now) }
+    requires { length signed.now ≤ 8 }
+    ensures posts { IfOk result (λ chains. chains.items ≡ slot_post key.now (value_of signed.now) slot.now) }
     ensures refusal { IsOkUnless result Refusal.NoMemory }
 {
     let mut chains = slot.relays(alloc, slot.closed_rounds() + 1, key)?;
     if begins(slot, key) {
-        chains.push(Chain::start(alloc, slot.slot(), *value, key)?)?;
+        chains.push(Chain::start_with(alloc, slot.slot(), signed, key)?)?;
     }
     Ok(chains)
 }

@@ -1,12 +1,12 @@
-ghost use Rattle.std.specs.Prelude.{◌≡◌, ℕ, ◌<◌, ◌≤◌, ◌&&◌, ◌↔◌, None, IfOk, IsOkUnless, IsSome, IsTrue, length, slice_index_or, slice_set};
+ghost use Rattle.std.specs.Prelude.{◌≡◌, ℕ, ◌+◌, ◌<◌, ◌≤◌, ◌&&◌, ◌++◌, ◌↔◌, List, None, Some, IfOk, IsOkUnless, IsSome, IsTrue, length, slice_index_or, slice_set, vec_capacity};
+ghost use Rattle.std.specs.Option.{option_map};
 ghost use Rattle.dsr_chain.specs.declared.signed_request.SignedRequest.{SignedRequest};
 ghost use Rattle.dsr_envelope.specs.declared.envelope.Envelope.TheVariants.{Ask};
 ghost use Rattle.dsr_replica.specs.Held.{is_own_ask, gives_way, held_with};
 ghost use Rattle.dsr_replica.specs.Replica.{ask_of, asks_of};
 ghost use Rattle.dsr_replica.specs.Support.Asks.{asks_with};
 
-use dsr_base::Few;
-use dsr_chain::{Batch, SignedRequest};
+use dsr_chain::SignedRequest;
 use dsr_envelope::{Envelope, SharedAsk};
 use dsr_names::{ClientId, Refusal, Shape};
 use std::alloc::Global;
@@ -42,11 +42,11 @@ impl Asks {
     }
 
     /// The ask held of this client.
-    pub(crate) fn get(&self, client: ClientId) -> Option<SignedRequest>
-        ensures { result ≡ ask_of self.now client }
+    pub(crate) fn get(&self, client: ClientId) -> Option<&SignedRequest>
+        ensures { option_map (λ ask. ask.now) result ≡ ask_of self.now client }
     {
         match self.list.as_slice().get(client.number() as usize) {
-            Some(Some(ask)) => Some(*ask.signed()),
+            Some(Some(ask)) => Some(ask.signed()),
             _ => None,
         }
     }
@@ -93,19 +93,17 @@ impl Asks {
         }
     }
 
-    /// The asks held of these clients, in this order. `None` where one of them has none. Requires 1 to 8 clients.
-    pub(crate) fn of(&self, clients: &[ClientId]) -> Option<Batch>
-        requires some { 0 < length clients.now }
-        requires few { length clients.now ≤ 8 }
-        ensures { result ≡ asks_of self.now clients.now }
+    /// Puts the asks held of these clients, in this order, at the end of the list. It allocates nothing. Requires that one of each
+    /// is held, and room for them.
+    pub(crate) fn add_to(&self, clients: &[ClientId], list: &mut Vec<SignedRequest>)
+        requires held { IsSome (asks_of self.now clients.now) }
+        requires room { length list.old.items + length clients.now ≤ vec_capacity list.old }
+        ensures added { (asks : List SignedRequest) → asks_of self.now clients.now ≡ Some asks → list.new.items ≡ list.old.items ++ asks }
+        ensures room { vec_capacity list.new ≡ vec_capacity list.old }
     {
-        match clients {
-            [] => None,
-            [first] => Some(Few::one(self.get(*first)?)),
-            [first, rest @ ..] => {
-                let ask = self.get(*first)?;
-                self.of(rest)?.after(ask)
-            }
+        if let [first, rest @ ..] = clients {
+            list.push_reserved(*self.get(*first).unwrap());
+            self.add_to(rest, list);
         }
     }
 }

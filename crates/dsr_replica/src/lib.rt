@@ -5,6 +5,7 @@ mod decided;
 mod flights;
 mod held;
 mod laws;
+mod proposal;
 mod replica;
 
 pub use dsr_envelope::{Chains, Clients, Due, Entry, Envelope, Letter, Pick};

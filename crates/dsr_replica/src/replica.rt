@@ -5,6 +5,7 @@ ghost use Rattle.dsr_names.specs.Support.ActorEquality.{actor_eq};
 ghost use Rattle.dsr_base.specs.Member.{In};
 ghost use Rattle.dsr_chain.specs.Proper.{sender_of};
 ghost use Rattle.dsr_chain.specs.Content.{requests_in};
+ghost use Rattle.dsr_chain.specs.Content.{value_of as value_with};
 ghost use Rattle.dsr_chain.specs.declared.slot_value.SlotValue.{SlotValue};
 ghost use Rattle.dsr_history.specs.History.{acted};
 ghost use Rattle.dsr_rotation.specs.Calendar.{closed_slots};
@@ -29,7 +30,8 @@ ghost use Rattle.dsr_replica.specs.Support.ReplicaFields.{with_envelope, with_de
 use crate::decided::Decisions;
 use crate::flights::Flights;
 use crate::held::Asks;
-use dsr_chain::{Chain, SlotValue};
+use crate::proposal::Proposal;
+use dsr_chain::{Chain, SignedRequest};
 use dsr_desk::Key;
 use dsr_envelope::{Chains, Clients, Due, Envelope, Pick};
 use dsr_names::{Actor, ClientId, Refusal, ReplicaId, Shape};
@@ -48,7 +50,7 @@ pub struct Replica {
     due: Due,
     flights: Flights,
     decisions: Decisions,
-    proposed: SlotValue,
+    proposed: Proposal,
     asks: Asks,
 }
 
@@ -76,13 +78,14 @@ impl Replica {
         let _n = shape.n();
         let flights = Flights::new(alloc, shape)?;
         let decisions = Decisions::new(alloc, shape)?;
+        let proposed = Proposal::idle(alloc)?;
         let asks = Asks::new(alloc, shape)?;
         Ok(Replica {
             key,
             due: Due::Post(ReplicaId::FIRST),
             flights,
             decisions,
-            proposed: SlotValue::Idle,
+            proposed,
             asks,
         })
     }
@@ -281,17 +284,15 @@ impl Replica {
         ensures in_flight { AreInFlight self.now.shape self.now.round self.now.slots (closed_slots self.now.shape self.now.round) }
     {
         if to.number() > 0 {
-            return self.made(alloc, &self.proposed);
+            return self.made(alloc, self.proposed.signed());
         }
         match pick {
             Pick::From(clients) => self.made_from(alloc, clients),
-            Pick::Plain | Pick::Begin(_) => self.made(alloc, &SlotValue::Idle),
+            Pick::Plain | Pick::Begin(_) => self.made(alloc, &[]),
         }
     }
 
-    /// The envelope of the round in progress, which proposes the asks held of these clients. It holds a large value for a while, so it
-    /// is kept out of its caller. Requires that the choice is allowed.
-    #[inline(never)]
+    /// The envelope of the round in progress, which proposes the asks held of these clients. Requires that the choice is allowed.
     fn made_from(&self, alloc: Global, clients: Clients) -> Result<Envelope, Refusal>
         requires { IsSome (value_of self.now (From clients)) }
         ensures made { (value : SlotValue) → value_of self.now (From clients) ≡ Some value
@@ -299,20 +300,24 @@ impl Replica {
         ensures refusal { IsOkUnless result Refusal.NoMemory }
         ensures in_flight { AreInFlight self.now.shape self.now.round self.now.slots (closed_slots self.now.shape self.now.round) }
     {
-        match self.value_from(clients) {
-            Some(value) => self.made(alloc, &value),
-            None => self.made(alloc, &SlotValue::Idle),
-        }
+        // that the slots are in flight is known from here on
+        let _round = self.flights.round();
+        let clients = clients.as_slice();
+        let mut asks = Vec::with_capacity(alloc, clients.len())?;
+        self.asks.add_to(clients, &mut asks);
+        self.made(alloc, asks.as_slice())
     }
 
-    /// The envelope of the round in progress with the chains that are posted where this value is proposed.
-    fn made(&self, alloc: Global, value: &SlotValue) -> Result<Envelope, Refusal>
-        ensures made { IfOk result (λ envelope. envelope ≡ round_envelope self.now.round (posts_of self.now.me value.now self.now.slots)) }
+    /// The envelope of the round in progress with the chains that are posted where the value with these signed requests is proposed.
+    fn made(&self, alloc: Global, signed: &[SignedRequest]) -> Result<Envelope, Refusal>
+        requires { length signed.now ≤ 8 }
+        ensures made { IfOk result (λ envelope. envelope
+            ≡ round_envelope self.now.round (posts_of self.now.me (value_with signed.now) self.now.slots)) }
         ensures refusal { IsOkUnless result Refusal.NoMemory }
         ensures in_flight { AreInFlight self.now.shape self.now.round self.now.slots (closed_slots self.now.shape self.now.round) }
     {
         let round = self.flights.round();
-        let chains = self.flights.posts(alloc, &self.key, value)?;
+        let chains = self.flights.posts(alloc, &self.key, signed)?;
         Ok(envelope_of(round, chains))
     }
 
@@ -352,19 +357,6 @@ impl Replica {
         self.key.signer() == sender
     }
 
-    /// The asks held of these clients as a value, where the replica is the sender of the slot that begins with the round.
-    fn value_from(&self, clients: Clients) -> Option<SlotValue>
-        ensures { result ≡ value_of self.now (From clients) }
-    {
-        if !self.is_sender() {
-            return None;
-        }
-        match self.asks.of(clients.as_slice()) {
-            Some(batch) => Some(SlotValue::Act(batch)),
-            None => None,
-        }
-    }
-
     /// Posts to this replica by this choice. Requires that it is allowed.
     fn post(&mut self, to: ReplicaId, pick: Pick)
         requires { Allows self.old to pick }
@@ -377,21 +369,14 @@ impl Replica {
         self.due = due_after(to, self.flights.shape().n());
     }
 
-    /// Proposes what the choice proposes at the post to replica 0. It is a large value: what is idle already is left as it is.
+    /// Proposes what the choice proposes at the post to replica 0. Requires that it is allowed there.
     fn propose(&mut self, pick: Pick)
+        requires { IsSome (value_of self.old pick) }
         ensures { (value : SlotValue) → value_of self.old pick ≡ Some value → self.new ≡ record self.old { proposed = value } }
     {
         match pick {
-            Pick::From(clients) => {
-                if let Some(value) = self.value_from(clients) {
-                    self.proposed = value;
-                }
-            }
-            Pick::Plain | Pick::Begin(_) => {
-                if let SlotValue::Act(_) = &self.proposed {
-                    self.proposed = SlotValue::Idle;
-                }
-            }
+            Pick::From(clients) => self.proposed.propose(&self.asks, clients.as_slice()),
+            Pick::Plain | Pick::Begin(_) => self.proposed.clear(),
         }
     }
 

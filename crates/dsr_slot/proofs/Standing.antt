@@ -1,5 +1,5 @@
 -- Lemmas that tie a slot's state to all the chains that were read in its rounds, over plain variables.
-use Rattle.std.proofs.Common.{◌≡◌, ℕ, suc, ◌+◌, List, [], ◌∷◌, ◌++◌, sym, ap, ◌∙◌, subst, add-one, arith}
+use Rattle.std.proofs.Common.{◌≡◌, ℕ, suc, ◌+◌, List, [], ◌∷◌, sym, ap, ◌∙◌, subst, add-one, arith}
 use Rattle.std.proofs.lemmas.List.Sums.{fold-append}
 use Rattle.dsr_names.specs.Shape.{Shape}
 use Rattle.dsr_chain.specs.Chain.{Chain}

@@ -57,7 +57,7 @@ impl Decision {
     pub(crate) fn of(chain: Chain) -> Decision
         ensures { result ≡ chain.value }
     {
-        if chain.content().is_none() {
+        if chain.signed().is_empty() {
             return Decision::idle();
         }
         Decision { chain: Some(chain) }

@@ -1,5 +1,5 @@
 -- A content that is kept as a shared list of its requests.
-use Rattle.std.specs.Prelude.{ℕ, ◌<◌, ◌≤◌, List, Option, None, Some, length}
+use Rattle.std.specs.Prelude.{◌<◌, ◌≤◌, List, Option, None, Some, length}
 use Rattle.dsr_request.specs.Request.{Request}
 
 -- idle, or 1 to 8 requests

@@ -1,6 +1,7 @@
 use Rattle.std.proofs.Common.{◌≡◌, ◌∙◌, ◌+◌, ◌++◌, ◌∷◌, [], ap, ap₂, sym, take, add-one}
 use Rattle.std.specs.Prelude.{slice_index_or}
 use Rattle.std.proofs.Math.Seq.{take-suc}
+use Rattle.dsr_chain.specs.Content.{value_of}
 use Rattle.dsr_replica.specs.Support.Flights.{slot_post, posts_of}
 use Rattle.dsr_replica.proofs.InFlight.{posts_more}
 use Rattle.dsr_replica.proofs.flights.Flights.posts.Goals as goal
@@ -9,7 +10,7 @@ use Rattle.dsr_replica.proofs.flights.Flights.posts.Goals as goal
 pub loop-slot-preserved : goal.loop-slot-preserved
 loop-slot-preserved c =
     let me = c.args.key.now in
-    let value = c.args.value.now in
+    let value = value_of c.args.signed.now in
     let slots = c.as_slice-slot-items.result.now in
     let place = c.loop-slot.slot-index in
     let s = c.slot-item.result in

@@ -4,7 +4,6 @@ use Rattle.std.proofs.lemmas.Grind.{common_steps}
 use Rattle.std.proofs.lemmas.List.Sums.{fold-append}
 use Rattle.dsr_slot.proofs.Standing.{stands_on}
 use Rattle.dsr_slot.specs.Keeping.{keep_one}
-use Rattle.dsr_slot.specs.Support.SlotState.{slot_state_of}
 use Rattle.dsr_slot.specs.SlotState.{SlotState, with_chain, with_round}
 use Rattle.dsr_slot.specs.declared.kept.Kept.{Kept}
 use Rattle.dsr_slot.proofs.slot_state.SlotState.close_round.Goals as goal
