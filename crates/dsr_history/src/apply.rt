@@ -1,6 +1,9 @@
-ghost use Rattle.std.specs.Prelude.{◌≡◌, ℕ, ◌+◌, ◌<◌, ◌≤◌, ◌^◌, List, ◌∷◌, ◌++◌, [], length, Option, Some, OnOk, IfOk, IfErr, IfSome, IfNone, IsOkUnless};
+ghost use Rattle.std.specs.Prelude.{◌≡◌, ℕ, ◌+◌, ◌<◌, ◌≤◌, ◌^◌, List, ◌∷◌, ◌++◌, [], length, codes, Option, Some, OnOk, IfOk, IfErr, IfSome, IfNone, IsOkUnless};
+ghost use Rattle.std.specs.Fmt.{decimal};
 ghost use Rattle.dsr_names.specs.Limits.{most_calls};
 ghost use Rattle.dsr_names.specs.Streams.{streams};
+ghost use Rattle.dsr_names.specs.Token.{old_text};
+ghost use Rattle.dsr_request.specs.AnswerText.{answer_text};
 ghost use Rattle.dsr_request.specs.Request.{Request};
 ghost use Rattle.dsr_history.specs.History.{acted};
 ghost use Rattle.dsr_history.specs.Support.Service.{IsAfter};
@@ -9,10 +12,11 @@ ghost use Rattle.dsr_history.specs.Applied.{request_line, values_of, applied, Ap
 
 use crate::service::Service;
 use dsr_base::split_once;
+use dsr_ledger::Reply;
 use dsr_names::{Refusal, Shape, Sink, Source, read_input, write_output};
 use dsr_request::Request;
-use std::alloc::Global;
-use std::io::Write;
+use itoa::Buffer;
+use std::alloc::{AllocError, Global};
 
 /// A service, and the answers that it gave so far.
 #[derive(Drop)]
@@ -36,16 +40,39 @@ impl Run {
         self.service.process(request);
         let kept = self.service.kept(request.client());
         let written = match kept {
-            Some(reply) if request.number() < reply.number => writeln!(self.answers, "old"),
-            Some(reply) => {
-                let place = reply.place;
-                let answer = reply.answer;
-                writeln!(self.answers, "{place} {answer}")
+            Some(reply) if request.number() < reply.number => {
+                self.answers.extend_from_slice(b"old\n")
             }
+            Some(reply) => write_reply(&mut self.answers, &reply),
             // A client has a reply after its own line, so there is always something to tell.
-            None => writeln!(self.answers),
+            None => self.answers.extend_from_slice(b"\n"),
         };
         written.map_err(|_| Refusal::NoMemory)
+    }
+}
+
+/// Puts the line that tells the reply at the end of the text. By hand, since `writeln!` took a fifth of an `apply`.
+fn write_reply(text: &mut Vec<u8>, reply: &Reply) -> Result<(), AllocError>
+    ensures { OnOk result (text.new.items ≡ text.old.items
+        ++ (decimal reply.now.place ++ (codes " " ++ (answer_text reply.now.answer ++ 10 ∷ [])))) }
+{
+    let (words, held) = reply.answer.parts();
+    text.extend_from_slice(Buffer::new().format(reply.place).as_bytes())?;
+    text.extend_from_slice(b" ")?;
+    text.extend_from_slice(words.as_bytes())?;
+    if let Some(held) = held {
+        write_held(text, held)?;
+    }
+    text.extend_from_slice(b"\n")
+}
+
+/// Puts what a register held at the end of the text.
+fn write_held(text: &mut Vec<u8>, held: Option<u64>) -> Result<(), AllocError>
+    ensures { OnOk result (text.new.items ≡ text.old.items ++ old_text held) }
+{
+    match held {
+        None => text.extend_from_slice(b"none"),
+        Some(number) => text.extend_from_slice(Buffer::new().format(number).as_bytes()),
     }
 }
 
@@ -110,7 +137,8 @@ fn answer_text(alloc: Global, text: &[u8]) -> Result<Answered, Refusal>
     let shape = Shape::new(1, 0, 32, 0)?;
     let mut run = Run {
         service: Service::new(alloc, &shape)?,
-        answers: Vec::new(alloc),
+        // Most answers are shorter than half of their lines.
+        answers: Vec::with_capacity(alloc, text.len() / 2)?,
     };
     let bad = run.answer_lines(text)?;
     Ok(Answered {

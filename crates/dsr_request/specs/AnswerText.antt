@@ -1,5 +1,5 @@
 -- How texts spell an answer (this project).
-use Rattle.std.specs.Prelude.{ℕ, List, ◌++◌, codes}
+use Rattle.std.specs.Prelude.{ℕ, List, [], ◌++◌, codes, Option, None, Some}
 use Rattle.dsr_names.specs.Token.{IsOld, old_text}
 use Rattle.dsr_request.specs.declared.answer.Answer.{Answer}
 use Rattle.dsr_request.specs.declared.answer.Answer.TheVariants.{Held, Written, Swapped, Kept, Full, Removed}
@@ -21,3 +21,8 @@ IsAnswer Swapped = Unit {0}
 IsAnswer (Kept old) = IsOld old
 IsAnswer Full = Unit {0}
 IsAnswer (Removed old) = IsOld old
+
+-- what an answer's text has after its word: what the register held, where it tells that
+abbrev pub held_text : Option (Option ℕ) → List ℕ
+held_text None = []
+held_text (Some old) = old_text old

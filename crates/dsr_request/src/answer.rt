@@ -1,7 +1,7 @@
-ghost use Rattle.std.specs.Prelude.{◌++◌, Some};
+ghost use Rattle.std.specs.Prelude.{◌≡◌, ◌++◌, Some};
 ghost use Rattle.dsr_base.specs.Reads.{Reads};
 ghost use Rattle.dsr_names.specs.Token.{IsOld, old_text};
-ghost use Rattle.dsr_request.specs.AnswerText.{IsAnswer, answer_text};
+ghost use Rattle.dsr_request.specs.AnswerText.{IsAnswer, answer_text, held_text};
 ghost use Rattle.std.proofs.Common.{rules};
 
 use dsr_base::Exact;
@@ -46,6 +46,21 @@ impl Answer {
             None
         }
     }
+
+    /// The word of this answer's text, with the space where there is more, and what the register held, where the text
+    /// tells that after it. For a text that is made without `Display`.
+    pub fn parts(&self) -> (&'static str, Option<Option<u64>>)
+        ensures { answer_text self.now ≡ result.0.now ++ held_text result.1 }
+    {
+        match self {
+            Answer::Held(old) => ("held ", Some(*old)),
+            Answer::Written => ("written", None),
+            Answer::Swapped => ("swapped", None),
+            Answer::Kept(old) => ("kept ", Some(*old)),
+            Answer::Full => ("full", None),
+            Answer::Removed(old) => ("removed ", Some(*old)),
+        }
+    }
 }
 
 impl fmt::Display for Answer {
@@ -54,21 +69,12 @@ impl fmt::Display for Answer {
     ghost output = { λ a. Some (answer_text a) };
 
     fn fmt<W: fmt::Write>(&self, f: &mut fmt::Formatter<W>) -> fmt::Result {
-        match self {
-            Answer::Held(old) => {
-                let old = Old(*old);
-                write!(f, "held {old}")
-            }
-            Answer::Written => f.write_str("written"),
-            Answer::Swapped => f.write_str("swapped"),
-            Answer::Kept(old) => {
-                let old = Old(*old);
-                write!(f, "kept {old}")
-            }
-            Answer::Full => f.write_str("full"),
-            Answer::Removed(old) => {
-                let old = Old(*old);
-                write!(f, "removed {old}")
+        let (words, held) = self.parts();
+        match held {
+            None => f.write_str(words),
+            Some(held) => {
+                let held = Old(held);
+                write!(f, "{words}{held}")
             }
         }
     }
