@@ -43,14 +43,6 @@ impl Brief {
         })
     }
 
-    /// The same once more. `NoMemory` where memory runs out.
-    pub(crate) fn try_copy(&self, alloc: Global) -> Result<Brief, Refusal>
-        ensures same { IfOk result (λ brief. brief ≡ self.now) }
-        ensures refusal { IsOkUnless result Refusal.NoMemory }
-    {
-        Brief::of(alloc, &self.spelled())
-    }
-
     /// Who is to have signed.
     pub(crate) fn signer(&self) -> Actor
         ensures { result ≡ self.now.signer }
