@@ -50,16 +50,6 @@ impl Brief {
         self.signer
     }
 
-    /// What is said.
-    pub(crate) fn spelled(&self) -> Spelled
-        ensures { result ≡ self.now }
-    {
-        match &self.other {
-            Some(other) => Spelled::of_parts(self.signer, Some(other.copy())),
-            None => Spelled::of_parts(self.signer, None),
-        }
-    }
-
     /// The other statement, where it is on another than fits.
     pub(crate) fn other(&self) -> Option<&Statement>
         ensures { option_map (λ s. s.now) result ≡ self.now.other }
@@ -84,9 +74,9 @@ impl Brief {
     pub(crate) fn is_said(&self, fitting: &Statement) -> bool
         ensures { IsTrue result ↔ (self.now ≡ spelled_at fitting.now (said_in fitting.now self.now)) }
     {
-        match self.spelled().said_at(fitting) {
-            Some(_said) => true,
-            None => false,
+        match self.other() {
+            Some(other) => !other.same(fitting),
+            None => true,
         }
     }
 }
