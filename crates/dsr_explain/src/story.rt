@@ -142,7 +142,7 @@ impl Story {
             };
         }
         match event {
-            Event::Plant { draft, .. } => Ok(Some(draft.try_copy(alloc)?)),
+            Event::Plant { draft, .. } => Ok(Some(draft.try_copy()?)),
             _ => Ok(None),
         }
     }
