@@ -125,7 +125,7 @@ impl TakesLines for Reading {
 
     ghost gives = { λ play lines. play.events ≡ all_events play.shape lines };
 
-    fn read_line(alloc: Global, bytes: &[u8]) -> Result<Option<PlayLine>, Refusal> {
+    fn read_line(&mut self, alloc: Global, bytes: &[u8]) -> Result<Option<PlayLine>, Refusal> {
         PlayLine::read(alloc, bytes)
     }
 

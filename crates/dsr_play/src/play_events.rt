@@ -124,7 +124,7 @@ fn add_plants(
 {
     for number in 0..shape.n() {
         let to = replica_of(number);
-        let draft = draft.try_copy(alloc)?;
+        let draft = draft.try_copy()?;
         add(
             Event::Plant {
                 from: *from,

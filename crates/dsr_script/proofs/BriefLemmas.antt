@@ -1,9 +1,8 @@
 -- What is said of signatures, and the signatures.
-use Rattle.std.proofs.Common.{All, ◌≡◌, ℕ, ◌↔◌, Bool, true, false, cond, List, [], ◌∷◌, ◌++◌, Option, None, Some, refl, sym, ◌∙◌, ap, ap₂}
+use Rattle.std.proofs.Common.{All, ◌≡◌, ℕ, Bool, true, false, cond, List, [], ◌∷◌, ◌++◌, Option, None, Some, refl, sym, ap, ap₂}
 use Rattle.std.specs.Prelude.{unwrap_or}
 use Rattle.std.specs.Bool.{Decides}
 use Rattle.std.proofs.lemmas.List.Elements.{All-cons, All-head, All-tail}
-use Rattle.std.proofs.lemmas.Option.{none-some}
 use Rattle.dsr_names.specs.declared.actor.Actor.{Actor}
 use Rattle.dsr_request.specs.Request.{Request}
 use Rattle.dsr_desk.specs.Signature.{Signature, signed}
@@ -21,15 +20,6 @@ same_statement false fitting s decides = refl
 -- a signature is what is said of it
 pub said_back : (fitting : Statement) (s : Signature) → said_in fitting (spelled_at fitting s) ≡ s
 said_back fitting s = ap (signed s.signer) (same_statement (statement_eq s.statement fitting) fitting s (statement_eq-Decides s.statement fitting))
-
-module _ (fitting : Statement) (x : Spelled) (r : Option Signature) (says : (s : Signature) → (r ≡ Some s) ↔ (x ≡ spelled_at fitting s)) where
-  pub is_said : (s : Signature) → r ≡ Some s → x ≡ spelled_at fitting (said_in fitting x)
-  is_said s is =
-      let said : x ≡ spelled_at fitting s = (says s).0 is in
-      said ∙ ap (spelled_at fitting) (sym (ap (said_in fitting) said ∙ said_back fitting s))
-
-  pub not_said : r ≡ None → x ≡ spelled_at fitting (said_in fitting x) → ⊥
-  not_said is e = none-some (said_in fitting x) (sym is ∙ (says (said_in fitting x)).1 e)
 
 -- so are those of a chain
 module _ (slot : ℕ) (value : Option (List Request)) where

@@ -1,6 +1,7 @@
 -- What texts say of signatures, read back.
 use Rattle.std.proofs.Common.{◌≡◌, ℕ, ◌↔◌, Bool, true, false, cond, List, ◌∷◌, ◌++◌, Option, None, Some, refl, sym, ◌∙◌, ap, ap₂, subst, arith, lit<}
 use Rattle.std.specs.Bool.{Decides}
+use Rattle.std.specs.Prelude.{IsTrue, not, unwrap_or}
 use Rattle.std.specs.Option.{option_map}
 use Rattle.std.proofs.lemmas.Bool.{false≢true}
 use Rattle.std.proofs.lemmas.List.{append-nil}
@@ -21,6 +22,7 @@ use Rattle.dsr_desk.specs.declared.statement.Statement.{Statement}
 use Rattle.dsr_script.proofs.PairLemmas.{reads_pair}
 use Rattle.dsr_envelope.specs.Limits.{IsSignature}
 use Rattle.dsr_script.specs.SignatureText.{Spelled, spelled_at, spelled_text, other_text}
+use Rattle.dsr_script.specs.Support.Links.{said_in}
 use Rattle.dsr_script.specs.Support.SpelledText.{IsSpelled, IsOther, closed_text, long_form, pair_of}
 
 abbrev pub said_of : Actor → Option Statement → Spelled
@@ -39,55 +41,38 @@ elsewhere false fitting s decides other = refl
 not_at_place : (fitting : Statement) (s : Signature) → (s.statement ≡ fitting → ⊥) → spelled_at fitting s ≡ said_of s.signer (Some s.statement)
 not_at_place fitting s other = elsewhere (statement_eq s.statement fitting) fitting s (statement_eq-Decides s.statement fitting) other
 
-same_fitting : (b : Bool) (fitting : Statement) (s : Signature) → Decides b (s.statement ≡ fitting) → ◌≡◌ {A = Option Statement} None (cond b None (Some s.statement))
-    → s.statement ≡ fitting
-same_fitting true fitting s decides e = decides.0 refl
-same_fitting false fitting s decides e = absurd (none-some s.statement e)
-
 same_other : (b : Bool) (fitting : Statement) (s : Signature) (other : Statement) → Decides b (s.statement ≡ fitting) → Some other ≡ cond b None (Some s.statement)
     → (other ≡ s.statement) × (s.statement ≡ fitting → ⊥)
 same_other true fitting s other decides e = absurd (none-some other (sym e))
 same_other false fitting s other decides e = (same_Some other s.statement e, λ same. false≢true (decides.1 same))
 
-pub short_said : (fitting : Statement) (signer : Actor) (other : Option Statement) (x : Spelled) (r : Signature) → said_of signer other ≡ x → None ≡ other
-    → r ≡ signed signer fitting → (s : Signature) → (Some r ≡ Some s) ↔ (x ≡ spelled_at fitting s)
-short_said fitting signer other x r seen none made s = (
-  λ e.
-      let same : signed signer fitting ≡ s = sym made ∙ same_Some r s e in
-      sym seen ∙ (ap (said_of signer) (sym none)
-      ∙ (sym (at_place fitting (signed signer fitting) refl) ∙ ap (spelled_at fitting) same)),
-  λ e.
-      let whole : said_of signer other ≡ spelled_at fitting s = seen ∙ e in
-      let fits : s.statement ≡ fitting =
-      same_fitting (statement_eq s.statement fitting) fitting s (statement_eq-Decides s.statement fitting) (none ∙ ap (λ y. y.other) whole) in
-      let by : signer ≡ s.signer = ap (λ y. y.signer) whole in
-      ap Some (made ∙ ap₂ signed by (sym fits)),
-)
+module _ (fitting : Statement) (x : Spelled) where
+  -- what fits is said shortly
+  pub fits_said : x.other ≡ None → x ≡ spelled_at fitting (said_in fitting x)
+  fits_said none =
+      ap (said_of x.signer) none
+      ∙ (sym (at_place fitting (signed x.signer fitting) refl)
+      ∙ ap (λ other. spelled_at fitting (signed x.signer (unwrap_or other fitting))) (sym none))
 
-pub long_said : (fitting : Statement) (signer : Actor) (other : Option Statement) (statement : Statement) (x : Spelled) (r : Signature) → said_of signer other ≡ x
-    → Some statement ≡ other → (statement ≡ fitting → ⊥) → r ≡ signed signer statement → (s : Signature) → (Some r ≡ Some s) ↔ (x ≡ spelled_at fitting s)
-long_said fitting signer other statement x r seen some differs made s = (
-  λ e.
-      let same : signed signer statement ≡ s = sym made ∙ same_Some r s e in
-      sym seen ∙ (ap (said_of signer) (sym some)
-      ∙ (sym (not_at_place fitting (signed signer statement) differs) ∙ ap (spelled_at fitting) same)),
-  λ e.
-      let whole : said_of signer other ≡ spelled_at fitting s = seen ∙ e in
-      let both = same_other (statement_eq s.statement fitting) fitting s statement (statement_eq-Decides s.statement fitting) (some ∙ ap (λ y. y.other) whole) in
-      let by : signer ≡ s.signer = ap (λ y. y.signer) whole in
-      ap Some (made ∙ ap₂ signed by both.0),
-)
+  module _ (statement : Statement) (some : x.other ≡ Some statement) where
+    -- what does not fit is said in full
+    other_said : (statement ≡ fitting → ⊥) → x ≡ spelled_at fitting (said_in fitting x)
+    other_said differs =
+        ap (said_of x.signer) some
+        ∙ (sym (not_at_place fitting (signed x.signer statement) differs)
+        ∙ ap (λ other. spelled_at fitting (signed x.signer (unwrap_or other fitting))) (sym some))
 
--- the long form of the fitting statement is said of no signature
-pub long_of_fitting : (fitting : Statement) (signer : Actor) (other : Option Statement) (statement : Statement) (x : Spelled) → said_of signer other ≡ x
-    → Some statement ≡ other → statement ≡ fitting → (s : Signature) → (◌≡◌ {A = Option Signature} None (Some s)) ↔ (x ≡ spelled_at fitting s)
-long_of_fitting fitting signer other statement x seen some fits s = (
-  λ e. absurd (none-some s e),
-  λ e.
-      let whole : said_of signer other ≡ spelled_at fitting s = seen ∙ e in
-      let both = same_other (statement_eq s.statement fitting) fitting s statement (statement_eq-Decides s.statement fitting) (some ∙ ap (λ y. y.other) whole) in
-      absurd (both.1 (sym both.0 ∙ fits)),
-)
+    -- and nothing that fits is
+    fitting_not_said : statement ≡ fitting → x ≡ spelled_at fitting (said_in fitting x) → ⊥
+    fitting_not_said fits e =
+        let s = said_in fitting x in
+        let both = same_other (statement_eq s.statement fitting) fitting s statement (statement_eq-Decides s.statement fitting) (sym some ∙ ap (λ y. y.other) e) in
+        both.1 (sym both.0 ∙ fits)
+
+    -- so a test for what fits decides it
+    pub other_decides : (fits : Bool) → IsTrue fits ↔ (statement ≡ fitting) → IsTrue (not fits) ↔ (x ≡ spelled_at fitting (said_in fitting x))
+    other_decides true decides = (λ t. absurd (false≢true t), λ e. absurd (fitting_not_said (decides.0 refl) e))
+    other_decides false decides = (λ t. other_said (λ same. false≢true (decides.1 same)), λ e. refl)
 
 -- ---- reading
 

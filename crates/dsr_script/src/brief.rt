@@ -43,29 +43,11 @@ impl Brief {
         })
     }
 
-    /// The same once more. `NoMemory` where memory runs out.
-    pub(crate) fn try_copy(&self, alloc: Global) -> Result<Brief, Refusal>
-        ensures same { IfOk result (λ brief. brief ≡ self.now) }
-        ensures refusal { IsOkUnless result Refusal.NoMemory }
-    {
-        Brief::of(alloc, &self.spelled())
-    }
-
     /// Who is to have signed.
     pub(crate) fn signer(&self) -> Actor
         ensures { result ≡ self.now.signer }
     {
         self.signer
-    }
-
-    /// What is said.
-    pub(crate) fn spelled(&self) -> Spelled
-        ensures { result ≡ self.now }
-    {
-        match &self.other {
-            Some(other) => Spelled::of_parts(self.signer, Some(other.copy())),
-            None => Spelled::of_parts(self.signer, None),
-        }
     }
 
     /// The other statement, where it is on another than fits.
@@ -92,9 +74,9 @@ impl Brief {
     pub(crate) fn is_said(&self, fitting: &Statement) -> bool
         ensures { IsTrue result ↔ (self.now ≡ spelled_at fitting.now (said_in fitting.now self.now)) }
     {
-        match self.spelled().said_at(fitting) {
-            Some(_said) => true,
-            None => false,
+        match self.other() {
+            Some(other) => !other.same(fitting),
+            None => true,
         }
     }
 }

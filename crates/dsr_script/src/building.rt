@@ -3,7 +3,8 @@ ghost use Rattle.dsr_chain.specs.Support.SignedLists.{value_of as value_in};
 ghost use Rattle.dsr_envelope.specs.Limits.{IsEnvelope};
 ghost use Rattle.dsr_script.specs.Held.{IsHeldOrKnown, IsUnforged};
 ghost use Rattle.dsr_script.specs.Support.Described.{described};
-ghost use Rattle.dsr_script.specs.Support.Links.{said_by};
+ghost use Rattle.dsr_desk.specs.declared.statement.Statement.TheVariants.{Link};
+ghost use Rattle.dsr_script.specs.Support.Links.{said_by, said_in};
 ghost use Rattle.dsr_script.specs.Support.Carried.{IsHeldRequest, IsHeldChain, IsHeldEnvelope};
 
 use crate::brief::Brief;
@@ -56,7 +57,7 @@ fn is_unforged(plan: &Plan, keys: &[Key], known: &Known) -> bool
 {
     match plan {
         Plan::Round { chains, .. } => are_chains_held(chains.as_slice(), keys, known),
-        Plan::Ask(ask) => is_held(&ask.said(), keys, known),
+        Plan::Ask(ask) => is_ask_held(ask, keys, known),
         Plan::Reply(_) | Plan::Seen(_) => true,
     }
 }
@@ -99,10 +100,7 @@ fn is_chain_held(chain: &SaidChain, keys: &[Key], known: &Known) -> bool
 {
     let content = content_of(chain.asks());
     are_links_held(chain.slot(), &content, chain.links(), keys, known)
-        && chain
-            .asks()
-            .iter()
-            .all(|ask| is_held(&ask.said(), keys, known))
+        && chain.asks().iter().all(|ask| is_ask_held(ask, keys, known))
 }
 
 /// Whether none of the signatures is forged that are said in a chain of this slot and content.
@@ -118,13 +116,37 @@ fn are_links_held(
 {
     let mut before = Signers::new();
     for link in links {
-        let said = link.said_in(&link_at(slot, content, before));
-        if !is_held(&said, keys, known) {
+        if !is_link_held(slot, content, &before, link, keys, known) {
             return false;
         }
         before.push(link.signer());
     }
     true
+}
+
+/// Whether the signature is not forged that is said after these signers in a chain of this slot and content. What is said in full takes
+/// much room, so it is made only where nobody holds the signer's key.
+fn is_link_held(
+    slot: u64,
+    content: &Option<Requests>,
+    before: &Signers,
+    link: &Brief,
+    keys: &[Key],
+    known: &Known,
+) -> bool
+    ensures { IsTrue result ↔ IsHeldOrKnown keys.now known.now.signatures (said_in (Link slot content.now before.now) link.now) }
+{
+    key_of(keys, link.signer()).is_some()
+        || known
+            .find(&link.said_in(&link_at(slot, content, *before)))
+            .is_some()
+}
+
+/// Whether the signature beside the request is not forged.
+fn is_ask_held(ask: &SaidRequest, keys: &[Key], known: &Known) -> bool
+    ensures { IsTrue result ↔ IsHeldRequest keys.now known.now.signatures ask.now }
+{
+    key_of(keys, ask.brief().signer()).is_some() || known.find(&ask.said()).is_some()
 }
 
 /// Whether the signature is by the holder of one of the keys, or is known.

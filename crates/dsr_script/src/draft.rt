@@ -14,13 +14,15 @@ use dsr_names::Refusal;
 use dsr_request::Answer;
 use std::alloc::Global;
 use std::marker::Model;
+use std::sync::Arc;
 
 /// An envelope as data: where an envelope has a signature, a draft has its signer and its statement alone. Only `build` makes an
 /// envelope of it. Each draft has a text, so it is within the limits of envelopes. Contracts see a draft as the envelope that it
-/// describes. It takes little room: its cases are kept apart, and there are none where it is the draft of the empty envelope.
+/// describes. A draft is never changed, so copies share what they hold. It takes little room: its cases are kept apart, and there are
+/// none where it is the draft of the empty envelope.
 #[derive(Drop)]
 pub struct Draft {
-    plan: Option<Box<Plan, Global>>,
+    plan: Option<Arc<Plan, Global>>,
 }
 
 impl Model for Draft {
@@ -28,14 +30,14 @@ impl Model for Draft {
 
     ghost Value = { Envelope };
 
-    ghost use Rattle.std.specs.Prelude.{box_value};
+    ghost use Rattle.std.specs.Arc.{arc_value};
     ghost use Rattle.std.specs.Option.{option_map};
     ghost use Rattle.dsr_script.specs.EnvelopeText.{IsSpelledEnvelope};
     ghost use Rattle.dsr_script.specs.Support.Described.{drafted};
 
-    ghost view = { λ d. drafted (option_map box_value d.plan) };
+    ghost view = { λ d. drafted (option_map arc_value d.plan) };
 
-    ghost invariant = { λ d. IsSpelledEnvelope (drafted (option_map box_value d.plan)) };
+    ghost invariant = { λ d. IsSpelledEnvelope (drafted (option_map arc_value d.plan)) };
 }
 
 impl Draft {
@@ -72,15 +74,19 @@ impl Draft {
         Draft::of_plan(alloc, plan)
     }
 
-    /// A draft of the same envelope. `NoMemory` where memory runs out.
-    pub fn try_copy(&self, alloc: Global) -> Result<Draft, Refusal>
+    /// The same draft once more. It shares what this one holds. `NoMemory` where one handle more is refused.
+    pub fn try_copy(&self) -> Result<Draft, Refusal>
         ensures same { IfOk result (λ draft. draft ≡ self.now) }
         ensures refusal { IsOkUnless result Refusal.NoMemory }
     {
-        match self.plan() {
-            None => Ok(Draft::empty()),
-            Some(plan) => Draft::of_plan(alloc, plan.try_copy(alloc)?),
-        }
+        let plan = match &self.plan {
+            None => None,
+            Some(plan) => match Arc::try_clone(plan) {
+                Ok(plan) => Some(plan),
+                Err(_) => return Err(Refusal::NoMemory),
+            },
+        };
+        Ok(Draft { plan })
     }
 
     /// The draft of these cases. `NoMemory` where memory runs out.
@@ -89,7 +95,7 @@ impl Draft {
         ensures same { IfOk result (λ draft. draft ≡ described plan) }
         ensures refusal { IsOkUnless result Refusal.NoMemory }
     {
-        let plan = Box::new(alloc, plan)?;
+        let plan = Arc::new(alloc, plan)?;
         Ok(Draft { plan: Some(plan) })
     }
 

@@ -145,18 +145,6 @@ impl SaidRequest {
         }
     }
 
-    /// The same once more. `NoMemory` where memory runs out.
-    pub(crate) fn try_copy(&self, alloc: Global) -> Result<SaidRequest, Refusal>
-        ensures same { IfOk result (λ said. said ≡ self.now) }
-        ensures refusal { IsOkUnless result Refusal.NoMemory }
-    {
-        let brief = self.brief.try_copy(alloc)?;
-        Ok(SaidRequest {
-            request: self.request,
-            brief,
-        })
-    }
-
     /// The request.
     pub(crate) fn request(&self) -> Request
         ensures { result ≡ self.now.request }

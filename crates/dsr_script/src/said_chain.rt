@@ -57,20 +57,6 @@ impl SaidChain {
         })
     }
 
-    /// A chain that says the same. `NoMemory` where memory runs out.
-    pub(crate) fn try_copy(&self, alloc: Global) -> Result<SaidChain, Refusal>
-        ensures same { IfOk result (λ said. said ≡ self.now) }
-        ensures refusal { IsOkUnless result Refusal.NoMemory }
-    {
-        let asks = copied_asks(alloc, self.asks.as_slice())?;
-        let links = copied_links(alloc, self.links.as_slice())?;
-        Ok(SaidChain {
-            slot: self.slot,
-            asks,
-            links,
-        })
-    }
-
     /// The chain of these parts.
     pub(crate) fn of_parts(slot: u64, asks: Vec<SaidRequest>, links: Vec<Brief>) -> SaidChain
         requires { AreKept slot asks.items links.items }
@@ -135,15 +121,6 @@ impl SaidChains {
         Ok(SaidChains { items })
     }
 
-    /// Chains that say the same. `NoMemory` where memory runs out.
-    pub(crate) fn try_copy(&self, alloc: Global) -> Result<SaidChains, Refusal>
-        ensures same { IfOk result (λ said. said ≡ self.now) }
-        ensures refusal { IsOkUnless result Refusal.NoMemory }
-    {
-        let items = copied_chains(alloc, self.as_slice())?;
-        Ok(SaidChains { items })
-    }
-
     /// The chains of this list.
     pub(crate) fn of_vec(items: Vec<SaidChain>) -> SaidChains
         ensures { result ≡ items.items }
@@ -189,42 +166,6 @@ pub(crate) fn link_at(slot: u64, content: &Option<Requests>, before: Signers) ->
         value: *content,
         before,
     }
-}
-
-/// Chains that say the same.
-fn copied_chains(alloc: Global, chains: &[SaidChain]) -> Result<Vec<SaidChain>, Refusal>
-    ensures same { IfOk result (λ said. said.items ≡ chains.now) }
-    ensures refusal { IsOkUnless result Refusal.NoMemory }
-{
-    let mut said = Vec::with_capacity(alloc, chains.len())?;
-    for chain in chains {
-        said.push(chain.try_copy(alloc)?)?;
-    }
-    Ok(said)
-}
-
-/// What a text says of the same signatures.
-fn copied_links(alloc: Global, links: &[Brief]) -> Result<Vec<Brief>, Refusal>
-    ensures same { IfOk result (λ said. said.items ≡ links.now) }
-    ensures refusal { IsOkUnless result Refusal.NoMemory }
-{
-    let mut said = Vec::with_capacity(alloc, links.len())?;
-    for link in links {
-        said.push(link.try_copy(alloc)?)?;
-    }
-    Ok(said)
-}
-
-/// The same requests.
-fn copied_asks(alloc: Global, asks: &[SaidRequest]) -> Result<Vec<SaidRequest>, Refusal>
-    ensures same { IfOk result (λ said. said.items ≡ asks.now) }
-    ensures refusal { IsOkUnless result Refusal.NoMemory }
-{
-    let mut said = Vec::with_capacity(alloc, asks.len())?;
-    for ask in asks {
-        said.push(ask.try_copy(alloc)?)?;
-    }
-    Ok(said)
 }
 
 /// The requests of this value, with what the signatures beside them say.

@@ -10,12 +10,11 @@ ghost use Rattle.dsr_script.specs.SignatureText.{spelled_text};
 use crate::brief::Brief;
 use crate::said::SaidRequest;
 use crate::said_chain::SaidChain;
-use crate::spelled::Spelled;
 use dsr_text::write_more;
 use std::fmt;
 
-impl fmt::Display for Spelled {
-    ghost output = { λ spelled. Some (spelled_text spelled) };
+impl fmt::Display for Brief {
+    ghost output = { λ brief. Some (spelled_text brief) };
 
     fn fmt<W: fmt::Write>(&self, f: &mut fmt::Formatter<W>) -> fmt::Result {
         let signer = self.signer();
@@ -23,15 +22,6 @@ impl fmt::Display for Spelled {
             None => write!(f, "{signer}"),
             Some(other) => write!(f, "{signer}({other})"),
         }
-    }
-}
-
-impl fmt::Display for Brief {
-    ghost output = { λ brief. Some (spelled_text brief) };
-
-    fn fmt<W: fmt::Write>(&self, f: &mut fmt::Formatter<W>) -> fmt::Result {
-        let spelled = self.spelled();
-        write!(f, "{spelled}")
     }
 }
 

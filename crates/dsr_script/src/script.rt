@@ -182,7 +182,7 @@ impl TakesLines for Reading {
 
     ghost gives = { λ script lines. Gives lines script };
 
-    fn read_line(alloc: Global, bytes: &[u8]) -> Result<Option<ServeLine>, Refusal> {
+    fn read_line(&mut self, alloc: Global, bytes: &[u8]) -> Result<Option<ServeLine>, Refusal> {
         ServeLine::read(alloc, bytes)
     }
 

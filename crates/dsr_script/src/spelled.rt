@@ -52,13 +52,6 @@ impl Spelled {
         }
     }
 
-    /// What is said of this signer's signature, on another statement than fits where there is one.
-    pub(crate) fn of_parts(signer: Actor, other: Option<Statement>) -> Spelled
-        ensures parts { (result.signer ≡ signer) × (result.other ≡ other) }
-    {
-        Spelled { signer, other }
-    }
-
     /// The signer.
     pub(crate) fn signer(&self) -> Actor
         ensures { result ≡ self.now.signer }
@@ -71,22 +64,6 @@ impl Spelled {
         ensures { result ≡ self.now.other }
     {
         self.other
-    }
-
-    /// What the signature of this place says. `None` where it is the long form of the statement that fits, which is said of none.
-    pub(crate) fn said_at(&self, fitting: &Statement) -> Option<Said>
-        ensures { (s : Signature) → (result ≡ Some s) ↔ (self.now ≡ spelled_at fitting.now s) }
-    {
-        match &self.other {
-            None => Some(Said::by(self.signer, fitting)),
-            Some(other) => {
-                if other.same(fitting) {
-                    None
-                } else {
-                    Some(Said::by(self.signer, other))
-                }
-            }
-        }
     }
 }
 

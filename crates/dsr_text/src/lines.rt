@@ -25,10 +25,12 @@ pub trait TakesLines {
     // what was taken in is what these lines give
     ghost gives: { Self → List Self.Line → Type 0 };
 
-    /// The line that the bytes spell, without its line feed. The inner `None` comes exactly where they spell none. `NoMemory` where
-    /// memory runs out.
-    fn read_line(alloc: Global, bytes: &[u8]) -> Result<Option<Self::Line>, Refusal>
+    /// The line that the bytes spell, without its line feed. The inner `None` comes exactly where they spell none. What was taken in
+    /// stays; what reads later lines sooner may be kept. `NoMemory` where memory runs out.
+    fn read_line(&mut self, alloc: Global, bytes: &[u8]) -> Result<Option<Self::Line>, Refusal>
         ensures read { IfOk result (λ line. Reads kind.IsLine kind.line_text bytes.now line) }
+        ensures stays { (lines : List Self.Line) → gives self.old lines → gives self.new lines }
+        ensures shape { shape self.new ≡ shape self.old }
         ensures refusal { IsOkUnless result Refusal.NoMemory };
 
     /// Takes in what the line gives, if it can follow the lines that were taken in, and says whether it can. After a line that
@@ -60,7 +62,7 @@ pub fn take_lines<T: TakesLines>(taker: &mut T, alloc: Global, text: &[u8]) -> R
         let Some((line, after)) = split_once(rest, b'\n') else {
             return Err(Refusal::BadText { line: number });
         };
-        let Some(line) = T::read_line(alloc, line)? else {
+        let Some(line) = taker.read_line(alloc, line)? else {
             return Err(Refusal::BadText { line: number });
         };
         if !taker.take(alloc, line)? {

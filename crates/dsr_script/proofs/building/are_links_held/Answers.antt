@@ -1,26 +1,22 @@
 use Rattle.std.proofs.Common.{◌≡◌, ◌+◌, [], ◌∷◌, ◌++◌, true, ap, sym, ◌∙◌, subst, drop, arith, length-append}
 use Rattle.std.proofs.lemmas.List.{drop_more}
-use Rattle.dsr_desk.specs.declared.statement.Statement.TheVariants.{Link}
 use Rattle.dsr_script.specs.Held.{IsHeldOrKnown}
-use Rattle.dsr_script.specs.Support.Links.{said_in}
 use Rattle.dsr_script.proofs.BriefLemmas.{HeldOn, held_on, first_held}
 use Rattle.dsr_script.proofs.building.are_links_held.Goals as goal
 
-pub returns-then-not-is_held : goal.returns-then-not-is_held
-returns-then-not-is_held c =
+pub returns-then-not-is_link_held : goal.returns-then-not-is_link_held
+returns-then-not-is_link_held c =
     let P = IsHeldOrKnown c.args.keys.now c.args.known.now.signatures in
     let i = c.loop-link.link-index in
     let links = c.args.links.now in
     let x = c.link-item.result in
     let left : drop i links ≡ x ∷ drop (i + 1) links = drop_more links i x c.loop-link-test.true ∙ ap (λ y. y ∷ drop (i + 1) links) (sym c.link-item.is) in
-    let held = subst (HeldOn c.args.slot c.args.content.now P links c.loop-link.before) left c.loop-link.invariant.held in
-    let said : c.said_in-said.result ≡ said_in (Link c.args.slot c.args.content.now c.loop-link.before) x =
-    c.said_in-said.ensures ∙ ap (λ fitting. said_in fitting x) c.link_at.ensures in (
+    let held = subst (HeldOn c.args.slot c.args.content.now P links c.loop-link.before) left c.loop-link.invariant.held in (
       λ h. absurd cc,
       λ all.
-          let yes : c.is_held.result ≡ true =
-          c.is_held.ensures.1 (subst P (sym said) (first_held c.args.slot c.args.content.now P links c.loop-link.before x (drop (i + 1) links) held all)) in
-          let no = c.if-not-is_held.true in
+          let yes : c.is_link_held.result ≡ true =
+          c.is_link_held.ensures.1 (first_held c.args.slot c.args.content.now P links c.loop-link.before x (drop (i + 1) links) held all) in
+          let no = c.if-not-is_link_held.true in
           absurd cc,
     )
 
@@ -32,12 +28,10 @@ loop-link-preserved c =
     let x = c.link-item.result in
     let left : drop i links ≡ x ∷ drop (i + 1) links = drop_more links i x c.loop-link-test.true ∙ ap (λ y. y ∷ drop (i + 1) links) (sym c.link-item.is) in
     let held = subst (HeldOn c.args.slot c.args.content.now P links c.loop-link.before) left c.loop-link.invariant.held in
-    let said : c.said_in-said.result ≡ said_in (Link c.args.slot c.args.content.now c.loop-link.before) x =
-    c.said_in-said.ensures ∙ ap (λ fitting. said_in fitting x) c.link_at.ensures in
     let signed : c.push.new.self ≡ c.loop-link.before ++ x.signer ∷ [] = c.push.ensures ∙ ap (λ a. c.loop-link.before ++ a ∷ []) c.signer.ensures in
     record {
       held = rw signed
           (held_on c.args.slot c.args.content.now P links c.loop-link.before x (drop (i + 1) links) held
-          (subst P said (c.is_held.ensures.0 c.if-not-is_held.false)));
+          (c.is_link_held.ensures.0 c.if-not-is_link_held.false));
       signers = rw signed (simp length-append (omega (arith, c.loop-link.invariant.signers)));
     }

@@ -46,7 +46,8 @@ returns-then-not-branch-clause-refused g c =
     let cannot : t.kind.CanFollow shape s.lines c.in-Some-2.line → ⊥ =
     λ can.
     false≢true (sym c.if-not-branch.true
-    ∙ (c.in_ok-take.ensures.when s.lines s.gives).1 (subst (λ x. t.kind.CanFollow x s.lines c.in-Some-2.line) (sym c.loop-rest.invariant.1) can)) in
+    ∙ (c.in_ok-take.ensures.when s.lines (c.in_ok-line.ensures.stays s.lines s.gives)).1
+    (subst (λ x. t.kind.CanFollow x s.lines c.in-Some-2.line) (sym (c.in_ok-line.ensures.shape ∙ c.loop-rest.invariant.1)) can)) in
     let none =
     no_follower t.kind c.requires.clean shape s.lines rest c.in-Some.line.now c.in-Some.after.now c.in-Some.ensures.found c.in-Some.ensures.first c.in-Some-2.line
     (rw c.in-Some-2.is at c.in_ok-line.ensures.read) cannot in
@@ -61,7 +62,8 @@ returns-then-not-branch-clause-when g c all each e =
     let cannot : t.kind.CanFollow shape s.lines c.in-Some-2.line → ⊥ =
     λ can.
     false≢true (sym c.if-not-branch.true
-    ∙ (c.in_ok-take.ensures.when s.lines s.gives).1 (subst (λ x. t.kind.CanFollow x s.lines c.in-Some-2.line) (sym c.loop-rest.invariant.1) can)) in
+    ∙ (c.in_ok-take.ensures.when s.lines (c.in_ok-line.ensures.stays s.lines s.gives)).1
+    (subst (λ x. t.kind.CanFollow x s.lines c.in-Some-2.line) (sym (c.in_ok-line.ensures.shape ∙ c.loop-rest.invariant.1)) can)) in
     let none =
     no_follower t.kind c.requires.clean shape s.lines rest c.in-Some.line.now c.in-Some.after.now c.in-Some.ensures.found c.in-Some.ensures.first c.in-Some-2.line
     (rw c.in-Some-2.is at c.in_ok-line.ensures.read) cannot in
@@ -75,13 +77,15 @@ loop-rest-preserved g c =
     let shape = t.shape c.args.taker.now in
     let s = c.loop-rest.invariant.0 in
     let line = c.in-Some-2.line in
+    let still = c.in_ok-line.ensures.stays s.lines s.gives in
+    let same = c.in_ok-line.ensures.shape ∙ c.loop-rest.invariant.1 in
     let can : t.kind.CanFollow shape s.lines line =
-    subst (λ x. t.kind.CanFollow x s.lines line) c.loop-rest.invariant.1 ((c.in_ok-take.ensures.when s.lines s.gives).0 c.if-not-branch.false) in
+    subst (λ x. t.kind.CanFollow x s.lines line) same ((c.in_ok-take.ensures.when s.lines still).0 c.if-not-branch.false) in
     let less = shorter rest c.in-Some.line.now c.in-Some.after.now c.in-Some.ensures.found in (
       one_more t.kind c.requires.clean shape c.args.text.now (t.gives c.loop-rest.taker) rest c.loop-rest.number s c.in-Some.line.now
           c.in-Some.after.now c.in-Some.ensures.found c.in-Some.ensures.first line (rw c.in-Some-2.is at c.in_ok-line.ensures.read) can
-          (t.gives c.take.new.self) (c.in_ok-take.ensures.taken c.if-not-branch.false s.lines s.gives),
-      c.in_ok-take.ensures.shape ∙ c.loop-rest.invariant.1,
+          (t.gives c.take.new.self) (c.in_ok-take.ensures.taken c.if-not-branch.false s.lines still),
+      c.in_ok-take.ensures.shape ∙ same,
       omega (arith, less, c.loop-rest.invariant.2),
     )
 

@@ -1,12 +1,11 @@
-use Rattle.std.proofs.Common.{refl}
-use Rattle.std.proofs.lemmas.Bool.{false≢true}
-use Rattle.dsr_script.proofs.BriefLemmas.{is_said, not_said}
+use Rattle.std.proofs.Common.{refl, sym}
+use Rattle.dsr_script.proofs.SpelledLemmas.{fits_said, other_decides}
 use Rattle.dsr_script.proofs.brief.Brief.is_said.Goals as goal
 
+-- another statement is said where it does not fit
 pub returns-in-Some : goal.returns-in-Some
-returns-in-Some c =
-    (λ t. is_said c.args.fitting.now c.args.self.now c.said_at.result (rw c.spelled.ensures at c.said_at.ensures) c.in-Some._said c.in-Some.is, λ e. refl)
+returns-in-Some c = other_decides c.args.fitting.now c.args.self.now c.in-Some.other.now (sym c.in-Some.ensures) c.same.result c.same.ensures
 
+-- and what has no other always is
 pub returns-in-None : goal.returns-in-None
-returns-in-None c =
-    (λ t. absurd (false≢true t), λ e. absurd (not_said c.args.fitting.now c.args.self.now c.said_at.result (rw c.spelled.ensures at c.said_at.ensures) c.in-None.is e))
+returns-in-None c = (λ t. fits_said c.args.fitting.now c.args.self.now (sym c.in-None.ensures), λ e. refl)
