@@ -4,8 +4,9 @@ use crate::reading::round_of;
 use crate::standing::content_of;
 use crate::story::{KeptBy, Story};
 use dsr_desk::Content;
-use dsr_envelope::Due;
+use dsr_envelope::{Due, Envelope};
 use dsr_names::{Actor, ClientId, Refusal, ReplicaId};
+use dsr_replica::Replica;
 use dsr_request::Requests;
 use dsr_world::World;
 use std::fmt::Write;
@@ -69,12 +70,66 @@ impl Story {
         };
         if let Some(number) = client.outstanding() {
             let needed = self.world.shape().f().saturating_add(1);
-            writeln!(
+            write!(
                 self.out,
                 "{id}: waits until {needed} replicas reply alike to its request {number}"
             )?;
+            write_standing(&mut self.out, &self.world, id, number)?;
         }
         Ok(())
+    }
+}
+
+/// Writes how the request of this number, which is outstanding with the client, stands with each replica.
+fn write_standing(
+    out: &mut String,
+    world: &World,
+    client: ClientId,
+    number: u64,
+) -> Result<(), Refusal> {
+    for place in 0..world.shape().n() {
+        let Ok(replica) = ReplicaId::new(place) else {
+            continue;
+        };
+        let standing = standing_at(world, replica, client, number);
+        write!(out, "; {replica} {standing}")?;
+    }
+    writeln!(out)?;
+    Ok(())
+}
+
+/// How the request stands with the replica.
+fn standing_at(world: &World, replica: ReplicaId, client: ClientId, number: u64) -> &'static str {
+    if has_voted(world, replica, client) {
+        return "has replied";
+    }
+    let Ok(loyal) = world.replica(replica) else {
+        return "is a traitor";
+    };
+    if has_acted(loyal, client, number) {
+        return "can reply";
+    }
+    match loyal.held(client) {
+        Some(request) if request.number() == number => "holds it undecided",
+        _ => "has not got it",
+    }
+}
+
+/// Whether a reply of the replica to the outstanding request was counted.
+fn has_voted(world: &World, replica: ReplicaId, client: ClientId) -> bool {
+    match world.client(client) {
+        Ok(client) if replica.number() < world.shape().n() => {
+            client.tally().vote_of(replica).is_some()
+        }
+        _ => false,
+    }
+}
+
+/// Whether the client's request of this number acted at the replica last.
+fn has_acted(loyal: &Replica, client: ClientId, number: u64) -> bool {
+    match loyal.reply_for(client) {
+        Some(Envelope::Reply(reply)) => reply.number == number,
+        _ => false,
     }
 }
 

@@ -17,6 +17,7 @@ mod replica_notes;
 mod standing;
 mod story;
 mod telling;
+mod texts;
 mod trouble;
 mod wanted;
 mod why;

@@ -7,13 +7,13 @@ use crate::note::Note;
 use crate::notes::Notes;
 use crate::reading::read_envelope;
 use crate::replica_notes::{tell_ask, tell_take};
+use crate::texts::Texts;
 use crate::wanted::{Wanted, actor_of, other_of};
 use crate::why::why_of;
 use crate::words::write_note;
 use dsr_envelope::{Entry, Envelope};
 use dsr_ledger::Reply;
 use dsr_names::{Actor, Refusal, Shape};
-use dsr_script::Draft;
 use dsr_world::{Event, World};
 use std::alloc::Global;
 use std::fmt::Write;
@@ -30,6 +30,7 @@ pub(crate) struct Story {
     pub(crate) out: String,
     /// How many events there were.
     events: u64,
+    texts: Texts,
     /// By slot.
     pub(crate) kept: Vec<KeptBy>,
 }
@@ -38,6 +39,7 @@ impl Story {
     /// The story before any event. `NoMemory` where memory runs out.
     pub(crate) fn begin(alloc: Global, shape: Shape, wanted: &Wanted) -> Result<Story, Refusal> {
         let world = World::open(alloc, shape)?;
+        let texts = Texts::new(alloc)?;
         let mut out = String::new(alloc);
         if wanted.data {
             writeln!(out, "dsr-explain 1 {shape}")?;
@@ -47,6 +49,7 @@ impl Story {
             wanted: *wanted,
             out,
             events: 0,
+            texts,
             kept: Vec::new(alloc),
         })
     }
@@ -112,13 +115,17 @@ impl Story {
         notes: &[Note],
     ) -> Result<(), Refusal> {
         if !self.wanted.has(event, refusal.is_some(), notes) {
+            if refusal.is_none() {
+                self.texts.forget(event);
+            }
             return Ok(());
         }
-        let draft = self.draft_of(alloc, event, refusal.is_none())?;
+        self.set_text(alloc, event, refusal.is_none())?;
+        let (number, text) = (self.events, self.texts.current.as_str());
         if self.wanted.data {
-            write_event_data(&mut self.out, self.events, line, event, refusal, &draft)?;
+            write_event_data(&mut self.out, number, line, event, refusal, text)?;
         } else {
-            write_event(&mut self.out, self.events, line, event, refusal, &draft)?;
+            write_event(&mut self.out, number, line, event, refusal, text)?;
         }
         for note in notes {
             if !self.wanted.has_note(note) {
@@ -133,17 +140,23 @@ impl Story {
         Ok(())
     }
 
-    /// The envelope of the event, if it has one: what was posted or taken, or what a traitor was to post.
-    fn draft_of(&self, alloc: Global, event: &Event, done: bool) -> Result<Option<Draft>, Refusal> {
+    /// Tells of the envelope of the event, if it has one: what was posted or taken, or what a traitor was to post.
+    fn set_text(&mut self, alloc: Global, event: &Event, done: bool) -> Result<(), Refusal> {
         if done {
             return match last_envelope(&self.world) {
-                Some(envelope) if envelope.fits() => Ok(Some(Draft::of(alloc, envelope)?)),
-                _ => Ok(None),
+                Some(envelope) => self.texts.set_done(alloc, event, envelope),
+                None => {
+                    self.texts.set_none();
+                    Ok(())
+                }
             };
         }
         match event {
-            Event::Plant { draft, .. } => Ok(Some(draft.try_copy()?)),
-            _ => Ok(None),
+            Event::Plant { draft, .. } => self.texts.set_draft(draft),
+            _ => {
+                self.texts.set_none();
+                Ok(())
+            }
         }
     }
 }
@@ -185,14 +198,14 @@ fn tell_done(
     }
 }
 
-/// Writes the event in words.
+/// Writes the event, with the text of its envelope if it has one, in words.
 fn write_event(
     out: &mut String,
     number: u64,
     line: u64,
     event: &Event,
     refusal: Option<Refusal>,
-    draft: &Option<Draft>,
+    text: &str,
 ) -> Result<(), Refusal> {
     let (actor, other) = (actor_of(event), other_of(event));
     write!(out, "line {line}, event {number}: ")?;
@@ -206,21 +219,21 @@ fn write_event(
         Event::Take { .. } => write!(out, "{actor} takes from {other}")?,
         Event::Tell { .. } => write!(out, "{actor} tells {other}")?,
     }
-    if let Some(draft) = draft {
-        write!(out, ": {draft}")?;
+    if !text.is_empty() {
+        write!(out, ": {text}")?;
     }
     writeln!(out)?;
     Ok(())
 }
 
-/// Writes the event as a line of data.
+/// Writes the event, with the text of its envelope if it has one, as a line of data.
 fn write_event_data(
     out: &mut String,
     number: u64,
     line: u64,
     event: &Event,
     refusal: Option<Refusal>,
-    draft: &Option<Draft>,
+    text: &str,
 ) -> Result<(), Refusal> {
     let (actor, other) = (actor_of(event), other_of(event));
     let kind = kind_of(event);
@@ -232,10 +245,8 @@ fn write_event_data(
         }
         None => write!(out, "done ")?,
     }
-    match draft {
-        Some(draft) => writeln!(out, "{draft}")?,
-        None => writeln!(out, "-")?,
-    }
+    let text = if text.is_empty() { "-" } else { text };
+    writeln!(out, "{text}")?;
     Ok(())
 }
 

@@ -3,7 +3,7 @@
 use crate::note::{ChainFate, Dropped, NoVote, Note, Told, Why};
 use crate::standing::{accepted_last, content_of};
 use dsr_chain::{Chain, ChainFault};
-use dsr_desk::Content;
+use dsr_desk::{Content, MOST_SIGNERS, Signers, Statement};
 use dsr_names::{Refusal, Shape};
 use dsr_slot::Fate;
 use dsr_world::{Event, World};
@@ -56,10 +56,10 @@ fn write_chain(
     chain: &Chain,
     fate: &ChainFate,
 ) -> Result<(), Refusal> {
-    let chain = Told::of(chain);
-    let slot = chain.slot;
-    let signers = chain.signers;
-    let content = Content(chain.content);
+    let told = Told::of(chain);
+    let slot = told.slot;
+    let signers = told.signers;
+    let content = Content(told.content);
     write!(
         out,
         "    chain of slot {slot}, signed by {signers}, for {content}: "
@@ -68,14 +68,14 @@ fn write_chain(
         ChainFate::NotInFlight => writeln!(out, "dropped, as the slot is not in flight")?,
         ChainFate::Read { round, fate } => {
             write!(out, "in round {round} of the slot ")?;
-            write_fate(out, shape, slot, fate)?;
+            write_fate(out, shape, chain, fate)?;
         }
     }
     Ok(())
 }
 
 /// Writes what reading a chain does.
-fn write_fate(out: &mut String, shape: &Shape, slot: u64, fate: &Fate) -> Result<(), Refusal> {
+fn write_fate(out: &mut String, shape: &Shape, chain: &Chain, fate: &Fate) -> Result<(), Refusal> {
     match fate {
         Fate::First => writeln!(out, "kept, as the first content")?,
         Fate::Second => writeln!(out, "kept, as the second content: the slot will be idle")?,
@@ -84,11 +84,39 @@ fn write_fate(out: &mut String, shape: &Shape, slot: u64, fate: &Fate) -> Result
         Fate::Improper(fault) => {
             let word = fault_word(fault);
             write!(out, "not proper ({word}): {fault}")?;
-            if *fault == ChainFault::WrongSender {
-                let sender = shape.sender(slot);
-                write!(out, ", which is {sender}")?;
+            match fault {
+                ChainFault::WrongSender => {
+                    let sender = shape.sender(chain.slot());
+                    write!(out, ", which is {sender}")?;
+                }
+                ChainFault::Misfit => write_misfit(out, chain)?,
+                _ => {}
             }
             writeln!(out)?;
+        }
+    }
+    Ok(())
+}
+
+/// Writes who signed the first statement that does not fit its place, and what it is.
+fn write_misfit(out: &mut String, chain: &Chain) -> Result<(), Refusal> {
+    let value = chain.content();
+    let mut before = Signers::new();
+    for place in 0..chain.signature_count() {
+        let signature = chain.signature(place);
+        let link = Statement::Link {
+            slot: chain.slot(),
+            value,
+            before,
+        };
+        let signer = signature.signer();
+        if !signature.statement().same(&link) {
+            let statement = signature.statement();
+            write!(out, ": {signer} signed {statement}")?;
+            return Ok(());
+        }
+        if before.len() < MOST_SIGNERS {
+            before.push(signer);
         }
     }
     Ok(())

@@ -4,6 +4,7 @@ mod ChainTextLemmas
 mod EnvelopeLemmas
 pub mod FeedLemmas
 mod HeldLemmas
+mod InTurn
 mod KeptLemmas
 mod KnownLemmas
 mod OneEnvelope

@@ -2,6 +2,7 @@ ghost use Rattle.std.specs.Prelude.{◌≡◌, ◌↔◌, IfOk, IsTrue, IsOkUnle
 ghost use Rattle.std.specs.Option.{option_map};
 ghost use Rattle.dsr_script.specs.SignatureText.{spelled_at};
 ghost use Rattle.dsr_script.specs.Support.Links.{said_in};
+ghost use Rattle.dsr_script.specs.Support.SpelledText.{short_form};
 
 use crate::said::Said;
 use crate::spelled::Spelled;
@@ -41,6 +42,16 @@ impl Brief {
             signer: spelled.signer(),
             other,
         })
+    }
+
+    /// What is said of this signer's signature on the statement that fits.
+    pub(crate) fn by(signer: Actor) -> Brief
+        ensures { result ≡ short_form signer }
+    {
+        Brief {
+            signer,
+            other: None,
+        }
     }
 
     /// Who is to have signed.

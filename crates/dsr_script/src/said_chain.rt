@@ -1,18 +1,19 @@
-ghost use Rattle.std.specs.Prelude.{◌≡◌, ◌≤◌, [], All, length, IfOk, IsOkUnless};
+ghost use Rattle.std.specs.Prelude.{◌≡◌, ◌≤◌, [], All, length, map, IfOk, IsOkUnless};
 ghost use Rattle.dsr_desk.specs.declared.statement.Statement.TheVariants.{Link};
 ghost use Rattle.dsr_chain.specs.Chain.{chain_of};
 ghost use Rattle.dsr_chain.specs.Support.SignedLists.{value_of, content_of as content_in};
 ghost use Rattle.dsr_chain.specs.Content.{content, signed_in};
-ghost use Rattle.dsr_envelope.specs.Limits.{IsChain, IsSigned};
-ghost use Rattle.dsr_script.specs.ChainText.{spelled_links, IsValue, IsSpelledChain};
+ghost use Rattle.dsr_envelope.specs.Limits.{IsChain};
+ghost use Rattle.dsr_script.specs.ChainText.{spelled_links, IsSpelledChain};
 ghost use Rattle.dsr_script.specs.Support.Links.{AreKept, said_by};
+ghost use Rattle.dsr_script.specs.Support.SpelledText.{short_form};
 
 use crate::brief::Brief;
 use crate::said::{Said, SaidRequest};
 use crate::spelled::Spelled;
-use dsr_chain::{Chain, SignedRequest, SlotValue};
+use dsr_chain::{Chain, SignedRequest};
 use dsr_desk::{Signers, Statement};
-use dsr_names::Refusal;
+use dsr_names::{Actor, Refusal};
 use dsr_request::Requests;
 use std::alloc::Global;
 use std::marker::Model;
@@ -48,7 +49,7 @@ impl SaidChain {
         ensures spelled { IfOk result IsSpelledChain }
         ensures refusal { IsOkUnless result Refusal.NoMemory }
     {
-        let asks = said_value(alloc, &chain.value())?;
+        let asks = said_requests(alloc, chain.signed())?;
         let links = links_of(alloc, chain)?;
         Ok(SaidChain {
             slot: chain.slot(),
@@ -141,6 +142,30 @@ fn links_of(alloc: Global, chain: &Chain) -> Result<Vec<Brief>, Refusal>
     ensures same { IfOk result (λ links. links.items ≡ spelled_links chain.now.slot (content chain.now.value) [] chain.now.signatures) }
     ensures refusal { IsOkUnless result Refusal.NoMemory }
 {
+    if chain.has_misfit() {
+        links_compared(alloc, chain)
+    } else {
+        links_by(alloc, chain.signers().as_slice())
+    }
+}
+
+/// What a text says of signatures by these, each on the link that fits its place.
+fn links_by(alloc: Global, signers: &[Actor]) -> Result<Vec<Brief>, Refusal>
+    ensures same { IfOk result (λ links. links.items ≡ map short_form signers.now) }
+    ensures refusal { IsOkUnless result Refusal.NoMemory }
+{
+    let mut links = Vec::with_capacity(alloc, signers.len())?;
+    for signer in signers {
+        links.push(Brief::by(*signer))?;
+    }
+    Ok(links)
+}
+
+/// What a text says of the chain's signatures, each compared with the link that fits its place.
+fn links_compared(alloc: Global, chain: &Chain) -> Result<Vec<Brief>, Refusal>
+    ensures same { IfOk result (λ links. links.items ≡ spelled_links chain.now.slot (content chain.now.value) [] chain.now.signatures) }
+    ensures refusal { IsOkUnless result Refusal.NoMemory }
+{
     let content = chain.content();
     let count = chain.signature_count();
     let mut links = Vec::with_capacity(alloc, count)?;
@@ -165,20 +190,6 @@ pub(crate) fn link_at(slot: u64, content: &Option<Requests>, before: Signers) ->
         slot,
         value: *content,
         before,
-    }
-}
-
-/// The requests of this value, with what the signatures beside them say.
-fn said_value(alloc: Global, value: &SlotValue) -> Result<Vec<SaidRequest>, Refusal>
-    requires { All IsSigned (signed_in value.now) }
-    ensures spelled { IsValue value.now }
-    ensures same { IfOk result (λ said. value_of said.items ≡ value.now) }
-    ensures few { IfOk result (λ said. length said.items ≤ 8) }
-    ensures refusal { IsOkUnless result Refusal.NoMemory }
-{
-    match value {
-        SlotValue::Idle => Ok(Vec::new(alloc)),
-        SlotValue::Act(batch) => said_requests(alloc, batch.as_slice()),
     }
 }
 

@@ -6,7 +6,7 @@ ghost use Rattle.dsr_desk.specs.Signature.{Signature};
 ghost use Rattle.dsr_desk.specs.StatementText.{IsStatement};
 ghost use Rattle.dsr_desk.specs.Support.StatementEquality.{statement_eq};
 ghost use Rattle.dsr_script.specs.SignatureText.{Spelled, spelled_at, spelled_text};
-ghost use Rattle.dsr_script.specs.Support.SpelledText.{IsSpelled, closed_text, long_form, pair_of};
+ghost use Rattle.dsr_script.specs.Support.SpelledText.{IsSpelled, closed_text, short_form, long_form, pair_of};
 
 use crate::said::Said;
 use dsr_base::split_once;
@@ -90,7 +90,7 @@ fn read_closed(bytes: &[u8]) -> Option<Statement>
 
 /// What is said of this signer's signature on the statement that fits.
 fn short_form_of(signer: Option<Actor>) -> Option<Spelled>
-    ensures { result ≡ option_map (λ (a : Actor). record { signer = a; other = None }) signer }
+    ensures { result ≡ option_map short_form signer }
 {
     match signer {
         Some(signer) => Some(Spelled {

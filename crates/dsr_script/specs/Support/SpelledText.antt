@@ -33,6 +33,10 @@ pub record IsSpelled (s : Spelled) : Type 0 where
 abbrev pub closed_text : Statement → List ℕ
 closed_text statement = statement_text statement ++ 41 ∷ []
 
+-- what is said of this signer's signature on the statement that fits
+abbrev pub short_form : Actor → Spelled
+short_form signer = record { signer = signer; other = None }
+
 -- what is said of this signer's signature on this other statement
 abbrev pub long_form : Actor × Statement → Spelled
 long_form p = record { signer = p.0; other = Some p.1 }

@@ -1,23 +1,17 @@
-use Rattle.std.proofs.Common.{ap, ◌∙◌, ◌++◌, ◌∷◌, [], arith, length}
-use Rattle.std.proofs.lemmas.List.{length_push}
-use Rattle.dsr_script.proofs.Places.{said_more}
+use Rattle.std.proofs.Common.{◌≡◌, [], ap, map, subst, sym, ◌∙◌}
+use Rattle.std.specs.Prelude.{IfOk}
+use Rattle.std.proofs.lemmas.Bool.{false≢true}
+use Rattle.dsr_chain.specs.Content.{content}
+use Rattle.dsr_chain.specs.Faults.{HasMisfit}
 use Rattle.dsr_script.specs.ChainText.{spelled_links}
-use Rattle.dsr_script.specs.SignatureText.{spelled_at}
-use Rattle.dsr_desk.specs.declared.statement.Statement.TheVariants.{Link}
+use Rattle.dsr_script.specs.Support.SpelledText.{short_form}
+use Rattle.dsr_script.proofs.InTurn.{short_links}
 use Rattle.dsr_script.proofs.said_chain.links_of.Goals as goal
 
-pub loop-place-preserved : goal.loop-place-preserved
-loop-place-preserved c =
-    let link = c.link_at.ensures ∙ ap (λ n. Link n c.content-content.result c.loop-place.before) c.slot.ensures in
-    record {
-      said =
-          said_more c.loop-place.links.items c.push.new.self.items (spelled_links c.args.chain.now.slot c.content-content.result [] c.args.chain.now.signatures)
-          c.in_ok-of.field-0 c.args.chain.now.slot c.content-content.result c.loop-place.before c.push-in-loop-place.new.self c.args.chain.now.signatures
-          c.loop-place.place c.signature-signature.result c.signature-signature.ensures c.in_ok-push.ensures.items
-          (c.in_ok-of.ensures.same
-          ∙ (c.at-spelled.ensures ∙ (ap (λ l. spelled_at l c.of.result) link ∙ ap (spelled_at (Link c.args.chain.now.slot c.content-content.result c.loop-place.before)) c.of.ensures)))
-          (c.push-in-loop-place.ensures ∙ ap (λ a. c.loop-place.before ++ a ∷ []) c.signer.ensures) c.loop-place.invariant.said;
-      signers =
-          ap length c.push-in-loop-place.ensures
-          ∙ (length_push c.loop-place.before c.signer.result ∙ omega (arith, c.loop-place.invariant.signers));
-    }
+pub returns-else-has_misfit-clause-same : goal.returns-else-has_misfit-clause-same
+returns-else-has_misfit-clause-same c =
+    let chain = c.args.chain.now in
+    let none : ¬ HasMisfit chain = λ misfit. false≢true (sym c.if-has_misfit.false ∙ c.has_misfit.ensures.1 misfit) in
+    let are : map short_form c.as_slice.result.now ≡ spelled_links chain.slot (content chain.value) [] chain.signatures =
+    ap (map short_form) (c.as_slice.ensures.same ∙ c.signers.ensures) ∙ sym (short_links chain none) in
+    subst (λ xs. IfOk c.links_by.result (λ links. links.items ≡ xs)) are c.links_by.ensures.same

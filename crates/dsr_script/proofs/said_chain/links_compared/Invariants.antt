@@ -1,6 +1,6 @@
 use Rattle.std.proofs.Common.{◌≡◌, ◌++◌, [], length, drop}
 use Rattle.dsr_script.specs.ChainText.{spelled_links}
-use Rattle.dsr_script.proofs.said_chain.links_of.Given as goal
+use Rattle.dsr_script.proofs.said_chain.links_compared.Given as goal
 
 -- what is said so far
 abbrev pub invariant-loop-place : goal.invariant-loop-place
