@@ -1,11 +1,17 @@
 //! A poster stopped between its claim and its publish, and a taker stopped between its fetch and its release: each leaves one box as it
-//! is, and all other boxes work.
+//! is, and every other box works.
+//!
+//! Of the 25 boxes between three replicas and two clients 13 are used, the stopped one among them. These are left out: the two of a client to
+//! itself, as it posts there never; the six of clients to replicas and the four of loyal replicas to clients, as asks and replies are signed, or
+//! need a decision, and so calls of crates above this one.
 
-ghost use Rattle.std.specs.Prelude.{◌≡◌, ◌<◌, IfOk, OnOk, OnErr, [], ◌∷◌, length};
+ghost use Rattle.std.specs.Prelude.{◌≡◌, ◌⊎◌, ◌<◌, IfOk, OnOk, OnErr, [], ◌∷◌, length};
 ghost use Rattle.dsr_names.specs.Shape.{shape_of, IsActor};
 ghost use Rattle.dsr_names.specs.declared.actor.Actor.TheVariants.{Replica, Client};
+ghost use Rattle.dsr_envelope.specs.declared.envelope.Envelope.{Envelope as AnEnvelope};
 ghost use Rattle.dsr_envelope.specs.declared.envelope.Envelope.TheVariants.{Empty, Seen};
-ghost use Rattle.dsr_envelope.specs.declared.entry.Entry.TheVariants.{Post};
+ghost use Rattle.dsr_envelope.specs.declared.entry.Entry.TheVariants.{Post, Take};
+ghost use Rattle.dsr_run.specs.OwnStep.{MayPost};
 ghost use Rattle.dsr_boxes.specs.Pass.{IsPassOf, MayTake, new_pass, with_entry};
 
 use crate::parcel::Parcel;
@@ -20,11 +26,13 @@ use std::test::Fail;
 /// How often what must not succeed is tried.
 const TRIES: u32 = 1_000;
 
-/// Boxes between three replicas, of which the first is a traitor, and two clients; and the passes of the traitor and of both clients.
+/// Boxes between three replicas, of which the first is a traitor, and two clients; and the passes of all five.
 #[derive(Drop)]
 struct Small {
     boxes: SharedBoxes,
     traitor: Pass,
+    one: Pass,
+    two: Pass,
     first: Pass,
     second: Pass,
 }
@@ -32,6 +40,8 @@ struct Small {
 fn open_small(alloc: Global) -> Result<Small, Fail>
     ensures shape { IfOk result (λ small. small.boxes.shape ≡ shape_of 3 1 2 1) }
     ensures traitor { IfOk result (λ small. small.traitor ≡ new_pass small.boxes (Replica 0)) }
+    ensures one { IfOk result (λ small. small.one ≡ new_pass small.boxes (Replica 1)) }
+    ensures two { IfOk result (λ small. small.two ≡ new_pass small.boxes (Replica 2)) }
     ensures first { IfOk result (λ small. small.first ≡ new_pass small.boxes (Client 0)) }
     ensures second { IfOk result (λ small. small.second ≡ new_pass small.boxes (Client 1)) }
 {
@@ -43,14 +53,20 @@ fn open_small(alloc: Global) -> Result<Small, Fail>
     let Some(first) = passes.pop() else {
         unreachable!()
     };
-    drop(passes.pop());
-    drop(passes.pop());
+    let Some(two) = passes.pop() else {
+        unreachable!()
+    };
+    let Some(one) = passes.pop() else {
+        unreachable!()
+    };
     let Some(traitor) = passes.pop() else {
         unreachable!()
     };
     Ok(Small {
         boxes,
         traitor,
+        one,
+        two,
         first,
         second,
     })
@@ -70,7 +86,40 @@ fn client(number: u8) -> Actor
     Actor::Client(ClientId::of(number))
 }
 
-/// Has the traitor post the empty envelope. Fails where the box is full.
+/// Posts the empty envelope. Fails where the box is not empty.
+fn post_empty(
+    alloc: Global,
+    boxes: &SharedBoxes,
+    poster: &mut Pass,
+    to: &Actor,
+) -> Result<(), Refusal>
+    requires boxes { IsPassOf boxes.now poster.old }
+    requires to { IsActor poster.old.shape to.now }
+    requires conduct { MayPost poster.old.shape poster.old.actor poster.old.log to.now Empty }
+    requires few { length poster.old.log < 1000 }
+    ensures posted { OnOk result (poster.new ≡ with_entry poster.old (Post to.now Empty)) }
+    ensures same { OnErr result (poster.new ≡ poster.old) }
+{
+    let (parcel, own) = Parcel::of(alloc, Envelope::Empty)?;
+    drop(own);
+    poster.post(boxes, to, parcel)?;
+    Ok(())
+}
+
+/// Takes what lies in a box. Fails where nothing does.
+fn take(boxes: &SharedBoxes, taker: &mut Pass, from: &Actor) -> Result<(), Fail>
+    requires boxes { IsPassOf boxes.now taker.old }
+    requires from { IsActor taker.old.shape from.now }
+    requires conduct { MayTake taker.old.shape taker.old.actor taker.old.log from.now }
+    ensures taken { OnOk result ((x : AnEnvelope) × (taker.new ≡ with_entry taker.old (Take from.now x))) }
+{
+    match taker.take(boxes, from) {
+        Some(_) => Ok(()),
+        None => Err("there is nothing in the box")?,
+    }
+}
+
+/// Has the traitor post the empty envelope. Fails where the box is not empty.
 fn plant(alloc: Global, boxes: &SharedBoxes, traitor: &mut Pass, to: &Actor) -> Result<(), Refusal>
     requires boxes { IsPassOf boxes.now traitor.old }
     requires shape { traitor.old.shape ≡ shape_of 3 1 2 1 }
@@ -80,27 +129,37 @@ fn plant(alloc: Global, boxes: &SharedBoxes, traitor: &mut Pass, to: &Actor) -> 
     ensures posted { OnOk result (traitor.new ≡ with_entry traitor.old (Post to.now Empty)) }
     ensures same { OnErr result (traitor.new ≡ traitor.old) }
 {
-    let (parcel, own) = Parcel::of(alloc, Envelope::Empty)?;
-    drop(own);
-    traitor.post(boxes, to, parcel)?;
-    Ok(())
+    post_empty(alloc, boxes, traitor, to)
 }
 
-/// Has the traitor post to each actor but the first client.
-fn plant_elsewhere(alloc: Global, boxes: &SharedBoxes, traitor: &mut Pass) -> Result<(), Fail>
+/// Has the traitor post to each replica.
+fn plant_round(alloc: Global, boxes: &SharedBoxes, traitor: &mut Pass) -> Result<(), Fail>
     requires boxes { IsPassOf boxes.now traitor.old }
     requires shape { traitor.old.shape ≡ shape_of 3 1 2 1 }
     requires traitor { traitor.old.actor ≡ Replica 0 }
     requires few { length traitor.old.log < 100 }
     ensures posted { OnOk result (traitor.new ≡ record traitor.old {
-      log =
-          Post (Client 1) Empty ∷ Post (Replica 2) Empty ∷ Post (Replica 1) Empty ∷ Post (Replica 0) Empty ∷ traitor.old.log;
+      log = Post (Replica 2) Empty ∷ Post (Replica 1) Empty ∷ Post (Replica 0) Empty ∷ traitor.old.log;
     }) }
 {
     plant(alloc, boxes, traitor, &replica(0))?;
     plant(alloc, boxes, traitor, &replica(1))?;
     plant(alloc, boxes, traitor, &replica(2))?;
-    plant(alloc, boxes, traitor, &client(1))?;
+    Ok(())
+}
+
+/// Has the traitor take from each replica.
+fn take_round(boxes: &SharedBoxes, traitor: &mut Pass) -> Result<(), Fail>
+    requires boxes { IsPassOf boxes.now traitor.old }
+    requires shape { traitor.old.shape ≡ shape_of 3 1 2 1 }
+    requires traitor { traitor.old.actor ≡ Replica 0 }
+    ensures taken { OnOk result ((x y z : AnEnvelope) × (traitor.new ≡ record traitor.old {
+      log = Take (Replica 2) z ∷ Take (Replica 1) y ∷ Take (Replica 0) x ∷ traitor.old.log;
+    })) }
+{
+    take(boxes, traitor, &replica(0))?;
+    take(boxes, traitor, &replica(1))?;
+    take(boxes, traitor, &replica(2))?;
     Ok(())
 }
 
@@ -126,21 +185,6 @@ fn plant_nothing(
     Ok(())
 }
 
-/// Has a client that has done nothing yet tell another one its front, which is 0. Fails where the box is full.
-fn tell(alloc: Global, boxes: &SharedBoxes, teller: &mut Pass, to: &Actor) -> Result<(), Fail>
-    requires boxes { IsPassOf boxes.now teller.old }
-    requires shape { teller.old.shape ≡ shape_of 3 1 2 1 }
-    requires teller { teller.old.actor ≡ Client 0 }
-    requires to { to.now ≡ Client 1 }
-    requires none { teller.old.log ≡ [] }
-    ensures posted { OnOk result (teller.new ≡ with_entry teller.old (Post to.now (Seen 0))) }
-{
-    let (parcel, own) = Parcel::of(alloc, Envelope::Seen(0))?;
-    drop(own);
-    teller.post(boxes, to, parcel)?;
-    Ok(())
-}
-
 /// Tries to take what is not there, again and again. Fails where it can.
 fn take_nothing(boxes: &SharedBoxes, taker: &mut Pass, from: &Actor) -> Result<(), Fail>
     requires boxes { IsPassOf boxes.now taker.old }
@@ -156,20 +200,89 @@ fn take_nothing(boxes: &SharedBoxes, taker: &mut Pass, from: &Actor) -> Result<(
     Ok(())
 }
 
+/// Has a loyal replica that has done nothing yet post to each replica: the empty envelope, since the traitor is the sender of slot 0.
+fn begin_round(alloc: Global, boxes: &SharedBoxes, loyal: &mut Pass) -> Result<(), Fail>
+    requires boxes { IsPassOf boxes.now loyal.old }
+    requires shape { loyal.old.shape ≡ shape_of 3 1 2 1 }
+    requires loyal { (loyal.old.actor ≡ Replica 1) ⊎ (loyal.old.actor ≡ Replica 2) }
+    requires none { loyal.old.log ≡ [] }
+    ensures posted { OnOk result (loyal.new ≡ record loyal.old {
+      log = Post (Replica 2) Empty ∷ Post (Replica 1) Empty ∷ Post (Replica 0) Empty ∷ [];
+    }) }
+{
+    post_empty(alloc, boxes, loyal, &replica(0))?;
+    post_empty(alloc, boxes, loyal, &replica(1))?;
+    post_empty(alloc, boxes, loyal, &replica(2))?;
+    Ok(())
+}
+
+/// Has it take from each replica.
+fn end_round(boxes: &SharedBoxes, loyal: &mut Pass) -> Result<(), Fail>
+    requires boxes { IsPassOf boxes.now loyal.old }
+    requires shape { loyal.old.shape ≡ shape_of 3 1 2 1 }
+    requires loyal { (loyal.old.actor ≡ Replica 1) ⊎ (loyal.old.actor ≡ Replica 2) }
+    requires begun { loyal.old.log ≡ Post (Replica 2) Empty ∷ Post (Replica 1) Empty ∷ Post (Replica 0) Empty ∷ [] }
+{
+    take(boxes, loyal, &replica(0))?;
+    take(boxes, loyal, &replica(1))?;
+    take(boxes, loyal, &replica(2))?;
+    Ok(())
+}
+
+/// Has both loyal replicas make round 0, for which the traitor has posted. Fails where one of their boxes does not work.
+fn make_round(
+    alloc: Global,
+    boxes: &SharedBoxes,
+    one: &mut Pass,
+    two: &mut Pass,
+) -> Result<(), Fail>
+    requires shape { boxes.now.shape ≡ shape_of 3 1 2 1 }
+    requires one { one.old ≡ new_pass boxes.now (Replica 1) }
+    requires two { two.old ≡ new_pass boxes.now (Replica 2) }
+{
+    begin_round(alloc, boxes, one)?;
+    begin_round(alloc, boxes, two)?;
+    end_round(boxes, one)?;
+    end_round(boxes, two)?;
+    Ok(())
+}
+
+/// Has a client that has done nothing yet tell the other one its front, which is 0. Fails where the box is not empty.
+fn tell(alloc: Global, boxes: &SharedBoxes, teller: &mut Pass, to: &Actor) -> Result<(), Fail>
+    requires boxes { IsPassOf boxes.now teller.old }
+    requires shape { teller.old.shape ≡ shape_of 3 1 2 1 }
+    requires clients { ((teller.old.actor ≡ Client 0) × (to.now ≡ Client 1)) ⊎ ((teller.old.actor ≡ Client 1) × (to.now ≡ Client 0)) }
+    requires none { teller.old.log ≡ [] }
+    ensures posted { OnOk result (teller.new ≡ with_entry teller.old (Post to.now (Seen 0))) }
+{
+    let (parcel, own) = Parcel::of(alloc, Envelope::Seen(0))?;
+    drop(own);
+    teller.post(boxes, to, parcel)?;
+    Ok(())
+}
+
 #[test]
 fn a_poster_stopped_after_its_claim_stops_one_box(rt: HostRuntime) -> Result<(), Fail> {
     let Small {
         boxes,
-        traitor,
+        mut traitor,
+        mut one,
+        mut two,
         mut first,
         mut second,
     } = open_small(rt.alloc())?;
+    // What the traitor posts before it stops is taken after that.
+    plant_round(rt.alloc(), &boxes, &mut traitor)?;
+    plant(rt.alloc(), &boxes, &mut traitor, &client(0))?;
     let Pass { mut token, actor } = traitor;
     assert!(rt; boxes.claim(&mut token, &actor, &client(1)));
     take_nothing(&boxes, &mut second, &replica(0))?;
+    make_round(rt.alloc(), &boxes, &mut one, &mut two)?;
     tell(rt.alloc(), &boxes, &mut first, &client(1))?;
-    assert!(rt; second.take(&boxes, &client(0)).is_some());
-    assert!(rt; first.take(&boxes, &replica(0)).is_none());
+    tell(rt.alloc(), &boxes, &mut second, &client(0))?;
+    take(&boxes, &mut first, &replica(0))?;
+    take(&boxes, &mut first, &client(1))?;
+    take(&boxes, &mut second, &client(0))?;
     take_nothing(&boxes, &mut second, &replica(0))?;
     Ok(())
 }
@@ -179,16 +292,26 @@ fn a_taker_stopped_after_its_fetch_stops_one_box(rt: HostRuntime) -> Result<(), 
     let Small {
         boxes,
         mut traitor,
-        first,
+        mut one,
+        mut two,
+        mut first,
         mut second,
     } = open_small(rt.alloc())?;
     plant(rt.alloc(), &boxes, &mut traitor, &client(0))?;
+    // What the client posts before it stops is taken after that.
+    tell(rt.alloc(), &boxes, &mut first, &client(1))?;
     let Pass { mut token, actor } = first;
     assert!(rt; boxes.fetch(&mut token, &actor, &replica(0)));
     plant_nothing(rt.alloc(), &boxes, &mut traitor, &client(0))?;
-    plant_elsewhere(rt.alloc(), &boxes, &mut traitor)?;
-    assert!(rt; second.take(&boxes, &replica(0)).is_some());
-    assert!(rt; traitor.take(&boxes, &replica(0)).is_some());
+    plant_round(rt.alloc(), &boxes, &mut traitor)?;
+    plant(rt.alloc(), &boxes, &mut traitor, &client(1))?;
+    make_round(rt.alloc(), &boxes, &mut one, &mut two)?;
+    take_round(&boxes, &mut traitor)?;
+    tell(rt.alloc(), &boxes, &mut second, &client(0))?;
+    take(&boxes, &mut second, &client(0))?;
+    take(&boxes, &mut second, &replica(0))?;
+    // What was taken leaves an empty box.
+    plant_round(rt.alloc(), &boxes, &mut traitor)?;
     plant_nothing(rt.alloc(), &boxes, &mut traitor, &client(0))?;
     Ok(())
 }
@@ -208,9 +331,8 @@ fn a_look_tells_what_lies_in_a_box(rt: HostRuntime) -> Result<(), Fail> {
         boxes,
         mut traitor,
         first,
-        second,
+        ..
     } = open_small(rt.alloc())?;
-    drop(second);
     looks_full(&rt, &boxes, &traitor, &first, false);
     plant(rt.alloc(), &boxes, &mut traitor, &client(0))?;
     looks_full(&rt, &boxes, &traitor, &first, true);
@@ -224,6 +346,7 @@ fn waits_return_where_there_is_nothing_to_wait_for(rt: HostRuntime) -> Result<()
         mut traitor,
         first,
         second,
+        ..
     } = open_small(rt.alloc())?;
     traitor.wait_to(&rt, &boxes, &client(0));
     boxes.wake_all();

@@ -2,6 +2,7 @@
 #![tactic(auto)]
 
 mod files;
+mod last_reads;
 mod laws;
 mod mailboxes;
 mod merging;

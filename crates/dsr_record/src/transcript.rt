@@ -7,6 +7,7 @@ ghost use Rattle.dsr_record.specs.Record.{Record as ARecord};
 ghost use Rattle.dsr_record.specs.RecordText.{IsSpelledStep, step_text, transcripts, Spells, IsRecordRefusal};
 ghost use Rattle.dsr_record.specs.Support.Noted.{IsNoted, noted_text, IsEnd, end_text, posted, taken};
 
+use crate::last_reads::LastReads;
 use crate::noted::{NotedEntry, NotedStep};
 use crate::record::{Record, is_step_of};
 use crate::version::Version;
@@ -86,21 +87,39 @@ impl NotedStep {
         ensures read { IfOk result (λ step. Reads IsSpelledStep step_text bytes.now step) }
         ensures refusal { IsOkUnless result Refusal.NoMemory }
     {
-        let Some((actor, rest)) = split_once(bytes, b' ') else {
-            return Ok(None);
-        };
-        let Some(actor) = Actor::read(actor) else {
-            return Ok(None);
-        };
-        match read_entry(alloc, rest)? {
-            Some(entry) => Ok(Some(NotedStep::new(actor, entry))),
-            None => Ok(None),
-        }
+        let mut last = LastReads::none(alloc);
+        read_step(alloc, &mut last, bytes)
     }
 }
 
-/// The entry that the bytes spell.
-fn read_entry(alloc: Global, bytes: &[u8]) -> Result<Option<NotedEntry>, Refusal>
+/// The step that the line spells, as `NotedStep::read` says it.
+fn read_step(
+    alloc: Global,
+    last: &mut LastReads,
+    bytes: &[u8],
+) -> Result<Option<NotedStep>, Refusal>
+    ensures read { IfOk result (λ step. Reads IsSpelledStep step_text bytes.now step) }
+    ensures refusal { IsOkUnless result Refusal.NoMemory }
+{
+    let Some((actor, rest)) = split_once(bytes, b' ') else {
+        return Ok(None);
+    };
+    let Some(actor) = Actor::read(actor) else {
+        return Ok(None);
+    };
+    match read_entry(alloc, last, &actor, rest)? {
+        Some(entry) => Ok(Some(NotedStep::new(actor, entry))),
+        None => Ok(None),
+    }
+}
+
+/// The entry of this actor's log that the bytes spell.
+fn read_entry(
+    alloc: Global,
+    last: &mut LastReads,
+    actor: &Actor,
+    bytes: &[u8],
+) -> Result<Option<NotedEntry>, Refusal>
     ensures read { IfOk result (λ entry. Reads IsNoted noted_text bytes.now entry) }
     ensures refusal { IsOkUnless result Refusal.NoMemory }
 {
@@ -108,10 +127,10 @@ fn read_entry(alloc: Global, bytes: &[u8]) -> Result<Option<NotedEntry>, Refusal
         return Ok(None);
     };
     if word == b"post".as_slice() {
-        let end = read_end(alloc, rest)?;
+        let end = read_end(alloc, last, Some(actor), rest)?;
         Ok(posted(end))
     } else if word == b"take".as_slice() {
-        let end = read_end(alloc, rest)?;
+        let end = read_end(alloc, last, None, rest)?;
         Ok(taken(end))
     } else {
         Ok(None)
@@ -138,8 +157,13 @@ fn taken(end: Option<(Actor, Draft)>) -> Option<NotedEntry>
     }
 }
 
-/// The other end and the envelope that the bytes spell.
-fn read_end(alloc: Global, bytes: &[u8]) -> Result<Option<(Actor, Draft)>, Refusal>
+/// The other end and the envelope that the bytes spell. The other end posted it where no poster is given.
+fn read_end(
+    alloc: Global,
+    last: &mut LastReads,
+    poster: Option<&Actor>,
+    bytes: &[u8],
+) -> Result<Option<(Actor, Draft)>, Refusal>
     ensures read { IfOk result (λ end. Reads IsEnd end_text bytes.now end) }
     ensures refusal { IsOkUnless result Refusal.NoMemory }
 {
@@ -149,7 +173,7 @@ fn read_end(alloc: Global, bytes: &[u8]) -> Result<Option<(Actor, Draft)>, Refus
     let Some(other) = Actor::read(other) else {
         return Ok(None);
     };
-    match Draft::read(alloc, envelope)? {
+    match last.read(alloc, poster.unwrap_or(&other), envelope)? {
         Some(envelope) => Ok(Some((other, envelope))),
         None => Ok(None),
     }
@@ -170,6 +194,7 @@ fn read_as<F: Format>(alloc: Global, text: &[u8]) -> Result<Record, Refusal>
     let mut reading: Reading<F> = Reading {
         shape: header.shape,
         steps: Vec::new(alloc),
+        last: LastReads::new(alloc)?,
         format: PhantomData,
     };
     match take_lines(&mut reading, alloc, header.rest) {
@@ -183,6 +208,7 @@ fn read_as<F: Format>(alloc: Global, text: &[u8]) -> Result<Record, Refusal>
 struct Reading<F> {
     shape: Shape,
     steps: Vec<NotedStep>,
+    last: LastReads,
     format: PhantomData<F>,
 }
 
@@ -198,8 +224,8 @@ impl<F: Format> TakesLines for Reading<F> {
 
     ghost gives = { λ reading lines. reverse reading.steps.items ≡ lines };
 
-    fn read_line(alloc: Global, bytes: &[u8]) -> Result<Option<NotedStep>, Refusal> {
-        match NotedStep::read(alloc, bytes)? {
+    fn read_line(&mut self, alloc: Global, bytes: &[u8]) -> Result<Option<NotedStep>, Refusal> {
+        match read_step(alloc, &mut self.last, bytes)? {
             Some(step) if is_step_of(F::version(), &step) => Ok(Some(step)),
             _ => Ok(None),
         }

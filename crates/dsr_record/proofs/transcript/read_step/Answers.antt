@@ -2,7 +2,7 @@ use Rattle.std.proofs.Common.{Some, sym, subst}
 use Rattle.dsr_base.specs.Reads.{Reads}
 use Rattle.dsr_record.specs.RecordText.{IsSpelledStep, step_text}
 use Rattle.dsr_record.proofs.LineLemmas.{no_space, no_actor, not_entry, reads_step}
-use Rattle.dsr_record.proofs.noted.NotedStep.read.Goals as goal
+use Rattle.dsr_record.proofs.transcript.read_step.Goals as goal
 
 pub returns-in_default-clause-read : goal.returns-in_default-clause-read
 returns-in_default-clause-read c = no_space c.args.bytes.now c.in_default.ensures.absent

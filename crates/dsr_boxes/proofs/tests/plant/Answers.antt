@@ -1,5 +1,0 @@
-use Rattle.dsr_boxes.proofs.FewPosts.{few_posts}
-use Rattle.dsr_boxes.proofs.tests.plant.Goals as goal
-
-pub post-requires-clause-few : goal.post-requires-clause-few
-post-requires-clause-few c = few_posts c.args.to.now c.args.traitor.now.log c.requires.few
