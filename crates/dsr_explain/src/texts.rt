@@ -49,25 +49,25 @@ impl Texts {
         event: &Event,
         envelope: &Envelope,
     ) -> Result<(), Refusal> {
-        let (actor, other) = (place_of(actor_of(event)), place_of(other_of(event)));
+        let (place, there) = (place_of(actor_of(event)), box_of(event));
         self.current.clear();
         match event {
             Event::Post { .. } => {
                 if is_again(event) {
-                    copy(&mut self.current, &self.posted, actor)?;
+                    copy(&mut self.current, &self.posted, place)?;
                 }
                 self.write(alloc, envelope)?;
                 if let Actor::Replica(_) = other_of(event) {
-                    keep(&mut self.posted, actor, &self.current)?;
+                    keep(&mut self.posted, place, &self.current)?;
                 }
-                keep(&mut self.boxes, actor * MOST_ACTORS + other, &self.current)
+                keep(&mut self.boxes, there, &self.current)
             }
             Event::Plant { .. } | Event::Tell { .. } => {
                 self.write(alloc, envelope)?;
-                keep(&mut self.boxes, actor * MOST_ACTORS + other, &self.current)
+                keep(&mut self.boxes, there, &self.current)
             }
             Event::Take { .. } => {
-                copy(&mut self.current, &self.boxes, other * MOST_ACTORS + actor)?;
+                copy(&mut self.current, &self.boxes, there)?;
                 self.write(alloc, envelope)
             }
         }
@@ -75,14 +75,13 @@ impl Texts {
 
     /// Forgets what this event, which was done and is not told of, makes old.
     pub(crate) fn forget(&mut self, event: &Event) {
-        let (actor, other) = (place_of(actor_of(event)), place_of(other_of(event)));
         if let Event::Take { .. } = event {
             return;
         }
         if !is_again(event) {
-            clear(&mut self.posted, actor);
+            clear(&mut self.posted, place_of(actor_of(event)));
         }
-        clear(&mut self.boxes, actor * MOST_ACTORS + other);
+        clear(&mut self.boxes, box_of(event));
     }
 
     /// Writes the envelope, unless its text is there.
@@ -113,6 +112,16 @@ fn place_of(actor: Actor) -> usize {
         Actor::Replica(replica) => replica.number() as usize,
         Actor::Client(client) => client.number() as usize + 16,
     }
+}
+
+/// The place of the box that the event fills or empties.
+fn box_of(event: &Event) -> usize {
+    let (actor, other) = (place_of(actor_of(event)), place_of(other_of(event)));
+    let (from, to) = match event {
+        Event::Take { .. } => (other, actor),
+        _ => (actor, other),
+    };
+    from.saturating_mul(MOST_ACTORS).saturating_add(to)
 }
 
 /// So many empty texts.

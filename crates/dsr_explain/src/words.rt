@@ -3,8 +3,9 @@
 use crate::note::{ChainFate, Dropped, NoVote, Note, Told, Why};
 use crate::standing::{accepted_last, content_of};
 use dsr_chain::{Chain, ChainFault};
-use dsr_desk::{Content, MOST_SIGNERS, Signers, Statement};
+use dsr_desk::{Content, MOST_SIGNERS, Signature, Signers, Statement};
 use dsr_names::{Refusal, Shape};
+use dsr_request::Requests;
 use dsr_slot::Fate;
 use dsr_world::{Event, World};
 use std::fmt::Write;
@@ -100,26 +101,38 @@ fn write_fate(out: &mut String, shape: &Shape, chain: &Chain, fate: &Fate) -> Re
 
 /// Writes who signed the first statement that does not fit its place, and what it is.
 fn write_misfit(out: &mut String, chain: &Chain) -> Result<(), Refusal> {
+    if let Some(signature) = misfit_of(chain) {
+        let signer = signature.signer();
+        let statement = signature.statement().copy();
+        write!(out, ": {signer} signed {statement}")?;
+    }
+    Ok(())
+}
+
+/// The first signature on a statement that does not fit its place.
+fn misfit_of(chain: &Chain) -> Option<Signature> {
     let value = chain.content();
     let mut before = Signers::new();
     for place in 0..chain.signature_count() {
         let signature = chain.signature(place);
-        let link = Statement::Link {
-            slot: chain.slot(),
-            value,
-            before,
-        };
-        let signer = signature.signer();
-        if !signature.statement().same(&link) {
-            let statement = signature.statement();
-            write!(out, ": {signer} signed {statement}")?;
-            return Ok(());
+        if !fits(&signature, chain.slot(), &value, &before) {
+            return Some(signature);
         }
         if before.len() < MOST_SIGNERS {
-            before.push(signer);
+            before.push(signature.signer());
         }
     }
-    Ok(())
+    None
+}
+
+/// Whether the signature is on the link of this slot and content after these signers.
+fn fits(signature: &Signature, slot: u64, value: &Option<Requests>, before: &Signers) -> bool {
+    let link = Statement::Link {
+        slot,
+        value: *value,
+        before: *before,
+    };
+    signature.statement().same(&link)
 }
 
 /// The name of the fault.
