@@ -2,6 +2,8 @@
 #![tactic(auto)]
 
 #[cfg(test)]
+mod logs_memory;
+#[cfg(test)]
 mod seats_memory;
 #[cfg(test)]
 mod threads;

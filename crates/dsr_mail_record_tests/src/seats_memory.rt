@@ -48,12 +48,18 @@ fn act_again<R: Abort>(rt: &R, alloc: Global, office: &mut Office, events: &[Eve
     }
 }
 
-/// Compares the transcript of what the seats of a mail do in this play.
-fn is_told_again<R: Abort>(rt: &R, alloc: Global, play: &str, text: &str) -> Result<(), Refusal> {
+/// The logs of what the seats of a mail do in this play.
+pub(crate) fn logs_again<R: Abort>(rt: &R, alloc: Global, play: &str) -> Result<Logs, Refusal> {
     let play = read_again(alloc, play)?;
     let mut office = open_again(alloc, play.shape())?;
     act_again(rt, alloc, &mut office, play.events());
-    let told = transcript_again(alloc, &office.close())?;
+    Ok(office.close())
+}
+
+/// Compares the transcript of what the seats of a mail do in this play.
+fn is_told_again<R: Abort>(rt: &R, alloc: Global, play: &str, text: &str) -> Result<(), Refusal> {
+    let logs = logs_again(rt, alloc, play)?;
+    let told = transcript_again(alloc, &logs)?;
     assert_eq!(rt; told.as_slice(), text.as_bytes());
     Ok(())
 }
