@@ -27,16 +27,16 @@ fn rows() -> Result<[Row; 6], Refusal> {
     let swap = Op::Swap { name, from, to: 8 };
     let remove = Op::Remove { name };
     Ok([
-        row(read, Answer::Held(None)),
-        row(write, Answer::Written),
-        row(swap, Answer::Swapped),
-        row(swap, Answer::Kept(Some(8))),
-        row(remove, Answer::Removed(Some(8))),
-        row(read, Answer::Held(None)),
+        row_of(read, Answer::Held(None)),
+        row_of(write, Answer::Written),
+        row_of(swap, Answer::Swapped),
+        row_of(swap, Answer::Kept(Some(8))),
+        row_of(remove, Answer::Removed(Some(8))),
+        row_of(read, Answer::Held(None)),
     ])
 }
 
-fn row(op: Op, answer: Answer) -> Row {
+fn row_of(op: Op, answer: Answer) -> Row {
     Row { op, answer }
 }
 
