@@ -5,8 +5,6 @@
 #[cfg(test)]
 mod calls;
 #[cfg(test)]
-mod calls_memory;
-#[cfg(test)]
 mod gates;
 #[cfg(test)]
 mod office;
