@@ -7,8 +7,8 @@ program.
    more than may be read. The program has twice the memory that it needed when that was measured: so many MiB for each kind.
 2. Transcripts with some 700,000 signatures that are spelled out: all the same, of a traitor, and of a client, which each time must be found among those
    that a service made known; and all different, but alike in signer, slot, and how many signed before; and scripts with such signatures. A byte of
-   them may take four times the processor time of a byte of the transcript of a service, or of the first of these, if that is less; and a byte of a service of
-   four times the rounds half as much again.
+   them may take four times the processor time of a byte of the transcript of a service, which is the common case; and a byte of a service of four times the
+   rounds half as much again.
 
 The last line is `N passed, M failed`.
 """
@@ -160,11 +160,9 @@ def times():
     if usual is None or None in found:
         yield "transcripts whose time is taken", "one of them is no run", ""
         return
-    # a traitor's own signatures are looked up nowhere
-    least = min(usual, found[1])
     for (what, most, text, _), a_byte in zip(cases, found):
-        said = f"{len(text)} bytes, {a_byte * len(text):.2f} seconds, {a_byte / least:.2f} times as long a byte as {len(common)} bytes of a service, or the second of these"
-        yield what, said if a_byte > most * least else None, said
+        said = f"{len(text)} bytes, {a_byte * len(text):.2f} seconds, {a_byte / usual:.2f} times as long a byte as {len(common)} bytes of a service"
+        yield what, said if a_byte > most * usual else None, said
     yield from script_times()
 
 
