@@ -1,6 +1,3 @@
-ghost use Rattle.std.specs.Prelude.{◌≡◌, ◌∷◌, [], IfOk};
-ghost use Rattle.dsr_envelope.specs.declared.pick.Pick.TheVariants.{From};
-
 use dsr_chain::SignedRequest;
 use dsr_desk::{Key, Keys};
 use dsr_names::{Actor, ClientId, Refusal, ReplicaId, Shape};
@@ -41,14 +38,6 @@ fn request(number: u64) -> Result<Request, Fail> {
         value: number,
     };
     Ok(Request::new(ClientId::FIRST, number, op)?)
-}
-
-/// The choice of client 0's held request.
-fn from_client() -> Result<Pick, Fail>
-    ensures { IfOk result (λ pick. pick ≡ From (0 ∷ [])) }
-{
-    let clients = Clients::of(&[ClientId::FIRST]).ok_or("no clients")?;
-    Ok(Pick::From(clients))
 }
 
 /// Lets the replica take client 0's request of this number.
@@ -102,17 +91,21 @@ fn has_decided(rt: &impl Abort, replica: &Replica) -> Result<(), Fail> {
     Ok(())
 }
 
+/// Whether the replica, which holds and decided nothing, refuses a post to replica 0 by this choice, which stays due.
+fn is_refused(rt: &impl Abort, alloc: Global, replica: &Replica, pick: &Pick) -> Result<(), Fail> {
+    let refused = replica.envelope_for(alloc, ReplicaId::FIRST, *pick);
+    assert!(rt; refused.err() == Some(Refusal::NotDue));
+    assert!(rt; replica.held(ClientId::FIRST).is_none());
+    assert!(rt; replica.reply_for(ClientId::FIRST).is_none());
+    assert!(rt; replica.due() == Due::Post(ReplicaId::FIRST));
+    Ok(())
+}
+
 #[test]
 fn a_request_that_is_not_held_is_not_proposed(rt: HostRuntime) -> Result<(), Fail> {
     let one = begin_alone(rt.alloc())?;
-    let refused = one
-        .replica
-        .envelope_for(rt.alloc(), ReplicaId::FIRST, from_client()?);
-    assert!(rt; refused.err() == Some(Refusal::NotDue));
-    assert!(rt; one.replica.held(ClientId::FIRST).is_none());
-    assert!(rt; one.replica.reply_for(ClientId::FIRST).is_none());
-    assert!(rt; one.replica.due() == Due::Post(ReplicaId::FIRST));
-    Ok(())
+    let clients = Clients::of(&[ClientId::FIRST]).ok_or("no clients")?;
+    is_refused(&rt, rt.alloc(), &one.replica, &Pick::From(clients))
 }
 
 #[test]
