@@ -71,6 +71,30 @@ impl Flights {
         self.slots.as_slice()
     }
 
+    /// Whether one of these chains would be kept if they were read in the round in progress. Where none would, reading them
+    /// changes nothing.
+    pub(crate) fn would_keep(&self, chains: &[Chain]) -> bool
+        ensures { result ≡ false → map (with_chains chains.now) self.now.slots ≡ self.now.slots }
+    {
+        for chain in chains {
+            if self.would_keep_one(chain) {
+                return true;
+            }
+        }
+        false
+    }
+
+    /// Whether the chain would be kept if it was read in the round in progress.
+    fn would_keep_one(&self, chain: &Chain) -> bool
+        ensures { result ≡ false → map (λ s. with_chain s chain.now) self.now.slots ≡ self.now.slots }
+    {
+        let first = Calendar::new(&self.shape).slots_in(self.round).first;
+        let Some(place) = chain.slot().checked_sub(first) else {
+            return false;
+        };
+        place < self.slots.len() as u64 && self.slots[place as usize].would_keep(chain)
+    }
+
     /// Reads a chain in the round in progress: in that of the slots in flight which it is of.
     pub(crate) fn read(&mut self, chain: Chain)
         ensures { self.new ≡ record self.old { slots = map (λ s. with_chain s chain) self.old.slots } }

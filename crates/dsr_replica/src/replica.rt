@@ -1,4 +1,4 @@
-ghost use Rattle.std.specs.Prelude.{◌≡◌, ℕ, suc, ◌+◌, ◌<◌, ◌≤◌, ◌^◌, ◌↔◌, ◌∷◌, [], List, Some, All, length, map, reverse, OnOk, IsOk, IfOk, IsSome, IsTrue, IsOkUnless, None, Err, IfErr, IfSome, IsNone, ◌⊎◌};
+ghost use Rattle.std.specs.Prelude.{◌≡◌, ℕ, suc, ◌+◌, ◌<◌, ◌≤◌, ◌^◌, ◌↔◌, ◌∷◌, [], List, Some, All, length, map, reverse, OnOk, IsOk, IfOk, IsSome, IsTrue, IsOkUnless, None, Err, IfErr, IfSome, IsNone, ◌⊎◌, false};
 ghost use Rattle.std.specs.Option.{option_map};
 ghost use Rattle.dsr_names.specs.Shape.{Shape, IsActor};
 ghost use Rattle.dsr_names.specs.Support.ActorEquality.{actor_eq};
@@ -25,7 +25,7 @@ ghost use Rattle.dsr_envelope.specs.Pick.{IsPick};
 ghost use Rattle.dsr_replica.specs.Replica.{Replica, HasRoom, StandsFor, ask_of, value_of, value_for, Allows, IsPostRefusal};
 ghost use Rattle.dsr_replica.specs.Support.Flights.{AreInFlight, with_chains, posts_of};
 ghost use Rattle.dsr_replica.specs.Support.Decisions.{HasRoom as HasPlaces};
-ghost use Rattle.dsr_replica.specs.Support.ReplicaFields.{with_envelope, with_decided, next_round, after_post_to};
+ghost use Rattle.dsr_replica.specs.Support.ReplicaFields.{with_envelope, with_decided, next_round, after_post_to, IsAfterTake};
 
 use crate::decided::Decisions;
 use crate::flights::Flights;
@@ -245,12 +245,26 @@ impl Replica {
         ensures shape { self.new.shape ≡ self.old.shape }
     {
         self.read(envelope);
-        let next = from.number() + 1;
-        if next < self.flights.shape().n() {
-            self.take_next_from(next);
-        } else {
-            self.close();
+        self.go_on_after(from);
+    }
+
+    /// Takes the envelope from this replica where none of its chains would be kept, and returns whether it did; where one would,
+    /// nothing changed, and `taken` takes it. So of most envelopes no copy is needed. It allocates nothing. Requires what `taken`
+    /// requires.
+    pub fn passed_over(&mut self, from: ReplicaId, envelope: &Envelope) -> bool
+        requires due { self.old.next ≡ TakeFrom from }
+        requires room { HasRoom self.old }
+        ensures stands { IsTrue result → (log : List Entry) → StandsFor self.old log
+            → StandsFor self.new (Take (ReplicaNumber from) envelope.now ∷ log) }
+        ensures same { result ≡ false → self.new ≡ self.old }
+        ensures me { self.new.me ≡ self.old.me }
+        ensures shape { self.new.shape ≡ self.old.shape }
+    {
+        if self.would_keep(envelope) {
+            return false;
         }
+        self.go_on_after(from);
+        true
     }
 
     /// Takes the envelope from this client. It allocates nothing. Requires that the client is one of the shape. An ask that the
@@ -390,6 +404,28 @@ impl Replica {
         self.due = Due::Take(replica_of(number));
     }
 
+    /// Goes on to what is due after the take from this replica. Requires that this take is due, and room for what it may decide.
+    fn go_on_after(&mut self, from: ReplicaId)
+        requires due { self.old.next ≡ TakeFrom from }
+        requires room { HasRoom self.old }
+        ensures { IsAfterTake self.old from self.new }
+    {
+        let next = from.number() + 1;
+        if next < self.flights.shape().n() {
+            self.take_next_from(next);
+        } else {
+            self.close();
+        }
+    }
+
+    /// Whether one of the envelope's chains would be kept if it was read in the round in progress.
+    fn would_keep(&self, envelope: &Envelope) -> bool
+        ensures nothing { result ≡ false → with_envelope self.now envelope.now ≡ self.now }
+        ensures in_flight { AreInFlight self.now.shape self.now.round self.now.slots (closed_slots self.now.shape self.now.round) }
+    {
+        keeps_one(&self.flights, envelope)
+    }
+
     /// Reads the envelope in the round in progress.
     fn read(&mut self, envelope: Envelope)
         ensures read { self.new ≡ with_envelope self.old envelope }
@@ -482,6 +518,21 @@ fn read_envelope(flights: &mut Flights, envelope: Envelope)
             }
         }
         _ => {}
+    }
+}
+
+/// Whether one of the envelope's chains would be kept if it was read in the round in progress: none if it is of another round.
+fn keeps_one(flights: &Flights, envelope: &Envelope) -> bool
+    ensures nothing { result ≡ false
+        → map (with_chains (chains_for flights.now.round envelope.now)) flights.now.slots ≡ flights.now.slots }
+    ensures in_flight { AreInFlight flights.now.shape flights.now.round flights.now.slots (closed_slots flights.now.shape flights.now.round) }
+{
+    let current = flights.round();
+    match envelope {
+        Envelope::Round { round, chains } => {
+            *round == current && flights.would_keep(chains.as_slice())
+        }
+        _ => false,
     }
 }
 

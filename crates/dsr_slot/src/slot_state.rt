@@ -117,6 +117,17 @@ impl SlotState {
         self.fate_of(chain)
     }
 
+    /// Whether the chain would be kept if it was read now, in the round after the closed ones. One that would not changes nothing
+    /// when it is read. Requires that the slot has such a round: that at most f are closed. A chain whose content is kept is told
+    /// without a look at its signatures.
+    pub fn would_keep(&self, chain: &Chain) -> bool
+        requires within { self.now.closed ≤ self.now.shape.f }
+        ensures same { result ≡ is_news self.now.shape self.now.slot (suc self.now.closed) self.now.kept chain.now }
+        ensures nothing { result ≡ false → with_chain self.now chain.now ≡ self.now }
+    {
+        self.is_news(self.closed + 1, chain)
+    }
+
     /// Reads one more chain in the round after the closed ones. Requires that the slot has such a round: that at most f are
     /// closed. It keeps the chain where that is proper for the round and new, and fewer than two are kept. A chain
     /// whose content is kept is dropped before its signatures are looked at.

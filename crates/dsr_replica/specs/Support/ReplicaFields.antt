@@ -1,5 +1,5 @@
 -- How a replica stands in its parts, and what they hold (this project).
-use Rattle.std.specs.Prelude.{◌≡◌, ℕ, suc, ◌^◌, ◌<◌, ◌≤◌, ◌==◌, List, ◌∷◌, ◌++◌, [], Option, None, Some, length, map, if◌then◌else◌}
+use Rattle.std.specs.Prelude.{◌≡◌, ℕ, suc, ◌^◌, ◌<◌, ◌≤◌, ◌==◌, true, false, List, ◌∷◌, ◌++◌, [], Option, None, Some, length, map, if◌then◌else◌}
 use Rattle.dsr_rotation.specs.Calendar.{closed_slots}
 use Rattle.dsr_chain.specs.declared.slot_value.SlotValue.{SlotValue}
 use Rattle.dsr_slot.specs.SlotState.{opened, with_closed}
@@ -62,3 +62,8 @@ next_round r = record r {
 -- what is due after a post to this replica
 abbrev pub after_post_to : ℕ → ℕ → Due
 after_post_to n q = if suc q == n then TakeFrom 0 else PostTo (suc q)
+
+-- the replica after a take from this replica was read: the next take is due, or with the last one the round is closed
+pub record IsAfterTake (before : Replica) (from : ℕ) (after : Replica) : Type 0 where
+  pub more : (suc from == before.shape.n) ≡ false → after ≡ record before { next = TakeFrom (suc from) }
+  pub last : (suc from == before.shape.n) ≡ true → after ≡ record (next_round before) { requests = after.requests; places = after.places }
