@@ -37,7 +37,7 @@ use Rattle.dsr_envelope.specs.Envelope.{chains_for, round_envelope}
 use Rattle.dsr_envelope.specs.Log.{taken_from, due, rounds}
 use Rattle.dsr_replica.specs.Replica.{Replica, IsLaterPost, ask_of, StandsFor}
 use Rattle.dsr_replica.specs.Support.Flights.{Flights, AreInFlight, with_chains, going_on, rest_of, first_decided, decided_with}
-use Rattle.dsr_replica.specs.Support.ReplicaFields.{with_envelope, with_decided, next_round}
+use Rattle.dsr_replica.specs.Support.ReplicaFields.{with_envelope, with_decided, next_round, IsAfterTake}
 use Rattle.dsr_replica.proofs.Counting.{after_take}
 use Rattle.dsr_replica.proofs.Growing.{HasTaken, decided_same, values_same, chains_same}
 use Rattle.dsr_replica.proofs.InFlight.{all_none, first_is_last, flies_reading}
@@ -255,15 +255,26 @@ pub stands_with_room : (r : Replica) (log : List Entry) (requests places : ℕ) 
 stands_with_room r log requests places stands =
     record { due_is = stands.due_is; counts = stands.counts; read = stands.read; values_are = stands.values_are; asks_are = stands.asks_are; posted = stands.posted }
 
+-- a take that was read, and what is due after it
+pub stands_taken : (r after : Replica) (log : List Entry) (p : ℕ) (envelope : Envelope) → AreInFlight r.shape r.round r.slots (closed_slots r.shape r.round)
+    → StandsFor r log → r.next ≡ TakeFrom p → IsAfterTake (with_envelope r envelope) p after → StandsFor after (Take (ReplicaNumber p) envelope ∷ log)
+stands_taken r after log p envelope h stands is goes = by_case (suc p == r.shape.n) refl
+  where
+    by_case : (b : Bool) → (suc p == r.shape.n) ≡ b → StandsFor after (Take (ReplicaNumber p) envelope ∷ log)
+    by_case false e = subst (λ x. StandsFor x (Take (ReplicaNumber p) envelope ∷ log)) (sym (goes.more e)) (stands_mid r log p envelope h stands is e)
+    by_case true e =
+        subst (λ x. StandsFor x (Take (ReplicaNumber p) envelope ∷ log)) (sym (goes.last e))
+        (stands_with_room (next_round (with_envelope r envelope)) (Take (ReplicaNumber p) envelope ∷ log) after.requests after.places
+        (stands_last r log p envelope h stands is e))
+
 -- a replica that comes before the last, and the last, as the code counts them
 pub is_more : (p n next : ℕ) → next ≡ p + 1 → next < n → (suc p == n) ≡ false
 is_more p n next is more = false_from_ne_true (suc p == n) (λ e. let same = (Decides-eqb (suc p) n).0 e in omega (arith, is, more, same))
 
-pub is_last : (r : Replica) (log : List Entry) (p next : ℕ) → StandsFor r log → r.next ≡ TakeFrom p → next ≡ p + 1 → r.shape.n ≤ next
-    → (suc p == r.shape.n) ≡ true
-is_last r log p next stands due is most =
-    let inside : p < r.shape.n = subst (IsInside r.shape.n) (sym stands.due_is ∙ due) stands.counts.inside in
-    (Decides-eqb (suc p) r.shape.n).1 (omega (arith, inside, is, most))
+pub is_last : (d : Due) (p n next : ℕ) → d ≡ TakeFrom p → IsInside n d → next ≡ p + 1 → n ≤ next → (suc p == n) ≡ true
+is_last d p n next due within is most =
+    let inside : p < n = subst (IsInside n) due within in
+    (Decides-eqb (suc p) n).1 (omega (arith, inside, is, most))
 
 -- ---- entries that take nothing from a replica
 

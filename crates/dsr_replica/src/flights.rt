@@ -92,7 +92,10 @@ impl Flights {
         let Some(place) = chain.slot().checked_sub(first) else {
             return false;
         };
-        place < self.slots.len() as u64 && self.slots[place as usize].would_keep(chain)
+        if place >= self.slots.len() as u64 {
+            return false;
+        }
+        self.slots[place as usize].would_keep(chain)
     }
 
     /// Reads a chain in the round in progress: in that of the slots in flight which it is of.

@@ -408,7 +408,9 @@ impl Replica {
     fn go_on_after(&mut self, from: ReplicaId)
         requires due { self.old.next ≡ TakeFrom from }
         requires room { HasRoom self.old }
-        ensures { IsAfterTake self.old from self.new }
+        ensures after { IsAfterTake self.old from self.new }
+        ensures me { self.new.me ≡ self.old.me }
+        ensures shape { self.new.shape ≡ self.old.shape }
     {
         let next = from.number() + 1;
         if next < self.flights.shape().n() {

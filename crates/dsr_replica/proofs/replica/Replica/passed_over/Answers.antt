@@ -1,0 +1,10 @@
+use Rattle.std.proofs.Common.{sym, subst}
+use Rattle.dsr_replica.specs.Support.ReplicaFields.{IsAfterTake}
+use Rattle.dsr_replica.proofs.Standing.{stands_taken}
+use Rattle.dsr_replica.proofs.replica.Replica.passed_over.Goals as goal
+
+pub returns-clause-stands : goal.returns-clause-stands
+returns-clause-stands c = λ done log stands.
+    let after = c.go_on_after.new.self in
+    stands_taken c.args.self.now after log c.args.from c.args.envelope.now c.would_keep.ensures.in_flight stands c.requires.due
+    (subst (λ r. IsAfterTake r c.args.from after) (sym (c.would_keep.ensures.nothing c.if-would_keep.false)) c.go_on_after.ensures.after)
