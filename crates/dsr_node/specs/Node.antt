@@ -74,6 +74,13 @@ pub record CanPost (node : Node) (to : Actor) (pick : Pick) : Type 0 where
   pub honest : IsHonest node
   pub none : post_refusal shape log me to pick ≡ None
 
+-- the node may take this envelope from this actor: what it takes is due, and within the limits
+abbrev pub MayTake : Node → Actor → Envelope → Type 0
+MayTake (Loyal r) (ReplicaNumber p) envelope = r.next ≡ TakeFrom p
+MayTake (Loyal r) (ClientNumber c) envelope = c < r.shape.m
+MayTake Traitor from envelope = Unit {0}
+MayTake (Client x) from envelope = IsActor x.client.shape from × (from ≢ ClientNumber x.client.me) × IsEnvelope envelope
+
 -- the node can take this envelope from this actor: what it takes is due, within the limits, and there is room for it
 abbrev pub CanTake : Node → Actor → Envelope → Type 0
 CanTake (Loyal r) (ReplicaNumber p) envelope = (r.next ≡ TakeFrom p) × HasRoom r

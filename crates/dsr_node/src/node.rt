@@ -1,4 +1,4 @@
-ghost use Rattle.std.specs.Prelude.{true, reverse, ◌≡◌, ◌≢◌, ◌↔◌, ℕ, ◌∷◌, List, None, Some, IfOk, IfSome, IfNone, IsOk, OnOk, IsOkUnless, IsTrue, IsSome};
+ghost use Rattle.std.specs.Prelude.{true, false, reverse, ◌≡◌, ◌≢◌, ◌↔◌, ℕ, ◌∷◌, List, None, Some, IfOk, IfSome, IfNone, IsOk, OnOk, OnErr, IsOkUnless, IsTrue, IsSome};
 ghost use Rattle.dsr_names.specs.Shape.{Shape, is_traitor};
 ghost use Rattle.dsr_names.specs.declared.actor.Actor.{Actor};
 ghost use Rattle.dsr_names.specs.declared.actor.Actor.TheVariants.{Replica as ReplicaNumber, Client as ClientNumber};
@@ -12,7 +12,7 @@ ghost use Rattle.dsr_client.specs.Client.{StandsFor as StandsForClient};
 ghost use Rattle.dsr_client.specs.State.{accepted, outstanding, seen};
 ghost use Rattle.std.specs.Option.{option_map};
 ghost use Rattle.dsr_node.specs.Conduct.{post_of, takes_from, is_undue};
-ghost use Rattle.dsr_node.specs.Node.{Plays, PlaysReplica, IsHonest, IsClient, post_refusal, CanPost, CanTake, HasRoomToTake, TakesReply, IsReplicaNumber, IsOutstandingAsk};
+ghost use Rattle.dsr_node.specs.Node.{Plays, PlaysReplica, IsHonest, IsClient, post_refusal, CanPost, MayTake, CanTake, HasRoomToTake, TakesReply, IsReplicaNumber, IsOutstandingAsk};
 
 use crate::customer::Customer;
 use dsr_client::Client;
@@ -91,6 +91,7 @@ impl Node {
         ensures plays { (shape : Shape) (me : Actor) (log : List Entry) → Plays shape me log self.old → Plays shape me log self.new }
         ensures room { OnOk result (HasRoomToTake self.new) }
         ensures has { HasRoomToTake self.old → IsOk result }
+        ensures may { (from : Actor) (envelope : Envelope) → MayTake self.old from envelope → MayTake self.new from envelope }
         ensures refusal { IsOkUnless result Refusal.NoMemory }
     {
         match self {
@@ -107,6 +108,52 @@ impl Node {
         match (self, from) {
             (Node::Loyal(replica), Actor::Replica(number)) => !takes_from(replica.due(), number),
             _ => false,
+        }
+    }
+
+    /// Takes the envelope, which is lent, from this actor, and returns the reply that a client accepts by it. It makes room for it, and
+    /// copies the envelope only where something of it may be kept; the copy shares its chains or its request. Requires that it may take it.
+    /// `NoMemory` where memory runs out or one handle more is refused: then nothing changed, but that there may be more room.
+    pub fn take(
+        &mut self,
+        alloc: Global,
+        from: &Actor,
+        envelope: &Envelope,
+    ) -> Result<Option<Reply>, Refusal>
+        requires { MayTake self.old from.now envelope.now }
+        ensures plays { (shape : Shape) (me : Actor) (log : List Entry) → Plays shape me log self.old
+            → OnOk result (Plays shape me (Take from.now envelope.now ∷ log) self.new) }
+        ensures accepted { (shape : Shape) (me : Actor) (log : List Entry) → Plays shape me log self.old
+            → IfOk result (TakesReply shape me log from.now envelope.now) }
+        ensures stays { (shape : Shape) (me : Actor) (log : List Entry) → Plays shape me log self.old
+            → OnErr result (Plays shape me log self.new) }
+        ensures refusal { IsOkUnless result Refusal.NoMemory }
+    {
+        self.room()?;
+        if self.passed_over(*from, envelope) {
+            return Ok(None);
+        }
+        let copy = envelope.try_copy(alloc)?;
+        Ok(self.taken(*from, copy))
+    }
+
+    /// Takes the envelope from this actor where nothing of it would be kept, and returns whether it did; where something may be, nothing
+    /// changed. Requires that it can take it.
+    fn passed_over(&mut self, from: Actor, envelope: &Envelope) -> bool
+        requires { CanTake self.old from envelope.now }
+        ensures plays { IsTrue result → (shape : Shape) (me : Actor) (log : List Entry) → Plays shape me log self.old
+            → Plays shape me (Take from envelope.now ∷ log) self.new }
+        ensures none { IsTrue result → (shape : Shape) (me : Actor) (log : List Entry) → Plays shape me log self.old
+            → TakesReply shape me log from envelope.now None }
+        ensures same { result ≡ false → self.new ≡ self.old }
+    {
+        match self {
+            Node::Loyal(replica) => match from {
+                Actor::Replica(number) => replica.passed_over(number, envelope),
+                Actor::Client(_) => false,
+            },
+            Node::Traitor => true,
+            Node::Client(_) => false,
         }
     }
 
