@@ -1,32 +1,25 @@
 -- How the fields of a world go on standing for its run with each step.
-use Rattle.std.proofs.Common.{◌≡◌, ◌≢◌, ◌↔◌, ℕ, ◌+◌, ◌<◌, ◌==◌, List, [], ◌∷◌, ◌++◌, None, Some, length, length-append, append-nil, ◌⊎◌, inl, inr, refl, ap, sym, ◌∙◌, subst, arith}
+use Rattle.std.proofs.Common.{◌≡◌, ◌≢◌, ◌+◌, ◌<◌, List, [], ◌∷◌, ◌++◌, None, Some, length, length-append, append-nil, ◌⊎◌, inl, inr, refl, ap, sym, ◌∙◌, subst, arith}
 use Rattle.std.specs.Prelude.{slice_set, slice_index_or}
 use Rattle.std.proofs.lemmas.List.{get_or-set_same, get_or-set_other, length-set}
-use Rattle.std.proofs.lemmas.Bool.Decides.{Decides-eqb}
-use Rattle.dsr_base.specs.Member.{In, here}
 use Rattle.dsr_base.proofs.BoxLemmas.{box_same, box_other, still_square}
 use Rattle.dsr_names.proofs.PlaceLemmas.{place_below, same_place}
-use Rattle.dsr_names.specs.Shape.{Shape, IsActor, IsLoyal}
+use Rattle.dsr_names.specs.Shape.{Shape, IsActor}
 use Rattle.dsr_names.specs.declared.actor.Actor.{Actor}
-use Rattle.dsr_names.specs.declared.actor.Actor.TheVariants.{Replica, Client}
-use Rattle.dsr_desk.specs.Signature.{Signature}
 use Rattle.dsr_names.specs.Support.ActorEquality.{actor_eq, actor_eq-Decides}
 use Rattle.dsr_slot.proofs.Lemmas.{holds_or_not, by_test}
 use Rattle.dsr_envelope.specs.declared.envelope.Envelope.{Envelope}
 use Rattle.dsr_envelope.specs.declared.entry.Entry.TheVariants.{Post, Take}
-use Rattle.dsr_envelope.specs.Envelope.{Carries}
 use Rattle.dsr_envelope.specs.Log.{posted_to, taken_from}
-use Rattle.dsr_run.specs.Run.{HasPosted}
 use Rattle.dsr_run.specs.Step.{Step, Logs, log_of}
-use Rattle.dsr_base.specs.Boxes.{empty_box, box_in, row_of, box_at, with_box, with_item, without_item, AreSquare}
+use Rattle.dsr_base.specs.Boxes.{box_at, with_box, with_item, without_item}
 use Rattle.dsr_world.specs.Support.Boxes.{held_in, IsBoxOf}
 use Rattle.dsr_node.specs.Node.{Plays}
 use Rattle.dsr_names.specs.Places.{place_of}
 use Rattle.dsr_world.specs.Support.WorldFields.{ArePlayed, AreBoxes}
 use Rattle.dsr_base.specs.declared.boxes.MailBox.{MailBox}
 use Rattle.dsr_node.specs.declared.node.Node.{Node}
-use Rattle.dsr_run.proofs.Lemmas.{from_log, posted_cases, posted_still, taken_cases, taken_still}
-use Rattle.dsr_run.proofs.Lemmas.{has_posted_later}
+use Rattle.dsr_run.proofs.Lemmas.{posted_cases, posted_still, taken_cases, taken_still}
 use Rattle.dsr_run.proofs.Lemmas.{log_cases}
 
 -- ---- nodes

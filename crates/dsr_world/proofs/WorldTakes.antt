@@ -33,7 +33,7 @@ use Rattle.dsr_envelope.specs.Limits.{IsEnvelope}
 use Rattle.dsr_envelope.specs.Log.{due}
 use Rattle.dsr_node.specs.Conduct.{is_own_client, is_undue, AcceptsBy}
 use Rattle.dsr_base.specs.Boxes.{without_item}
-use Rattle.dsr_node.specs.Node.{CanTake, HasRoomToTake, TakesReply}
+use Rattle.dsr_node.specs.Node.{MayTake, TakesReply}
 use Rattle.dsr_node.specs.declared.node.Node.TheVariants.{Loyal, Traitor, Client as ClientNode}
 use Rattle.dsr_ledger.specs.declared.reply.Reply.{Reply as AReply}
 use Rattle.dsr_run.proofs.Lemmas.{posted_entry}
@@ -97,23 +97,19 @@ module _ (shape : Shape) (run : List Step) (nodes : List Node) (rows : List (Lis
       (posted_entry at (log_of run from) x
       (subst (In x) (sym (box_holds at from x actor other full)) (In-append_right x (taken_from from (log_of run at)) (x ∷ []) (here refl))))
 
-  -- a node with room can take it
-  pub can_take : (at from : Actor) (x : Envelope) (node : Node) → IsAllowed shape → IsTaken shape (log_of run) at from
-      → (box_at rows (place_of shape from) (place_of shape at)).item ≡ Some x → Plays shape at (log_of run at) node → HasRoomToTake node
-      → CanTake node from x
-  can_take (Replica p) (Replica q) x (Loyal r) allowed is full plays room = (
-    plays.stands.due_is ∙ (ap (λ s. due s (log_of run (Replica p))) plays.shape_is ∙ take_due shape (log_of run (Replica p)) p q plays.honest is.timely),
-    room,
-  )
-  can_take (Replica p) (Client c) x (Loyal r) allowed is full plays room = subst (λ s. c < s.m) (sym plays.shape_is) is.other
-  can_take (Client c) from x (Loyal r) allowed is full plays room = elim plays [ ]
-  can_take at from x Traitor allowed is full plays room = tt
-  can_take (Replica p) from x (ClientNode y) allowed is full plays room = elim plays [ ]
-  can_take (Client c) from x (ClientNode y) allowed is full plays room = (
+  -- its node may take it
+  pub may_take : (at from : Actor) (x : Envelope) (node : Node) → IsTaken shape (log_of run) at from
+      → (box_at rows (place_of shape from) (place_of shape at)).item ≡ Some x → Plays shape at (log_of run at) node → MayTake node from x
+  may_take (Replica p) (Replica q) x (Loyal r) is full plays =
+      plays.stands.due_is ∙ (ap (λ s. due s (log_of run (Replica p))) plays.shape_is ∙ take_due shape (log_of run (Replica p)) p q plays.honest is.timely)
+  may_take (Replica p) (Client c) x (Loyal r) is full plays = subst (λ s. c < s.m) (sym plays.shape_is) is.other
+  may_take (Client c) from x (Loyal r) is full plays = elim plays [ ]
+  may_take at from x Traitor is full plays = tt
+  may_take (Replica p) from x (ClientNode y) is full plays = elim plays [ ]
+  may_take (Client c) from x (ClientNode y) is full plays = (
     subst (λ s. IsActor s from) (sym plays.shape_is) is.other,
     λ e. not_own (Client c) from is.own (sym (e ∙ ap Client plays.me)) c refl,
     box_within (Client c) from x is.actor is.other full,
-    room,
   )
 
   -- the parts while room is made

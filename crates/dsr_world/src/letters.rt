@@ -74,22 +74,15 @@ pub(crate) fn keep_letter(letters: &mut Vec<Option<Letter>>, place: usize, lette
     }
 }
 
-/// A copy of the envelope in the box from one actor to another. Requires that it holds one. `NoMemory` where memory runs out or one handle
-/// more is refused.
-pub(crate) fn copy_of(
-    alloc: Global,
-    boxes: &Boxes<Letter>,
-    from: usize,
-    to: usize,
-) -> Result<Envelope, Refusal>
+/// The envelope in the box from one actor to another. Requires that it holds one.
+pub(crate) fn lent(boxes: &Boxes<Letter>, from: usize, to: usize) -> &Envelope
     requires inside { from < length boxes.now }
     requires row { to < length (row_of boxes.now from) }
     requires full { IsSome (box_at boxes.now from to).item }
-    ensures same { IfOk result (λ envelope. (box_at boxes.now from to).item ≡ Some envelope) }
-    ensures refusal { IsOkUnless result Refusal.NoMemory }
+    ensures { (box_at boxes.now from to).item ≡ Some result.now }
 {
     match boxes.item(from, to) {
-        Some(letter) => letter.envelope().try_copy(alloc),
+        Some(letter) => letter.envelope(),
         None => unreachable!(),
     }
 }

@@ -32,7 +32,7 @@ ghost use Rattle.dsr_run.specs.Step.{Step, log_of};
 ghost use Rattle.dsr_world.specs.Support.WorldFields.{box_refusal};
 ghost use Rattle.dsr_node.specs.Conduct.{HasSpelledOp};
 
-use crate::letters::{Letters, copy_of, keep_letter, kept_of, no_letters};
+use crate::letters::{Letters, keep_letter, kept_of, lent, no_letters};
 use crate::replies::Replies;
 use crate::run_end::RunEnd;
 use dsr_base::Boxes;
@@ -384,14 +384,11 @@ impl World {
         }
         let _n = self.shape.n();
         let (poster, taker) = (self.shape.place(from), self.shape.place(at));
-        let Ok(envelope) = copy_of(alloc, &self.boxes, poster, taker) else {
-            return Err(Refusal::NoMemory);
-        };
         make_room(&mut self.entries)?;
-        let Ok(()) = self.nodes[taker].room() else {
+        let envelope = lent(&self.boxes, poster, taker);
+        let Ok(reply) = self.nodes[taker].take(alloc, from, envelope) else {
             return Err(Refusal::NoMemory);
         };
-        let reply = self.nodes[taker].taken(*from, envelope);
         let letter = self.boxes.take(poster, taker);
         self.entries.push_reserved((
             *at,

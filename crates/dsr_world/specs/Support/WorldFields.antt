@@ -1,16 +1,12 @@
 -- How a world stands in its fields (this project).
 use Rattle.std.specs.Prelude.{◌≡◌, ◌↔◌, ℕ, zero, suc, ◌+◌, ◌++◌, ◌∷◌, ◌<◌, true, [], List, Option, None, Some, Any, if◌then◌else◌, length, reverse, slice_index_or, slice_set}
-use Rattle.dsr_base.specs.Member.{In}
 use Rattle.dsr_names.specs.Places.{place_of}
 use Rattle.dsr_names.specs.Shape.{Shape, is_traitor, IsActor, IsLoyal}
 use Rattle.dsr_names.specs.declared.actor.Actor.{Actor}
 use Rattle.dsr_names.specs.declared.actor.Actor.TheVariants.{Replica, Client}
 use Rattle.dsr_names.specs.declared.refusal.Refusal.{Refusal}
 use Rattle.dsr_names.specs.declared.refusal.Refusal.TheVariants.{Exhausted, BoxFull}
-use Rattle.dsr_request.specs.OpText.{IsOp}
 use Rattle.dsr_desk.specs.Signature.{Signature}
-use Rattle.dsr_envelope.specs.declared.pick.Pick.{Pick}
-use Rattle.dsr_envelope.specs.declared.pick.Pick.TheVariants.{Plain, From, Begin}
 use Rattle.dsr_envelope.specs.declared.envelope.Envelope.{Envelope}
 use Rattle.dsr_envelope.specs.Log.{posted_to, taken_from}
 use Rattle.dsr_world.specs.Event.{is_full, is_used_up}
