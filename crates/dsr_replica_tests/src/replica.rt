@@ -77,6 +77,15 @@ fn take(replica: &mut Replica, envelope: Envelope) -> Result<(), Fail> {
     Ok(())
 }
 
+/// Whether the replica takes the envelope without a copy, as it would keep none of its chains.
+fn passes_over(replica: &mut Replica, envelope: &Envelope) -> Result<bool, Fail> {
+    replica.room()?;
+    if !replica.has_room() || replica.due() != Due::Take(ReplicaId::FIRST) {
+        return Err("no take is due, or there is no room")?;
+    }
+    Ok(replica.passed_over(ReplicaId::FIRST, envelope))
+}
+
 /// Whether the replica decided request 1 alone, and replies that it is written, at place 0.
 fn has_decided(rt: &impl Abort, replica: &Replica) -> Result<(), Fail> {
     assert_eq!(rt; replica.decided().len(), 1);
@@ -124,6 +133,28 @@ fn one_replica_decides_and_replies(rt: HostRuntime) -> Result<(), Fail> {
     let envelope = propose(rt.alloc(), &mut one.replica)?;
     take(&mut one.replica, envelope)?;
     has_decided(&rt, &one.replica)
+}
+
+#[test]
+fn an_envelope_with_news_is_not_passed_over(rt: HostRuntime) -> Result<(), Fail> {
+    let mut one = begin_alone(rt.alloc())?;
+    ask(rt.alloc(), &mut one, 1)?;
+    let envelope = propose(rt.alloc(), &mut one.replica)?;
+    assert!(rt; !passes_over(&mut one.replica, &envelope)?);
+    assert!(rt; one.replica.due() == Due::Take(ReplicaId::FIRST));
+    take(&mut one.replica, envelope)?;
+    has_decided(&rt, &one.replica)
+}
+
+#[test]
+fn an_empty_envelope_is_passed_over(rt: HostRuntime) -> Result<(), Fail> {
+    let mut one = begin_alone(rt.alloc())?;
+    propose_by(rt.alloc(), &mut one.replica, &Pick::Plain)?;
+    assert!(rt; passes_over(&mut one.replica, &Envelope::Empty)?);
+    assert!(rt; one.replica.due() == Due::Post(ReplicaId::FIRST));
+    assert_eq!(rt; one.replica.decided().len(), 1);
+    assert!(rt; one.replica.history().is_empty());
+    Ok(())
 }
 
 /// Replicas may be handed to another thread.

@@ -552,12 +552,14 @@ fn decides_a_loyal_senders_value(rt: HostRuntime) -> Result<(), Fail> {
     agrees(&rt, alloc, &desk, &gifts, Some(0))
 }
 
-/// Reads one chain more in the round after the closed ones, and returns what it was told would become of it.
+/// Reads one chain more in the round after the closed ones, and returns what it was told would become of it; `would_keep` must say the same.
 fn fate_of_next(rt: &impl Abort, state: &mut SlotState, chain: Chain) -> Fate {
     // that at most f+1 rounds are closed is known from here on
     let _closed = state.closed_rounds();
     assert!(rt; state.decide().is_none());
     let fate = state.fate(&chain);
+    let is_kept = fate == Fate::First || fate == Fate::Second;
+    assert_eq!(rt; state.would_keep(&chain), is_kept);
     state.read(chain);
     fate
 }
