@@ -1,8 +1,8 @@
 //! Notes as data: one line a note, its parts apart by a space.
 
-use crate::note::{ChainFate, Dropped, Note, Told};
+use crate::note::{ChainFate, Dropped, Note};
 use crate::standing::{accepted_last, content_of};
-use crate::words::{fault_word, write_no_vote, write_reason};
+use crate::words::{fault_word, write_content, write_no_vote, write_reason};
 use dsr_chain::Chain;
 use dsr_desk::Content;
 use dsr_names::Refusal;
@@ -29,11 +29,10 @@ pub(crate) fn write_data(
             chain,
             round,
         } => {
-            let chain = Told::of(chain);
-            let slot = chain.slot;
-            let signers = chain.signers;
-            let content = Content(chain.content);
-            writeln!(out, "kept {replica} {slot} {round} {signers} {content}")?;
+            let (slot, signers) = (chain.slot(), chain.signers());
+            write!(out, "kept {replica} {slot} {round} {signers} ")?;
+            write_content(out, chain)?;
+            writeln!(out)?;
         }
         Note::Closed { replica, round } => writeln!(out, "close {replica} {round}")?,
         Note::Decided {
@@ -111,18 +110,14 @@ fn write_chain(
     chain: &Chain,
     fate: &ChainFate,
 ) -> Result<(), Refusal> {
-    let chain = Told::of(chain);
-    let slot = chain.slot;
-    let signers = chain.signers;
-    let content = Content(chain.content);
+    let (slot, signers) = (chain.slot(), chain.signers());
     let (round, word) = match fate {
         ChainFate::NotInFlight => (0, "not-in-flight"),
         ChainFate::Read { round, fate } => (*round, fate_word(fate)),
     };
-    writeln!(
-        out,
-        "chain r{replica} {slot} {round} {signers} {content} {word}"
-    )?;
+    write!(out, "chain r{replica} {slot} {round} {signers} ")?;
+    write_content(out, chain)?;
+    writeln!(out, " {word}")?;
     Ok(())
 }
 

@@ -1,7 +1,6 @@
 use dsr_chain::Chain;
-use dsr_desk::Signers;
 use dsr_names::{Actor, ClientId, ReplicaId};
-use dsr_request::{Request, Requests};
+use dsr_request::Request;
 use dsr_slot::Fate;
 
 /// What is told of an event in particular.
@@ -79,25 +78,6 @@ pub(crate) enum Note {
     },
     /// Why the event was refused.
     Refused(Why),
-}
-
-/// A chain, as far as it is told.
-#[derive(Clone, Copy)]
-pub(crate) struct Told {
-    pub(crate) slot: u64,
-    pub(crate) signers: Signers,
-    pub(crate) content: Option<Requests>,
-}
-
-impl Told {
-    /// The chain, as far as it is told.
-    pub(crate) fn of(chain: &Chain) -> Told {
-        Told {
-            slot: chain.slot(),
-            signers: chain.signers(),
-            content: chain.content(),
-        }
-    }
 }
 
 /// What became of a chain.

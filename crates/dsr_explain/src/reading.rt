@@ -1,4 +1,4 @@
-//! What becomes of the chains of an envelope, told before it is taken: they are read by copies of the states of the slots in flight.
+//! What becomes of the chains of an envelope, told before it is taken; several are read by copies of the states of the slots in flight.
 
 use crate::note::{ChainFate, Note};
 use crate::notes::Notes;
@@ -29,15 +29,23 @@ pub(crate) fn read_envelope(
     let Some(letter) = world.in_box(&poster, &at) else {
         return Ok(());
     };
+    let round = round_of(loyal);
+    let envelope = letter.envelope();
+    if !counts_in(envelope, round) {
+        notes.push(Note::Silence { replica, round })?;
+    }
+    let chains = chains_in(envelope, round);
+    let is_last = from.number() as usize + 1 == world.shape().n() as usize;
+    // what one chain does is told by the states themselves, which only a second one or the round's end would change
+    if chains.len() <= 1 && !is_last {
+        if let Some(chain) = chains.first() {
+            tell_chain(chain, replica, loyal.in_flight(), notes)?;
+        }
+        return Ok(());
+    }
     let mut states = copies_of(alloc, loyal.in_flight())?;
-    read_chains(
-        letter.envelope(),
-        replica,
-        round_of(loyal),
-        &mut states,
-        notes,
-    )?;
-    if from.number() as usize + 1 == world.shape().n() as usize {
+    read_chains(chains, replica, &mut states, notes)?;
+    if is_last {
         tell_kept(&states, replica, notes)?;
     }
     Ok(())
@@ -60,52 +68,62 @@ fn copies_of(alloc: Global, states: &[SlotState]) -> Result<Vec<SlotState>, Refu
     Ok(copies)
 }
 
-/// Reads the chains of the envelope, and tells what became of each.
-fn read_chains(
-    envelope: &Envelope,
-    replica: ReplicaId,
-    round: u64,
-    states: &mut Vec<SlotState>,
-    notes: &mut Notes,
-) -> Result<(), Refusal> {
+/// Whether the envelope is empty, or of this round: any other counts as no chains.
+fn counts_in(envelope: &Envelope, round: u64) -> bool {
     match envelope {
-        Envelope::Empty => {}
+        Envelope::Empty => true,
+        Envelope::Round { round: posted, .. } => *posted == round,
+        _ => false,
+    }
+}
+
+/// The chains that the envelope has for this round.
+fn chains_in(envelope: &Envelope, round: u64) -> &[Chain] {
+    match envelope {
         Envelope::Round {
             round: posted,
             chains,
-        } if *posted == round => {
-            for chain in chains.as_slice() {
-                read_chain(chain, replica, states, notes)?;
-            }
-        }
-        _ => notes.push(Note::Silence { replica, round })?,
+        } if *posted == round => chains.as_slice(),
+        _ => &[],
+    }
+}
+
+/// Reads the chains, and tells what became of each.
+fn read_chains(
+    chains: &[Chain],
+    replica: ReplicaId,
+    states: &mut Vec<SlotState>,
+    notes: &mut Notes,
+) -> Result<(), Refusal> {
+    for chain in chains {
+        tell_chain(chain, replica, states.as_slice(), notes)?;
+        read_chain(chain, states)?;
     }
     Ok(())
 }
 
-/// Reads the chain in its slot, if that is in flight, and tells what became of it.
-fn read_chain(
+/// Tells what becomes of the chain when it is read in its slot, if that is in flight.
+fn tell_chain(
     chain: &Chain,
     replica: ReplicaId,
-    states: &mut Vec<SlotState>,
+    states: &[SlotState],
     notes: &mut Notes,
 ) -> Result<(), Refusal> {
-    for place in 0..states.len() {
-        if states[place].slot() == chain.slot() {
-            return read_in(&mut states[place], chain, replica, notes);
+    for state in states {
+        if state.slot() == chain.slot() {
+            return tell_fate(state, chain, replica, notes);
         }
     }
     notes.push(Note::Chain {
         replica,
         chain: chain.try_copy()?,
         fate: ChainFate::NotInFlight,
-    })?;
-    Ok(())
+    })
 }
 
-/// Reads the chain in this slot, and tells what became of it.
-fn read_in(
-    state: &mut SlotState,
+/// Tells what becomes of the chain when it is read in this slot.
+fn tell_fate(
+    state: &SlotState,
     chain: &Chain,
     replica: ReplicaId,
     notes: &mut Notes,
@@ -119,8 +137,24 @@ fn read_in(
         replica,
         chain: chain.try_copy()?,
         fate: ChainFate::Read { round, fate },
-    })?;
-    state.read(chain.try_copy()?);
+    })
+}
+
+/// Reads the chain in its slot, if that is in flight.
+fn read_chain(chain: &Chain, states: &mut Vec<SlotState>) -> Result<(), Refusal> {
+    for place in 0..states.len() {
+        if states[place].slot() == chain.slot() {
+            return read_in(&mut states[place], chain);
+        }
+    }
+    Ok(())
+}
+
+/// Reads the chain in this slot.
+fn read_in(state: &mut SlotState, chain: &Chain) -> Result<(), Refusal> {
+    if state.closed_rounds() <= state.shape().f() {
+        state.read(chain.try_copy()?);
+    }
     Ok(())
 }
 

@@ -6,7 +6,7 @@ use crate::trouble::trouble_of;
 use crate::wanted::Wanted;
 use dsr_base::split_once;
 use dsr_names::Refusal;
-use dsr_world::Play;
+use dsr_world::{Event, Play};
 use std::alloc::Global;
 
 /// What is told of a play, and the refusal that a reader of the play has, if it has one.
@@ -48,7 +48,7 @@ fn tell_all(alloc: Global, text: &[u8], play: &Play, wanted: &Wanted) -> Result<
 {
     let mut story = Story::begin(alloc, play.shape(), wanted)?;
     if let Some((header, lines)) = split_once(text, b'\n') {
-        tell_lines(alloc, header, lines, &mut story)?;
+        tell_lines(alloc, header, lines, play.events(), &mut story)?;
     }
     story.end()?;
     Ok(Explained {
@@ -57,13 +57,15 @@ fn tell_all(alloc: Global, text: &[u8], play: &Play, wanted: &Wanted) -> Result<
     })
 }
 
-/// Tells of the events of each line.
+/// Tells of the events, which are those of these lines.
 fn tell_lines(
     alloc: Global,
     header: &[u8],
     lines: &[u8],
+    events: &[Event],
     story: &mut Story,
 ) -> Result<(), Refusal> {
+    let mut told: usize = 0;
     let mut rest = lines;
     let mut number: u64 = 1;
     // there are no more lines than bytes
@@ -72,21 +74,53 @@ fn tell_lines(
             return Ok(());
         };
         number = number.saturating_add(1);
-        let play = play_of(alloc, header, line)?;
-        for event in play.events() {
-            story.tell(alloc, number, event)?;
-        }
+        let next = told.saturating_add(count_in(alloc, header, line)?);
+        tell_line(alloc, number, events, told, next, story)?;
+        told = next;
         rest = after;
     }
     Ok(())
 }
 
-/// The play of this one line after the header.
-fn play_of(alloc: Global, header: &[u8], line: &[u8]) -> Result<Play, Refusal> {
+/// Tells of the line's events: those from the first of these places to before the end.
+fn tell_line(
+    alloc: Global,
+    number: u64,
+    events: &[Event],
+    first: usize,
+    end: usize,
+    story: &mut Story,
+) -> Result<(), Refusal> {
+    for place in first..end {
+        if let Some(event) = events.get(place) {
+            story.tell(alloc, number, event)?;
+        }
+    }
+    Ok(())
+}
+
+/// How many events this line of a play stands for. `NoMemory` where memory runs out.
+fn count_in(alloc: Global, header: &[u8], line: &[u8]) -> Result<usize, Refusal> {
+    if stands_for_one(line) {
+        return Ok(1);
+    }
     let mut text = Vec::new(alloc);
     text.extend_from_slice(header)?;
     text.push(b'\n')?;
     text.extend_from_slice(line)?;
     text.push(b'\n')?;
-    Play::read(alloc, text.as_slice())
+    Ok(Play::read(alloc, text.as_slice())?.events().len())
+}
+
+/// Whether the line's word is one of those that stand for one event each, whatever follows.
+fn stands_for_one(line: &[u8]) -> bool {
+    match split_once(line, b' ') {
+        Some((word, _)) => {
+            word == b"post".as_slice()
+                || word == b"plant".as_slice()
+                || word == b"take".as_slice()
+                || word == b"tell".as_slice()
+        }
+        None => false,
+    }
 }

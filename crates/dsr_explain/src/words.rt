@@ -1,6 +1,6 @@
 //! Notes in words.
 
-use crate::note::{ChainFate, Dropped, NoVote, Note, Told, Why};
+use crate::note::{ChainFate, Dropped, NoVote, Note, Why};
 use crate::standing::{accepted_last, content_of};
 use dsr_chain::{Chain, ChainFault};
 use dsr_desk::{Content, MOST_SIGNERS, Signature, Signers, Statement};
@@ -57,20 +57,32 @@ fn write_chain(
     chain: &Chain,
     fate: &ChainFate,
 ) -> Result<(), Refusal> {
-    let told = Told::of(chain);
-    let slot = told.slot;
-    let signers = told.signers;
-    let content = Content(told.content);
-    write!(
-        out,
-        "    chain of slot {slot}, signed by {signers}, for {content}: "
-    )?;
+    let (slot, signers) = (chain.slot(), chain.signers());
+    write!(out, "    chain of slot {slot}, signed by {signers}, for ")?;
+    write_content(out, chain)?;
+    write!(out, ": ")?;
     match fate {
         ChainFate::NotInFlight => writeln!(out, "dropped, as the slot is not in flight")?,
         ChainFate::Read { round, fate } => {
             write!(out, "in round {round} of the slot ")?;
             write_fate(out, shape, chain, fate)?;
         }
+    }
+    Ok(())
+}
+
+/// Writes the content of the chain: its requests, joined by commas, or that it is idle.
+pub(crate) fn write_content(out: &mut String, chain: &Chain) -> Result<(), Refusal> {
+    let signed = chain.signed();
+    if signed.is_empty() {
+        write!(out, "idle")?;
+    }
+    for place in 0..signed.len() {
+        if place > 0 {
+            write!(out, ",")?;
+        }
+        let request = signed[place].request;
+        write!(out, "{request}")?;
     }
     Ok(())
 }
@@ -150,14 +162,10 @@ pub(crate) fn fault_word(fault: &ChainFault) -> &'static str {
 
 /// Writes that a chain is kept at the slot's end.
 fn write_kept(out: &mut String, replica: u8, chain: &Chain, round: u8) -> Result<(), Refusal> {
-    let chain = Told::of(chain);
-    let slot = chain.slot;
-    let signers = chain.signers;
-    let content = Content(chain.content);
-    writeln!(
-        out,
-        "    r{replica} has kept of slot {slot}: {content}, read in round {round}, signed by {signers}"
-    )?;
+    let (slot, signers) = (chain.slot(), chain.signers());
+    write!(out, "    r{replica} has kept of slot {slot}: ")?;
+    write_content(out, chain)?;
+    writeln!(out, ", read in round {round}, signed by {signers}")?;
     Ok(())
 }
 
