@@ -1,9 +1,10 @@
 //! A poster stopped between its claim and its publish, and a taker stopped between its fetch and its release: each leaves one box as it
 //! is, and every other box works.
 //!
-//! Of the 25 boxes between three replicas and two clients 13 are used, the stopped one among them. These are left out: the two of a client to
-//! itself, as it posts there never; the six of clients to replicas and the four of loyal replicas to clients, as asks and replies are signed, or
-//! need a decision, and so calls of crates above this one.
+//! Of the 25 boxes between three replicas and two clients 13 are used, the stopped one among them. The other 12 are claimed, which is the step at
+//! which a box that is not empty stops its poster, but nothing is posted into them: the two of a client to itself, as it posts there never; the six
+//! of clients to replicas and the four of loyal replicas to clients, as asks and replies are signed, or need a decision, and so calls of crates that
+//! this one does not stand on.
 
 ghost use Rattle.std.specs.Prelude.{◌≡◌, ◌⊎◌, ◌<◌, IfOk, OnOk, OnErr, [], ◌∷◌, length};
 ghost use Rattle.dsr_names.specs.Shape.{shape_of, IsActor};
@@ -259,6 +260,76 @@ fn tell(alloc: Global, boxes: &SharedBoxes, teller: &mut Pass, to: &Actor) -> Re
     drop(own);
     teller.post(boxes, to, parcel)?;
     Ok(())
+}
+
+/// Has an actor claim its box to another, and tells whether it could. It does nothing more.
+fn claims(boxes: &SharedBoxes, poster: Pass, to: &Actor) -> bool
+    requires boxes { IsPassOf boxes.now poster }
+    requires to { IsActor poster.shape to.now }
+{
+    let Pass { mut token, actor } = poster;
+    boxes.claim(&mut token, &actor, to)
+}
+
+/// Has the traitor stop after the claim of its box to the second client, and the others claim theirs to this actor.
+fn claim_beside_a_poster<R: Abort>(rt: &R, alloc: Global, to: &Actor) -> Result<(), Fail>
+    requires to { IsActor (shape_of 3 1 2 1) to.now }
+{
+    let Small {
+        boxes,
+        traitor,
+        one,
+        two,
+        first,
+        second,
+    } = open_small(alloc)?;
+    assert!(rt; claims(&boxes, traitor, &client(1)));
+    assert!(rt; claims(&boxes, one, to));
+    assert!(rt; claims(&boxes, two, to));
+    assert!(rt; claims(&boxes, first, to));
+    assert!(rt; claims(&boxes, second, to));
+    Ok(())
+}
+
+/// Has the first client stop after its fetch from the traitor, and the others claim theirs to this actor. The traitor alone cannot claim its own to
+/// the client.
+fn claim_beside_a_taker<R: Abort>(rt: &R, alloc: Global, to: &Actor) -> Result<(), Fail>
+    requires to { IsActor (shape_of 3 1 2 1) to.now }
+{
+    let Small {
+        boxes,
+        mut traitor,
+        one,
+        two,
+        first,
+        second,
+    } = open_small(alloc)?;
+    plant(alloc, &boxes, &mut traitor, &client(0))?;
+    let Pass { mut token, actor } = first;
+    assert!(rt; boxes.fetch(&mut token, &actor, &replica(0)));
+    assert_eq!(rt; claims(&boxes, traitor, to), *to != client(0));
+    assert!(rt; claims(&boxes, one, to));
+    assert!(rt; claims(&boxes, two, to));
+    assert!(rt; claims(&boxes, second, to));
+    Ok(())
+}
+
+#[test]
+fn beside_a_stopped_poster_each_other_box_can_be_claimed(rt: HostRuntime) -> Result<(), Fail> {
+    claim_beside_a_poster(&rt, rt.alloc(), &replica(0))?;
+    claim_beside_a_poster(&rt, rt.alloc(), &replica(1))?;
+    claim_beside_a_poster(&rt, rt.alloc(), &replica(2))?;
+    claim_beside_a_poster(&rt, rt.alloc(), &client(0))?;
+    claim_beside_a_poster(&rt, rt.alloc(), &client(1))
+}
+
+#[test]
+fn beside_a_stopped_taker_each_other_box_can_be_claimed(rt: HostRuntime) -> Result<(), Fail> {
+    claim_beside_a_taker(&rt, rt.alloc(), &replica(0))?;
+    claim_beside_a_taker(&rt, rt.alloc(), &replica(1))?;
+    claim_beside_a_taker(&rt, rt.alloc(), &replica(2))?;
+    claim_beside_a_taker(&rt, rt.alloc(), &client(0))?;
+    claim_beside_a_taker(&rt, rt.alloc(), &client(1))
 }
 
 #[test]

@@ -5,6 +5,8 @@
 #[cfg(test)]
 mod calls;
 #[cfg(test)]
+mod calls_memory;
+#[cfg(test)]
 mod gates;
 #[cfg(test)]
 mod office;

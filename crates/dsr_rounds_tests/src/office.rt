@@ -58,6 +58,11 @@ impl Office {
         }
     }
 
+    /// The first client's seat.
+    pub(crate) fn client(&self) -> Option<&ClientSeat> {
+        self.seats.clients.first()
+    }
+
     /// A loyal replica posts to another, without a proposal. `NoActor` where it has no seat.
     pub(crate) fn post(
         &mut self,
