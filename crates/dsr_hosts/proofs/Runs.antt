@@ -75,6 +75,7 @@ first_from (Some f) rank (Some (Fault e)) = either (nat_le f.rank rank)
   where
     new : AFault
     new = record { rank = rank; refusal = e }
+
     either : (b : Bool) → (Some f ≡ Some (if b then f else new)) ⊎ (Some (Fault e) ≡ Some (Fault (if b then f else new).refusal))
     either true = inl refl
     either false = inr refl

@@ -12,7 +12,7 @@ returns-in_err-post_once-clause-kept g c =
 pub loop-number-preserved : goal.loop-number-preserved
 loop-number-preserved g c = (
   posts_further c.args.script.now c.args.round c.args.self.now.mail.now.shape.n c.args.seat.now c.loop-number.seat c.post_once.new.seat
-    c.loop-number.invariant.0 c.post_once.ensures.kept,
+      c.loop-number.invariant.0 c.post_once.ensures.kept,
   λ first was. c.post_once.ensures.turns first (c.loop-number.invariant.1 first was),
 )
 
