@@ -1,19 +1,23 @@
 -- How a client's operations are made one after another.
-use Rattle.std.proofs.Common.{◌≡◌, ℕ, ◌+◌, ◌<◌, ◌++◌, List, [], ◌∷◌, get_or, take, length, refl, sym, subst, ap, ◌∙◌}
-use Rattle.std.specs.Prelude.{reverse}
-use Rattle.std.proofs.lemmas.List.{append_assoc, reverse-append, take_more}
+use Rattle.std.proofs.Common.{◌≡◌, ℕ, suc, ◌+◌, ◌<◌, ◌++◌, List, [], ◌∷◌, get_or, take, length, inl, inr, refl, sym, subst, ap, ◌∙◌, arith}
+use Rattle.std.specs.Prelude.{Result, Ok, Err, OnErr, reverse}
+use Rattle.std.proofs.lemmas.List.{append_assoc, length-reverse, length-take-le, reverse-append, take_more}
 use Rattle.dsr_base.specs.Growth.{Extends}
 use Rattle.dsr_base.specs.Member.{In}
 use Rattle.dsr_base.proofs.MemberLemmas.{In-append_right}
 use Rattle.dsr_names.specs.Shape.{Shape}
+use Rattle.dsr_names.specs.declared.actor.Actor.TheVariants.{Client}
 use Rattle.dsr_request.specs.declared.op.Op.{Op}
 use Rattle.dsr_ledger.specs.declared.reply.Reply.{Reply as AReply}
 use Rattle.dsr_envelope.specs.declared.entry.Entry.{Entry}
 use Rattle.dsr_client.specs.Conduct.{ask_of, next_number}
 use Rattle.dsr_client.specs.State.{accepted}
+use Rattle.dsr_script.specs.Script.{Script, ops_of}
 use Rattle.dsr_boxes.specs.Pass.{Pass}
 use Rattle.dsr_calls.specs.Calls.{GoesOn, number_of, IsAnswered}
-use Rattle.dsr_hosts.specs.Requests.{HasMade}
+use Rattle.dsr_rounds.specs.declared.end.End.{End}
+use Rattle.dsr_hosts.specs.Causes.{IsUnserved}
+use Rattle.dsr_hosts.specs.Requests.{HasMade, IsOnItsWay}
 use Rattle.dsr_hosts.specs.Served.{AreRepliesTo, HasAll}
 
 -- replies stay those to their operations in a longer log
@@ -77,3 +81,40 @@ makes_next first old new items i op inside is before goes made =
       goes_on new old first goes before.0,
       subst (HasAll new.shape (number_of new.actor) new.log) next (makes_more old new (take i items) op before.1 goes made),
     )
+
+-- ---- a client whose operation is not answered
+
+-- nothing more is accepted while an operation is on its way
+pub same_on_way : (op : Op) (first seat : Pass) → GoesOn seat first → IsOnItsWay op first seat
+    → accepted seat.shape seat.log ≡ accepted first.shape first.log
+same_on_way op first seat goes (inl same) = ap (λ (s : Pass). accepted s.shape s.log) same
+same_on_way op first seat goes (inr (inl unbegun)) = ap (λ s. accepted s seat.log) goes.shape ∙ unbegun.same
+same_on_way op first seat goes (inr (inr begun)) = ap (λ s. accepted s seat.log) goes.shape ∙ begun.same
+
+-- there are as many replies as operations
+replies_length : (me : ℕ) (log : List Entry) (replies : List AReply) (ops : List Op) → AreRepliesTo me log replies ops → length replies ≡ length ops
+replies_length me log [] [] are = refl
+replies_length me log [] (op ∷ ops) are = absurd are
+replies_length me log (reply ∷ replies) [] are = absurd are
+replies_length me log (reply ∷ replies) (op ∷ ops) are = ap suc (replies_length me log replies ops are.1)
+
+fewer_of : (k i n : ℕ) → k ≡ i → i < n → k < n
+fewer_of k i n is less = omega (arith, is, less)
+
+-- so a client that has the replies to those up to one of them, and to no more, is not served
+pub left_at : (script : Script) (old new : Pass) (items : List Op) (i client : ℕ) → new.actor ≡ Client client → items ≡ ops_of script client
+    → i < length items → HasAll old.shape (number_of old.actor) old.log (take i items) → accepted new.shape new.log ≡ accepted old.shape old.log
+    → IsUnserved script new
+left_at script old new items i client me items_are inside all same = record {
+  client = client;
+  is = me;
+  fewer = subst (λ (ops : List Op). length (accepted new.shape new.log) < length ops) items_are
+      (fewer_of (length (accepted new.shape new.log)) i (length items) (ap length same
+      ∙ (replies_length (number_of old.actor) old.log (accepted old.shape old.log) (reverse (take i items)) all.replies
+      ∙ (length-reverse (take i items) ∙ length-take-le i items (omega (arith, inside))))) inside);
+}
+
+-- what holds however it came out
+pub at_end : {A : Type 0} (r : Result (Unit {0}) End) → A → OnErr r A
+at_end (Ok nothing) h = tt
+at_end (Err end) h = h

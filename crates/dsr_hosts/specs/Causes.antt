@@ -1,9 +1,13 @@
 -- What ends a service before all clients are served (this project).
-use Rattle.std.specs.Prelude.{◌≡◌, ◌⊎◌}
+use Rattle.std.specs.Prelude.{◌≡◌, ◌⊎◌, ℕ, ◌<◌, length}
 use Rattle.dsr_names.specs.Shape.{IsActor}
 use Rattle.dsr_names.specs.declared.actor.Actor.{Actor}
+use Rattle.dsr_names.specs.declared.actor.Actor.TheVariants.{Client}
 use Rattle.dsr_names.specs.declared.refusal.Refusal.{Refusal}
 use Rattle.dsr_names.specs.declared.refusal.Refusal.TheVariants.{BadShape, BadName, BadNumber, Busy, NotDue, BoxFull, BoxEmpty, Forged, Exhausted, Stopped, Unanswered, NoMemory, BadText, NotARun, NoActor, WrongRole, ReadFailed, WriteFailed, NoThread}
+use Rattle.dsr_client.specs.State.{accepted}
+use Rattle.dsr_script.specs.Script.{Script, ops_of}
+use Rattle.dsr_run.specs.History.{accepted_by}
 use Rattle.dsr_boxes.specs.Pass.{Pass}
 use Rattle.dsr_mail.specs.Logs.{Logs, logs_of}
 use Rattle.dsr_rounds.specs.Ends.{HostRefusal}
@@ -17,33 +21,46 @@ pub record HasPastLimit (logs : Logs) : Type 0 where
   pub log : logs_of logs seat.actor ≡ seat.log
   pub past : IsAtLimit seat
 
--- the cause of a service's end, by the logs that came of it: a next post of some actor is past a limit; the gate may refuse some actor; a client was
--- not answered; memory ran out; a thread could not be started
-abbrev pub CauseOf : (Actor → Type 0) → Logs → Refusal → Type 0
-CauseOf may logs Exhausted = HasPastLimit logs
-CauseOf may logs Stopped = (actor : Actor) × IsActor logs.shape actor × may actor
-CauseOf may logs Unanswered = Unit {0}
-CauseOf may logs NoMemory = Unit {0}
-CauseOf may logs NoThread = Unit {0}
-CauseOf may logs BadShape = ⊥
-CauseOf may logs BadName = ⊥
-CauseOf may logs BadNumber = ⊥
-CauseOf may logs Busy = ⊥
-CauseOf may logs NotDue = ⊥
-CauseOf may logs BoxFull = ⊥
-CauseOf may logs BoxEmpty = ⊥
-CauseOf may logs Forged = ⊥
-CauseOf may logs (BadText line) = ⊥
-CauseOf may logs (NotARun line) = ⊥
-CauseOf may logs NoActor = ⊥
-CauseOf may logs WrongRole = ⊥
-CauseOf may logs ReadFailed = ⊥
-CauseOf may logs WriteFailed = ⊥
+-- some client accepted fewer replies than it has operations in the script
+pub record HasUnserved (script : Script) (logs : Logs) : Type 0 where
+  pub client : ℕ
+  pub inside : client < logs.shape.m
+  pub fewer : length (accepted_by logs.shape (logs_of logs) client) < length (ops_of script client)
 
--- why the host of a client is refused: as any host; or no reply came
+-- the cause of a service's end, by the script and the logs that came of it: a next post of some actor is past a limit; the gate may refuse some actor;
+-- a client was not answered, and so has not all of its replies; memory ran out; a thread could not be started
+abbrev pub CauseOf : (Actor → Type 0) → Script → Logs → Refusal → Type 0
+CauseOf may script logs Exhausted = HasPastLimit logs
+CauseOf may script logs Stopped = (actor : Actor) × IsActor logs.shape actor × may actor
+CauseOf may script logs Unanswered = HasUnserved script logs
+CauseOf may script logs NoMemory = Unit {0}
+CauseOf may script logs NoThread = Unit {0}
+CauseOf may script logs BadShape = ⊥
+CauseOf may script logs BadName = ⊥
+CauseOf may script logs BadNumber = ⊥
+CauseOf may script logs Busy = ⊥
+CauseOf may script logs NotDue = ⊥
+CauseOf may script logs BoxFull = ⊥
+CauseOf may script logs BoxEmpty = ⊥
+CauseOf may script logs Forged = ⊥
+CauseOf may script logs (BadText line) = ⊥
+CauseOf may script logs (NotARun line) = ⊥
+CauseOf may script logs NoActor = ⊥
+CauseOf may script logs WrongRole = ⊥
+CauseOf may script logs ReadFailed = ⊥
+CauseOf may script logs WriteFailed = ⊥
+
+-- why a call of a client is refused in its host: as any host; or no reply came
 abbrev pub ClientRefusal : (Actor → Type 0) → Pass → Refusal → Type 0
 ClientRefusal may seat refusal = HostRefusal may seat refusal ⊎ (refusal ≡ Unanswered)
 
--- why the host of a seat is refused: as that of a client; or there was no thread for it
-abbrev pub SeatRefusal : (Actor → Type 0) → Pass → Refusal → Type 0
-SeatRefusal may seat refusal = ClientRefusal may seat refusal ⊎ (refusal ≡ NoThread)
+-- the client at this seat accepted fewer replies than it has operations in the script
+pub record IsUnserved (script : Script) (seat : Pass) : Type 0 where
+  pub client : ℕ
+  pub is : seat.actor ≡ Client client
+  pub fewer : length (accepted seat.shape seat.log) < length (ops_of script client)
+
+-- why the host of a seat is refused: as any host; or as a client's where no reply came, which has not all of its replies then; or there was no thread
+-- for it
+abbrev pub SeatRefusal : (Actor → Type 0) → Script → Pass → Refusal → Type 0
+SeatRefusal may script seat refusal = HostRefusal may seat refusal ⊎ (((refusal ≡ Unanswered) × IsUnserved script seat) ⊎ (refusal ≡ NoThread))

@@ -1,15 +1,17 @@
 -- What comes back from the host of a seat. No public contract cites this.
-use Rattle.std.specs.Prelude.{Option, None, Some}
+use Rattle.std.specs.Prelude.{[], Option, None, Some}
 use Rattle.dsr_names.specs.declared.actor.Actor.{Actor}
 use Rattle.dsr_script.specs.Script.{Script, ops_of}
 use Rattle.dsr_boxes.specs.Pass.{SharedBoxes, Pass}
 use Rattle.dsr_calls.specs.Calls.{number_of}
+use Rattle.dsr_rounds.specs.Replicas.{AreOwed}
+use Rattle.dsr_rounds.specs.Traitors.{ArePlanned}
 use Rattle.dsr_rounds.specs.declared.end.End.{End}
 use Rattle.dsr_rounds.specs.declared.end.End.TheVariants.{Told, Fault}
 use Rattle.dsr_hosts.specs.declared.any_seat.AnySeat.{AnySeat}
 use Rattle.dsr_hosts.specs.declared.any_seat.AnySeat.TheVariants.{Loyal, Traitor, OfClient}
 use Rattle.dsr_hosts.specs.declared.back.Back.{Back}
-use Rattle.dsr_hosts.specs.Causes.{ClientRefusal, SeatRefusal}
+use Rattle.dsr_hosts.specs.Causes.{ClientRefusal, IsUnserved, SeatRefusal}
 use Rattle.dsr_hosts.specs.Seats.{pass_of, IsBack}
 use Rattle.dsr_hosts.specs.Served.{HasAll}
 
@@ -28,13 +30,34 @@ IsDone script (Loyal seat) = Unit {0}
 IsDone script (Traitor seat) = Unit {0}
 IsDone script (OfClient seat) = IsServed script seat
 
+-- a client whose host was told to stop is not served
+abbrev pub IsLeft : Script → AnySeat → Type 0
+IsLeft script (Loyal seat) = Unit {0}
+IsLeft script (Traitor seat) = Unit {0}
+IsLeft script (OfClient seat) = IsUnserved script seat
+
 -- how the host of a seat ended: its work was done, or it was told to stop, or it was refused
 abbrev pub IsEnding : (Actor → Type 0) → Script → AnySeat → Option End → Type 0
 IsEnding may script seat None = IsDone script seat
-IsEnding may script seat (Some Told) = Unit {0}
-IsEnding may script seat (Some (Fault refusal)) = SeatRefusal may (pass_of seat) refusal
+IsEnding may script seat (Some Told) = IsLeft script seat
+IsEnding may script seat (Some (Fault refusal)) = SeatRefusal may script (pass_of seat) refusal
+
+-- a replica's seat has posted to clients only what they were owed
+abbrev pub HasPostedOwed : Pass → Type 0
+HasPostedOwed seat = AreOwed seat.shape [] seat.log
+
+-- a traitor's has posted only what the script says
+abbrev pub HasPostedPlanned : Script → Pass → Type 0
+HasPostedPlanned script seat = ArePlanned script seat.shape seat.actor [] seat.log
+
+-- a seat of any kind has posted what is asked of its kind
+abbrev pub HasPostedWell : Script → AnySeat → Type 0
+HasPostedWell script (Loyal seat) = HasPostedOwed seat
+HasPostedWell script (Traitor seat) = HasPostedPlanned script seat
+HasPostedWell script (OfClient seat) = Unit {0}
 
 -- what comes back from the host of a seat
 pub record ComesBack (may : Actor → Type 0) (mail : SharedBoxes) (script : Script) (seat : AnySeat) (back : Back) : Type 0 where
   pub same : IsBack mail seat back.seat
   pub ends : IsEnding may script back.seat back.end
+  pub posted : HasPostedWell script back.seat

@@ -1,10 +1,10 @@
 //! The operations of a client.
 
 ghost use Rattle.std.specs.Prelude.{◌≡◌, None, OnOk, OnErr, IfErr, IsSome, IsNone};
-ghost use Rattle.dsr_client.specs.State.{outstanding};
+ghost use Rattle.dsr_client.specs.State.{accepted, outstanding};
 ghost use Rattle.dsr_boxes.specs.Pass.{IsPassOf};
 ghost use Rattle.dsr_calls.specs.Calls.{GoesOn};
-ghost use Rattle.dsr_hosts.specs.Causes.{ClientRefusal};
+ghost use Rattle.dsr_hosts.specs.Causes.{ClientRefusal, IsUnserved};
 ghost use Rattle.dsr_hosts.specs.Hosted.{ClientEnd, IsServed};
 ghost use Rattle.dsr_hosts.specs.Requests.{HasMade, Answers, Keeps};
 ghost use Rattle.dsr_hosts.specs.Seats.{IsNewSeat};
@@ -26,6 +26,7 @@ impl<'a, R: Wait, G: Gate> Service<'a, R, G> {
         requires { IsNewSeat self.now.host.mail.now seat.old }
         ensures log { GoesOn seat.new seat.old }
         ensures served { OnOk result (IsServed self.now.script.now seat.new) }
+        ensures unserved { OnErr result (IsUnserved self.now.script.now seat.new) }
         ensures end { IfErr result (ClientEnd (G.may_refuse self.now.host.gate.now) seat.new) }
     {
         let mut turn = Turn::first();
@@ -42,6 +43,7 @@ impl<'a, R: Wait, G: Gate> Service<'a, R, G> {
         requires idle { outstanding seat.old.shape seat.old.log ≡ None }
         ensures log { GoesOn seat.new seat.old }
         ensures made { OnOk result (HasMade op.now seat.old seat.new) }
+        ensures same { OnErr result (accepted seat.new.shape seat.new.log ≡ accepted seat.old.shape seat.old.log) }
         ensures end { IfErr result (ClientEnd (G.may_refuse self.now.host.gate.now) seat.new) }
     {
         for _ in self.host.rt.forever() {

@@ -1,9 +1,7 @@
 //! How the hosts of a service ended.
 
-ghost use Rattle.std.specs.Prelude.{◌≡◌, ◌⊎◌, true, None, Some, IfSome, IfNone};
-ghost use Rattle.dsr_names.specs.declared.refusal.Refusal.{Refusal};
-ghost use Rattle.dsr_rounds.specs.declared.end.End.TheVariants.{Fault as EndFault};
-ghost use Rattle.dsr_hosts.specs.declared.ends.Fault.{Fault as AFault};
+ghost use Rattle.std.specs.Prelude.{◌≡◌, true, None};
+ghost use Rattle.dsr_hosts.specs.Ranks.{cause_of, ends_with, first_with, lesser_of};
 
 use dsr_names::Refusal;
 use dsr_rounds::End;
@@ -38,28 +36,17 @@ impl Ends {
 
     /// With the end of one host more; this is the rank that a fault of it has.
     pub(crate) fn with(self, rank: usize, is_client: bool, end: &Option<End>) -> Ends
-        ensures first { IfSome result.first (λ fault. (self.first ≡ Some fault) ⊎ (end.now ≡ Some (EndFault fault.refusal))) }
-        ensures served { result.served ≡ true → self.served ≡ true }
-        ensures done { result.served ≡ true → is_client ≡ true → end.now ≡ None }
+        ensures { result ≡ ends_with self rank is_client end.now }
     {
         let served = self.served && (!is_client || end.is_none());
-        let first = match end {
-            Some(End::Fault(refusal)) => {
-                let refusal = *refusal;
-                Some(lesser(self.first, Fault { rank, refusal }))
-            }
-            Some(End::Told) => self.first,
-            None => self.first,
-        };
+        let first = first_of(self.first, rank, end);
         Ends { first, served }
     }
 
     /// The fault by which the service ended: that of the least rank, also where all clients are served; or, where there is none, that a client was not
     /// answered. `None` where there is none and all are served.
     pub(crate) fn cause(&self) -> Option<Refusal>
-        ensures some { IfSome result (λ refusal. ((fault : AFault) × (self.now.first ≡ Some fault) × (fault.refusal ≡ refusal))
-            ⊎ (refusal ≡ Refusal.Unanswered)) }
-        ensures none { IfNone result (self.now.served ≡ true) }
+        ensures { result ≡ cause_of self.now.first self.now.served }
     {
         if let Some(fault) = &self.first {
             return Some(fault.refusal);
@@ -72,9 +59,23 @@ impl Ends {
     }
 }
 
-/// That of the two of the lesser rank.
+/// The fault of the least rank, with the end of one host more, a fault of which has this rank.
+fn first_of(first: Option<Fault>, rank: usize, end: &Option<End>) -> Option<Fault>
+    ensures { result ≡ first_with first rank end.now }
+{
+    match end {
+        Some(End::Fault(refusal)) => {
+            let refusal = *refusal;
+            Some(lesser(first, Fault { rank, refusal }))
+        }
+        Some(End::Told) => first,
+        None => first,
+    }
+}
+
+/// That of the two of the lesser rank; of equal ranks the first.
 fn lesser(first: Option<Fault>, other: Fault) -> Fault
-    ensures { (first ≡ Some result) ⊎ (result ≡ other) }
+    ensures { result ≡ lesser_of first other }
 {
     match first {
         Some(fault) => {

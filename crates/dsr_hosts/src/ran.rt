@@ -1,7 +1,8 @@
 //! The seats that came back from their hosts.
 
-ghost use Rattle.std.specs.Prelude.{◌≡◌, ◌⊎◌, ◌<◌, true, None, Some, IfSome, IfNone};
-ghost use Rattle.dsr_rounds.specs.declared.end.End.TheVariants.{Fault as EndFault};
+ghost use Rattle.std.specs.Prelude.{◌≡◌, ℕ, ◌<◌, IfSome, IfNone};
+ghost use Rattle.dsr_names.specs.Shape.{IsActor};
+ghost use Rattle.dsr_hosts.specs.Ranks.{ends_with, IsRank};
 ghost use Rattle.dsr_hosts.specs.Seats.{pass_of, is_of_client, HasLast, HasRoomFor, SameRoom, AreNone, seat_count};
 
 use crate::any_seat::AnySeat;
@@ -21,14 +22,14 @@ pub(crate) struct Ran {
 }
 
 impl Ran {
-    /// With one seat more, after those of its kind. Requires room for it.
+    /// With one seat more, after those of its kind. Requires an actor of the shape, and room for its seat.
     pub(crate) fn with(self, shape: &Shape, back: Back) -> Ran
+        requires inside { IsActor shape.now (pass_of back.seat).actor }
         requires room { HasRoomFor self.seats back.seat }
         ensures seats { HasLast result.seats back.seat self.seats }
         ensures room { SameRoom self.seats result.seats }
-        ensures first { IfSome result.ends.first (λ fault. (self.ends.first ≡ Some fault) ⊎ (back.end ≡ Some (EndFault fault.refusal))) }
-        ensures served { result.ends.served ≡ true → self.ends.served ≡ true }
-        ensures done { result.ends.served ≡ true → is_of_client back.seat ≡ true → back.end ≡ None }
+        ensures ends { (rank : ℕ) × IsRank shape.now (pass_of back.seat).actor back.end rank
+            × (result.ends ≡ ends_with self.ends rank (is_of_client back.seat) back.end) }
     {
         let rank = rank_of(shape, &back);
         let ends = self.ends.with(rank, back.seat.is_of_client(), &back.end);
@@ -38,12 +39,21 @@ impl Ran {
     }
 }
 
-/// The rank of a host's fault: that of a thread that could not be started comes first, then the place of the actor counts.
-fn rank_of(shape: &Shape, back: &Back) -> usize {
-    if let Some(End::Fault(Refusal::NoThread)) = &back.end {
-        return 0;
+/// The rank of a host's fault: that of a thread that could not be started comes first, then the place of the actor counts. Requires an actor of the
+/// shape.
+fn rank_of(shape: &Shape, back: &Back) -> usize
+    requires { IsActor shape.now (pass_of back.now.seat).actor }
+    ensures { IsRank shape.now (pass_of back.now.seat).actor back.now.end result }
+{
+    // For the proof: that there are few places.
+    let _places = shape.size();
+    let behind = shape.place(&back.seat.actor()) + 1;
+    match &back.end {
+        Some(End::Fault(Refusal::NoThread)) => 0,
+        Some(End::Fault(_)) => behind,
+        Some(End::Told) => behind,
+        None => behind,
     }
-    shape.place(&back.seat.actor()).saturating_add(1)
 }
 
 /// Takes out the last seat: of the clients, else of the traitors, else of the replicas. `None` where there is none.

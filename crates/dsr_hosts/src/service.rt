@@ -44,9 +44,9 @@ impl<'a, R: Wait, G: Gate> Service<'a, R, G> {
         back
     }
 
-    /// Hosts the seat of a loyal replica.
+    /// Hosts the seat of a loyal replica, at which nothing was done.
     fn run_replica(&self, mut seat: ReplicaSeat) -> Back
-        requires { IsPassOf self.now.host.mail.now seat }
+        requires { IsNewSeat self.now.host.mail.now seat }
         ensures { ComesBack (G.may_refuse self.now.host.gate.now) self.now.host.mail.now self.now.script.now (AnySeat.Loyal seat) result }
     {
         let done = self.host.run_replica(&mut seat, ROUNDS);
@@ -59,9 +59,9 @@ impl<'a, R: Wait, G: Gate> Service<'a, R, G> {
         }
     }
 
-    /// Hosts the seat of a traitor.
+    /// Hosts the seat of a traitor, at which nothing was done.
     fn run_traitor(&self, mut seat: TraitorSeat) -> Back
-        requires { IsPassOf self.now.host.mail.now seat }
+        requires { IsNewSeat self.now.host.mail.now seat }
         ensures { ComesBack (G.may_refuse self.now.host.gate.now) self.now.host.mail.now self.now.script.now (AnySeat.Traitor seat) result }
     {
         let done = self.host.run_traitor(&mut seat, self.script, ROUNDS);

@@ -146,6 +146,11 @@ replica_post_ends may seat later to pick e me same is loyal inside given by othe
 
 -- ---- tries
 
+-- what holds however a try comes out
+pub on_ok : {A : Type 0} (result : Result Bool End) → A → OnOk result A
+on_ok (Ok made) h = h
+on_ok (Err end) h = tt
+
 module _ (tried : Result (Unit {0}) Refusal) where
   pub if_tried : {Made Kept : Type 0} (result : Result Bool End) (P : Bool → Type 0) → IsTried tried result → OnOk tried Made → OnErr tried Kept
       → (Made → P true) → (Kept → P false) → IfOk result P

@@ -1,3 +1,4 @@
 pub mod Going
 pub mod Rounds
 pub mod Scripts
+pub mod Turns

@@ -1,5 +1,6 @@
 -- How a traitor's seat follows a script.
-use Rattle.std.proofs.Common.{◌≡◌, ℕ, suc, ◌+◌, ◌<◌, ◌==◌, inl, inr, Bool, true, false, List, [], ◌∷◌, ◌++◌, length, if◌then◌else◌, refl, ap, sym, ◌∙◌, subst, arith}
+use Rattle.std.proofs.Common.{◌≡◌, ℕ, suc, ◌+◌, ◌<◌, ◌==◌, inl, inr, Bool, true, false, List, [], ◌∷◌, ◌++◌, Some, length, if◌then◌else◌, refl, ap, sym, ◌∙◌, subst, arith}
+use Rattle.std.specs.Prelude.{Result, Ok, Err, OnErr}
 use Rattle.std.proofs.lemmas.Bool.Decides.{nat_tests}
 use Rattle.std.proofs.lemmas.List.{length-append}
 use Rattle.dsr_names.specs.Shape.{Shape}
@@ -10,14 +11,16 @@ use Rattle.dsr_envelope.specs.declared.envelope.Envelope.TheVariants.{Empty}
 use Rattle.dsr_envelope.specs.declared.entry.Entry.{Entry}
 use Rattle.dsr_envelope.specs.declared.entry.Entry.TheVariants.{Post, Take}
 use Rattle.dsr_envelope.specs.Log.{posted_to, taken_from}
-use Rattle.dsr_script.specs.Script.{Script}
+use Rattle.dsr_script.specs.Script.{Script, draft_at, place_of}
 use Rattle.dsr_run.specs.OwnStep.{ForgesNone}
+use Rattle.dsr_run.specs.Run.{IsTraitor}
 use Rattle.dsr_boxes.specs.Pass.{Pass, with_entry}
-use Rattle.dsr_calls.specs.Calls.{GoesOn}
+use Rattle.dsr_calls.specs.Calls.{GoesOn, number_of}
 use Rattle.dsr_rounds.specs.Ends.{HasTried}
+use Rattle.dsr_rounds.specs.declared.end.End.{End}
 use Rattle.dsr_rounds.specs.declared.traitor.Planting.{Planting}
 use Rattle.dsr_rounds.specs.declared.traitor.Planting.TheVariants.{Made, Forged, Full}
-use Rattle.dsr_rounds.specs.Traitors.{FollowsScript, RanScript, IsPlanned, HasPlanted, IsScripted, KeepsCounts, PostsDrafts, TakesFromAll, MakesRound, count_at}
+use Rattle.dsr_rounds.specs.Traitors.{FollowsScript, RanScript, Follows, StillFollows, StillTakes, IsPlanned, HasPlanted, IsScripted, KeepsCounts, PostsToClients, PostsDrafts, TakesFromAll, MakesRound, count_at}
 use Rattle.dsr_rounds.proofs.Going.{goes_same, goes_entry, goes_further}
 
 -- ---- the empty envelope
@@ -49,30 +52,9 @@ keeps_take earlier later c x e = record {
   });
 }
 
-pub keeps_post : (earlier later : Pass) (c : ℕ) (x : Envelope) → later ≡ with_entry earlier (Post (Client c) x) → KeepsCounts earlier later
-keeps_post earlier later c x e = record {
-  goes_on = goes_entry later earlier (Post (Client c) x) e;
-  keeps = λ script first posts takes follows. subst (λ (s : Pass). FollowsScript script first s posts takes) (sym e) (record {
-    id = follows.id;
-    shape = follows.shape;
-    actor = follows.actor;
-    added = Post (Client c) x ∷ follows.added;
-    log = ap (λ l. Post (Client c) x ∷ l) follows.log;
-    posted = follows.posted;
-    taken = follows.taken;
-    planned = follows.planned;
-  });
-}
-
 pub take_keeps : (c : ℕ) (earlier later : Pass) (made : Bool) → HasTried (Take (Client c)) earlier later made → KeepsCounts earlier later
 take_keeps c earlier later true tried = keeps_take earlier later c tried.0 tried.1
 take_keeps c earlier later false tried = keeps_same earlier later tried
-
-pub plant_keeps : (c : ℕ) (draft : Envelope) (earlier later : Pass) (planting : Planting) → HasPlanted earlier later (Client c) draft planting
-    → KeepsCounts earlier later
-plant_keeps c draft earlier later Made planted = keeps_post earlier later c draft planted.0
-plant_keeps c draft earlier later Forged planted = keeps_same earlier later planted.0
-plant_keeps c draft earlier later Full planted = keeps_same earlier later planted
 
 pub keeps_further : (first later last : Pass) → KeepsCounts first later → KeepsCounts later last → KeepsCounts first last
 keeps_further first later last was more = record {
@@ -129,7 +111,74 @@ pub ran : (script : Script) (count : ℕ) (first last : Pass) → FollowsScript 
 ran script count first last follows =
     counted script first last (count_at count 0) (count_at count 0) (λ q. count) (λ q. count) (λ q less. no_count count q) (λ q less. no_count count q) follows
 
--- ---- a post by the script
+-- ---- posts to clients by the script
+
+posts_same : (script : Script) (t n : ℕ) (earlier later : Pass) → later ≡ earlier → PostsToClients script t n earlier later
+posts_same script t n earlier later e = record {
+  goes_on = goes_same later earlier e;
+  keeps = λ first takes follows. subst (λ (s : Pass). FollowsScript script first s (count_at t n) takes) (sym e) follows;
+}
+
+first_count : (t n : ℕ) → 0 < n → count_at t n 0 ≡ suc t
+first_count t n some = grind (arith, nat_tests)
+
+one_answer : (script : Script) (t n c : ℕ) (earlier later : Pass) (x : Envelope) (takes : ℕ → ℕ) (first : Pass) → 0 < n → n ≡ earlier.shape.n
+    → draft_at script (place_of (number_of earlier.actor) t (Client c)) ≡ Some x → ForgesNone earlier.shape earlier.actor earlier.log x
+    → later ≡ with_entry earlier (Post (Client c) x)
+    → FollowsScript script first earlier (count_at t n) takes → FollowsScript script first later (count_at t n) takes
+one_answer script t n c earlier later x takes first some is draft forges e follows =
+    let inside : 0 < first.shape.n = subst (λ k. 0 < k) (is ∙ ap (λ (s : Shape). s.n) follows.shape) some in
+    let made : length (posted_to (Replica 0) follows.added) ≡ suc t = follows.posted 0 inside ∙ first_count t n some in
+    let by_actor : draft_at script (place_of (number_of first.actor) t (Client c)) ≡ Some x =
+    subst (λ a. draft_at script (place_of (number_of a) t (Client c)) ≡ Some x) follows.actor draft in
+    let unforged : ForgesNone first.shape first.actor (follows.added ++ first.log) x =
+    subst (λ s. ForgesNone s first.actor (follows.added ++ first.log) x) follows.shape
+    (subst (λ a. ForgesNone earlier.shape a (follows.added ++ first.log) x) follows.actor
+    (subst (λ l. ForgesNone earlier.shape earlier.actor l x) follows.log forges)) in
+    subst (λ (s : Pass). FollowsScript script first s (count_at t n) takes) (sym e) (record {
+      id = follows.id;
+      shape = follows.shape;
+      actor = follows.actor;
+      added = Post (Client c) x ∷ follows.added;
+      log = ap (λ l. Post (Client c) x ∷ l) follows.log;
+      posted = follows.posted;
+      taken = follows.taken;
+      planned = (follows.planned, (t, made, by_actor, unforged));
+    })
+
+posts_answer : (script : Script) (t n c : ℕ) (earlier later : Pass) (x : Envelope) → 0 < n → n ≡ earlier.shape.n
+    → draft_at script (place_of (number_of earlier.actor) t (Client c)) ≡ Some x → ForgesNone earlier.shape earlier.actor earlier.log x
+    → later ≡ with_entry earlier (Post (Client c) x) → PostsToClients script t n earlier later
+posts_answer script t n c earlier later x some is draft forges e = record {
+  goes_on = goes_entry later earlier (Post (Client c) x) e;
+  keeps = λ first takes follows. one_answer script t n c earlier later x takes first some is draft forges e follows;
+}
+
+-- a traitor is a replica, so there are some
+some_replica : (shape : Shape) (a : Actor) → IsTraitor shape a → 0 < shape.n
+some_replica shape (Replica p) traitor = let less = traitor.0 in omega (arith, less)
+some_replica shape (Client c) traitor = absurd traitor
+
+pub plant_posts : (script : Script) (t n c p : ℕ) (draft : Envelope) (earlier later : Pass) (planting : Planting) → n ≡ earlier.shape.n
+    → earlier.actor ≡ Replica p → IsTraitor earlier.shape earlier.actor → Some draft ≡ draft_at script (place_of p t (Client c))
+    → HasPlanted earlier later (Client c) draft planting → PostsToClients script t n earlier later
+plant_posts script t n c p draft earlier later Made is me traitor drafted planted =
+    posts_answer script t n c earlier later draft (subst (λ k. 0 < k) (sym is) (some_replica earlier.shape earlier.actor traitor)) is
+    (subst (λ a. draft_at script (place_of (number_of a) t (Client c)) ≡ Some draft) (sym me) (sym drafted)) planted.1 planted.0
+plant_posts script t n c p draft earlier later Forged is me traitor drafted planted = posts_same script t n earlier later planted.0
+plant_posts script t n c p draft earlier later Full is me traitor drafted planted = posts_same script t n earlier later planted
+
+pub no_answers : (script : Script) (t n : ℕ) (seat : Pass) → PostsToClients script t n seat seat
+no_answers script t n seat = posts_same script t n seat seat refl
+
+pub posts_further : (script : Script) (t n : ℕ) (first later last : Pass) → PostsToClients script t n first later → PostsToClients script t n later last
+    → PostsToClients script t n first last
+posts_further script t n first later last was more = record {
+  goes_on = goes_further last later first more.goes_on was.goes_on;
+  keeps = λ start takes follows. more.keeps start takes (was.keeps start takes follows);
+}
+
+-- ---- a post to a replica by the script
 
 pub one_post : (script : Script) (t p : ℕ) (earlier later : Pass) (x : Envelope) (takes : ℕ → ℕ) (first : Pass) → p < earlier.shape.n
     → later ≡ with_entry earlier (Post (Replica p) x) → IsPlanned script earlier.shape earlier.actor earlier.log t p x
@@ -193,11 +242,11 @@ no_takes t seat = λ script start posts follows. follows
 
 -- ---- a round
 
-pub round_made : (script : Script) (t n : ℕ) (a b c d e : Pass) → KeepsCounts a b → PostsDrafts script t n b c → KeepsCounts c d → TakesFromAll t n d e
+pub round_made : (script : Script) (t n : ℕ) (a b c d e : Pass) → KeepsCounts a b → PostsDrafts script t n b c → PostsToClients script t n c d → TakesFromAll t n d e
     → n ≡ a.shape.n → MakesRound script t a e
 round_made script t n a b c d e first posts second takes is = λ start follows.
     let done = takes script start (count_at t n)
-    (second.keeps script start (count_at t n) (count_at t 0) (posts start (count_at t 0) (first.keeps script start (count_at t 0) (count_at t 0) follows))) in
+    (second.keeps start (count_at t 0) (posts start (count_at t 0) (first.keeps script start (count_at t 0) (count_at t 0) follows))) in
     let same : n ≡ start.shape.n = is ∙ ap (λ (s : Shape). s.n) follows.shape in
     counted script start e (count_at t n) (count_at t n) (count_at (suc t) 0) (count_at (suc t) 0)
     (λ q less. all_counted t n q (subst (λ k. q < k) (sym same) less)) (λ q less. all_counted t n q (subst (λ k. q < k) (sym same) less)) done
@@ -205,6 +254,60 @@ round_made script t n a b c d e first posts second takes is = λ start follows.
 pub round_after : (script : Script) (t : ℕ) (first earlier later : Pass) → FollowsScript script first earlier (count_at t 0) (count_at t 0)
     → MakesRound script t earlier later → FollowsScript script first later (count_at (suc t) 0) (count_at (suc t) 0)
 round_after script t first earlier later was more = more first was
+
+-- ---- what is left by a round that ends
+
+pub still_kept : (script : Script) (t : ℕ) (a b : Pass) → KeepsCounts a b → StillFollows script (count_at t 0) (count_at t 0) a b
+still_kept script t a b kept = λ first follows. (count_at t 0, count_at t 0, kept.keeps script first (count_at t 0) (count_at t 0) follows)
+
+pub still_posts : (script : Script) (t : ℕ) (a b c : Pass) → KeepsCounts a b → StillFollows script (count_at t 0) (count_at t 0) b c
+    → StillFollows script (count_at t 0) (count_at t 0) a c
+still_posts script t a b c kept still = λ first follows. still first (kept.keeps script first (count_at t 0) (count_at t 0) follows)
+
+-- how far it came before the takes from replicas
+before_takes : (script : Script) (t n : ℕ) (a b c d : Pass) → KeepsCounts a b → PostsDrafts script t n b c → PostsToClients script t n c d
+    → (first : Pass) → FollowsScript script first a (count_at t 0) (count_at t 0) → FollowsScript script first d (count_at t n) (count_at t 0)
+before_takes script t n a b c d kept posts answers first follows =
+    answers.keeps first (count_at t 0) (posts first (count_at t 0) (kept.keeps script first (count_at t 0) (count_at t 0) follows))
+
+-- so many replicas there are by the shape of the seat that posts to them, as by that of the mail
+same_count : (script : Script) (t n k : ℕ) (b c : Pass) → k ≡ n → PostsDrafts script t k b c → PostsDrafts script t n b c
+same_count script t n k b c is posts = subst (λ i. PostsDrafts script t i b c) is posts
+
+pub still_answers : (script : Script) (t n k : ℕ) (a b c d : Pass) → k ≡ n → KeepsCounts a b → PostsDrafts script t k b c
+    → PostsToClients script t n c d → StillFollows script (count_at t 0) (count_at t 0) a d
+still_answers script t n k a b c d is kept posts answers =
+    λ first follows. (count_at t n, count_at t 0, before_takes script t n a b c d kept (same_count script t n k b c is posts) answers first follows)
+
+pub still_takes : (script : Script) (t n k : ℕ) (a b c d e : Pass) → k ≡ n → KeepsCounts a b → PostsDrafts script t k b c
+    → PostsToClients script t n c d → StillTakes t d e → StillFollows script (count_at t 0) (count_at t 0) a e
+still_takes script t n k a b c d e is kept posts answers takes =
+    λ first follows. takes script (count_at t n) first (before_takes script t n a b c d kept (same_count script t n k b c is posts) answers first follows)
+
+-- nor is more done by a try that changed nothing
+pub stops_posts : (script : Script) (t p : ℕ) (a b c : Pass) → PostsDrafts script t p a b → c ≡ b → StillFollows script (count_at t 0) (count_at t 0) a c
+stops_posts script t p a b c posts e = λ first follows. (
+  count_at t p,
+  count_at t 0,
+  subst (λ (s : Pass). FollowsScript script first s (count_at t p) (count_at t 0)) (sym e) (posts first (count_at t 0) follows),
+)
+
+pub stops_takes : (t p : ℕ) (a b c : Pass) → TakesFromAll t p a b → c ≡ b → StillTakes t a c
+stops_takes t p a b c takes e = λ script posts first follows. (
+  posts,
+  count_at t p,
+  subst (λ (s : Pass). FollowsScript script first s posts (count_at t p)) (sym e) (takes script first posts follows),
+)
+
+-- what holds however it came out
+pub at_end : {A : Type 0} (r : Result (Unit {0}) End) → A → OnErr r A
+at_end (Ok nothing) h = tt
+at_end (Err end) h = h
+
+-- what follows from what an end leaves
+pub on_end : {A B : Type 0} (r : Result (Unit {0}) End) → (A → B) → OnErr r A → OnErr r B
+on_end (Ok nothing) step h = tt
+on_end (Err end) step h = step h
 
 -- ---- how a loop goes on
 

@@ -2,3 +2,4 @@ pub mod Ends
 pub mod Limits
 pub mod Replicas
 pub mod Traitors
+pub mod Turns

@@ -28,16 +28,24 @@ IsPlanned script shape me log round q envelope =
     ((draft_at script (place_of (number_of me) round (Replica q)) ≡ Some envelope) × ForgesNone shape me log envelope)
     ⊎ ((envelope ≡ Empty) × IsNoDraft script shape me log round q)
 
--- each post to a replica among what was added to a log is the script's: the t-th to this replica, counted from 0, is that of round t
+-- what the script has the traitor post to a client, where it has this log and has made so many posts to replica 0: the draft of the round of the
+-- last of those, which would not be forged
+abbrev pub IsPlannedForClient : Script → Shape → Actor → List Entry → ℕ → ℕ → Envelope → Type 0
+IsPlannedForClient script shape me log posts c envelope = (round : ℕ) × (posts ≡ suc round)
+    × (draft_at script (place_of (number_of me) round (Client c)) ≡ Some envelope) × ForgesNone shape me log envelope
+
+-- each post among what was added to a log is the script's: the t-th to a replica, counted from 0, is that of round t; one to a client is that of the
+-- round whose posts to replicas were made
 abbrev pub ArePlanned : Script → Shape → Actor → List Entry → List Entry → Type 0
 ArePlanned script shape me base [] = Unit {0}
 ArePlanned script shape me base (Post (Replica q) envelope ∷ added) =
     ArePlanned script shape me base added × IsPlanned script shape me (added ++ base) (length (posted_to (Replica q) added)) q envelope
-ArePlanned script shape me base (Post (Client c) envelope ∷ added) = ArePlanned script shape me base added
+ArePlanned script shape me base (Post (Client c) envelope ∷ added) =
+    ArePlanned script shape me base added × IsPlannedForClient script shape me (added ++ base) (length (posted_to (Replica 0) added)) c envelope
 ArePlanned script shape me base (Take from envelope ∷ added) = ArePlanned script shape me base added
 
 -- the later seat is that of the same actor at the same mail; its log extends the earlier one, by posts to replicas and takes from them, as many as
--- these say of each, and all posts to replicas are the script's
+-- these say of each, and all posts are the script's
 pub record FollowsScript (script : Script) (earlier later : Pass) (posts takes : ℕ → ℕ) : Type 0 where
   pub id : later.id ≡ earlier.id
   pub shape : later.shape ≡ earlier.shape
@@ -51,6 +59,10 @@ pub record FollowsScript (script : Script) (earlier later : Pass) (posts takes :
 -- the traitor's host made all rounds: to each replica it posted once a round what the script says, and took from each once a round
 abbrev pub RanScript : Script → ℕ → Pass → Pass → Type 0
 RanScript script count earlier later = FollowsScript script earlier later (λ q. count) (λ p. count)
+
+-- the later seat follows the script, whatever the numbers of posts and takes: no post is another than the script's
+abbrev pub Follows : Script → Pass → Pass → Type 0
+Follows script earlier later = (posts : ℕ → ℕ) × (takes : ℕ → ℕ) × FollowsScript script earlier later posts takes
 
 -- how many posts or takes replica q has had, when in round t those to the replicas below p were made
 abbrev pub count_at : ℕ → ℕ → ℕ → ℕ
@@ -78,6 +90,20 @@ pub record KeepsCounts (earlier later : Pass) : Type 0 where
   pub goes_on : GoesOn later earlier
   pub keeps : (script : Script) (first : Pass) (posts takes : ℕ → ℕ) → FollowsScript script first earlier posts takes
       → FollowsScript script first later posts takes
+
+-- nothing but posts to clients was done: where all n posts of round t to replicas were made, the later seat follows the script as far as the earlier
+pub record PostsToClients (script : Script) (t n : ℕ) (earlier later : Pass) : Type 0 where
+  pub goes_on : GoesOn later earlier
+  pub keeps : (first : Pass) (takes : ℕ → ℕ) → FollowsScript script first earlier (count_at t n) takes
+      → FollowsScript script first later (count_at t n) takes
+
+-- where the earlier seat follows the script, with so many posts and takes, the later one follows it too
+abbrev pub StillFollows : Script → (ℕ → ℕ) → (ℕ → ℕ) → Pass → Pass → Type 0
+StillFollows script posts takes earlier later = (first : Pass) → FollowsScript script first earlier posts takes → Follows script first later
+
+-- the same of takes in round t alone, whatever the script and the posts
+abbrev pub StillTakes : ℕ → Pass → Pass → Type 0
+StillTakes t earlier later = (script : Script) (posts : ℕ → ℕ) → StillFollows script posts (count_at t 0) earlier later
 
 -- the posts of round t to the replicas below p were made
 abbrev pub PostsDrafts : Script → ℕ → ℕ → Pass → Pass → Type 0

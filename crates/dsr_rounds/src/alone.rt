@@ -5,7 +5,8 @@ ghost use Rattle.dsr_boxes.specs.Pass.{IsPassOf};
 ghost use Rattle.dsr_calls.specs.Calls.{GoesOn};
 ghost use Rattle.dsr_rounds.specs.Ends.{HostRefusal};
 ghost use Rattle.dsr_rounds.specs.Replicas.{HasClosed, AnswersOwed};
-ghost use Rattle.dsr_rounds.specs.Traitors.{RanScript};
+ghost use Rattle.dsr_rounds.specs.Traitors.{RanScript, Follows};
+ghost use Rattle.dsr_rounds.specs.Turns.{HasTurns};
 
 use crate::end::End;
 use crate::gate::Gate;
@@ -21,8 +22,9 @@ use std::sync::Wait;
 /// from all, and posts once to each client that is owed its reply. A round that was begun before is the first.
 ///
 /// With `Ok` exactly so many more rounds are closed. However it ends, each client to which it posted was owed that reply: it was not answered since
-/// something of it was taken, and the request held of it is the one that the reply is for. `Exhausted` where its next post is past a limit, `Stopped` where the gate answered false,
-/// `NoMemory` where memory ran out: what was done until then stands, and the host can be run again. Requires a seat of this mail.
+/// something of it was taken, and the request held of it is the one that the reply is for. Each post and each take is made in a turn of its own, counted
+/// from 0, which the gate may let pass. `Exhausted` where its next post is past a limit, `Stopped` where the gate answered false, `NoMemory` where memory
+/// ran out: what was done until then stands, and the host can be run again. Requires a seat of this mail.
 pub fn run_replica<R: Wait, G: Gate>(
     rt: &R,
     alloc: Global,
@@ -35,6 +37,7 @@ pub fn run_replica<R: Wait, G: Gate>(
     ensures closed { OnOk result (HasClosed seat.old seat.new rounds) }
     ensures log { GoesOn seat.new seat.old }
     ensures answers { AnswersOwed seat.new seat.old }
+    ensures turns { HasTurns (G.may_pass gate.now) seat.old seat.new }
     ensures refused { IfErr result (HostRefusal (G.may_refuse gate.now) seat.new) }
 {
     let stop = Stop::never();
@@ -56,9 +59,11 @@ pub fn run_replica<R: Wait, G: Gate>(
 /// each client; posts to all replicas the draft of the round, or the empty envelope where there is none or it would be forged; posts once to each
 /// client for which there is a draft that would not be; and takes from all replicas.
 ///
-/// With `Ok` it posted to each replica exactly so many times, what the script says, and took from each so many times. `Exhausted` where a box has
-/// had all its posts, `Stopped` where the gate answered false, `NoMemory` where memory ran out: what was done until then stands. Requires a seat
-/// of this mail.
+/// With `Ok` it posted to each replica exactly so many times, what the script says, and took from each so many times. However it ends, it posted
+/// nothing that the script does not say: to a replica the draft of the round, or the empty envelope; to a client the draft of the round, once all
+/// its posts to replicas were made. Each post and each take is made in a turn of its own, counted from 0, which the gate may let pass. `Exhausted` where
+/// a box has had all its posts, `Stopped` where the gate answered false, `NoMemory` where memory ran out: what was done until then stands. Requires a
+/// seat of this mail.
 pub fn run_traitor<R: Wait, G: Gate>(
     rt: &R,
     alloc: Global,
@@ -70,6 +75,8 @@ pub fn run_traitor<R: Wait, G: Gate>(
 ) -> Result<(), Refusal>
     requires mail { IsPassOf mail.now seat.old }
     ensures ran { OnOk result (RanScript script.now rounds seat.old seat.new) }
+    ensures follows { Follows script.now seat.old seat.new }
+    ensures turns { HasTurns (G.may_pass gate.now) seat.old seat.new }
     ensures log { GoesOn seat.new seat.old }
     ensures refused { IfErr result (HostRefusal (G.may_refuse gate.now) seat.new) }
 {

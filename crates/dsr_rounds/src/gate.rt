@@ -1,6 +1,6 @@
 //! What lets a host go on, or stops it.
 
-ghost use Rattle.std.specs.Prelude.{◌≡◌, false};
+ghost use Rattle.std.specs.Prelude.{◌≡◌, ℕ, true, false};
 ghost use Rattle.dsr_names.specs.declared.actor.Actor.{Actor};
 
 use dsr_names::Actor;
@@ -10,8 +10,12 @@ pub trait Gate {
     // The actors to which it may answer false.
     ghost may_refuse: { Self → Actor → Type 0 };
 
-    /// Whether the actor goes on with this turn. The turns of a host are counted from 0, and its turn stays at 2^40-1 once it is there. To an
-    /// actor that the gate may not refuse it answers true.
+    // The turns of an actor to which it may answer true: all, where a gate says nothing else.
+    ghost may_pass: { Self → Actor → ℕ → Type 0 } = { λ _ _ _. Unit {0} };
+
+    /// Whether the actor goes on with this turn. The turns of a host are counted from 0, and its turn stays at 2^40-1 once it is there. To a turn
+    /// that the gate may not let pass it answers false; to an actor that it may not refuse it answers true.
     fn pass(&self, actor: Actor, turn: u64) -> bool
-        ensures { result ≡ false → may_refuse self.now actor };
+        ensures passed { result ≡ true → may_pass self.now actor turn }
+        ensures refused { result ≡ false → may_refuse self.now actor };
 }

@@ -1,7 +1,7 @@
 //! What hosts share.
 
-ghost use Rattle.std.specs.Prelude.{IfErr};
-ghost use Rattle.dsr_rounds.specs.Ends.{IsPassEnd, IsTried};
+ghost use Rattle.std.specs.Prelude.{◌≡◌, ◌≤◌, IfErr, OnOk};
+ghost use Rattle.dsr_rounds.specs.Ends.{IsPassEnd, IsTried, turn_after};
 
 use crate::end::End;
 use crate::gate::Gate;
@@ -28,9 +28,13 @@ pub struct Host<'a, R, G> {
 }
 
 impl<'a, R: Wait, G: Gate> Host<'a, R, G> {
-    /// Asks whether the actor goes on: not where it was told to stop, nor where the gate refuses it.
+    /// Asks whether the actor goes on with its next turn: not where it was told to stop, nor where the gate refuses it. With `Ok` the gate may let
+    /// this turn pass, and it is counted. Turns never go back.
     pub fn pass(&self, actor: Actor, turn: &mut Turn) -> Result<(), End>
-        ensures { IfErr result (IsPassEnd (G.may_refuse self.now.gate.now) self.now.stop.now actor) }
+        ensures passed { OnOk result (G.may_pass self.now.gate.now actor turn.old.number) }
+        ensures next { OnOk result (turn.new.number ≡ turn_after turn.old.number) }
+        ensures later { turn.old.number ≤ turn.new.number }
+        ensures end { IfErr result (IsPassEnd (G.may_refuse self.now.gate.now) self.now.stop.now actor) }
     {
         if self.stop.is_told() {
             return Err(End::Told);

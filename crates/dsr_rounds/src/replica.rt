@@ -10,7 +10,8 @@ ghost use Rattle.dsr_envelope.specs.Log.{due, rounds};
 ghost use Rattle.dsr_node.specs.Conduct.{post_of, is_undue};
 ghost use Rattle.dsr_boxes.specs.Pass.{IsPassOf, with_entry};
 ghost use Rattle.dsr_calls.specs.Calls.{GoesOn};
-ghost use Rattle.dsr_rounds.specs.Ends.{HostEnd, HasTried};
+ghost use Rattle.dsr_rounds.specs.Ends.{HostEnd, HasTried, turn_after};
+ghost use Rattle.dsr_rounds.specs.Turns.{HasTurns, KeepsTurns};
 ghost use Rattle.dsr_rounds.specs.Replicas.{HasClosed, AnswersOwed, KeepsRound, IsAtPost, IsTaking};
 
 use crate::end::End;
@@ -43,6 +44,7 @@ impl<'a, R: Wait, G: Gate> Host<'a, R, G> {
         ensures closed { OnOk result (HasClosed seat.old seat.new rounds) }
         ensures log { GoesOn seat.new seat.old }
         ensures answers { AnswersOwed seat.new seat.old }
+        ensures turns { HasTurns (G.may_pass self.now.gate.now) seat.old seat.new }
         ensures end { IfErr result (HostEnd (G.may_refuse self.now.gate.now) self.now.stop.now seat.new) }
     {
         let mut turn = Turn::first();
@@ -58,6 +60,7 @@ impl<'a, R: Wait, G: Gate> Host<'a, R, G> {
         requires mail { IsPassOf self.now.mail.now seat.old }
         ensures closed { OnOk result (HasClosed seat.old seat.new 1) }
         ensures log { AnswersOwed seat.new seat.old }
+        ensures turns { KeepsTurns (G.may_pass self.now.gate.now) seat.old seat.new turn.old.number turn.new.number }
         ensures end { IfErr result (HostEnd (G.may_refuse self.now.gate.now) self.now.stop.now seat.new) }
     {
         self.rest_without_mail(seat, ring);
@@ -101,6 +104,7 @@ impl<'a, R: Wait, G: Gate> Host<'a, R, G> {
     fn take_from_clients(&self, seat: &mut ReplicaSeat, turn: &mut Turn) -> Result<(), End>
         requires mail { IsPassOf self.now.mail.now seat.old }
         ensures kept { KeepsRound seat.new seat.old }
+        ensures turns { KeepsTurns (G.may_pass self.now.gate.now) seat.old seat.new turn.old.number turn.new.number }
         ensures end { IfErr result (HostEnd (G.may_refuse self.now.gate.now) self.now.stop.now seat.new) }
     {
         for number in 0..self.mail.shape().m() {
@@ -119,6 +123,7 @@ impl<'a, R: Wait, G: Gate> Host<'a, R, G> {
         requires mail { IsPassOf self.now.mail.now seat.old }
         requires inside { client < seat.old.shape.m }
         ensures kept { KeepsRound seat.new seat.old }
+        ensures turns { KeepsTurns (G.may_pass self.now.gate.now) seat.old seat.new turn.old.number turn.new.number }
         ensures end { IfErr result (HostEnd (G.may_refuse self.now.gate.now) self.now.stop.now seat.new) }
     {
         // For the proof: that it is a replica.
@@ -133,6 +138,7 @@ impl<'a, R: Wait, G: Gate> Host<'a, R, G> {
         ensures posted { OnOk result (IsTaking (due seat.new.shape seat.new.log)) }
         ensures rounds { OnOk result (rounds seat.new.shape seat.new.log ≡ rounds seat.old.shape seat.old.log) }
         ensures log { AnswersOwed seat.new seat.old }
+        ensures turns { KeepsTurns (G.may_pass self.now.gate.now) seat.old seat.new turn.old.number turn.new.number }
         ensures end { IfErr result (HostEnd (G.may_refuse self.now.gate.now) self.now.stop.now seat.new) }
     {
         let shape = self.mail.shape();
@@ -156,6 +162,7 @@ impl<'a, R: Wait, G: Gate> Host<'a, R, G> {
         requires due { due seat.old.shape seat.old.log ≡ PostTo to }
         ensures posted { OnOk result ((envelope : Envelope) × (seat.new ≡ with_entry seat.old (Post (Replica to) envelope))) }
         ensures unchanged { OnErr result (seat.new ≡ seat.old) }
+        ensures turns { KeepsTurns (G.may_pass self.now.gate.now) seat.old seat.new turn.old.number turn.new.number }
         ensures end { IfErr result (HostEnd (G.may_refuse self.now.gate.now) self.now.stop.now seat.new) }
     {
         let pick = choice(seat, ring, to);
@@ -175,6 +182,7 @@ impl<'a, R: Wait, G: Gate> Host<'a, R, G> {
         requires given { IsSome (post_of seat.old.shape seat.old.log seat.old.actor (Replica to) pick.now) }
         ensures posted { OnOk result ((envelope : Envelope) × (seat.new ≡ with_entry seat.old (Post (Replica to) envelope))) }
         ensures unchanged { OnErr result (seat.new ≡ seat.old) }
+        ensures turns { KeepsTurns (G.may_pass self.now.gate.now) seat.old seat.new turn.old.number turn.new.number }
         ensures end { IfErr result (HostEnd (G.may_refuse self.now.gate.now) self.now.stop.now seat.new) }
     {
         for _ in self.rt.forever() {
@@ -192,6 +200,7 @@ impl<'a, R: Wait, G: Gate> Host<'a, R, G> {
         requires taking { IsTaking (due seat.old.shape seat.old.log) }
         ensures closed { OnOk result (HasClosed seat.old seat.new 1) }
         ensures log { AnswersOwed seat.new seat.old }
+        ensures turns { KeepsTurns (G.may_pass self.now.gate.now) seat.old seat.new turn.old.number turn.new.number }
         ensures end { IfErr result (HostEnd (G.may_refuse self.now.gate.now) self.now.stop.now seat.new) }
     {
         let Due::Take(first) = seat.due() else {
@@ -210,6 +219,7 @@ impl<'a, R: Wait, G: Gate> Host<'a, R, G> {
         requires due { due seat.old.shape seat.old.log ≡ TakeFrom from }
         ensures taken { OnOk result ((envelope : Envelope) × (seat.new ≡ with_entry seat.old (Take (Replica from) envelope))) }
         ensures unchanged { OnErr result (seat.new ≡ seat.old) }
+        ensures turns { KeepsTurns (G.may_pass self.now.gate.now) seat.old seat.new turn.old.number turn.new.number }
         ensures end { IfErr result (HostEnd (G.may_refuse self.now.gate.now) self.now.stop.now seat.new) }
     {
         // For the proof: that it is a loyal replica.
@@ -227,6 +237,7 @@ impl<'a, R: Wait, G: Gate> Host<'a, R, G> {
     fn answer_clients(&self, seat: &mut ReplicaSeat, turn: &mut Turn) -> Result<(), End>
         requires mail { IsPassOf self.now.mail.now seat.old }
         ensures kept { KeepsRound seat.new seat.old }
+        ensures turns { KeepsTurns (G.may_pass self.now.gate.now) seat.old seat.new turn.old.number turn.new.number }
         ensures end { IfErr result (HostEnd (G.may_refuse self.now.gate.now) self.now.stop.now seat.new) }
     {
         for number in 0..self.mail.shape().m() {
@@ -245,6 +256,7 @@ impl<'a, R: Wait, G: Gate> Host<'a, R, G> {
         requires mail { IsPassOf self.now.mail.now seat.old }
         requires inside { client < seat.old.shape.m }
         ensures kept { KeepsRound seat.new seat.old }
+        ensures turns { KeepsTurns (G.may_pass self.now.gate.now) seat.old seat.new turn.old.number turn.new.number }
         ensures end { IfErr result (HostEnd (G.may_refuse self.now.gate.now) self.now.stop.now seat.new) }
     {
         if !owes(seat, client) {
@@ -268,7 +280,10 @@ impl<'a, R: Wait, G: Gate> Host<'a, R, G> {
         requires inside { IsActor seat.old.shape to.now }
         requires given { IsSome (post_of seat.old.shape seat.old.log seat.old.actor to.now pick.now) }
         ensures tried { IfOk result (HasTried (Post to.now) seat.old seat.new) }
+        ensures passed { OnOk result (G.may_pass self.now.gate.now seat.old.actor turn.old.number) }
+        ensures next { OnOk result (turn.new.number ≡ turn_after turn.old.number) }
         ensures unchanged { OnErr result (seat.new ≡ seat.old) }
+        ensures turns { KeepsTurns (G.may_pass self.now.gate.now) seat.old seat.new turn.old.number turn.new.number }
         ensures end { IfErr result (HostEnd (G.may_refuse self.now.gate.now) self.now.stop.now seat.new) }
     {
         // For the proof: that it is a loyal replica.
@@ -283,7 +298,10 @@ impl<'a, R: Wait, G: Gate> Host<'a, R, G> {
         requires inside { IsActor seat.old.shape from.now }
         requires due { is_undue seat.old.shape seat.old.log seat.old.actor from.now ≡ false }
         ensures tried { IfOk result (HasTried (Take from.now) seat.old seat.new) }
+        ensures passed { OnOk result (G.may_pass self.now.gate.now seat.old.actor turn.old.number) }
+        ensures next { OnOk result (turn.new.number ≡ turn_after turn.old.number) }
         ensures unchanged { OnErr result (seat.new ≡ seat.old) }
+        ensures turns { KeepsTurns (G.may_pass self.now.gate.now) seat.old seat.new turn.old.number turn.new.number }
         ensures end { IfErr result (HostEnd (G.may_refuse self.now.gate.now) self.now.stop.now seat.new) }
     {
         // For the proof: that it is a loyal replica.

@@ -8,8 +8,9 @@ ghost use Rattle.dsr_envelope.specs.declared.envelope.Envelope.{Envelope};
 ghost use Rattle.dsr_envelope.specs.declared.envelope.Envelope.TheVariants.{Empty};
 ghost use Rattle.dsr_boxes.specs.Pass.{IsPassOf, with_entry};
 ghost use Rattle.dsr_calls.specs.Calls.{GoesOn};
-ghost use Rattle.dsr_rounds.specs.Ends.{HostEnd, HasTried};
-ghost use Rattle.dsr_rounds.specs.Traitors.{RanScript, IsPlanned, IsPlanting, IsScripted, HasPlanted, KeepsCounts, PostsDrafts, TakesFromAll, MakesRound};
+ghost use Rattle.dsr_rounds.specs.Ends.{HostEnd, HasTried, turn_after};
+ghost use Rattle.dsr_rounds.specs.Turns.{HasTurns, KeepsTurns};
+ghost use Rattle.dsr_rounds.specs.Traitors.{RanScript, Follows, StillFollows, StillTakes, IsPlanned, IsPlanting, IsScripted, HasPlanted, KeepsCounts, PostsToClients, PostsDrafts, TakesFromAll, MakesRound, count_at};
 
 use crate::end::End;
 use crate::gate::Gate;
@@ -43,6 +44,8 @@ impl<'a, R: Wait, G: Gate> Host<'a, R, G> {
     ) -> Result<(), End>
         requires mail { IsPassOf self.now.mail.now seat.old }
         ensures ran { OnOk result (RanScript script.now rounds seat.old seat.new) }
+        ensures follows { Follows script.now seat.old seat.new }
+        ensures turns { HasTurns (G.may_pass self.now.gate.now) seat.old seat.new }
         ensures log { GoesOn seat.new seat.old }
         ensures end { IfErr result (HostEnd (G.may_refuse self.now.gate.now) self.now.stop.now seat.new) }
     {
@@ -63,7 +66,9 @@ impl<'a, R: Wait, G: Gate> Host<'a, R, G> {
     ) -> Result<(), End>
         requires mail { IsPassOf self.now.mail.now seat.old }
         ensures made { OnOk result (MakesRound script.now round seat.old seat.new) }
+        ensures follows { OnErr result (StillFollows script.now (count_at round 0) (count_at round 0) seat.old seat.new) }
         ensures log { GoesOn seat.new seat.old }
+        ensures turns { KeepsTurns (G.may_pass self.now.gate.now) seat.old seat.new turn.old.number turn.new.number }
         ensures end { IfErr result (HostEnd (G.may_refuse self.now.gate.now) self.now.stop.now seat.new) }
     {
         self.take_from_each_client(seat, turn)?;
@@ -76,6 +81,7 @@ impl<'a, R: Wait, G: Gate> Host<'a, R, G> {
     fn take_from_each_client(&self, seat: &mut TraitorSeat, turn: &mut Turn) -> Result<(), End>
         requires mail { IsPassOf self.now.mail.now seat.old }
         ensures kept { KeepsCounts seat.old seat.new }
+        ensures turns { KeepsTurns (G.may_pass self.now.gate.now) seat.old seat.new turn.old.number turn.new.number }
         ensures end { IfErr result (HostEnd (G.may_refuse self.now.gate.now) self.now.stop.now seat.new) }
     {
         for number in 0..self.mail.shape().m() {
@@ -94,6 +100,7 @@ impl<'a, R: Wait, G: Gate> Host<'a, R, G> {
         requires mail { IsPassOf self.now.mail.now seat.old }
         requires inside { client < seat.old.shape.m }
         ensures kept { KeepsCounts seat.old seat.new }
+        ensures turns { KeepsTurns (G.may_pass self.now.gate.now) seat.old seat.new turn.old.number turn.new.number }
         ensures end { IfErr result (HostEnd (G.may_refuse self.now.gate.now) self.now.stop.now seat.new) }
     {
         let _taken = self.try_take_of(seat, turn, &Actor::Client(client))?;
@@ -110,7 +117,9 @@ impl<'a, R: Wait, G: Gate> Host<'a, R, G> {
     ) -> Result<(), End>
         requires mail { IsPassOf self.now.mail.now seat.old }
         ensures posted { OnOk result (PostsDrafts script.now round seat.old.shape.n seat.old seat.new) }
+        ensures follows { OnErr result (StillFollows script.now (count_at round 0) (count_at round 0) seat.old seat.new) }
         ensures log { GoesOn seat.new seat.old }
+        ensures turns { KeepsTurns (G.may_pass self.now.gate.now) seat.old seat.new turn.old.number turn.new.number }
         ensures end { IfErr result (HostEnd (G.may_refuse self.now.gate.now) self.now.stop.now seat.new) }
     {
         for number in 0..self.mail.shape().n() {
@@ -133,6 +142,7 @@ impl<'a, R: Wait, G: Gate> Host<'a, R, G> {
         ensures posted { OnOk result ((envelope : Envelope) × (seat.new ≡ with_entry seat.old (Post (Replica to) envelope))
             × IsPlanned script.now seat.old.shape seat.old.actor seat.old.log round to envelope) }
         ensures unchanged { OnErr result (seat.new ≡ seat.old) }
+        ensures turns { KeepsTurns (G.may_pass self.now.gate.now) seat.old seat.new turn.old.number turn.new.number }
         ensures end { IfErr result (HostEnd (G.may_refuse self.now.gate.now) self.now.stop.now seat.new) }
     {
         if self.post_scripted(seat, turn, script, round, to)? {
@@ -154,6 +164,7 @@ impl<'a, R: Wait, G: Gate> Host<'a, R, G> {
         requires inside { to < seat.old.shape.n }
         ensures posted { IfOk result (IsScripted script.now round seat.old seat.new to) }
         ensures unchanged { OnErr result (seat.new ≡ seat.old) }
+        ensures turns { KeepsTurns (G.may_pass self.now.gate.now) seat.old seat.new turn.old.number turn.new.number }
         ensures end { IfErr result (HostEnd (G.may_refuse self.now.gate.now) self.now.stop.now seat.new) }
     {
         match script.draft(seat.replica(), round, Actor::Replica(to)) {
@@ -168,6 +179,7 @@ impl<'a, R: Wait, G: Gate> Host<'a, R, G> {
         requires inside { to < seat.old.shape.n }
         ensures posted { OnOk result (seat.new ≡ with_entry seat.old (Post (Replica to) Empty)) }
         ensures unchanged { OnErr result (seat.new ≡ seat.old) }
+        ensures turns { KeepsTurns (G.may_pass self.now.gate.now) seat.old seat.new turn.old.number turn.new.number }
         ensures end { IfErr result (HostEnd (G.may_refuse self.now.gate.now) self.now.stop.now seat.new) }
     {
         match self.post_draft(seat, turn, to, &Draft::empty()) {
@@ -189,6 +201,7 @@ impl<'a, R: Wait, G: Gate> Host<'a, R, G> {
         requires inside { to < seat.old.shape.n }
         ensures posted { IfOk result (IsPlanting seat.old seat.new to draft.now) }
         ensures unchanged { OnErr result (seat.new ≡ seat.old) }
+        ensures turns { KeepsTurns (G.may_pass self.now.gate.now) seat.old seat.new turn.old.number turn.new.number }
         ensures end { IfErr result (HostEnd (G.may_refuse self.now.gate.now) self.now.stop.now seat.new) }
     {
         for _ in self.rt.forever() {
@@ -211,7 +224,8 @@ impl<'a, R: Wait, G: Gate> Host<'a, R, G> {
         round: u64,
     ) -> Result<(), End>
         requires mail { IsPassOf self.now.mail.now seat.old }
-        ensures kept { KeepsCounts seat.old seat.new }
+        ensures kept { PostsToClients script.now round self.now.mail.now.shape.n seat.old seat.new }
+        ensures turns { KeepsTurns (G.may_pass self.now.gate.now) seat.old seat.new turn.old.number turn.new.number }
         ensures end { IfErr result (HostEnd (G.may_refuse self.now.gate.now) self.now.stop.now seat.new) }
     {
         for number in 0..self.mail.shape().m() {
@@ -231,7 +245,8 @@ impl<'a, R: Wait, G: Gate> Host<'a, R, G> {
     ) -> Result<(), End>
         requires mail { IsPassOf self.now.mail.now seat.old }
         requires inside { client < seat.old.shape.m }
-        ensures kept { KeepsCounts seat.old seat.new }
+        ensures kept { PostsToClients script.now round self.now.mail.now.shape.n seat.old seat.new }
+        ensures turns { KeepsTurns (G.may_pass self.now.gate.now) seat.old seat.new turn.old.number turn.new.number }
         ensures end { IfErr result (HostEnd (G.may_refuse self.now.gate.now) self.now.stop.now seat.new) }
     {
         let Some(draft) = script.draft(seat.replica(), round, Actor::Client(client)) else {
@@ -245,7 +260,9 @@ impl<'a, R: Wait, G: Gate> Host<'a, R, G> {
     fn take_from_each(&self, seat: &mut TraitorSeat, turn: &mut Turn, round: u64) -> Result<(), End>
         requires mail { IsPassOf self.now.mail.now seat.old }
         ensures taken { OnOk result (TakesFromAll round seat.old.shape.n seat.old seat.new) }
+        ensures follows { OnErr result (StillTakes round seat.old seat.new) }
         ensures log { GoesOn seat.new seat.old }
+        ensures turns { KeepsTurns (G.may_pass self.now.gate.now) seat.old seat.new turn.old.number turn.new.number }
         ensures end { IfErr result (HostEnd (G.may_refuse self.now.gate.now) self.now.stop.now seat.new) }
     {
         for number in 0..self.mail.shape().n() {
@@ -260,6 +277,7 @@ impl<'a, R: Wait, G: Gate> Host<'a, R, G> {
         requires inside { from < seat.old.shape.n }
         ensures taken { OnOk result ((envelope : Envelope) × (seat.new ≡ with_entry seat.old (Take (Replica from) envelope))) }
         ensures unchanged { OnErr result (seat.new ≡ seat.old) }
+        ensures turns { KeepsTurns (G.may_pass self.now.gate.now) seat.old seat.new turn.old.number turn.new.number }
         ensures end { IfErr result (HostEnd (G.may_refuse self.now.gate.now) self.now.stop.now seat.new) }
     {
         for _ in self.rt.forever() {
@@ -282,7 +300,10 @@ impl<'a, R: Wait, G: Gate> Host<'a, R, G> {
         requires mail { IsPassOf self.now.mail.now seat.old }
         requires inside { IsActor seat.old.shape to.now }
         ensures tried { IfOk result (HasPlanted seat.old seat.new to.now draft.now) }
+        ensures passed { OnOk result (G.may_pass self.now.gate.now seat.old.actor turn.old.number) }
+        ensures next { OnOk result (turn.new.number ≡ turn_after turn.old.number) }
         ensures unchanged { OnErr result (seat.new ≡ seat.old) }
+        ensures turns { KeepsTurns (G.may_pass self.now.gate.now) seat.old seat.new turn.old.number turn.new.number }
         ensures end { IfErr result (HostEnd (G.may_refuse self.now.gate.now) self.now.stop.now seat.new) }
     {
         // For the proof: that it is a traitor.
@@ -306,7 +327,10 @@ impl<'a, R: Wait, G: Gate> Host<'a, R, G> {
         requires mail { IsPassOf self.now.mail.now seat.old }
         requires inside { IsActor seat.old.shape from.now }
         ensures tried { IfOk result (HasTried (Take from.now) seat.old seat.new) }
+        ensures passed { OnOk result (G.may_pass self.now.gate.now seat.old.actor turn.old.number) }
+        ensures next { OnOk result (turn.new.number ≡ turn_after turn.old.number) }
         ensures unchanged { OnErr result (seat.new ≡ seat.old) }
+        ensures turns { KeepsTurns (G.may_pass self.now.gate.now) seat.old seat.new turn.old.number turn.new.number }
         ensures end { IfErr result (HostEnd (G.may_refuse self.now.gate.now) self.now.stop.now seat.new) }
     {
         // For the proof: that it is a traitor.

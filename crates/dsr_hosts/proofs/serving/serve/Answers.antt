@@ -1,5 +1,5 @@
 use Rattle.dsr_mail.specs.Seats.{is_loyal_replica, is_traitor_replica, is_client}
-use Rattle.dsr_hosts.proofs.Closing.{are_new, are_seats_of, all_served, some_cause}
+use Rattle.dsr_hosts.proofs.Closing.{are_new, are_seats_of, all_served, all_owed, all_planned, none_owed, none_planned, some_cause, none_cause}
 use Rattle.dsr_hosts.proofs.serving.serve.Goals as goal
 
 pub run_all-ran-requires-after_bounds : goal.run_all-ran-requires-after_bounds
@@ -27,9 +27,39 @@ returns-in-None-clause-served g c =
     all_served c.in-Ok.opened.0 c.args.script.now c.run_all-ran.result.seats c.close-logs.result
     (are_seats_of c.in-Ok.opened.0 is_client c.in-Ok.opened.1.clients.items c.run_all-ran.result.seats.clients.items
     c.in-Ok.ensures.clients c.run_all-ran.ensures.clients)
-    (c.run_all-ran.ensures.served c.in-None.ensures.none) c.close-logs.ensures.shape c.close-logs.ensures.own
+    (c.run_all-ran.ensures.served (none_cause c.run_all-ran.result.ends.first c.run_all-ran.result.ends.served c.in-None.ensures)) c.close-logs.ensures.shape c.close-logs.ensures.own
 
 pub returns-in-Some-clause-cause : goal.returns-in-Some-clause-cause
 returns-in-Some-clause-cause g c =
     some_cause (g.G.Gate.may_refuse c.args.gate.now) c.in-Ok.opened.0 c.args.script.now c.in-Ok.opened.1 c.run_all-ran.result c.close-logs.result
-    c.in-Some.cause c.run_all-ran.ensures c.close-logs.ensures.shape c.close-logs.ensures.own c.in-Some.ensures.some
+    c.in-Some.cause c.run_all-ran.ensures c.close-logs.ensures.shape c.close-logs.ensures.own c.in-Some.ensures
+
+pub returns-in-None-clause-owed : goal.returns-in-None-clause-owed
+returns-in-None-clause-owed g c =
+    all_owed c.in-Ok.opened.0 c.run_all-ran.result.seats c.close-logs.result
+    (are_seats_of c.in-Ok.opened.0 is_loyal_replica c.in-Ok.opened.1.replicas.items c.run_all-ran.result.seats.replicas.items
+    c.in-Ok.ensures.replicas c.run_all-ran.ensures.replicas) c.run_all-ran.ensures.owed c.close-logs.ensures.shape c.close-logs.ensures.own
+
+pub returns-in-None-clause-planned : goal.returns-in-None-clause-planned
+returns-in-None-clause-planned g c =
+    all_planned c.in-Ok.opened.0 c.args.script.now c.run_all-ran.result.seats c.close-logs.result
+    (are_seats_of c.in-Ok.opened.0 is_traitor_replica c.in-Ok.opened.1.traitors.items c.run_all-ran.result.seats.traitors.items
+    c.in-Ok.ensures.traitors c.run_all-ran.ensures.traitors) c.run_all-ran.ensures.planned c.close-logs.ensures.shape c.close-logs.ensures.own
+
+pub returns-in-Some-clause-fault_owed : goal.returns-in-Some-clause-fault_owed
+returns-in-Some-clause-fault_owed g c =
+    all_owed c.in-Ok.opened.0 c.run_all-ran.result.seats c.close-logs.result
+    (are_seats_of c.in-Ok.opened.0 is_loyal_replica c.in-Ok.opened.1.replicas.items c.run_all-ran.result.seats.replicas.items
+    c.in-Ok.ensures.replicas c.run_all-ran.ensures.replicas) c.run_all-ran.ensures.owed c.close-logs.ensures.shape c.close-logs.ensures.own
+
+pub returns-in-Some-clause-fault_planned : goal.returns-in-Some-clause-fault_planned
+returns-in-Some-clause-fault_planned g c =
+    all_planned c.in-Ok.opened.0 c.args.script.now c.run_all-ran.result.seats c.close-logs.result
+    (are_seats_of c.in-Ok.opened.0 is_traitor_replica c.in-Ok.opened.1.traitors.items c.run_all-ran.result.seats.traitors.items
+    c.in-Ok.ensures.traitors c.run_all-ran.ensures.traitors) c.run_all-ran.ensures.planned c.close-logs.ensures.shape c.close-logs.ensures.own
+
+pub returns-in-Err-clause-fault_owed : goal.returns-in-Err-clause-fault_owed
+returns-in-Err-clause-fault_owed g c = none_owed c.empty-logs.result c.empty-logs.ensures.none
+
+pub returns-in-Err-clause-fault_planned : goal.returns-in-Err-clause-fault_planned
+returns-in-Err-clause-fault_planned g c = none_planned c.args.script.now c.empty-logs.result c.empty-logs.ensures.none

@@ -1,11 +1,21 @@
-use Rattle.dsr_hosts.proofs.Operations.{goes_on}
+use Rattle.dsr_hosts.proofs.Operations.{at_end, goes_on, same_on_way}
 use Rattle.dsr_hosts.proofs.service.Service.make.Goals as goal
+
+pub returns-in_err-pass-clause-same : goal.returns-in_err-pass-clause-same
+returns-in_err-pass-clause-same g c =
+    at_end c.from_residual.result (same_on_way c.args.op.now c.args.seat.now c.loop.seat c.loop.invariant.goes c.loop.invariant.way)
 
 pub returns-in-Ok-clause-log : goal.returns-in-Ok-clause-log
 returns-in-Ok-clause-log g c = goes_on c.call.new.seat c.loop.seat c.args.seat.now c.call.ensures.log c.loop.invariant.goes
 
 pub returns-then-over-clause-log : goal.returns-then-over-clause-log
 returns-then-over-clause-log g c = goes_on c.call.new.seat c.loop.seat c.args.seat.now c.call.ensures.log c.loop.invariant.goes
+
+pub returns-then-over-clause-same : goal.returns-then-over-clause-same
+returns-then-over-clause-same g c =
+    same_on_way c.args.op.now c.args.seat.now c.call.new.seat
+    (goes_on c.call.new.seat c.loop.seat c.args.seat.now c.call.ensures.log c.loop.invariant.goes)
+    (c.in-Err-Unanswered.ensures.awaited c.args.seat.now c.loop.invariant)
 
 pub loop-preserved : goal.loop-preserved
 loop-preserved g c = record {
@@ -15,8 +25,11 @@ loop-preserved g c = record {
 }
 
 pub returns-in-Err : goal.returns-in-Err
-returns-in-Err g c = record {
-  log = goes_on c.call.new.seat c.loop.seat c.args.seat.now c.call.ensures.log c.loop.invariant.goes;
-  made = tt;
-  end = c.in-Err.ensures.refused;
-}
+returns-in-Err g c =
+    let goes = goes_on c.call.new.seat c.loop.seat c.args.seat.now c.call.ensures.log c.loop.invariant.goes in
+    record {
+      log = goes;
+      made = tt;
+      same = same_on_way c.args.op.now c.args.seat.now c.call.new.seat goes (c.in-Err.ensures.awaited c.args.seat.now c.loop.invariant);
+      end = c.in-Err.ensures.refused;
+    }

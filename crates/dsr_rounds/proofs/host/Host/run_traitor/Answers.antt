@@ -1,5 +1,6 @@
 use Rattle.dsr_rounds.proofs.Scripts.{round_step}
 use Rattle.dsr_rounds.proofs.Going.{goes_further}
+use Rattle.dsr_rounds.specs.Traitors.{count_at}
 use Rattle.dsr_rounds.proofs.host.Host.run_traitor.Goals as goal
 
 pub returns-in_err-make_scripted_round-clause-log : goal.returns-in_err-make_scripted_round-clause-log
@@ -8,5 +9,20 @@ returns-in_err-make_scripted_round-clause-log g c =
 
 pub loop-round-preserved : goal.loop-round-preserved
 loop-round-preserved g c =
-    round_step c.args.script.now c.loop-round.round c.args.seat.now c.loop-round.seat c.make_scripted_round.new.seat c.loop-round.invariant.0
-    c.make_scripted_round.ensures.log c.loop-round.invariant.1 c.in_ok-make_scripted_round.ensures.made
+    let step = round_step c.args.script.now c.loop-round.round c.args.seat.now c.loop-round.seat c.make_scripted_round.new.seat c.loop-round.invariant.0
+    c.make_scripted_round.ensures.log c.loop-round.invariant.1 c.in_ok-make_scripted_round.ensures.made in
+    (step.0, step.1, c.make_scripted_round.ensures.turns c.args.seat.now c.loop-round.invariant.2)
+
+pub returns-in_err-make_scripted_round-clause-follows : goal.returns-in_err-make_scripted_round-clause-follows
+returns-in_err-make_scripted_round-clause-follows g c =
+    c.in_err-make_scripted_round.ensures.follows c.args.seat.now c.loop-round.invariant.1
+
+pub returns-clause-follows : goal.returns-clause-follows
+returns-clause-follows g c = (count_at c.loop-round.round 0, count_at c.loop-round.round 0, c.loop-round.invariant.1)
+
+pub returns-in_err-make_scripted_round-clause-turns : goal.returns-in_err-make_scripted_round-clause-turns
+returns-in_err-make_scripted_round-clause-turns g c =
+    (c.make_scripted_round.new.turn.number, c.make_scripted_round.ensures.turns c.args.seat.now c.loop-round.invariant.2)
+
+pub returns-clause-turns : goal.returns-clause-turns
+returns-clause-turns g c = (c.loop-round.turn.number, c.loop-round.invariant.2)

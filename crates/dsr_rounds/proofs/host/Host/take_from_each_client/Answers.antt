@@ -3,8 +3,13 @@ use Rattle.dsr_rounds.proofs.host.Host.take_from_each_client.Goals as goal
 
 pub returns-in_err-take_once-clause-kept : goal.returns-in_err-take_once-clause-kept
 returns-in_err-take_once-clause-kept g c =
-    keeps_further c.args.seat.now c.loop-number.seat c.take_once.new.seat c.loop-number.invariant c.take_once.ensures.kept
+    keeps_further c.args.seat.now c.loop-number.seat c.take_once.new.seat c.loop-number.invariant.0 c.take_once.ensures.kept
 
 pub loop-number-preserved : goal.loop-number-preserved
-loop-number-preserved g c =
-    keeps_further c.args.seat.now c.loop-number.seat c.take_once.new.seat c.loop-number.invariant c.take_once.ensures.kept
+loop-number-preserved g c = (
+  keeps_further c.args.seat.now c.loop-number.seat c.take_once.new.seat c.loop-number.invariant.0 c.take_once.ensures.kept,
+  λ first was. c.take_once.ensures.turns first (c.loop-number.invariant.1 first was),
+)
+
+pub returns-in_err-take_once-clause-turns : goal.returns-in_err-take_once-clause-turns
+returns-in_err-take_once-clause-turns g c first was = c.take_once.ensures.turns first (c.loop-number.invariant.1 first was)

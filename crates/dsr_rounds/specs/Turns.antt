@@ -1,0 +1,26 @@
+-- In which turns a host makes its entries (this project).
+use Rattle.std.specs.Prelude.{◌≡◌, ℕ, ◌≤◌, ◌++◌, List, [], ◌∷◌}
+use Rattle.dsr_names.specs.declared.actor.Actor.{Actor}
+use Rattle.dsr_envelope.specs.declared.entry.Entry.{Entry}
+use Rattle.dsr_boxes.specs.Pass.{Pass}
+use Rattle.dsr_rounds.specs.Ends.{turn_after}
+
+-- each entry was made in a turn of its own, a newer one in a later turn, and all before the next turn; and each turn is one that the gate may let pass
+abbrev pub AreInTurns : (ℕ → Type 0) → ℕ → List Entry → Type 0
+AreInTurns may next [] = Unit {0}
+AreInTurns may next (entry ∷ older) = (turn : ℕ) × may turn × (turn_after turn ≤ next) × AreInTurns may turn older
+
+-- so were all entries that the later seat has more than the earlier, which is that of the same actor
+pub record IsInTurns (may : Actor → ℕ → Type 0) (earlier later : Pass) (next : ℕ) : Type 0 where
+  pub actor : later.actor ≡ earlier.actor
+  pub added : List Entry
+  pub log : later.log ≡ added ++ earlier.log
+  pub turns : AreInTurns (may earlier.actor) next added
+
+-- whatever the next turn is now
+abbrev pub HasTurns : (Actor → ℕ → Type 0) → Pass → Pass → Type 0
+HasTurns may earlier later = (next : ℕ) × IsInTurns may earlier later next
+
+-- what was so up to the older seat and its next turn is so up to the newer. No public contract cites this.
+abbrev pub KeepsTurns : (Actor → ℕ → Type 0) → Pass → Pass → ℕ → ℕ → Type 0
+KeepsTurns may old new now next = (first : Pass) → IsInTurns may first old now → IsInTurns may first new next
