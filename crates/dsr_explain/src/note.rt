@@ -136,8 +136,8 @@ pub(crate) enum Why {
     ChosenBefore,
     /// The slot that begins with the round has another sender.
     OtherSender { slot: u64, sender: ReplicaId },
-    /// The replica holds no ask of one of the clients.
-    NothingHeld,
+    /// The replica holds no ask of this client.
+    NothingHeld { client: ClientId },
     /// A replica begins no request.
     BeginsNothing,
     /// No request of the client has acted at the replica.

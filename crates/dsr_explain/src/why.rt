@@ -97,6 +97,24 @@ fn undue_post(loyal: &Replica, replica: ReplicaId, to: &Actor, pick: &Pick) -> W
     }
 }
 
+/// The clients whose asks the choice proposes.
+fn clients_of(pick: &Pick) -> &[ClientId] {
+    match pick {
+        Pick::From(clients) => clients.as_slice(),
+        Pick::Plain | Pick::Begin(_) => &[],
+    }
+}
+
+/// The first of these clients of which the replica holds no ask.
+fn unheld_of(loyal: &Replica, clients: &[ClientId]) -> ClientId {
+    for client in clients {
+        if loyal.held(*client).is_none() {
+            return *client;
+        }
+    }
+    ClientId::FIRST
+}
+
 /// Why a loyal replica does not choose so at a post that is due.
 fn undue_choice(loyal: &Replica, replica: ReplicaId, to: ReplicaId, pick: &Pick) -> Why {
     if let Pick::Begin(_) = pick {
@@ -108,7 +126,9 @@ fn undue_choice(loyal: &Replica, replica: ReplicaId, to: ReplicaId, pick: &Pick)
     let slot = round_of(loyal);
     let sender = loyal.shape().sender(slot);
     if sender == replica {
-        Why::NothingHeld
+        Why::NothingHeld {
+            client: unheld_of(loyal, clients_of(pick)),
+        }
     } else {
         Why::OtherSender { slot, sender }
     }

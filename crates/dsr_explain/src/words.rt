@@ -5,7 +5,6 @@ use crate::standing::{accepted_last, content_of};
 use dsr_chain::{Chain, ChainFault};
 use dsr_desk::{Content, MOST_SIGNERS, Signature, Signers, Statement};
 use dsr_names::{Refusal, Shape};
-use dsr_request::Requests;
 use dsr_slot::Fate;
 use dsr_world::{Event, World};
 use std::fmt::Write;
@@ -111,40 +110,34 @@ fn write_fate(out: &mut String, shape: &Shape, chain: &Chain, fate: &Fate) -> Re
     Ok(())
 }
 
-/// Writes who signed the first statement that does not fit its place, and what it is.
+/// Writes who signed the first statement that does not fit its place, what it is, and what would fit there.
 fn write_misfit(out: &mut String, chain: &Chain) -> Result<(), Refusal> {
-    if let Some(signature) = misfit_of(chain) {
+    if let Some((signature, link)) = misfit_of(chain) {
         let signer = signature.signer();
         let statement = signature.statement().copy();
-        write!(out, ": {signer} signed {statement}")?;
+        write!(out, ": {signer} signed {statement}, where {link} fits")?;
     }
     Ok(())
 }
 
-/// The first signature on a statement that does not fit its place.
-fn misfit_of(chain: &Chain) -> Option<Signature> {
-    let value = chain.content();
+/// The first signature on a statement that does not fit its place, and the one that would.
+fn misfit_of(chain: &Chain) -> Option<(Signature, Statement)> {
     let mut before = Signers::new();
     for place in 0..chain.signature_count() {
         let signature = chain.signature(place);
-        if !fits(&signature, chain.slot(), &value, &before) {
-            return Some(signature);
+        let link = Statement::Link {
+            slot: chain.slot(),
+            value: chain.content(),
+            before,
+        };
+        if !signature.statement().same(&link) {
+            return Some((signature, link));
         }
         if before.len() < MOST_SIGNERS {
             before.push(signature.signer());
         }
     }
     None
-}
-
-/// Whether the signature is on the link of this slot and content after these signers.
-fn fits(signature: &Signature, slot: u64, value: &Option<Requests>, before: &Signers) -> bool {
-    let link = Statement::Link {
-        slot,
-        value: *value,
-        before: *before,
-    };
-    signature.statement().same(&link)
 }
 
 /// The name of the fault.
@@ -335,9 +328,9 @@ fn write_undue(out: &mut String, why: &Why) -> Result<(), Refusal> {
                 "the slot that begins with this round, {slot}, has the sender {sender}"
             )?;
         }
-        Why::NothingHeld => write!(out, "it does not hold an ask of each of these clients")?,
+        Why::NothingHeld { client } => write!(out, "it holds no ask of {client}")?,
         Why::BeginsNothing => write!(out, "a replica begins no request")?,
-        Why::NothingActed { client } => write!(out, "no request of {client} has acted there")?,
+        Why::NothingActed { client } => write!(out, "no request of {client} has acted there yet")?,
         Why::NoChoice => write!(out, "a replica has no choice at a post to a client")?,
         Why::ProposesNothing => write!(out, "a client proposes nothing")?,
         Why::Outstanding(number) => write!(out, "its request {number} is outstanding")?,
