@@ -5,7 +5,8 @@ use Rattle.dsr_envelope.specs.declared.entry.Entry.{Entry}
 use Rattle.dsr_boxes.specs.Pass.{Pass}
 use Rattle.dsr_rounds.specs.Ends.{turn_after}
 
--- each entry was made in a turn of its own, a newer one in a later turn, and all before the next turn; and each turn is one that the gate may let pass
+-- each entry was made in a turn that the gate may let pass, a newer one in a later turn, and all before the next turn; but in the turn 2^40-1, which is the
+-- last, several may be made
 abbrev pub AreInTurns : (ℕ → Type 0) → ℕ → List Entry → Type 0
 AreInTurns may next [] = Unit {0}
 AreInTurns may next (entry ∷ older) = (turn : ℕ) × may turn × (turn_after turn ≤ next) × AreInTurns may turn older

@@ -22,9 +22,9 @@ use std::sync::Wait;
 /// from all, and posts once to each client that is owed its reply. A round that was begun before is the first.
 ///
 /// With `Ok` exactly so many more rounds are closed. However it ends, each client to which it posted was owed that reply: it was not answered since
-/// something of it was taken, and the request held of it is the one that the reply is for. Each post and each take is made in a turn of its own, counted
-/// from 0, which the gate may let pass. `Exhausted` where its next post is past a limit, `Stopped` where the gate answered false, `NoMemory` where memory
-/// ran out: what was done until then stands, and the host can be run again. Requires a seat of this mail.
+/// something of it was taken, and the request held of it is the one that the reply is for. Each post and each take is made in a turn that the gate
+/// may let pass, in the order of turns (the last is 2^40-1, and stays). `Exhausted` where its next post is past a limit, `Stopped` where the gate
+/// answered false, `NoMemory` where memory ran out: what was done until then stands, and the host can be run again. Requires a seat of this mail.
 pub fn run_replica<R: Wait, G: Gate>(
     rt: &R,
     alloc: Global,
@@ -61,9 +61,9 @@ pub fn run_replica<R: Wait, G: Gate>(
 ///
 /// With `Ok` it posted to each replica exactly so many times, what the script says, and took from each so many times. However it ends, it posted
 /// nothing that the script does not say: to a replica the draft of the round, or the empty envelope; to a client the draft of the round, once all
-/// its posts to replicas were made. Each post and each take is made in a turn of its own, counted from 0, which the gate may let pass. `Exhausted` where
-/// a box has had all its posts, `Stopped` where the gate answered false, `NoMemory` where memory ran out: what was done until then stands. Requires a
-/// seat of this mail.
+/// its posts to replicas were made. Each post and each take is made in a turn that the gate may let pass, in the order of turns (the last is 2^40-1,
+/// and stays). `Exhausted` where a box has had all its posts, `Stopped` where the gate answered false, `NoMemory` where memory ran out: what was done
+/// until then stands. Requires a seat of this mail.
 pub fn run_traitor<R: Wait, G: Gate>(
     rt: &R,
     alloc: Global,
