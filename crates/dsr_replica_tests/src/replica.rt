@@ -117,44 +117,79 @@ fn a_request_that_is_not_held_is_not_proposed(rt: HostRuntime) -> Result<(), Fai
     is_refused(&rt, rt.alloc(), &one.replica, &Pick::From(clients))
 }
 
-#[test]
-fn the_ask_of_the_greatest_number_is_held(rt: HostRuntime) -> Result<(), Fail> {
-    let mut one = begin_alone(rt.alloc())?;
-    ask(rt.alloc(), &mut one, 2)?;
-    ask(rt.alloc(), &mut one, 1)?;
+/// Whether the replica still holds request 2 once it took request 1 after it.
+fn holds_the_greatest(rt: &impl Abort, alloc: Global, one: &mut Alone) -> Result<(), Fail> {
+    ask(alloc, one, 2)?;
+    ask(alloc, one, 1)?;
     assert!(rt; one.replica.held(ClientId::FIRST) == Some(request(2)?));
     Ok(())
 }
 
 #[test]
+fn the_ask_of_the_greatest_number_is_held(rt: HostRuntime) -> Result<(), Fail> {
+    let mut one = begin_alone(rt.alloc())?;
+    holds_the_greatest(&rt, rt.alloc(), &mut one)
+}
+
+/// Has the replica decide request 1 by its own envelope.
+fn decide_alone(alloc: Global, one: &mut Alone) -> Result<(), Fail> {
+    ask(alloc, one, 1)?;
+    let envelope = propose(alloc, &mut one.replica)?;
+    take(&mut one.replica, envelope)
+}
+
+/// Whether the replica decides request 1 by its own envelope, and replies.
+fn decides_alone(rt: &impl Abort, alloc: Global, one: &mut Alone) -> Result<(), Fail> {
+    decide_alone(alloc, one)?;
+    has_decided(rt, &one.replica)
+}
+
+#[test]
 fn one_replica_decides_and_replies(rt: HostRuntime) -> Result<(), Fail> {
     let mut one = begin_alone(rt.alloc())?;
-    ask(rt.alloc(), &mut one, 1)?;
-    let envelope = propose(rt.alloc(), &mut one.replica)?;
+    decides_alone(&rt, rt.alloc(), &mut one)
+}
+
+/// Whether the replica does not pass over the envelope, and the take is due as before.
+fn is_not_passed_over(
+    rt: &impl Abort,
+    replica: &mut Replica,
+    envelope: &Envelope,
+) -> Result<(), Fail> {
+    assert!(rt; !passes_over(replica, envelope)?);
+    assert!(rt; replica.due() == Due::Take(ReplicaId::FIRST));
+    Ok(())
+}
+
+/// Whether the replica does not pass over its own envelope with request 1, and decides by it.
+fn decides_by_news(rt: &impl Abort, alloc: Global, one: &mut Alone) -> Result<(), Fail> {
+    ask(alloc, one, 1)?;
+    let envelope = propose(alloc, &mut one.replica)?;
+    is_not_passed_over(rt, &mut one.replica, &envelope)?;
     take(&mut one.replica, envelope)?;
-    has_decided(&rt, &one.replica)
+    has_decided(rt, &one.replica)
 }
 
 #[test]
 fn an_envelope_with_news_is_not_passed_over(rt: HostRuntime) -> Result<(), Fail> {
     let mut one = begin_alone(rt.alloc())?;
-    ask(rt.alloc(), &mut one, 1)?;
-    let envelope = propose(rt.alloc(), &mut one.replica)?;
-    assert!(rt; !passes_over(&mut one.replica, &envelope)?);
-    assert!(rt; one.replica.due() == Due::Take(ReplicaId::FIRST));
-    take(&mut one.replica, envelope)?;
-    has_decided(&rt, &one.replica)
+    decides_by_news(&rt, rt.alloc(), &mut one)
+}
+
+/// Whether the replica, which posts nothing of its own, passes over the empty envelope, and decides its slot idle.
+fn decides_idle(rt: &impl Abort, alloc: Global, replica: &mut Replica) -> Result<(), Fail> {
+    propose_by(alloc, replica, &Pick::Plain)?;
+    assert!(rt; passes_over(replica, &Envelope::Empty)?);
+    assert!(rt; replica.due() == Due::Post(ReplicaId::FIRST));
+    assert_eq!(rt; replica.decided().len(), 1);
+    assert!(rt; replica.history().is_empty());
+    Ok(())
 }
 
 #[test]
 fn an_empty_envelope_is_passed_over(rt: HostRuntime) -> Result<(), Fail> {
     let mut one = begin_alone(rt.alloc())?;
-    propose_by(rt.alloc(), &mut one.replica, &Pick::Plain)?;
-    assert!(rt; passes_over(&mut one.replica, &Envelope::Empty)?);
-    assert!(rt; one.replica.due() == Due::Post(ReplicaId::FIRST));
-    assert_eq!(rt; one.replica.decided().len(), 1);
-    assert!(rt; one.replica.history().is_empty());
-    Ok(())
+    decides_idle(&rt, rt.alloc(), &mut one.replica)
 }
 
 /// Replicas may be handed to another thread.

@@ -235,18 +235,28 @@ fn go_through_round_1<R: Abort>(rt: &R, alloc: Global, replica: &mut Replica) ->
     take(rt, replica, 2, Envelope::Empty)
 }
 
-#[test]
-fn two_rounds_are_gone_through_whichever_allocation_is_refused(
-    rt: HostRuntime,
-) -> Result<(), Fail> {
-    let mut replica = replica_one(rt.alloc())?;
-    take_ask(rt.alloc(), &mut replica)?;
-    go_through_round_0(&rt, rt.alloc(), &mut replica)?;
-    go_through_round_1(&rt, rt.alloc(), &mut replica)?;
-    let seen = look(&replica)?;
+/// Takes the request of client 0, and goes through both rounds.
+fn go_through_both<R: Abort>(rt: &R, alloc: Global, replica: &mut Replica) -> Result<(), Fail> {
+    take_ask(alloc, replica)?;
+    go_through_round_0(rt, alloc, replica)?;
+    go_through_round_1(rt, alloc, replica)
+}
+
+/// Checks that slot 0 is decided, and its request replied, and that round 2 begins.
+fn check_decided<R: Abort>(rt: &R, replica: &Replica) -> Result<(), Fail> {
+    let seen = look(replica)?;
     assert!(rt; seen.due == Due::Post(ReplicaId::FIRST));
     assert_eq!(rt; seen.decided, 1);
     assert_eq!(rt; seen.history, 1);
     assert!(rt; seen.replied);
     Ok(())
+}
+
+#[test]
+fn two_rounds_are_gone_through_whichever_allocation_is_refused(
+    rt: HostRuntime,
+) -> Result<(), Fail> {
+    let mut replica = replica_one(rt.alloc())?;
+    go_through_both(&rt, rt.alloc(), &mut replica)?;
+    check_decided(&rt, &replica)
 }

@@ -6,6 +6,7 @@ use dsr_names::{Actor, ClientId, Refusal, ReplicaId, Shape};
 use dsr_request::{Answer, Name, Op, Request};
 use dsr_script::{Draft, Known, build};
 use std::alloc::Global;
+use std::process::Abort;
 use std::test::Fail;
 
 /// Replica 0, a sender, and client 0, who asks.
@@ -83,15 +84,38 @@ fn what_has_no_signature_is_always_built(rt: HostRuntime) -> Result<(), Fail> {
     Ok(())
 }
 
+/// Whether the ask is built with its client's key, and neither with another one nor with none.
+fn needs_its_key(
+    rt: &impl Abort,
+    alloc: Global,
+    known: &Known,
+    ask: &Envelope,
+) -> Result<(), Fail> {
+    assert!(rt; is_built(alloc, ask, &one_key(alloc, ASKER)?, known)?);
+    assert!(rt; !is_built(alloc, ask, &one_key(alloc, SENDER)?, known)?);
+    assert!(rt; !is_built(alloc, ask, &[], known)?);
+    Ok(())
+}
+
 #[test]
 fn a_held_key_signs_an_ask(rt: HostRuntime) -> Result<(), Fail> {
     let known = Known::new(rt.alloc());
     let ask = ask_envelope(rt.alloc(), 1)?;
-    let own = one_key(rt.alloc(), ASKER)?;
-    let other = one_key(rt.alloc(), SENDER)?;
-    assert!(rt; is_built(rt.alloc(), &ask, &own, &known)?);
-    assert!(rt; !is_built(rt.alloc(), &ask, &other, &known)?);
-    assert!(rt; !is_built(rt.alloc(), &ask, &[], &known)?);
+    needs_its_key(&rt, rt.alloc(), &known, &ask)
+}
+
+/// Whether the envelope is built just where its sender's key is lent and its ask is known.
+fn needs_key_and_ask(
+    rt: &impl Abort,
+    alloc: Global,
+    known: &mut Known,
+    round: &Envelope,
+) -> Result<(), Fail> {
+    let sender = one_key(alloc, SENDER)?;
+    assert!(rt; !is_built(alloc, round, &sender, known)?);
+    known.learn(&ask_envelope(alloc, 1)?)?;
+    assert!(rt; is_built(alloc, round, &sender, known)?);
+    assert!(rt; !is_built(alloc, round, &[], known)?);
     Ok(())
 }
 
@@ -99,36 +123,44 @@ fn a_held_key_signs_an_ask(rt: HostRuntime) -> Result<(), Fail> {
 fn a_chain_wants_each_of_its_signatures(rt: HostRuntime) -> Result<(), Fail> {
     let mut known = Known::new(rt.alloc());
     let round = round_of(rt.alloc(), 0, 1)?;
-    let sender = one_key(rt.alloc(), SENDER)?;
-    assert!(rt; !is_built(rt.alloc(), &round, &sender, &known)?);
-    known.learn(&ask_envelope(rt.alloc(), 1)?)?;
-    assert!(rt; is_built(rt.alloc(), &round, &sender, &known)?);
-    assert!(rt; !is_built(rt.alloc(), &round, &[], &known)?);
+    needs_key_and_ask(&rt, rt.alloc(), &mut known, &round)
+}
+
+/// Whether the ask of this number is built with nobody's key.
+fn is_ask_built(alloc: Global, known: &Known, number: u64) -> Result<bool, Fail> {
+    is_built(alloc, &ask_envelope(alloc, number)?, &[], known)
+}
+
+/// Whether the round and its ask are known once the round was learned, and another round and another ask are not.
+fn is_sent_on(rt: &impl Abort, alloc: Global, known: &mut Known) -> Result<(), Fail> {
+    let round = round_of(alloc, 0, 1)?;
+    known.learn(&round)?;
+    assert!(rt; is_built(alloc, &round, &[], known)?);
+    assert!(rt; !is_built(alloc, &round_of(alloc, 1, 1)?, &[], known)?);
+    assert!(rt; is_ask_built(alloc, known, 1)?);
+    assert!(rt; !is_ask_built(alloc, known, 2)?);
     Ok(())
 }
 
 #[test]
 fn what_was_learned_is_sent_on_and_nothing_else(rt: HostRuntime) -> Result<(), Fail> {
     let mut known = Known::new(rt.alloc());
-    let round = round_of(rt.alloc(), 0, 1)?;
-    known.learn(&round)?;
-    assert!(rt; is_built(rt.alloc(), &round, &[], &known)?);
-    assert!(rt; !is_built(rt.alloc(), &round_of(rt.alloc(), 1, 1)?, &[], &known)?);
-    let carried = ask_envelope(rt.alloc(), 1)?;
-    let other = ask_envelope(rt.alloc(), 2)?;
-    assert!(rt; is_built(rt.alloc(), &carried, &[], &known)?);
-    assert!(rt; !is_built(rt.alloc(), &other, &[], &known)?);
+    is_sent_on(&rt, rt.alloc(), &mut known)
+}
+
+/// Learns an ask and a round, with room made between them.
+fn learn_both(alloc: Global, known: &mut Known) -> Result<(), Fail> {
+    known.learn(&ask_envelope(alloc, 1)?)?;
+    known.room()?;
+    known.learn(&round_of(alloc, 0, 1)?)?;
     Ok(())
 }
 
 #[test]
 fn room_is_made_and_what_is_known_stays(rt: HostRuntime) -> Result<(), Fail> {
     let mut known = Known::new(rt.alloc());
-    let ask = ask_envelope(rt.alloc(), 1)?;
-    known.learn(&ask)?;
-    known.room()?;
-    known.learn(&round_of(rt.alloc(), 0, 1)?)?;
-    assert!(rt; is_built(rt.alloc(), &ask, &[], &known)?);
+    learn_both(rt.alloc(), &mut known)?;
+    assert!(rt; is_ask_built(rt.alloc(), &known, 1)?);
     Ok(())
 }
 
