@@ -2,14 +2,15 @@
 """What `dsr explain` tells: tests/explain.py, or with `--write` it writes the explanations in examples/why/ anew. It runs the built program.
 
 1. Each play of examples/, and random plays: the lines of data are those of tests/explain_model.py, a slow model that was written anew, but for
-   the words in which a reason is put, and for what a replica keeps, holds or drops, which the model does not tell. Where an event is refused as
-   forged, a signature is named.
+   the words in which a reason is put, and for what a replica keeps, holds, drops or does not propose, which the model does not tell. Where an
+   event is refused as forged, a signature is named.
 2. Each attack of examples/attacks/: there are lines that name what stopped it: the fault of a chain or what became of it, the slot, and the replica.
 3. Each play of examples/why/, which is wrong in one line: the first refused event is of the line that is named here, and the explanation beside it is
    what the program writes.
 4. Texts that are no play: the line, the column, and what was expected there; and what stands on standard error is what `dsr play` has there.
-5. What is told with options is told without them too.
-6. To tell what was refused takes at most three times the processor time of the play. What it takes to tell of all events is printed.
+5. What is told of requests that are not proposed, of posts that are refused, and at the end, on plays written by hand.
+6. What is told with options is told without them too.
+7. To tell what was refused takes at most three times the processor time of the play. What it takes to tell of all events is printed.
 
 The last line is `N passed, M failed`.
 """
@@ -30,7 +31,7 @@ PROGRAM = f"{TOP}/crates/dsr/out/dsr"
 RANDOM_PLAYS = 200
 MOST_TIMES = 3
 # Lines that the model does not make.
-BESIDE = ("silence ", "kept ", "hold ", "drop ")
+BESIDE = ("silence ", "kept ", "hold ", "drop ", "unproposed ")
 # What stops each attack, as patterns of lines of data.
 STOPS = {
     "chain-of-another-slot": ["chain r1 3 0 * not-in-flight", "chain r1 0 2 * wrong-count", "decide r1 0 0 idle"],
@@ -84,6 +85,28 @@ NO_PLAYS = [
     (b"dsr-play 1 3 1 1 r0\nplant r0 r1 emty\n", 2, 13, b"an envelope"),
     (b"dsr-play 1 3 1 1 r0\nplants r0 round 0 0/idle/r0 0/idl/r0\n", 2, 29, b"a chain"),
     (b"dsr-play 1 3 1 1 r0\nplants c0 empty\n", 2, 8, b"a replica"),
+]
+
+# What c0 asks, and each replica takes.
+HELD = ["asks c0 begin write a 5", "hears c0"]
+# Lines of a play of three loyal replicas and one client; ends of lines that are told of it; and what is nowhere.
+SAYINGS = [
+    # r0 keeps c0's ask back; r1 proposes it, so r2 has no reason to.
+    ([*HELD, "posts *", "takes *", "posts r0", "posts r1 from c0", "posts r2", "takes *", "posts *"],
+     ["    r0 proposes nothing in slot 0, though it holds c0#1:write:a:5"], ["r1 proposes nothing", "r2 proposes nothing"]),
+    # All propose nothing, so slot 0 is idle, and none of them has the request in a slot.
+    ([*HELD, "posts *", "takes *", "posts *", "takes *"],
+     ["    r1 proposes nothing in slot 1, though it holds c0#1:write:a:5",
+      "; r1 holds it, and no slot that it decided has it; r2 holds it, and no slot that it decided has it"], ["r2 proposes nothing", "undecided"]),
+    # What acted is no reason to propose.
+    ([*HELD, "posts r0 from c0", "posts r1", "posts r2", "takes *", "posts *", "takes *", "posts *", "takes *", "posts *"],
+     ["    c0#1:write:a:5 acts at r0, at place 0 of the history"], ["proposes nothing"]),
+    # The first refused event is in line 4, and another one follows.
+    ([*HELD, "post r1 r0 from c0", "take r0 r1"],
+     [": r1 posts to r0, to propose what it holds of c0", "refused: 2, the first in line 4; those after it may follow from it"], []),
+    ([*HELD, "post c0 r1 begin swap a none 6"],
+     [": c0 posts to r1, to begin the request swap a none 6", "refused: 1, the first in line 4; those after it may follow from it"], []),
+    (HELD, ["    r2 holds the request c0#1:write:a:5"], ["refused"]),
 ]
 
 
@@ -175,6 +198,19 @@ def fault_of_no_play(text, line, column, expected):
     return None if shown[2].index(b"^") == 4 + column - 1 else "the column is not marked"
 
 
+def fault_of_sayings(lines, ends, nowhere):
+    """Which of these ends no line of the explanation has, or what is in it and should not be; or None."""
+    play = "".join(f"{line}\n" for line in ["dsr-play 1 3 1 1 -", *lines]).encode()
+    status, written, told = program(["explain"], play)
+    if status != 0 or told:
+        return f"status {status}, {told!r}"
+    written = written.decode()
+    for end in ends:
+        if not any(line.endswith(end) for line in written.splitlines()):
+            return f"no line ends with `{end}`"
+    return next((f"it says `{text}`" for text in nowhere if text in written), None)
+
+
 def fault_of_options(play):
     """Which option makes a line that is not there without it, or None."""
     whole = set(program(["explain"], play)[1].splitlines())
@@ -232,6 +268,8 @@ def main():
     for path in sorted(glob.glob(f"{TOP}/examples/why/*.play")):
         name = os.path.basename(path)[:-5]
         tests.append((f"why/{name}", lambda name=name: fault_of_why(name, write)))
+    for lines, ends, nowhere in SAYINGS:
+        tests.append((f"what is told of {' | '.join(lines)}", lambda row=(lines, ends, nowhere): fault_of_sayings(*row)))
     for text, line, column, expected in NO_PLAYS:
         tests.append((f"no play: {text[:60]!r}", lambda row=(text, line, column, expected): fault_of_no_play(*row)))
     passed = failed = 0

@@ -22,7 +22,7 @@ FAULTS = {
     "not-in-flight": lambda run, c: f"slot {c.slot} is not in flight",
 }
 # Notes that are not drawn, and how many parts each has.
-UNDRAWN = {"silence": 2, "kept": 5, "hold": 2, "drop": 2}
+UNDRAWN = {"silence": 2, "kept": 5, "hold": 2, "drop": 2, "unproposed": 3}
 MOST_LETTERS = 26
 MOST_SHOWN = 3
 

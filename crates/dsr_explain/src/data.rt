@@ -1,29 +1,55 @@
 //! Notes as data: one line a note, its parts apart by a space.
 
 use crate::note::{ChainFate, Dropped, Note};
+use crate::pieces::{put_number, replica_name};
 use crate::standing::{accepted_last, content_of};
+use crate::texts::Told;
 use crate::words::{fault_word, write_content, write_no_vote, write_reason};
 use dsr_chain::Chain;
 use dsr_desk::Content;
-use dsr_names::Refusal;
+use dsr_names::{Refusal, ReplicaId};
 use dsr_slot::Fate;
 use dsr_world::{Event, World};
 use std::fmt::Write;
 
-/// Writes the note of this event as a line of data.
+/// Writes the note of this event, whose envelope is told so, as a line of data.
 pub(crate) fn write_data(
     out: &mut String,
     world: &World,
     event: &Event,
     note: &Note,
+    told: Option<&Told>,
 ) -> Result<(), Refusal> {
+    match note {
+        Note::Silence { .. } | Note::Chain { .. } | Note::Kept { .. } => {
+            write_chains(out, note, told)
+        }
+        Note::Closed { .. } | Note::Decided { .. } => write_end(out, world, note),
+        Note::Unproposed { .. }
+        | Note::Acted { .. }
+        | Note::Stale { .. }
+        | Note::Held { .. }
+        | Note::Dropped { .. } => write_request(out, note),
+        _ => write_client(out, world, event, note),
+    }
+}
+
+/// Writes a note of what a replica took or kept.
+fn write_chains(out: &mut String, note: &Note, told: Option<&Told>) -> Result<(), Refusal> {
     match note {
         Note::Silence { replica, round } => writeln!(out, "silence {replica} {round}")?,
         Note::Chain {
             replica,
-            chain,
+            place,
+            slot,
             fate,
-        } => write_chain(out, replica.number(), chain, fate)?,
+        } => {
+            write_read(out, *replica, *slot, fate)?;
+            if let Some(told) = told {
+                out.push_str(told.chain(*place))?;
+            }
+            write_fate(out, fate)?;
+        }
         Note::Kept {
             replica,
             chain,
@@ -32,8 +58,16 @@ pub(crate) fn write_data(
             let (slot, signers) = (chain.slot(), chain.signers());
             write!(out, "kept {replica} {slot} {round} {signers} ")?;
             write_content(out, chain)?;
-            writeln!(out)?;
+            out.push_str("\n")?;
         }
+        _ => {}
+    }
+    Ok(())
+}
+
+/// Writes a note of the end of a round.
+fn write_end(out: &mut String, world: &World, note: &Note) -> Result<(), Refusal> {
+    match note {
         Note::Closed { replica, round } => writeln!(out, "close {replica} {round}")?,
         Note::Decided {
             replica,
@@ -43,6 +77,19 @@ pub(crate) fn write_data(
             let content = Content(content_of(world, *replica, *slot));
             writeln!(out, "decide {replica} {slot} {kept} {content}")?;
         }
+        _ => {}
+    }
+    Ok(())
+}
+
+/// Writes a note of what a replica made of a request.
+fn write_request(out: &mut String, note: &Note) -> Result<(), Refusal> {
+    match note {
+        Note::Unproposed {
+            replica,
+            slot,
+            request,
+        } => writeln!(out, "unproposed {replica} {slot} {request}")?,
         Note::Acted {
             replica,
             place,
@@ -59,7 +106,7 @@ pub(crate) fn write_data(
             let word = dropped_word(why);
             writeln!(out, "drop {replica} {word}")?;
         }
-        _ => write_client(out, world, event, note)?,
+        _ => {}
     }
     Ok(())
 }
@@ -103,21 +150,42 @@ fn write_client(
     Ok(())
 }
 
-/// Writes what became of a chain.
-fn write_chain(
+/// Writes what is told of a chain, whatever becomes of it and wherever it is read.
+pub(crate) fn write_chain(out: &mut String, chain: &Chain) -> Result<(), Refusal> {
+    let signers = chain.signers();
+    write!(out, "{signers} ")?;
+    write_content(out, chain)
+}
+
+/// Writes the beginning of a chain's line: where it is read.
+fn write_read(
     out: &mut String,
-    replica: u8,
-    chain: &Chain,
+    replica: ReplicaId,
+    slot: u64,
     fate: &ChainFate,
 ) -> Result<(), Refusal> {
-    let (slot, signers) = (chain.slot(), chain.signers());
-    let (round, word) = match fate {
-        ChainFate::NotInFlight => (0, "not-in-flight"),
-        ChainFate::Read { round, fate } => (*round, fate_word(fate)),
+    let round = match fate {
+        ChainFate::NotInFlight => 0,
+        ChainFate::Read { round, .. } => *round,
     };
-    write!(out, "chain r{replica} {slot} {round} {signers} ")?;
-    write_content(out, chain)?;
-    writeln!(out, " {word}")?;
+    out.push_str("chain ")?;
+    out.push_str(replica_name(replica))?;
+    out.push_str(" ")?;
+    put_number(out, slot)?;
+    out.push_str(" ")?;
+    put_number(out, round as u64)?;
+    out.push_str(" ")?;
+    Ok(())
+}
+
+/// Writes the end of a chain's line: what became of it.
+fn write_fate(out: &mut String, fate: &ChainFate) -> Result<(), Refusal> {
+    out.push_str(" ")?;
+    out.push_str(match fate {
+        ChainFate::NotInFlight => "not-in-flight",
+        ChainFate::Read { fate, .. } => fate_word(fate),
+    })?;
+    out.push_str("\n")?;
     Ok(())
 }
 

@@ -15,6 +15,7 @@ impl Story {
     /// Tells what each slot came to, and who waits for whom. `NoMemory` where memory runs out.
     pub(crate) fn end(&mut self) -> Result<(), Refusal> {
         if !self.wanted.data {
+            self.tell_refused()?;
             self.tell_slots()?;
         }
         for number in 0..self.world.shape().n() {
@@ -22,6 +23,18 @@ impl Story {
         }
         for number in 0..self.world.shape().m() {
             self.tell_wait_of_client(number)?;
+        }
+        Ok(())
+    }
+
+    /// Tells how many events were refused, and where the first was.
+    fn tell_refused(&mut self) -> Result<(), Refusal> {
+        let (refused, line) = (self.refused, self.first_refused);
+        if refused > 0 && self.wanted.is_of_all() {
+            writeln!(
+                self.out,
+                "refused: {refused}, the first in line {line}; those after it may follow from it"
+            )?;
         }
         Ok(())
     }
@@ -110,7 +123,8 @@ fn standing_at(world: &World, replica: ReplicaId, client: ClientId, number: u64)
         return "can reply";
     }
     match loyal.held(client) {
-        Some(request) if request.number() == number => "holds it undecided",
+        Some(request) if request.number() == number =>
+            "holds it, and no slot that it decided has it",
         _ => "has not got it",
     }
 }

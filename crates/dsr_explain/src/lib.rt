@@ -7,11 +7,13 @@
 
 mod before;
 mod client_notes;
+mod counts;
 mod data;
 mod ending;
 mod note;
 mod notes;
 mod parts;
+mod pieces;
 mod reading;
 mod replica_notes;
 mod standing;

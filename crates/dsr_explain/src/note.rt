@@ -12,10 +12,11 @@ pub(crate) enum Note {
         /// The round in progress.
         round: u64,
     },
-    /// A loyal replica took a chain.
+    /// A loyal replica took a chain, which is at this place of its envelope.
     Chain {
         replica: ReplicaId,
-        chain: Chain,
+        place: usize,
+        slot: u64,
         fate: ChainFate,
     },
     /// A loyal replica has kept this chain of a slot that closes.
@@ -24,6 +25,12 @@ pub(crate) enum Note {
         chain: Chain,
         /// The slot's round in which it was read.
         round: u8,
+    },
+    /// A replica chose to propose nothing in its slot, though it holds this request, which acted nowhere and is in no chain that it keeps.
+    Unproposed {
+        replica: ReplicaId,
+        slot: u64,
+        request: Request,
     },
     /// A loyal replica closed this round.
     Closed {
@@ -164,11 +171,12 @@ impl Note {
     /// The slot of which it is, if it is of one.
     pub(crate) fn slot(&self) -> Option<u64> {
         match self {
-            Note::Chain { chain, .. } => Some(chain.slot()),
             Note::Kept { chain, .. } => Some(chain.slot()),
-            Note::Decided { slot, .. } | Note::Acted { slot, .. } | Note::Stale { slot, .. } => {
-                Some(*slot)
-            }
+            Note::Chain { slot, .. }
+            | Note::Unproposed { slot, .. }
+            | Note::Decided { slot, .. }
+            | Note::Acted { slot, .. }
+            | Note::Stale { slot, .. } => Some(*slot),
             _ => None,
         }
     }

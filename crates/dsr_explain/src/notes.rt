@@ -24,6 +24,11 @@ impl Notes {
         }
     }
 
+    /// Drops all notes, and keeps their room.
+    pub(crate) fn clear(&mut self) {
+        self.items.clear();
+    }
+
     /// The notes.
     pub(crate) fn as_slice(&self) -> &[Note] {
         self.items.as_slice()

@@ -1,4 +1,4 @@
-//! What becomes of the chains of an envelope, told before it is taken; several are read by copies of the states of the slots in flight.
+//! What becomes of the chains of an envelope, told before it is taken; two of one slot are read by copies of the states of the slots in flight.
 
 use crate::note::{ChainFate, Note};
 use crate::notes::Notes;
@@ -35,20 +35,29 @@ pub(crate) fn read_envelope(
         notes.push(Note::Silence { replica, round })?;
     }
     let chains = chains_in(envelope, round);
-    let is_last = from.number() as usize + 1 == world.shape().n() as usize;
-    // what one chain does is told by the states themselves, which only a second one or the round's end would change
-    if chains.len() <= 1 && !is_last {
-        if let Some(chain) = chains.first() {
-            tell_chain(chain, replica, loyal.in_flight(), notes)?;
-        }
-        return Ok(());
+    // what becomes of a chain is told by the states themselves, which only one before it of the same slot would have changed
+    if has_slot_twice(chains) {
+        let mut states = copies_of(alloc, loyal.in_flight())?;
+        read_chains(chains, replica, &mut states, notes)?;
+    } else {
+        tell_chains(chains, replica, loyal.in_flight(), notes)?;
     }
-    let mut states = copies_of(alloc, loyal.in_flight())?;
-    read_chains(chains, replica, &mut states, notes)?;
-    if is_last {
-        tell_kept(&states, replica, notes)?;
+    if from.number() as usize + 1 == world.shape().n() as usize {
+        tell_kept(loyal.in_flight(), chains, replica, notes)?;
     }
     Ok(())
+}
+
+/// Whether two of the chains are of the same slot.
+fn has_slot_twice(chains: &[Chain]) -> bool {
+    for place in 1..chains.len() {
+        for before in 0..place {
+            if chains[before].slot() == chains[place].slot() {
+                return true;
+            }
+        }
+    }
+    false
 }
 
 /// The round in progress: a slot begins with each.
@@ -88,6 +97,19 @@ fn chains_in(envelope: &Envelope, round: u64) -> &[Chain] {
     }
 }
 
+/// Tells what becomes of each of the chains, which are of different slots.
+fn tell_chains(
+    chains: &[Chain],
+    replica: ReplicaId,
+    states: &[SlotState],
+    notes: &mut Notes,
+) -> Result<(), Refusal> {
+    for place in 0..chains.len() {
+        tell_chain(&chains[place], place, replica, states, notes)?;
+    }
+    Ok(())
+}
+
 /// Reads the chains, and tells what became of each.
 fn read_chains(
     chains: &[Chain],
@@ -95,28 +117,30 @@ fn read_chains(
     states: &mut Vec<SlotState>,
     notes: &mut Notes,
 ) -> Result<(), Refusal> {
-    for chain in chains {
-        tell_chain(chain, replica, states.as_slice(), notes)?;
-        read_chain(chain, states)?;
+    for place in 0..chains.len() {
+        tell_chain(&chains[place], place, replica, states.as_slice(), notes)?;
+        read_chain(&chains[place], states)?;
     }
     Ok(())
 }
 
-/// Tells what becomes of the chain when it is read in its slot, if that is in flight.
+/// Tells what becomes of the chain at this place of the envelope when it is read in its slot, if that is in flight.
 fn tell_chain(
     chain: &Chain,
+    place: usize,
     replica: ReplicaId,
     states: &[SlotState],
     notes: &mut Notes,
 ) -> Result<(), Refusal> {
     for state in states {
         if state.slot() == chain.slot() {
-            return tell_fate(state, chain, replica, notes);
+            return tell_fate(state, chain, place, replica, notes);
         }
     }
     notes.push(Note::Chain {
         replica,
-        chain: chain.try_copy()?,
+        place,
+        slot: chain.slot(),
         fate: ChainFate::NotInFlight,
     })
 }
@@ -125,6 +149,7 @@ fn tell_chain(
 fn tell_fate(
     state: &SlotState,
     chain: &Chain,
+    place: usize,
     replica: ReplicaId,
     notes: &mut Notes,
 ) -> Result<(), Refusal> {
@@ -135,7 +160,8 @@ fn tell_fate(
     let fate = state.fate(chain);
     notes.push(Note::Chain {
         replica,
-        chain: chain.try_copy()?,
+        place,
+        slot: chain.slot(),
         fate: ChainFate::Read { round, fate },
     })
 }
@@ -158,9 +184,10 @@ fn read_in(state: &mut SlotState, chain: &Chain) -> Result<(), Refusal> {
     Ok(())
 }
 
-/// Tells what is kept of the slot that is in its last round, if one is.
+/// Tells what is kept, once these chains are read, of the slot that is in its last round, if one is.
 fn tell_kept(
-    states: &Vec<SlotState>,
+    states: &[SlotState],
+    chains: &[Chain],
     replica: ReplicaId,
     notes: &mut Notes,
 ) -> Result<(), Refusal> {
@@ -170,7 +197,13 @@ fn tell_kept(
     if oldest.closed_rounds() < oldest.shape().f() {
         return Ok(());
     }
-    let (first, second) = oldest.kept();
+    let mut closing = oldest.try_copy()?;
+    for chain in chains {
+        if chain.slot() == closing.slot() {
+            read_in(&mut closing, chain)?;
+        }
+    }
+    let (first, second) = closing.kept();
     tell_one(first, replica, notes)?;
     tell_one(second, replica, notes)
 }

@@ -1,4 +1,5 @@
-//! What a take has a loyal replica do: it may close a round, decide a slot, and have requests act; or hold a request.
+//! What a loyal replica does at a take, which may close a round, decide a slot, and have requests act, or hold a request; and what it does
+//! not propose.
 
 use crate::before::Before;
 use crate::note::{Dropped, Note};
@@ -7,7 +8,8 @@ use crate::reading::round_of;
 use dsr_envelope::Envelope;
 use dsr_names::{Actor, ClientId, Refusal, ReplicaId};
 use dsr_replica::Replica;
-use dsr_request::Requests;
+use dsr_request::{Request, Requests};
+use dsr_slot::Kept;
 use dsr_world::World;
 
 /// Tells what the take from another replica changed.
@@ -134,4 +136,74 @@ pub(crate) fn tell_ask(
     };
     notes.push(Note::Dropped { replica, why })?;
     Ok(())
+}
+
+/// Tells which requests the replica, which chose to propose nothing, could have proposed, where the slot that begins is its own.
+pub(crate) fn tell_unproposed(
+    world: &World,
+    replica: ReplicaId,
+    notes: &mut Notes,
+) -> Result<(), Refusal> {
+    let Ok(loyal) = world.replica(replica) else {
+        return Ok(());
+    };
+    let slot = round_of(loyal);
+    if world.shape().sender(slot) != replica {
+        return Ok(());
+    }
+    for number in 0..world.shape().m() {
+        let Ok(client) = ClientId::new(number) else {
+            continue;
+        };
+        if let Some(request) = waiting_of(loyal, client) {
+            notes.push(Note::Unproposed {
+                replica,
+                slot,
+                request,
+            })?;
+        }
+    }
+    Ok(())
+}
+
+/// The request that the replica holds of the client, where it neither acted there nor is in a chain that is kept.
+fn waiting_of(loyal: &Replica, client: ClientId) -> Option<Request> {
+    let request = loyal.held(client)?;
+    if has_passed(loyal, client, &request) || is_kept(loyal, &request) {
+        None
+    } else {
+        Some(request)
+    }
+}
+
+/// Whether the request, or one of a greater number of the client, acted at the replica.
+fn has_passed(loyal: &Replica, client: ClientId, request: &Request) -> bool {
+    match loyal.reply_for(client) {
+        Some(Envelope::Reply(reply)) => reply.number >= request.number(),
+        _ => false,
+    }
+}
+
+/// Whether the replica keeps a chain with the request, of a slot in flight.
+fn is_kept(loyal: &Replica, request: &Request) -> bool {
+    for state in loyal.in_flight() {
+        let (first, second) = state.kept();
+        if has_request(first, request) || has_request(second, request) {
+            return true;
+        }
+    }
+    false
+}
+
+/// Whether the chain, if there is one, has the request.
+fn has_request(kept: Option<&Kept>, request: &Request) -> bool {
+    let Some(kept) = kept else {
+        return false;
+    };
+    for signed in kept.chain.signed() {
+        if signed.request == *request {
+            return true;
+        }
+    }
+    false
 }

@@ -1,9 +1,28 @@
 //! What stands in a world, as notes tell it.
 
+use dsr_chain::Chain;
+use dsr_envelope::{Entry, Envelope};
 use dsr_ledger::Reply;
 use dsr_names::{ClientId, ReplicaId};
 use dsr_request::Requests;
 use dsr_world::World;
+
+/// What was posted or taken last.
+pub(crate) fn last_envelope(world: &World) -> Option<&Envelope> {
+    match world.entries().last() {
+        Some((_, Entry::Post { envelope, .. })) => Some(envelope.envelope()),
+        Some((_, Entry::Take { envelope, .. })) => Some(envelope.envelope()),
+        None => None,
+    }
+}
+
+/// The chain at this place of what was posted or taken last.
+pub(crate) fn last_chain(world: &World, place: usize) -> Option<&Chain> {
+    match last_envelope(world) {
+        Some(Envelope::Round { chains, .. }) => chains.as_slice().get(place),
+        _ => None,
+    }
+}
 
 /// What the replica decided of the slot. None where it was decided idle, or is not decided.
 pub(crate) fn content_of(world: &World, replica: ReplicaId, slot: u64) -> Option<Requests> {

@@ -5,18 +5,22 @@ use crate::client_notes::tell_reply;
 use crate::data::write_data;
 use crate::note::Note;
 use crate::notes::Notes;
+use crate::pieces::{name_of, put_number};
 use crate::reading::read_envelope;
-use crate::replica_notes::{tell_ask, tell_take};
-use crate::texts::Texts;
+use crate::replica_notes::{tell_ask, tell_take, tell_unproposed};
+use crate::standing::last_envelope;
+use crate::texts::{Texts, Told, write_draft, write_none};
 use crate::wanted::{Wanted, actor_of, other_of};
 use crate::why::why_of;
-use crate::words::write_note;
-use dsr_envelope::{Entry, Envelope};
+use crate::words::{write_choice, write_note};
+use dsr_envelope::Pick;
 use dsr_ledger::Reply;
 use dsr_names::{Actor, Refusal, Shape};
+use dsr_play::Choice;
 use dsr_world::{Event, World};
 use std::alloc::Global;
 use std::fmt::Write;
+use std::mem;
 
 /// How many contents each replica, by its number, had kept of a slot when it decided it. None where it has not decided it.
 pub(crate) type KeptBy = [Option<u8>; 16];
@@ -28,9 +32,17 @@ pub(crate) struct Story {
     pub(crate) wanted: Wanted,
     /// What was told.
     pub(crate) out: String,
+    /// The line of the last event, and what the lines of its events say of it.
+    line: u64,
+    head: String,
     /// How many events there were.
     events: u64,
+    /// How many of them were refused, and the line of the first.
+    pub(crate) refused: u64,
+    pub(crate) first_refused: u64,
     texts: Texts,
+    /// The notes of the last event, whose room the next one uses.
+    notes: Notes,
     /// By slot.
     pub(crate) kept: Vec<KeptBy>,
 }
@@ -39,7 +51,7 @@ impl Story {
     /// The story before any event. `NoMemory` where memory runs out.
     pub(crate) fn begin(alloc: Global, shape: Shape, wanted: &Wanted) -> Result<Story, Refusal> {
         let world = World::open(alloc, shape)?;
-        let texts = Texts::new(alloc)?;
+        let texts = Texts::new(alloc, wanted.data)?;
         let mut out = String::new(alloc);
         if wanted.data {
             writeln!(out, "dsr-explain 1 {shape}")?;
@@ -48,39 +60,67 @@ impl Story {
             world,
             wanted: *wanted,
             out,
+            line: 0,
+            head: String::new(alloc),
             events: 0,
+            refused: 0,
+            first_refused: 0,
             texts,
+            notes: Notes::new(alloc),
             kept: Vec::new(alloc),
         })
     }
 
     /// Makes the event of this line happen, and tells of it. `NoMemory` where memory runs out: then the story is of no use.
     pub(crate) fn tell(&mut self, alloc: Global, line: u64, event: &Event) -> Result<(), Refusal> {
-        let mut notes = Notes::new(alloc);
+        let mut notes = mem::replace(&mut self.notes, Notes::new(alloc));
+        notes.clear();
+        let refusal = self.step(alloc, event, &mut notes)?;
+        if refusal.is_some() {
+            self.note_refused(line);
+        }
+        self.note_kept(notes.as_slice())?;
+        self.write(alloc, line, event, refusal, notes.as_slice())?;
+        self.notes = notes;
+        self.events = self.events.saturating_add(1);
+        Ok(())
+    }
+
+    /// Makes the event happen, and notes what is to be told of it. Returns why it was refused, if it was.
+    fn step(
+        &mut self,
+        alloc: Global,
+        event: &Event,
+        notes: &mut Notes,
+    ) -> Result<Option<Refusal>, Refusal> {
         let before = Before::of(&self.world, event);
         if let Event::Take {
             at: Actor::Replica(replica),
             from: Actor::Replica(from),
         } = event
         {
-            read_envelope(alloc, &self.world, *replica, *from, &mut notes)?;
+            read_envelope(alloc, &self.world, *replica, *from, notes)?;
         }
-        let refusal = match self.world.step(alloc, event) {
+        match self.world.step(alloc, event) {
             Ok(reply) => {
-                tell_done(&self.world, event, reply, &before, &mut notes)?;
-                None
+                tell_done(&self.world, event, reply, &before, notes)?;
+                Ok(None)
             }
-            Err(Refusal::NoMemory) => return Err(Refusal::NoMemory),
+            Err(Refusal::NoMemory) => Err(Refusal::NoMemory),
             Err(refusal) => {
-                notes = Notes::new(alloc);
+                notes.clear();
                 notes.push(Note::Refused(why_of(&self.world, event, &refusal)))?;
-                Some(refusal)
+                Ok(Some(refusal))
             }
-        };
-        self.note_kept(notes.as_slice())?;
-        self.write(alloc, line, event, refusal, notes.as_slice())?;
-        self.events = self.events.saturating_add(1);
-        Ok(())
+        }
+    }
+
+    /// Counts an event of this line that was refused.
+    fn note_refused(&mut self, line: u64) {
+        if self.refused == 0 {
+            self.first_refused = line;
+        }
+        self.refused = self.refused.saturating_add(1);
     }
 
     /// Notes of a decided slot how many contents were kept.
@@ -120,54 +160,77 @@ impl Story {
             }
             return Ok(());
         }
-        self.set_text(alloc, event, refusal.is_none())?;
-        let (number, text) = (self.events, self.texts.current.as_str());
-        if self.wanted.data {
-            write_event_data(&mut self.out, number, line, event, refusal, text)?;
-        } else {
-            write_event(&mut self.out, number, line, event, refusal, text)?;
+        if refusal.is_none() {
+            if let Some(envelope) = last_envelope(&self.world) {
+                self.texts.note_done(alloc, event, envelope)?;
+            }
         }
-        for note in notes {
-            if !self.wanted.has_note(note) {
-                continue;
-            }
-            if self.wanted.data {
-                write_data(&mut self.out, &self.world, event, note)?;
-            } else {
-                write_note(&mut self.out, &self.world, event, note)?;
-            }
+        self.set_line(line)?;
+        let told = self.texts.told(event, refusal.is_none());
+        let (head, number) = (self.head.as_str(), self.events);
+        if self.wanted.data {
+            write_event_data(&mut self.out, head, number, event, refusal)?;
+        } else {
+            write_event(&mut self.out, head, number, event, refusal)?;
+        }
+        write_end(&mut self.out, self.wanted.data, event, told)?;
+        write_notes(&mut self.out, &self.world, &self.wanted, event, notes, told)
+    }
+
+    /// Sets what the lines of events say of this line of the play.
+    fn set_line(&mut self, line: u64) -> Result<(), Refusal> {
+        if self.line == line {
+            return Ok(());
+        }
+        self.line = line;
+        self.head.clear();
+        if self.wanted.data {
+            write!(self.head, " {line} ")?;
+        } else {
+            write!(self.head, "line {line}, event ")?;
         }
         Ok(())
     }
+}
 
-    /// Tells of the envelope of the event, if it has one: what was posted or taken, or what a traitor was to post.
-    fn set_text(&mut self, alloc: Global, event: &Event, done: bool) -> Result<(), Refusal> {
-        if done {
-            return match last_envelope(&self.world) {
-                Some(envelope) => self.texts.set_done(alloc, event, envelope),
-                None => {
-                    self.texts.set_none();
-                    Ok(())
-                }
-            };
+/// Writes the end of the event's line: its envelope, or what was to be posted where it was refused.
+fn write_end(
+    out: &mut String,
+    as_data: bool,
+    event: &Event,
+    told: Option<&Told>,
+) -> Result<(), Refusal> {
+    match (told, event) {
+        (Some(told), _) => {
+            out.push_str(told.end())?;
+            Ok(())
         }
-        match event {
-            Event::Plant { draft, .. } => self.texts.set_draft(draft),
-            _ => {
-                self.texts.set_none();
-                Ok(())
-            }
-        }
+        (None, Event::Plant { draft, .. }) => write_draft(out, draft, as_data),
+        (None, Event::Post { pick, .. }) if !as_data => write_choice(out, &pick.pick()),
+        _ => write_none(out, as_data),
     }
 }
 
-/// What was posted or taken last.
-fn last_envelope(world: &World) -> Option<&Envelope> {
-    match world.entries().last() {
-        Some((_, Entry::Post { envelope, .. })) => Some(envelope.envelope()),
-        Some((_, Entry::Take { envelope, .. })) => Some(envelope.envelope()),
-        None => None,
+/// Writes the notes of the event that are wanted.
+fn write_notes(
+    out: &mut String,
+    world: &World,
+    wanted: &Wanted,
+    event: &Event,
+    notes: &[Note],
+    told: Option<&Told>,
+) -> Result<(), Refusal> {
+    for note in notes {
+        if !wanted.has_note(note) {
+            continue;
+        }
+        if wanted.data {
+            write_data(out, world, event, note, told)?;
+        } else {
+            write_note(out, world, event, note, told)?;
+        }
     }
+    Ok(())
 }
 
 /// Tells what an event that was done changed.
@@ -178,8 +241,10 @@ fn tell_done(
     before: &Before,
     notes: &mut Notes,
 ) -> Result<(), Refusal> {
-    let Event::Take { at, from } = event else {
-        return Ok(());
+    let (at, from) = match event {
+        Event::Post { from, to, pick } => return tell_post(world, from, to, pick, notes),
+        Event::Take { at, from } => (at, from),
+        _ => return Ok(()),
     };
     let Some(envelope) = last_envelope(world) else {
         return Ok(());
@@ -198,64 +263,77 @@ fn tell_done(
     }
 }
 
-/// Writes the event, with the text of its envelope if it has one, in words.
+/// Tells what a post leaves out that it could have proposed: at the post to replica 0 a replica chooses.
+fn tell_post(
+    world: &World,
+    from: &Actor,
+    to: &Actor,
+    choice: &Choice,
+    notes: &mut Notes,
+) -> Result<(), Refusal> {
+    match (from, to) {
+        (Actor::Replica(replica), Actor::Replica(to)) if to.number() == 0 => {
+            match choice.pick() {
+                Pick::Plain => tell_unproposed(world, *replica, notes),
+                Pick::From(_) | Pick::Begin(_) => Ok(()),
+            }
+        }
+        _ => Ok(()),
+    }
+}
+
+/// Writes the event in words, but for its envelope.
 fn write_event(
     out: &mut String,
+    head: &str,
     number: u64,
-    line: u64,
     event: &Event,
     refusal: Option<Refusal>,
-    text: &str,
 ) -> Result<(), Refusal> {
-    let (actor, other) = (actor_of(event), other_of(event));
-    write!(out, "line {line}, event {number}: ")?;
+    out.push_str(head)?;
+    put_number(out, number)?;
+    out.push_str(": ")?;
     if let Some(refusal) = refusal {
         let (code, word) = (refusal.code(), refusal.word());
         write!(out, "refused, E{code} {word}: ")?;
     }
-    match event {
-        Event::Post { .. } => write!(out, "{actor} posts to {other}")?,
-        Event::Plant { .. } => write!(out, "{actor} plants for {other}")?,
-        Event::Take { .. } => write!(out, "{actor} takes from {other}")?,
-        Event::Tell { .. } => write!(out, "{actor} tells {other}")?,
-    }
-    if !text.is_empty() {
-        write!(out, ": {text}")?;
-    }
-    writeln!(out)?;
+    out.push_str(name_of(actor_of(event)))?;
+    out.push_str(match event {
+        Event::Post { .. } => " posts to ",
+        Event::Plant { .. } => " plants for ",
+        Event::Take { .. } => " takes from ",
+        Event::Tell { .. } => " tells ",
+    })?;
+    out.push_str(name_of(other_of(event)))?;
     Ok(())
 }
 
-/// Writes the event, with the text of its envelope if it has one, as a line of data.
+/// Writes the event as a line of data, but for its envelope.
 fn write_event_data(
     out: &mut String,
+    head: &str,
     number: u64,
-    line: u64,
     event: &Event,
     refusal: Option<Refusal>,
-    text: &str,
 ) -> Result<(), Refusal> {
-    let (actor, other) = (actor_of(event), other_of(event));
-    let kind = kind_of(event);
-    write!(out, "event {number} {line} {kind} {actor} {other} ")?;
+    out.push_str("event ")?;
+    put_number(out, number)?;
+    out.push_str(head)?;
+    out.push_str(match event {
+        Event::Post { .. } => "post ",
+        Event::Plant { .. } => "plant ",
+        Event::Take { .. } => "take ",
+        Event::Tell { .. } => "tell ",
+    })?;
+    out.push_str(name_of(actor_of(event)))?;
+    out.push_str(" ")?;
+    out.push_str(name_of(other_of(event)))?;
     match refusal {
         Some(refusal) => {
             let code = refusal.code();
-            write!(out, "E{code} ")?;
+            write!(out, " E{code}")?;
         }
-        None => write!(out, "done ")?,
+        None => out.push_str(" done")?,
     }
-    let text = if text.is_empty() { "-" } else { text };
-    writeln!(out, "{text}")?;
     Ok(())
-}
-
-/// The name of the event's kind.
-fn kind_of(event: &Event) -> &'static str {
-    match event {
-        Event::Post { .. } => "post",
-        Event::Plant { .. } => "plant",
-        Event::Take { .. } => "take",
-        Event::Tell { .. } => "tell",
-    }
 }

@@ -1,6 +1,7 @@
 ghost use Rattle.std.specs.Prelude.{◌≡◌, None, IfOk, IfErr, IfSome, IsOkUnless};
 ghost use Rattle.dsr_play.specs.Play.{IsPlayRefusal};
 
+use crate::counts::Counts;
 use crate::story::Story;
 use crate::trouble::trouble_of;
 use crate::wanted::Wanted;
@@ -65,6 +66,7 @@ fn tell_lines(
     events: &[Event],
     story: &mut Story,
 ) -> Result<(), Refusal> {
+    let mut counts = Counts::new(header);
     let mut told: usize = 0;
     let mut rest = lines;
     let mut number: u64 = 1;
@@ -74,7 +76,7 @@ fn tell_lines(
             return Ok(());
         };
         number = number.saturating_add(1);
-        let next = told.saturating_add(count_in(alloc, header, line)?);
+        let next = told.saturating_add(counts.count(alloc, line)?);
         tell_line(alloc, number, events, told, next, story)?;
         told = next;
         rest = after;
@@ -97,30 +99,4 @@ fn tell_line(
         }
     }
     Ok(())
-}
-
-/// How many events this line of a play stands for. `NoMemory` where memory runs out.
-fn count_in(alloc: Global, header: &[u8], line: &[u8]) -> Result<usize, Refusal> {
-    if stands_for_one(line) {
-        return Ok(1);
-    }
-    let mut text = Vec::new(alloc);
-    text.extend_from_slice(header)?;
-    text.push(b'\n')?;
-    text.extend_from_slice(line)?;
-    text.push(b'\n')?;
-    Ok(Play::read(alloc, text.as_slice())?.events().len())
-}
-
-/// Whether the line's word is one of those that stand for one event each, whatever follows.
-fn stands_for_one(line: &[u8]) -> bool {
-    match split_once(line, b' ') {
-        Some((word, _)) => {
-            word == b"post".as_slice()
-                || word == b"plant".as_slice()
-                || word == b"take".as_slice()
-                || word == b"tell".as_slice()
-        }
-        None => false,
-    }
 }

@@ -1,75 +1,164 @@
+//! What is told of envelopes, written once for all events that post or take one.
+
 use crate::wanted::{actor_of, other_of};
+use crate::{data, words};
+use dsr_chain::Chain;
 use dsr_envelope::{Envelope, Pick};
 use dsr_names::{Actor, Refusal};
 use dsr_script::Draft;
 use dsr_world::Event;
 use std::alloc::Global;
 use std::fmt::Write;
+use std::sync::Arc;
 
 /// How many actors texts name: 16 replicas and 32 clients.
 const MOST_ACTORS: usize = 48;
 
-/// The texts of envelopes that may be posted again or taken, so that each is written once. One that was not written is empty.
+/// What most lines need no more than, in bytes: so many are reserved at once.
+const ROOM: usize = 120;
+
+/// What is told of an envelope.
+#[derive(Drop)]
+struct Written {
+    /// What ends the line of an event that posts or takes it: its text.
+    end: String,
+    /// What is told of each of its chains, whatever becomes of it.
+    chains: Vec<String>,
+}
+
+/// What is told of an envelope, shared by all events that post or take it.
+#[derive(Drop)]
+pub(crate) struct Told {
+    written: Arc<Written, Global>,
+}
+
+impl Told {
+    /// What is told of the envelope, as data or in words. `NoMemory` where memory runs out.
+    fn of(alloc: Global, envelope: &Envelope, as_data: bool) -> Result<Told, Refusal> {
+        let mut end = String::with_capacity(alloc, ROOM)?;
+        if envelope.fits() {
+            let draft = Draft::of(alloc, envelope)?;
+            write_draft(&mut end, &draft, as_data)?;
+        } else {
+            write_none(&mut end, as_data)?;
+        }
+        let chains = tell_chains(alloc, envelope, as_data)?;
+        let written = Arc::new(alloc, Written { end, chains })?;
+        Ok(Told { written })
+    }
+
+    /// The same once more. `NoMemory` where one handle more is refused.
+    fn try_copy(&self) -> Result<Told, Refusal> {
+        match Arc::try_clone(&self.written) {
+            Ok(written) => Ok(Told { written }),
+            Err(_) => Err(Refusal::NoMemory),
+        }
+    }
+
+    /// What ends the line of an event that posts or takes the envelope.
+    pub(crate) fn end(&self) -> &str {
+        self.written.end.as_str()
+    }
+
+    /// What is told of the chain at this place of the envelope, whatever becomes of it.
+    pub(crate) fn chain(&self, place: usize) -> &str {
+        match self.written.chains.get(place) {
+            Some(chain) => chain.as_str(),
+            None => "",
+        }
+    }
+}
+
+/// Writes what ends the line of an event: the envelope of this draft.
+pub(crate) fn write_draft(out: &mut String, draft: &Draft, as_data: bool) -> Result<(), Refusal> {
+    out.push_str(if as_data { " " } else { ": " })?;
+    writeln!(out, "{draft}")?;
+    Ok(())
+}
+
+/// Writes what ends the line of an event of which no envelope is told.
+pub(crate) fn write_none(out: &mut String, as_data: bool) -> Result<(), Refusal> {
+    out.push_str(if as_data { " -\n" } else { "\n" })?;
+    Ok(())
+}
+
+/// What is told of each chain of the envelope.
+fn tell_chains(alloc: Global, envelope: &Envelope, as_data: bool) -> Result<Vec<String>, Refusal> {
+    let mut told = Vec::new(alloc);
+    if let Envelope::Round { chains, .. } = envelope {
+        for chain in chains.as_slice() {
+            told.push(tell_chain(alloc, chain, as_data)?)?;
+        }
+    }
+    Ok(told)
+}
+
+/// What is told of the chain.
+fn tell_chain(alloc: Global, chain: &Chain, as_data: bool) -> Result<String, Refusal> {
+    let mut text = String::with_capacity(alloc, ROOM)?;
+    if as_data {
+        data::write_chain(&mut text, chain)?;
+    } else {
+        words::write_chain(&mut text, chain)?;
+    }
+    Ok(text)
+}
+
+/// What is told of the envelopes that may be posted again or taken. None where it was not written.
 #[derive(Drop)]
 pub(crate) struct Texts {
-    /// The text of the envelope that is told of now; empty where none is.
-    pub(crate) current: String,
+    as_data: bool,
     /// What each actor last posted to a replica, by its place.
-    posted: Vec<String>,
+    posted: Vec<Option<Told>>,
     /// What was last posted from one actor to another, by their places.
-    boxes: Vec<String>,
+    boxes: Vec<Option<Told>>,
 }
 
 impl Texts {
-    /// No text. `NoMemory` where memory runs out.
-    pub(crate) fn new(alloc: Global) -> Result<Texts, Refusal> {
+    /// Nothing written, as data or in words. `NoMemory` where memory runs out.
+    pub(crate) fn new(alloc: Global, as_data: bool) -> Result<Texts, Refusal> {
         Ok(Texts {
-            current: String::new(alloc),
-            posted: empty_texts(alloc, MOST_ACTORS)?,
-            boxes: empty_texts(alloc, MOST_ACTORS * MOST_ACTORS)?,
+            as_data,
+            posted: no_texts(alloc, MOST_ACTORS)?,
+            boxes: no_texts(alloc, MOST_ACTORS * MOST_ACTORS)?,
         })
     }
 
-    /// Tells of no envelope.
-    pub(crate) fn set_none(&mut self) {
-        self.current.clear();
-    }
-
-    /// Tells of the envelope of this draft, which was not posted.
-    pub(crate) fn set_draft(&mut self, draft: &Draft) -> Result<(), Refusal> {
-        self.current.clear();
-        write!(self.current, "{draft}")?;
-        Ok(())
-    }
-
-    /// Tells of the envelope that this event, which was done, posted or took.
-    pub(crate) fn set_done(
+    /// Has the envelope told that this event, which was done, posted or took. `NoMemory` where memory runs out.
+    pub(crate) fn note_done(
         &mut self,
         alloc: Global,
         event: &Event,
         envelope: &Envelope,
     ) -> Result<(), Refusal> {
-        let (place, there) = (place_of(actor_of(event)), box_of(event));
-        self.current.clear();
-        match event {
-            Event::Post { .. } => {
-                if is_again(event) {
-                    copy(&mut self.current, &self.posted, place)?;
-                }
-                self.write(alloc, envelope)?;
-                if let Actor::Replica(_) = other_of(event) {
-                    keep(&mut self.posted, place, &self.current)?;
-                }
-                keep(&mut self.boxes, there, &self.current)
+        let (poster, there) = (place_of(actor_of(event)), box_of(event));
+        if let Event::Take { .. } = event {
+            if is_told(&self.boxes, there) {
+                return Ok(());
             }
-            Event::Plant { .. } | Event::Tell { .. } => {
-                self.write(alloc, envelope)?;
-                keep(&mut self.boxes, there, &self.current)
+        } else if is_again(event) {
+            if let Some(told) = copy_at(&self.posted, poster)? {
+                keep(&mut self.boxes, there, Some(told));
+                return Ok(());
             }
-            Event::Take { .. } => {
-                copy(&mut self.current, &self.boxes, there)?;
-                self.write(alloc, envelope)
-            }
+        }
+        let told = Told::of(alloc, envelope, self.as_data)?;
+        if let Event::Post {
+            to: Actor::Replica(_),
+            ..
+        } = event
+        {
+            keep(&mut self.posted, poster, Some(told.try_copy()?));
+        }
+        keep(&mut self.boxes, there, Some(told));
+        Ok(())
+    }
+
+    /// What is told of the envelope that this event posted or took, if it was done.
+    pub(crate) fn told(&self, event: &Event, was_done: bool) -> Option<&Told> {
+        match self.boxes.get(box_of(event)) {
+            Some(Some(told)) if was_done => Some(told),
+            _ => None,
         }
     }
 
@@ -79,30 +168,35 @@ impl Texts {
             return;
         }
         if !is_again(event) {
-            clear(&mut self.posted, place_of(actor_of(event)));
+            keep(&mut self.posted, place_of(actor_of(event)), None);
         }
-        clear(&mut self.boxes, box_of(event));
-    }
-
-    /// Writes the envelope, unless its text is there.
-    fn write(&mut self, alloc: Global, envelope: &Envelope) -> Result<(), Refusal> {
-        if self.current.is_empty() && envelope.fits() {
-            let draft = Draft::of(alloc, envelope)?;
-            write!(self.current, "{draft}")?;
-        }
-        Ok(())
+        keep(&mut self.boxes, box_of(event), None);
     }
 }
 
-/// Whether a loyal actor posts by it what it posted before: a replica to another than replica 0 in a round, or a client that asks again.
+/// Whether a loyal actor posted by this event, which was done, what it posted before: a replica to another than replica 0 in a round, or a
+/// client that asks again.
 fn is_again(event: &Event) -> bool {
-    let Event::Post { from, to, pick } = event else {
-        return false;
-    };
-    match (from, to, pick.pick()) {
-        (Actor::Replica(_), Actor::Replica(taker), Pick::Plain) => taker.number() > 0,
-        (Actor::Client(_), Actor::Replica(_), Pick::Plain) => true,
+    match event {
+        Event::Post {
+            from: Actor::Replica(_),
+            to: Actor::Replica(taker),
+            ..
+        } => taker.number() > 0,
+        Event::Post {
+            from: Actor::Client(_),
+            to: Actor::Replica(_),
+            pick,
+        } => is_plain(&pick.pick()),
         _ => false,
+    }
+}
+
+/// Whether nothing in particular is chosen.
+fn is_plain(pick: &Pick) -> bool {
+    match pick {
+        Pick::Plain => true,
+        Pick::From(_) | Pick::Begin(_) => false,
     }
 }
 
@@ -124,35 +218,34 @@ fn box_of(event: &Event) -> usize {
     from.saturating_mul(MOST_ACTORS).saturating_add(to)
 }
 
-/// So many empty texts.
-fn empty_texts(alloc: Global, count: usize) -> Result<Vec<String>, Refusal> {
+/// So many places at which nothing is written.
+fn no_texts(alloc: Global, count: usize) -> Result<Vec<Option<Told>>, Refusal> {
     let mut texts = Vec::with_capacity(alloc, count)?;
     for _ in 0..count {
-        texts.push(String::new(alloc))?;
+        texts.push(None)?;
     }
     Ok(texts)
 }
 
-/// Copies the text at this place to the end of the other.
-fn copy(text: &mut String, texts: &[String], place: usize) -> Result<(), Refusal> {
-    if let Some(kept) = texts.get(place) {
-        text.push_str(kept.as_str())?;
+/// What is written at this place, shared.
+fn copy_at(texts: &[Option<Told>], place: usize) -> Result<Option<Told>, Refusal> {
+    match texts.get(place) {
+        Some(Some(told)) => Ok(Some(told.try_copy()?)),
+        _ => Ok(None),
     }
-    Ok(())
 }
 
-/// Keeps the text at this place.
-fn keep(texts: &mut Vec<String>, place: usize, text: &String) -> Result<(), Refusal> {
-    if let Some(kept) = texts.get_mut(place) {
-        kept.clear();
-        kept.push_str(text.as_str())?;
+/// Whether something is written at this place.
+fn is_told(texts: &[Option<Told>], place: usize) -> bool {
+    match texts.get(place) {
+        Some(told) => told.is_some(),
+        None => false,
     }
-    Ok(())
 }
 
-/// Forgets the text at this place.
-fn clear(texts: &mut Vec<String>, place: usize) {
+/// Writes this at the place.
+fn keep(texts: &mut Vec<Option<Told>>, place: usize, told: Option<Told>) {
     if let Some(kept) = texts.get_mut(place) {
-        kept.clear();
+        *kept = told;
     }
 }

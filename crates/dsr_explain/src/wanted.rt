@@ -29,6 +29,11 @@ impl Wanted {
         }
     }
 
+    /// Whether the events of all slots and actors are to be told.
+    pub(crate) fn is_of_all(&self) -> bool {
+        self.slot.is_none() && self.actor.is_none()
+    }
+
     /// Whether what this slot came to is to be told.
     pub(crate) fn has_end_of(&self, slot: u64) -> bool {
         !self.refused && self.actor.is_none() && (self.slot.is_none() || self.slot == Some(slot))

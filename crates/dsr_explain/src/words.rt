@@ -1,20 +1,24 @@
 //! Notes in words.
 
 use crate::note::{ChainFate, Dropped, NoVote, Note, Why};
-use crate::standing::{accepted_last, content_of};
+use crate::pieces::{name_of, put_number, replica_name};
+use crate::standing::{accepted_last, content_of, last_chain};
+use crate::texts::Told;
 use dsr_chain::{Chain, ChainFault};
 use dsr_desk::{Content, MOST_SIGNERS, Signature, Signers, Statement};
-use dsr_names::{Refusal, Shape};
+use dsr_envelope::Pick;
+use dsr_names::{Actor, ClientId, Refusal, ReplicaId, Shape};
 use dsr_slot::Fate;
 use dsr_world::{Event, World};
 use std::fmt::Write;
 
-/// Writes the note of this event as an indented line.
+/// Writes the note of this event, whose envelope is told so, as an indented line.
 pub(crate) fn write_note(
     out: &mut String,
     world: &World,
     event: &Event,
     note: &Note,
+    told: Option<&Told>,
 ) -> Result<(), Refusal> {
     match note {
         Note::Silence { replica, round } => {
@@ -23,16 +27,26 @@ pub(crate) fn write_note(
                 "    {replica} is in round {round}: this is not its envelope, and counts as no chains"
             )?;
         }
-        Note::Chain { chain, fate, .. } => write_chain(out, world.shape(), chain, fate)?,
+        Note::Chain { place, fate, .. } => {
+            if let Some(told) = told {
+                out.push_str(told.chain(*place))?;
+            }
+            write_chain_fate(out, world, *place, fate)?;
+        }
         Note::Kept {
             replica,
             chain,
             round,
-        } => write_kept(out, replica.number(), chain, *round)?,
-        Note::Closed { replica, round } => writeln!(
+        } => write_kept(out, *replica, chain, *round)?,
+        Note::Unproposed {
+            replica,
+            slot,
+            request,
+        } => writeln!(
             out,
-            "    {replica} has taken from all replicas, and closes round {round}"
+            "    {replica} proposes nothing in slot {slot}, though it holds {request}"
         )?,
+        Note::Closed { replica, round } => write_closed(out, *replica, *round)?,
         Note::Decided { .. } | Note::Acted { .. } | Note::Stale { .. } => {
             write_decided(out, world, note)?;
         }
@@ -49,22 +63,28 @@ pub(crate) fn write_note(
     Ok(())
 }
 
-/// Writes what became of a chain.
-fn write_chain(
-    out: &mut String,
-    shape: &Shape,
-    chain: &Chain,
-    fate: &ChainFate,
-) -> Result<(), Refusal> {
+/// Writes what is told of a chain, whatever becomes of it.
+pub(crate) fn write_chain(out: &mut String, chain: &Chain) -> Result<(), Refusal> {
     let (slot, signers) = (chain.slot(), chain.signers());
     write!(out, "    chain of slot {slot}, signed by {signers}, for ")?;
     write_content(out, chain)?;
-    write!(out, ": ")?;
+    out.push_str(": ")?;
+    Ok(())
+}
+
+/// Writes what became of the chain at this place of the envelope, after what is told of it.
+fn write_chain_fate(
+    out: &mut String,
+    world: &World,
+    place: usize,
+    fate: &ChainFate,
+) -> Result<(), Refusal> {
     match fate {
-        ChainFate::NotInFlight => writeln!(out, "dropped, as the slot is not in flight")?,
+        ChainFate::NotInFlight => out.push_str("dropped, as the slot is not in flight\n")?,
         ChainFate::Read { round, fate } => {
-            write!(out, "in round {round} of the slot ")?;
-            write_fate(out, shape, chain, fate)?;
+            out.push_str("in round ")?;
+            put_number(out, *round as u64)?;
+            write_fate(out, world, place, fate)?;
         }
     }
     Ok(())
@@ -78,7 +98,7 @@ pub(crate) fn write_content(out: &mut String, chain: &Chain) -> Result<(), Refus
     }
     for place in 0..signed.len() {
         if place > 0 {
-            write!(out, ",")?;
+            out.push_str(",")?;
         }
         let request = signed[place].request;
         write!(out, "{request}")?;
@@ -86,26 +106,43 @@ pub(crate) fn write_content(out: &mut String, chain: &Chain) -> Result<(), Refus
     Ok(())
 }
 
-/// Writes what reading a chain does.
-fn write_fate(out: &mut String, shape: &Shape, chain: &Chain, fate: &Fate) -> Result<(), Refusal> {
+/// Writes what reading the chain at this place of the envelope does in its slot's round.
+fn write_fate(out: &mut String, world: &World, place: usize, fate: &Fate) -> Result<(), Refusal> {
     match fate {
-        Fate::First => writeln!(out, "kept, as the first content")?,
-        Fate::Second => writeln!(out, "kept, as the second content: the slot will be idle")?,
-        Fate::NotNew => writeln!(out, "not new, as this content is kept already")?,
-        Fate::OneTooMany => writeln!(out, "one too many, as two other contents are kept already")?,
+        Fate::First => out.push_str(" of the slot kept, as the first content\n")?,
+        Fate::Second => {
+            out.push_str(" of the slot kept, as the second content: the slot will be idle\n")?;
+        }
+        Fate::NotNew => out.push_str(" of the slot not new, as this content is kept already\n")?,
+        Fate::OneTooMany => {
+            out.push_str(" of the slot one too many, as two other contents are kept already\n")?;
+        }
         Fate::Improper(fault) => {
             let word = fault_word(fault);
-            write!(out, "not proper ({word}): {fault}")?;
-            match fault {
-                ChainFault::WrongSender => {
-                    let sender = shape.sender(chain.slot());
-                    write!(out, ", which is {sender}")?;
-                }
-                ChainFault::Misfit => write_misfit(out, chain)?,
-                _ => {}
+            write!(out, " of the slot not proper ({word}): {fault}")?;
+            if let Some(chain) = last_chain(world, place) {
+                write_fault(out, world.shape(), chain, fault)?;
             }
-            writeln!(out)?;
+            out.push_str("\n")?;
         }
+    }
+    Ok(())
+}
+
+/// Writes what a fault of the chain is in particular.
+fn write_fault(
+    out: &mut String,
+    shape: &Shape,
+    chain: &Chain,
+    fault: &ChainFault,
+) -> Result<(), Refusal> {
+    match fault {
+        ChainFault::WrongSender => {
+            let sender = shape.sender(chain.slot());
+            write!(out, ", which is {sender}")?;
+        }
+        ChainFault::Misfit => write_misfit(out, chain)?,
+        _ => {}
     }
     Ok(())
 }
@@ -154,11 +191,32 @@ pub(crate) fn fault_word(fault: &ChainFault) -> &'static str {
 }
 
 /// Writes that a chain is kept at the slot's end.
-fn write_kept(out: &mut String, replica: u8, chain: &Chain, round: u8) -> Result<(), Refusal> {
-    let (slot, signers) = (chain.slot(), chain.signers());
-    write!(out, "    r{replica} has kept of slot {slot}: ")?;
+fn write_kept(
+    out: &mut String,
+    replica: ReplicaId,
+    chain: &Chain,
+    round: u8,
+) -> Result<(), Refusal> {
+    let signers = chain.signers();
+    out.push_str("    ")?;
+    out.push_str(replica_name(replica))?;
+    out.push_str(" has kept of slot ")?;
+    put_number(out, chain.slot())?;
+    out.push_str(": ")?;
     write_content(out, chain)?;
-    writeln!(out, ", read in round {round}, signed by {signers}")?;
+    out.push_str(", read in round ")?;
+    put_number(out, round as u64)?;
+    writeln!(out, ", signed by {signers}")?;
+    Ok(())
+}
+
+/// Writes that a replica closes a round.
+fn write_closed(out: &mut String, replica: ReplicaId, round: u64) -> Result<(), Refusal> {
+    out.push_str("    ")?;
+    out.push_str(replica_name(replica))?;
+    out.push_str(" has taken from all replicas, and closes round ")?;
+    put_number(out, round)?;
+    out.push_str("\n")?;
     Ok(())
 }
 
@@ -171,12 +229,16 @@ fn write_decided(out: &mut String, world: &World, note: &Note) -> Result<(), Ref
             kept,
         } => {
             let content = Content(content_of(world, *replica, *slot));
-            write!(out, "    {replica} decides slot {slot}: {content}")?;
-            match kept {
-                0 => writeln!(out, ", as it kept no chain")?,
-                1 => writeln!(out, ", the one content that it kept")?,
-                _ => writeln!(out, ", as it kept two contents")?,
-            }
+            out.push_str("    ")?;
+            out.push_str(replica_name(*replica))?;
+            out.push_str(" decides slot ")?;
+            put_number(out, *slot)?;
+            write!(out, ": {content}")?;
+            out.push_str(match kept {
+                0 => ", as it kept no chain\n",
+                1 => ", the one content that it kept\n",
+                _ => ", as it kept two contents\n",
+            })?;
         }
         Note::Acted {
             replica,
@@ -184,10 +246,11 @@ fn write_decided(out: &mut String, world: &World, note: &Note) -> Result<(), Ref
             request,
             ..
         } => {
-            writeln!(
-                out,
-                "    {request} acts at {replica}, at place {place} of the history"
-            )?;
+            write!(out, "    {request} acts at ")?;
+            out.push_str(replica_name(*replica))?;
+            out.push_str(", at place ")?;
+            put_number(out, *place)?;
+            out.push_str(" of the history\n")?;
         }
         Note::Stale {
             replica,
@@ -264,6 +327,29 @@ pub(crate) fn write_no_vote(out: &mut String, why: &NoVote) -> Result<(), Refusa
         NoVote::NothingOutstanding => write!(out, "no request is outstanding")?,
         NoVote::OtherNumber { outstanding } => write!(out, "request {outstanding} is outstanding")?,
         NoVote::HasVoted => write!(out, "it has voted, and only its first reply counts")?,
+    }
+    Ok(())
+}
+
+/// Writes what was to be chosen by a post that was refused, as the end of its line.
+pub(crate) fn write_choice(out: &mut String, pick: &Pick) -> Result<(), Refusal> {
+    match pick {
+        Pick::Plain => {}
+        Pick::From(clients) => write_asks(out, clients.as_slice())?,
+        Pick::Begin(op) => write!(out, ", to begin the request {op}")?,
+    }
+    out.push_str("\n")?;
+    Ok(())
+}
+
+/// Writes that the asks of these clients were to be proposed.
+fn write_asks(out: &mut String, clients: &[ClientId]) -> Result<(), Refusal> {
+    out.push_str(", to propose what it holds of ")?;
+    for place in 0..clients.len() {
+        if place > 0 {
+            out.push_str("+")?;
+        }
+        out.push_str(name_of(Actor::Client(clients[place])))?;
     }
     Ok(())
 }
