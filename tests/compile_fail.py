@@ -2,9 +2,11 @@
 """Programs that must not compile: each file tests/compile-fail/NAME.rs is one.
 
 Its first line names the crates that it uses, as `// uses: dsr_desk dsr_names`. Each line that must be
-refused ends with the name of its error, as `//~ borrow-e0382`. The file is made the crate
-`refused_case` in a temporary copy of the crates, and `rt check --only=` looks at it there. That
-compiles it and proves nothing. It must find exactly the errors that are marked.
+refused ends with the name of its error, as `//~ borrow-e0382`, or with two, as `//~ private-item or unknown-method`, where
+it depends on what is built of the crates below which one is found. The file is made the crate
+`refused_case` in a temporary copy of the crates of its own, and `rt check --only=` looks at it there. That
+compiles it and proves nothing. It must find exactly the errors that are marked. As many are looked at at once as
+there are processors.
 
 The last line is `N passed, M failed`.
 """
@@ -16,11 +18,12 @@ import shutil
 import subprocess
 import sys
 import tempfile
+from concurrent.futures import ThreadPoolExecutor
 
 TOP = os.path.dirname(os.path.dirname(os.path.realpath(__file__)))
 CASES = f"{TOP}/tests/compile-fail"
 USES = re.compile(r"// uses:(.*)\n")
-MARK = re.compile(r"//~ ([\w-]+)$")
+MARK = re.compile(r"//~ ([\w-]+)(?: or ([\w-]+))?$")
 ERROR = re.compile(r"^src/lib\.rt:(\d+):\d+: error\[([\w-]+)\]", re.M)
 
 
@@ -32,27 +35,50 @@ def listed(errors):
     return ", ".join(f"{name} at line {line}" for line, name in sorted(errors)) or "none"
 
 
-def fault_of(path, crates, room):
+def marks_of(text):
+    """The marked lines, each with the names of which one is wanted."""
+    lines = ((at, MARK.search(line)) for at, line in enumerate(text.split("\n"), 1))
+    return {at: {name for name in mark.groups() if name} for at, mark in lines if mark}
+
+
+def are_wanted(found, marks):
+    """Whether the errors that were found are one of each marked line, and no others."""
+    return len(found) == len(marks) and {line for line, _ in found} == marks.keys() and all(name in marks[line] for line, name in found)
+
+
+def make_room(room, text, uses):
+    """Copies the crates into the room, with the case as one more."""
+    shutil.copytree(f"{TOP}/crates", f"{room}/crates", ignore=shutil.ignore_patterns("out", "wrong-bodies"))
+    if os.path.exists(f"{TOP}/HANDLES"):
+        shutil.copy(f"{TOP}/HANDLES", room)
+    os.makedirs(f"{room}/crates/refused_case/src")
+    with open(f"{TOP}/crates.txt") as file:
+        crates = file.read()
+    with open(f"{room}/crates.txt", "w") as file:
+        file.write(f"{crates}\nrefused_case:{uses}\n")
+    with open(f"{room}/crates/refused_case/src/lib.rt", "w") as file:
+        file.write(text)
+
+
+def fault_of(path):
     """Why the case fails, or None where it is refused as it must be."""
     with open(path) as file:
         text = file.read()
     uses = USES.match(text)
     if not uses:
         return "its first line is not '// uses: CRATES'"
-    wanted = {(at, name) for at, line in enumerate(text.split("\n"), 1) for name in MARK.findall(line)}
-    if not wanted:
+    marks = marks_of(text)
+    if not marks:
         return "no line of it is marked with the error that is wanted"
-    with open(f"{room}/crates.txt", "w") as file:
-        file.write(f"{crates}\nrefused_case:{uses[1]}\n")
-    with open(f"{room}/crates/refused_case/src/lib.rt", "w") as file:
-        file.write(text)
-    run = subprocess.run(["rt", "check", "--only="], cwd=f"{room}/crates/refused_case", stdin=subprocess.DEVNULL,
-                         stdout=subprocess.PIPE, stderr=subprocess.STDOUT, text=True, errors="replace")
+    with tempfile.TemporaryDirectory(prefix="compile-fail-") as room:
+        make_room(room, text, uses[1])
+        run = subprocess.run(["rt", "check", "--only="], cwd=f"{room}/crates/refused_case", stdin=subprocess.DEVNULL,
+                             stdout=subprocess.PIPE, stderr=subprocess.STDOUT, text=True, errors="replace")
     found = {(int(at), name) for at, name in ERROR.findall(run.stdout)}
-    if run.returncode == 1 and found == wanted:
+    if run.returncode == 1 and are_wanted(found, marks):
         return None
-    say(run.stdout)
-    return f"wanted: {listed(wanted)}; found: {listed(found)}; the check ended with status {run.returncode}"
+    wanted = {(line, " or ".join(sorted(names))) for line, names in marks.items()}
+    return f"wanted: {listed(wanted)}; found: {listed(found)}; the check ended with status {run.returncode}:\n{run.stdout}"
 
 
 def main():
@@ -62,19 +88,10 @@ def main():
         say("0 passed, 1 failed")
         return 1
     passed = failed = 0
-    with open(f"{TOP}/crates.txt") as file:
-        crates = file.read()
-    with tempfile.TemporaryDirectory(prefix="compile-fail-") as room:
-        shutil.copytree(f"{TOP}/crates", f"{room}/crates", ignore=shutil.ignore_patterns("out", "wrong-bodies"))
-        if os.path.exists(f"{TOP}/HANDLES"):
-            shutil.copy(f"{TOP}/HANDLES", room)
-        os.makedirs(f"{room}/crates/refused_case/src")
-        for path in paths:
-            name = os.path.relpath(path, TOP)
-            say(f"{name} ..")
-            fault = fault_of(path, crates, room)
+    with ThreadPoolExecutor(os.cpu_count()) as pool:
+        for path, fault in zip(paths, pool.map(fault_of, paths)):
             passed, failed = passed + (fault is None), failed + (fault is not None)
-            say(f"{name}: {'refused, as it must be' if fault is None else 'FAILED: ' + fault}")
+            say(f"{os.path.relpath(path, TOP)}: {'refused, as it must be' if fault is None else 'FAILED: ' + fault}")
     say(f"{passed} passed, {failed} failed")
     return 1 if failed else 0
 
