@@ -5,6 +5,7 @@ use dsr_ledger::Reply;
 use dsr_names::{Actor, ClientId, ReplicaId, Shape};
 use dsr_request::{Answer, Name, Op, Request};
 use std::alloc::Global;
+use std::process::Abort;
 use std::test::Fail;
 
 /// The key of this actor of shape (3,1,2,0).
@@ -117,29 +118,40 @@ fn chains_come_out_as_they_went_in(rt: HostRuntime) -> Result<(), Fail> {
     Ok(())
 }
 
+/// The greatest number that texts may have: 2^40 - 1.
+const MOST: u64 = 1_099_511_627_775;
+
+/// Whether the envelope of this round fits that has a chain of each of these slots.
+fn round_fits(alloc: Global, round: u64, slots: &[u64]) -> Result<bool, Fail> {
+    Ok(round_of(alloc, round, slots)?.fits())
+}
+
+/// Whether envelopes of rounds fit up to the greatest round, the greatest slot, and 32 chains.
+fn rounds_fit(rt: &impl Abort, alloc: Global) -> Result<(), Fail> {
+    assert!(rt; round_fits(alloc, MOST, &[MOST])?);
+    assert!(rt; !round_fits(alloc, MOST + 1, &[MOST])?);
+    assert!(rt; !round_fits(alloc, MOST, &[MOST + 1])?);
+    assert!(rt; round_fits(alloc, 0, &[0u64; 32])?);
+    assert!(rt; !round_fits(alloc, 0, &[0u64; 33])?);
+    Ok(())
+}
+
+/// Whether replies and seen numbers fit up to the greatest number, and a reply to no request does not.
+fn numbers_fit(rt: &impl Abort) {
+    assert!(rt; reply_of(MOST, MOST).fits());
+    assert!(rt; !reply_of(0, 0).fits());
+    assert!(rt; !reply_of(MOST + 1, 0).fits());
+    assert!(rt; !reply_of(1, MOST + 1).fits());
+    assert!(rt; Envelope::Seen(MOST).fits());
+    assert!(rt; !Envelope::Seen(MOST + 1).fits());
+}
+
 #[test]
 fn an_envelope_fits_up_to_each_limit(rt: HostRuntime) -> Result<(), Fail> {
-    let most = 1_099_511_627_775;
-    let thirty_two = [0u64; 32];
-    let thirty_three = [0u64; 33];
-    let rows = [
-        (Envelope::Empty, true),
-        (round_of(rt.alloc(), most, &[most])?, true),
-        (round_of(rt.alloc(), most + 1, &[most])?, false),
-        (round_of(rt.alloc(), most, &[most + 1])?, false),
-        (round_of(rt.alloc(), 0, &thirty_two)?, true),
-        (round_of(rt.alloc(), 0, &thirty_three)?, false),
-        (Envelope::ask(rt.alloc(), ask_of(rt.alloc(), most)?)?, true),
-        (reply_of(most, most), true),
-        (reply_of(0, 0), false),
-        (reply_of(most + 1, 0), false),
-        (reply_of(1, most + 1), false),
-        (Envelope::Seen(most), true),
-        (Envelope::Seen(most + 1), false),
-    ];
-    for (place, (envelope, fits)) in rows.iter().enumerate() {
-        assert_eq!(rt; envelope.fits(), *fits, "at {place}");
-    }
+    assert!(rt; Envelope::Empty.fits());
+    rounds_fit(&rt, rt.alloc())?;
+    numbers_fit(&rt);
+    assert!(rt; Envelope::ask(rt.alloc(), ask_of(rt.alloc(), MOST)?)?.fits());
     Ok(())
 }
 

@@ -53,28 +53,57 @@ fn bad_in_prefix(text: &[u8]) -> Option<u64> {
     }
 }
 
-#[test]
-fn a_script_has_what_its_lines_give(rt: HostRuntime) -> Result<(), Fail> {
-    let script = Script::read(rt.alloc(), ROW.as_bytes())?;
+/// Whether the script is of the row's shape, and has its operation.
+fn has_operation(rt: &impl Abort, script: &Script) -> Result<(), Fail> {
     assert_eq!(rt; script.shape().n(), 3);
     assert_eq!(rt; script.shape().traitors(), 1);
     let name = Name::read(b"a")?;
     assert!(rt; script.ops(ClientId::FIRST) == [Op::Write { name, value: 5 }].as_slice());
+    Ok(())
+}
+
+/// Whether the script has the row's draft, and no other of these.
+fn has_draft(rt: &impl Abort, alloc: Global, script: &Script) -> Result<(), Fail> {
     let to_one = Actor::Replica(ReplicaId::new(1)?);
     let to_two = Actor::Replica(ReplicaId::new(2)?);
-    let draft = script.draft(ReplicaId::FIRST, 0, to_one).ok_or("no draft")?;
-    assert!(rt; draft.to_string(rt.alloc())?.as_str() == "round 0 0/c0#7:write:a:9~c0/r0");
+    assert!(rt;
+        has(
+            alloc,
+            script,
+            ReplicaId::FIRST,
+            0,
+            to_one,
+            "round 0 0/c0#7:write:a:9~c0/r0"
+        )?
+    );
     assert!(rt; script.draft(ReplicaId::FIRST, 0, to_two).is_none());
     assert!(rt; script.draft(ReplicaId::FIRST, 1, to_one).is_none());
     assert!(rt; script.draft(ReplicaId::new(1)?, 0, to_one).is_none());
     Ok(())
 }
 
+/// Whether the script has this draft for the post of this round from one to the other.
+fn has(
+    alloc: Global,
+    script: &Script,
+    from: ReplicaId,
+    round: u64,
+    to: Actor,
+    wanted: &str,
+) -> Result<bool, Fail> {
+    let draft = script.draft(from, round, to).ok_or("no draft")?;
+    Ok(draft.to_string(alloc)?.as_str() == wanted)
+}
+
 #[test]
-fn a_client_has_its_operations_in_order(rt: HostRuntime) -> Result<(), Fail> {
-    let text =
-        b"dsr-serve 1 1 0 2 -\nask c1 read b\nask c0 read a\nask c1 remove a\nask c1 read a\n";
-    let script = Script::read(rt.alloc(), text.as_slice())?;
+fn a_script_has_what_its_lines_give(rt: HostRuntime) -> Result<(), Fail> {
+    let script = Script::read(rt.alloc(), ROW.as_bytes())?;
+    has_operation(&rt, &script)?;
+    has_draft(&rt, rt.alloc(), &script)
+}
+
+/// Whether the script has the operations of both clients in order, and none of a third.
+fn has_both_lists(rt: &impl Abort, script: &Script) -> Result<(), Fail> {
     let a = Name::read(b"a")?;
     let b = Name::read(b"b")?;
     let first = [Op::Read { name: a }];
@@ -90,28 +119,30 @@ fn a_client_has_its_operations_in_order(rt: HostRuntime) -> Result<(), Fail> {
 }
 
 #[test]
+fn a_client_has_its_operations_in_order(rt: HostRuntime) -> Result<(), Fail> {
+    let text =
+        b"dsr-serve 1 1 0 2 -\nask c1 read b\nask c0 read a\nask c1 remove a\nask c1 read a\n";
+    let script = Script::read(rt.alloc(), text.as_slice())?;
+    has_both_lists(&rt, &script)
+}
+
+/// Whether the script has a draft of its own at each of four places.
+fn has_four_drafts(rt: &impl Abort, alloc: Global, script: &Script) -> Result<(), Fail> {
+    let one = ReplicaId::new(1)?;
+    let (to_one, to_client) = (Actor::Replica(one), Actor::Client(ClientId::FIRST));
+    assert!(rt; has(alloc, script, ReplicaId::FIRST, 0, to_one, "seen 1")?);
+    assert!(rt; has(alloc, script, one, 0, to_one, "seen 2")?);
+    assert!(rt; has(alloc, script, ReplicaId::FIRST, 1, to_one, "seen 3")?);
+    assert!(rt; has(alloc, script, ReplicaId::FIRST, 0, to_client, "seen 4")?);
+    Ok(())
+}
+
+#[test]
 fn each_place_has_its_own_draft(rt: HostRuntime) -> Result<(), Fail> {
     let text =
         b"dsr-serve 1 5 2 1 r0+r1\nscript r0 0 r1 seen 1\nscript r1 0 r1 seen 2\nscript r0 1 r1 seen 3\nscript r0 0 c0 seen 4\n";
     let script = Script::read(rt.alloc(), text.as_slice())?;
-    let one = ReplicaId::new(1)?;
-    let to_one = Actor::Replica(one);
-    let rows = [
-        (ReplicaId::FIRST, 0, to_one, "seen 1"),
-        (one, 0, to_one, "seen 2"),
-        (ReplicaId::FIRST, 1, to_one, "seen 3"),
-        (
-            ReplicaId::FIRST,
-            0,
-            Actor::Client(ClientId::FIRST),
-            "seen 4",
-        ),
-    ];
-    for (from, round, to, wanted) in rows {
-        let draft = script.draft(from, round, to).ok_or("no draft")?;
-        assert!(rt; draft.to_string(rt.alloc())?.as_str() == wanted);
-    }
-    Ok(())
+    has_four_drafts(&rt, rt.alloc(), &script)
 }
 
 #[test]
