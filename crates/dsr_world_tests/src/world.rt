@@ -45,17 +45,23 @@ fn told(alloc: Global, text: &[u8]) -> Result<String, Fail> {
     let played = play_out(alloc, text)?;
     let mut words = String::new(alloc);
     tell_end(&mut words, &played.end)?;
-    for number in 0..played.world.shape().m() {
-        tell_client(&mut words, &played.world, ClientId::new(number)?)?;
+    tell_world(&mut words, &played.world)?;
+    Ok(words)
+}
+
+/// Adds what each client accepted and has seen, what each loyal replica decided, and the history.
+fn tell_world(words: &mut String, world: &World) -> Result<(), Fail> {
+    for number in 0..world.shape().m() {
+        tell_client(words, world, ClientId::new(number)?)?;
     }
-    for number in 0..played.world.shape().n() {
-        tell_decided(&mut words, &played.world, ReplicaId::new(number)?)?;
+    for number in 0..world.shape().n() {
+        tell_decided(words, world, ReplicaId::new(number)?)?;
     }
     write!(words, "; history")?;
-    for request in played.world.history() {
+    for request in world.history() {
         write!(words, " {request}")?;
     }
-    Ok(words)
+    Ok(())
 }
 
 /// Adds how many events were done and refused, and the first refusal.
