@@ -153,8 +153,10 @@ fn write_client(
 /// Writes what is told of a chain, whatever becomes of it and wherever it is read.
 pub(crate) fn write_chain(out: &mut String, chain: &Chain) -> Result<(), Refusal> {
     let signers = chain.signers();
-    write!(out, "{signers} ")?;
-    write_content(out, chain)
+    write!(out, " {signers} ")?;
+    write_content(out, chain)?;
+    out.push_str(" ")?;
+    Ok(())
 }
 
 /// Writes the beginning of a chain's line: where it is read.
@@ -173,14 +175,11 @@ fn write_read(
     out.push_str(" ")?;
     put_number(out, slot)?;
     out.push_str(" ")?;
-    put_number(out, round as u64)?;
-    out.push_str(" ")?;
-    Ok(())
+    put_number(out, round as u64)
 }
 
 /// Writes the end of a chain's line: what became of it.
 fn write_fate(out: &mut String, fate: &ChainFate) -> Result<(), Refusal> {
-    out.push_str(" ")?;
     out.push_str(match fate {
         ChainFate::NotInFlight => "not-in-flight",
         ChainFate::Read { fate, .. } => fate_word(fate),

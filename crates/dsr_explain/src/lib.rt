@@ -9,6 +9,7 @@ mod before;
 mod client_notes;
 mod counts;
 mod data;
+mod doings;
 mod ending;
 mod note;
 mod notes;

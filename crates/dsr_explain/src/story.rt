@@ -3,6 +3,7 @@
 use crate::before::Before;
 use crate::client_notes::tell_reply;
 use crate::data::write_data;
+use crate::doings::Doings;
 use crate::note::Note;
 use crate::notes::Notes;
 use crate::pieces::{name_of, put_number};
@@ -10,7 +11,7 @@ use crate::reading::read_envelope;
 use crate::replica_notes::{tell_ask, tell_take, tell_unproposed};
 use crate::standing::last_envelope;
 use crate::texts::{Texts, Told, write_draft, write_none};
-use crate::wanted::{Wanted, actor_of, other_of};
+use crate::wanted::{Wanted, other_of};
 use crate::why::why_of;
 use crate::words::{write_choice, write_note};
 use dsr_envelope::Pick;
@@ -21,6 +22,9 @@ use dsr_world::{Event, World};
 use std::alloc::Global;
 use std::fmt::Write;
 use std::mem;
+
+/// What is told of an event of a long play, in bytes.
+const ROOM_OF_AN_EVENT: usize = 128;
 
 /// How many contents each replica, by its number, had kept of a slot when it decided it. None where it has not decided it.
 pub(crate) type KeptBy = [Option<u8>; 16];
@@ -41,6 +45,7 @@ pub(crate) struct Story {
     pub(crate) refused: u64,
     pub(crate) first_refused: u64,
     texts: Texts,
+    doings: Doings,
     /// The notes of the last event, whose room the next one uses.
     notes: Notes,
     /// By slot.
@@ -52,6 +57,7 @@ impl Story {
     pub(crate) fn begin(alloc: Global, shape: Shape, wanted: &Wanted) -> Result<Story, Refusal> {
         let world = World::open(alloc, shape)?;
         let texts = Texts::new(alloc, wanted.data)?;
+        let doings = Doings::new(alloc, wanted.data)?;
         let mut out = String::new(alloc);
         if wanted.data {
             writeln!(out, "dsr-explain 1 {shape}")?;
@@ -66,9 +72,17 @@ impl Story {
             refused: 0,
             first_refused: 0,
             texts,
+            doings,
             notes: Notes::new(alloc),
             kept: Vec::new(alloc),
         })
+    }
+
+    /// Makes room for what is told of so many events, if all of it is wanted. Where it is refused, the text grows as it must.
+    pub(crate) fn make_room(&mut self, events: usize) {
+        if self.wanted.is_of_all() && !self.wanted.refused {
+            let _ = self.out.reserve(events.saturating_mul(ROOM_OF_AN_EVENT));
+        }
     }
 
     /// Makes the event of this line happen, and tells of it. `NoMemory` where memory runs out: then the story is of no use.
@@ -167,11 +181,11 @@ impl Story {
         }
         self.set_line(line)?;
         let told = self.texts.told(event, refusal.is_none());
-        let (head, number) = (self.head.as_str(), self.events);
+        let (head, number, doing) = (self.head.as_str(), self.events, self.doings.of(event));
         if self.wanted.data {
-            write_event_data(&mut self.out, head, number, event, refusal)?;
+            write_event_data(&mut self.out, head, number, doing, event, refusal)?;
         } else {
-            write_event(&mut self.out, head, number, event, refusal)?;
+            write_event(&mut self.out, head, number, doing, event, refusal)?;
         }
         write_end(&mut self.out, self.wanted.data, event, told)?;
         write_notes(&mut self.out, &self.world, &self.wanted, event, notes, told)
@@ -287,23 +301,17 @@ fn write_event(
     out: &mut String,
     head: &str,
     number: u64,
+    doing: &str,
     event: &Event,
     refusal: Option<Refusal>,
 ) -> Result<(), Refusal> {
     out.push_str(head)?;
     put_number(out, number)?;
-    out.push_str(": ")?;
     if let Some(refusal) = refusal {
         let (code, word) = (refusal.code(), refusal.word());
-        write!(out, "refused, E{code} {word}: ")?;
+        write!(out, ": refused, E{code} {word}")?;
     }
-    out.push_str(name_of(actor_of(event)))?;
-    out.push_str(match event {
-        Event::Post { .. } => " posts to ",
-        Event::Plant { .. } => " plants for ",
-        Event::Take { .. } => " takes from ",
-        Event::Tell { .. } => " tells ",
-    })?;
+    out.push_str(doing)?;
     out.push_str(name_of(other_of(event)))?;
     Ok(())
 }
@@ -313,20 +321,14 @@ fn write_event_data(
     out: &mut String,
     head: &str,
     number: u64,
+    doing: &str,
     event: &Event,
     refusal: Option<Refusal>,
 ) -> Result<(), Refusal> {
     out.push_str("event ")?;
     put_number(out, number)?;
     out.push_str(head)?;
-    out.push_str(match event {
-        Event::Post { .. } => "post ",
-        Event::Plant { .. } => "plant ",
-        Event::Take { .. } => "take ",
-        Event::Tell { .. } => "tell ",
-    })?;
-    out.push_str(name_of(actor_of(event)))?;
-    out.push_str(" ")?;
+    out.push_str(doing)?;
     out.push_str(name_of(other_of(event)))?;
     match refusal {
         Some(refusal) => {

@@ -48,6 +48,7 @@ fn tell_all(alloc: Global, text: &[u8], play: &Play, wanted: &Wanted) -> Result<
     ensures { IfOk result (λ explained. explained.refusal ≡ None) }
 {
     let mut story = Story::begin(alloc, play.shape(), wanted)?;
+    story.make_room(play.events().len());
     if let Some((header, lines)) = split_once(text, b'\n') {
         tell_lines(alloc, header, lines, play.events(), &mut story)?;
     }

@@ -1,5 +1,6 @@
 //! What is told of envelopes, written once for all events that post or take one.
 
+use crate::pieces::{MOST_ACTORS, place_of};
 use crate::wanted::{actor_of, other_of};
 use crate::{data, words};
 use dsr_chain::Chain;
@@ -10,9 +11,6 @@ use dsr_world::Event;
 use std::alloc::Global;
 use std::fmt::Write;
 use std::sync::Arc;
-
-/// How many actors texts name: 16 replicas and 32 clients.
-const MOST_ACTORS: usize = 48;
 
 /// What most lines need no more than, in bytes: so many are reserved at once.
 const ROOM: usize = 120;
@@ -197,14 +195,6 @@ fn is_plain(pick: &Pick) -> bool {
     match pick {
         Pick::Plain => true,
         Pick::From(_) | Pick::Begin(_) => false,
-    }
-}
-
-/// The place of an actor, whatever the shape.
-fn place_of(actor: Actor) -> usize {
-    match actor {
-        Actor::Replica(replica) => replica.number() as usize,
-        Actor::Client(client) => client.number() as usize + 16,
     }
 }
 

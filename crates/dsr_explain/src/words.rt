@@ -12,6 +12,27 @@ use dsr_slot::Fate;
 use dsr_world::{Event, World};
 use std::fmt::Write;
 
+/// The rounds of slots, by their numbers.
+static IN_ROUNDS: [&str; 17] = [
+    ": ",
+    ", in its round 1: ",
+    ", in its round 2: ",
+    ", in its round 3: ",
+    ", in its round 4: ",
+    ", in its round 5: ",
+    ", in its round 6: ",
+    ", in its round 7: ",
+    ", in its round 8: ",
+    ", in its round 9: ",
+    ", in its round 10: ",
+    ", in its round 11: ",
+    ", in its round 12: ",
+    ", in its round 13: ",
+    ", in its round 14: ",
+    ", in its round 15: ",
+    ", in its round 16: ",
+];
+
 /// Writes the note of this event, whose envelope is told so, as an indented line.
 pub(crate) fn write_note(
     out: &mut String,
@@ -66,13 +87,12 @@ pub(crate) fn write_note(
 /// Writes what is told of a chain, whatever becomes of it.
 pub(crate) fn write_chain(out: &mut String, chain: &Chain) -> Result<(), Refusal> {
     let (slot, signers) = (chain.slot(), chain.signers());
-    write!(out, "    chain of slot {slot}, signed by {signers}, for ")?;
-    write_content(out, chain)?;
-    out.push_str(": ")?;
+    write!(out, "    chain of slot {slot}, signed by {signers}")?;
     Ok(())
 }
 
-/// Writes what became of the chain at this place of the envelope, after what is told of it.
+/// Writes what became of the chain at this place of the envelope, after what is told of it. The content of one that is dropped as its slot is
+/// over, or as its content is kept, stands in the envelope's text alone.
 fn write_chain_fate(
     out: &mut String,
     world: &World,
@@ -80,10 +100,20 @@ fn write_chain_fate(
     fate: &ChainFate,
 ) -> Result<(), Refusal> {
     match fate {
-        ChainFate::NotInFlight => out.push_str("dropped, as the slot is not in flight\n")?,
+        ChainFate::NotInFlight => out.push_str(": dropped, as the slot is not in flight\n")?,
+        ChainFate::Read {
+            round,
+            fate: Fate::NotNew,
+        } => {
+            out.push_str(in_round(*round))?;
+            out.push_str("not new, as its content is kept already\n")?;
+        }
         ChainFate::Read { round, fate } => {
-            out.push_str("in round ")?;
-            put_number(out, *round as u64)?;
+            if let Some(chain) = last_chain(world, place) {
+                out.push_str(", for ")?;
+                write_content(out, chain)?;
+            }
+            out.push_str(in_round(*round))?;
             write_fate(out, world, place, fate)?;
         }
     }
@@ -106,20 +136,26 @@ pub(crate) fn write_content(out: &mut String, chain: &Chain) -> Result<(), Refus
     Ok(())
 }
 
-/// Writes what reading the chain at this place of the envelope does in its slot's round.
+/// In which of its slot's rounds, of which there are at most 16, a chain is read.
+fn in_round(round: u8) -> &'static str {
+    match IN_ROUNDS.get(round as usize) {
+        Some(words) => *words,
+        None => ": ",
+    }
+}
+
+/// Writes what reading the chain at this place of the envelope does.
 fn write_fate(out: &mut String, world: &World, place: usize, fate: &Fate) -> Result<(), Refusal> {
     match fate {
-        Fate::First => out.push_str(" of the slot kept, as the first content\n")?,
-        Fate::Second => {
-            out.push_str(" of the slot kept, as the second content: the slot will be idle\n")?;
-        }
-        Fate::NotNew => out.push_str(" of the slot not new, as this content is kept already\n")?,
+        Fate::First => out.push_str("kept, as the first content\n")?,
+        Fate::Second => out.push_str("kept, as the second content: the slot will be idle\n")?,
+        Fate::NotNew => out.push_str("not new, as its content is kept already\n")?,
         Fate::OneTooMany => {
-            out.push_str(" of the slot one too many, as two other contents are kept already\n")?;
+            out.push_str("one too many, as two other contents are kept already\n")?;
         }
         Fate::Improper(fault) => {
             let word = fault_word(fault);
-            write!(out, " of the slot not proper ({word}): {fault}")?;
+            write!(out, "not proper ({word}): {fault}")?;
             if let Some(chain) = last_chain(world, place) {
                 write_fault(out, world.shape(), chain, fault)?;
             }
