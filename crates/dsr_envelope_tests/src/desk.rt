@@ -35,21 +35,24 @@ fn gives_each_key_once(rt: HostRuntime) -> Result<(), Fail> {
     let mut keys = keys(rt.alloc())?;
     assert!(rt; keys.whole());
     assert!(rt; keys.shape() == Shape::new(3, 1, 2, 0)?);
-    assert!(rt; key_of(&rt, &mut keys, R0).signer() == R0);
+    gives_once(&rt, &mut keys, R0);
     assert!(rt; !keys.whole());
-    assert!(rt; keys.take(R0).is_none());
-    assert!(rt; key_of(&rt, &mut keys, C0).signer() == C0);
-    assert!(rt; keys.take(C0).is_none());
-    assert!(rt;
-        key_of(&rt, &mut keys, Actor::Replica(ReplicaId::new(2)?)).signer()
-            == Actor::Replica(ReplicaId::new(2)?)
-    );
+    gives_once(&rt, &mut keys, C0);
+    gives_the_last(&rt, &mut keys)
+}
+
+/// Whether the actor's key is given once.
+fn gives_once(rt: &impl Abort, keys: &mut Keys, actor: Actor) {
+    assert!(rt; key_of(rt, keys, actor).signer() == actor);
+    assert!(rt; keys.take(actor).is_none());
+}
+
+/// Whether the last replica and the last client have keys, and those after them have none.
+fn gives_the_last(rt: &impl Abort, keys: &mut Keys) -> Result<(), Fail> {
+    gives_once(rt, keys, Actor::Replica(ReplicaId::new(2)?));
+    gives_once(rt, keys, Actor::Client(ClientId::new(1)?));
     assert!(rt; keys.take(Actor::Replica(ReplicaId::new(3)?)).is_none());
     assert!(rt; keys.take(Actor::Client(ClientId::new(2)?)).is_none());
-    assert!(rt;
-        key_of(&rt, &mut keys, Actor::Client(ClientId::new(1)?)).signer()
-            == Actor::Client(ClientId::new(1)?)
-    );
     Ok(())
 }
 
@@ -179,6 +182,11 @@ fn spells_contents(rt: HostRuntime) -> Result<(), Fail> {
     }
     assert!(rt; read_content(b"idle") == Some(None));
     assert!(rt; read_content(b"c0#1:read:a") == Some(Requests::of(&[read_a(1)?])));
+    Ok(())
+}
+
+#[test]
+fn reads_no_other_content(rt: HostRuntime) {
     let others = [
         "",
         "-",
@@ -192,7 +200,6 @@ fn spells_contents(rt: HostRuntime) -> Result<(), Fail> {
     for text in others {
         assert!(rt; read_content(text.as_bytes()).is_none(), "{text}");
     }
-    Ok(())
 }
 
 #[test]
@@ -304,10 +311,20 @@ fn sign_in_turn(
     let alone = Links::start(alloc, 7, content, first)?;
     assert_eq!(rt; alone.signers().len(), 1);
     let links = alone.extend(second)?;
-    assert_eq!(rt; links.signers().len(), 2);
-    assert!(rt; links.signature(0).same(&first_link(content, first)));
-    assert!(rt; links.signature(1).same(&second_link(content, second)));
+    has_signatures(
+        rt,
+        &links,
+        &first_link(content, first),
+        &second_link(content, second),
+    );
     Ok(())
+}
+
+/// Whether these two are the signatures of the links.
+fn has_signatures(rt: &impl Abort, links: &Links, first: &Signature, second: &Signature) {
+    assert_eq!(rt; links.signers().len(), 2);
+    assert!(rt; links.signature(0).same(first));
+    assert!(rt; links.signature(1).same(second));
 }
 
 /// Signatures are in turn on one slot, and in one order.

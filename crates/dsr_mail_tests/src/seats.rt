@@ -65,6 +65,11 @@ fn stand_by_kind_and_number<R: Abort>(rt: &R, office: &Office) -> Result<(), Fai
         office.clients().len(),
     );
     assert_eq!(rt; counts, (2, 1, 2));
+    are_named(rt, office)
+}
+
+/// Compares whose seats the last of each kind are.
+fn are_named<R: Abort>(rt: &R, office: &Office) -> Result<(), Fail> {
     let last = office.replicas().last().ok_or("no replica")?;
     assert_eq!(rt; last.actor(), Actor::Replica(ReplicaId::of(2)));
     assert_eq!(rt; last.replica(), ReplicaId::of(2));
@@ -213,6 +218,11 @@ fn holds_and_replies<R: Abort>(rt: &R, alloc: Global, office: &mut Office) -> Re
         Some(first_request()?)
     );
     assert!(rt; replica(office)?.reply_for(ClientId::FIRST).is_none());
+    replies_once_decided(rt, alloc, office)
+}
+
+/// The replica tells its reply once it has taken its own envelope.
+fn replies_once_decided<R: Abort>(rt: &R, alloc: Global, office: &mut Office) -> Result<(), Fail> {
     let text = "dsr-play 1 1 0 1 -\ntake r0 r0\n";
     go_on(alloc, office, text, &[Ok(())])?;
     let reply = replica(office)?

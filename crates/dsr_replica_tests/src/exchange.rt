@@ -42,22 +42,34 @@ fn begin(alloc: Global) -> Result<Exchange, Fail> {
     let shape = Shape::new(N, 1, 2, 2)?;
     let mut keys = Keys::new(alloc, shape)?;
     let traitor = key_of(&mut keys, Actor::Replica(ReplicaId::new(1)?))?;
-    let mut replicas = Vec::new(alloc);
-    for number in 0..N {
-        match keys.take(Actor::Replica(ReplicaId::new(number)?)) {
-            Some(key) => replicas.push(Some(Logged::new(alloc, key, &shape)?))?,
-            None => replicas.push(None)?,
-        }
-    }
-    let mut clients = Vec::new(alloc);
-    for number in 0..shape.m() {
-        clients.push(key_of(&mut keys, Actor::Client(ClientId::new(number)?))?)?;
-    }
+    let clients = clients_of(alloc, &mut keys, &shape)?;
+    let replicas = replicas_of(alloc, &mut keys, &shape)?;
     Ok(Exchange {
         replicas,
         traitor,
         clients,
     })
+}
+
+/// The keys of the clients, in their order.
+fn clients_of(alloc: Global, keys: &mut Keys, shape: &Shape) -> Result<Vec<Key>, Fail> {
+    let mut clients = Vec::new(alloc);
+    for number in 0..shape.m() {
+        clients.push(key_of(keys, Actor::Client(ClientId::new(number)?))?)?;
+    }
+    Ok(clients)
+}
+
+/// The replicas in their order. None where its key is gone.
+fn replicas_of(alloc: Global, keys: &mut Keys, shape: &Shape) -> Result<Vec<Option<Logged>>, Fail> {
+    let mut replicas = Vec::new(alloc);
+    for number in 0..N {
+        match keys.take(Actor::Replica(ReplicaId::new(number)?)) {
+            Some(key) => replicas.push(Some(Logged::new(alloc, key, shape)?))?,
+            None => replicas.push(None)?,
+        }
+    }
+    Ok(replicas)
 }
 
 /// The client that asks in this round.

@@ -112,8 +112,8 @@ fn is_refused(rt: &impl Abort, alloc: Global, replica: &Replica, pick: &Pick) ->
 
 #[test]
 fn a_request_that_is_not_held_is_not_proposed(rt: HostRuntime) -> Result<(), Fail> {
-    let one = begin_alone(rt.alloc())?;
     let clients = Clients::of(&[ClientId::FIRST]).ok_or("no clients")?;
+    let one = begin_alone(rt.alloc())?;
     is_refused(&rt, rt.alloc(), &one.replica, &Pick::From(clients))
 }
 

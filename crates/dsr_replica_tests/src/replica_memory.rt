@@ -207,12 +207,23 @@ fn check_envelope<R: Abort>(rt: &R, envelope: &Envelope) -> Result<(), Fail> {
     assert_eq!(rt; *round, 1);
     assert_eq!(rt; chains.as_slice().len(), 2);
     for (slot, chain) in chains.as_slice().iter().enumerate() {
-        assert_eq!(rt; chain.slot(), slot as u64);
-        assert_eq!(rt; chain.signature_count(), 2 - slot);
-        assert_eq!(rt; chain.signed().len(), 1);
-        let ask = chain.signed().first().ok_or("no request")?;
-        assert_eq!(rt; ask.request.client().number() as usize, 1 - slot);
+        check_chain(rt, chain, slot as u64, 2 - slot);
+        check_asker(rt, chain, 1 - slot)?;
     }
+    Ok(())
+}
+
+/// Checks that the chain is of this slot, with so many signatures and one request.
+fn check_chain<R: Abort>(rt: &R, chain: &Chain, slot: u64, signatures: usize) {
+    assert_eq!(rt; chain.slot(), slot);
+    assert_eq!(rt; chain.signature_count(), signatures);
+    assert_eq!(rt; chain.signed().len(), 1);
+}
+
+/// Checks that the first request of the chain is of the client of this number.
+fn check_asker<R: Abort>(rt: &R, chain: &Chain, client: usize) -> Result<(), Fail> {
+    let ask = chain.signed().first().ok_or("no request")?;
+    assert_eq!(rt; ask.request.client().number() as usize, client);
     Ok(())
 }
 
@@ -257,6 +268,11 @@ fn two_rounds_are_gone_through_whichever_allocation_is_refused(
     rt: HostRuntime,
 ) -> Result<(), Fail> {
     let mut replica = replica_one(rt.alloc())?;
-    go_through_both(&rt, rt.alloc(), &mut replica)?;
-    check_decided(&rt, &replica)
+    decides_in_both(&rt, rt.alloc(), &mut replica)
+}
+
+/// Whether the replica goes through both rounds, and has decided then.
+fn decides_in_both<R: Abort>(rt: &R, alloc: Global, replica: &mut Replica) -> Result<(), Fail> {
+    go_through_both(rt, alloc, replica)?;
+    check_decided(rt, replica)
 }

@@ -65,22 +65,45 @@ fn the_last_of_eight_rounds_counts(rt: HostRuntime) -> Result<(), Fail> {
     let mut keys = Keys::new(alloc, shape)?;
     let value = value_of(&mut keys)?;
     let replicas = replicas_of(alloc, &mut keys)?;
-    let last = replicas.get(7).ok_or("no replica 7")?;
-    let mut state = SlotState::new(&shape, LATE);
+    comes_in_the_seventh(&rt, alloc, &shape, value, replicas.as_slice())
+}
+
+/// Whether a chain of the value counts that replica 7 reads in the seventh round.
+fn comes_in_the_seventh(
+    rt: &impl Abort,
+    alloc: Global,
+    shape: &Shape,
+    value: SlotValue,
+    replicas: &[Key],
+) -> Result<(), Fail> {
+    let mut state = SlotState::new(shape, LATE);
     let mut chains = Vec::new(alloc);
     for _ in 0..6 {
-        close_next(&rt, &mut state, &mut chains);
+        close_next(rt, &mut state, &mut chains);
     }
-    chains.push(chain_by(alloc, value, replicas.as_slice(), 7)?)?;
-    close_next(&rt, &mut state, &mut chains);
+    chains.push(chain_by(alloc, value, replicas, 7)?)?;
+    close_next(rt, &mut state, &mut chains);
+    relays_in_the_eighth(rt, alloc, value, replicas, &state)?;
+    close_next(rt, &mut state, &mut chains);
+    assert!(rt; state.decide() == Some(value));
+    Ok(())
+}
+
+/// Whether replica 7 relays the value in the eighth round alone.
+fn relays_in_the_eighth(
+    rt: &impl Abort,
+    alloc: Global,
+    value: SlotValue,
+    replicas: &[Key],
+    state: &SlotState,
+) -> Result<(), Fail> {
+    let last = replicas.get(7).ok_or("no replica 7")?;
     assert!(rt; state.relays(alloc, 7, last)?.is_empty());
+    let wanted = chain_by(alloc, value, replicas, 8)?;
     let relayed = state.relays(alloc, 8, last)?;
-    let wanted = chain_by(alloc, value, replicas.as_slice(), 8)?;
     assert!(rt; relayed.len() == 1);
     for chain in relayed {
         assert!(rt; chain.same(&wanted));
     }
-    close_next(&rt, &mut state, &mut chains);
-    assert!(rt; state.decide() == Some(value));
     Ok(())
 }

@@ -1,7 +1,7 @@
 use dsr_chain::{Batch, Chain, ChainFault, SignedRequest, SlotValue};
 use dsr_desk::{Key, Keys};
 use dsr_names::{Actor, ClientId, ReplicaId, Shape};
-use dsr_request::{Name, Op, Request};
+use dsr_request::{Name, Op, Request, Requests};
 use dsr_slot::{Decision, Fate, SlotState};
 use std::alloc::Global;
 use std::process::Abort;
@@ -351,6 +351,11 @@ fn relays_what_the_last_round_brought(rt: HostRuntime) -> Result<(), Fail> {
 /// whoever asks for the round past it.
 fn relays_past_the_last_round(rt: &impl Abort, alloc: Global, desk: &Desk) -> Result<(), Fail> {
     let mut slot = view_of(alloc, desk, 0, 1)?;
+    goes_past_the_last_round(rt, &mut slot)
+}
+
+/// Whether what this slot's replica reads in the last round alone is relayed past it.
+fn goes_past_the_last_round(rt: &impl Abort, slot: &mut View<'_>) -> Result<(), Fail> {
     slot.relays(rt, 1, &[])?;
     slot.reads(rt, &[])?;
     assert_eq!(rt; slot.state.closed_rounds(), 1);
@@ -599,11 +604,20 @@ fn what_is_kept_is_lent(rt: HostRuntime) -> Result<(), Fail> {
     let chain = chain_of(rt.alloc(), &desk, 0, plan)?;
     let content = chain.content();
     read_next(&rt, &mut state, chain);
+    is_kept_alone(&rt, &state, &content)
+}
+
+/// Whether a copy of the state keeps one chain, of this content, read in round 1.
+fn is_kept_alone(
+    rt: &impl Abort,
+    state: &SlotState,
+    content: &Option<Requests>,
+) -> Result<(), Fail> {
     let copy = state.try_copy()?;
     let (first, second) = copy.kept();
     let first = first.ok_or("nothing is kept")?;
     assert_eq!(rt; first.round, 1);
-    assert!(rt; first.chain.content() == content);
+    assert!(rt; first.chain.content() == *content);
     assert!(rt; second.is_none());
     Ok(())
 }
