@@ -11,6 +11,7 @@ use dsr_command::Narrowing;
 use dsr_explain::{Explained, Wanted, explain};
 use dsr_names::{Refusal, Sink, Source, read_input, write_output};
 use std::alloc::Global;
+use std::mem::forget;
 
 /// Reads a play, and writes why what came of it came out so, narrowed to this. Nothing is written before the end of the text.
 ///
@@ -40,7 +41,10 @@ pub(crate) fn run_explain<S: Source, K: Sink>(
         Ok(explained) => explained,
         Err(refusal) => return Err(refusal),
     };
-    give_out(sink, &explained)
+    let done = give_out(sink, &explained);
+    // The program ends soon, and to free the world of a long play takes a while.
+    forget(explained);
+    done
 }
 
 /// Writes the explanation, and then tells what is wrong with the play, if anything is.

@@ -1,16 +1,42 @@
 //! Notes as data: one line a note, its parts apart by a space.
 
 use crate::note::{ChainFate, Dropped, Note};
-use crate::pieces::{put_number, replica_name};
+use crate::pieces::put_number;
 use crate::standing::{accepted_last, content_of};
 use crate::texts::Told;
 use crate::words::{fault_word, write_content, write_no_vote, write_reason};
 use dsr_chain::Chain;
 use dsr_desk::Content;
-use dsr_names::{Refusal, ReplicaId};
+use dsr_names::{ClientId, Refusal, ReplicaId};
 use dsr_slot::Fate;
 use dsr_world::{Event, World};
 use std::fmt::Write;
+
+/// How the line of a chain begins that a replica reads, by the replica's number.
+static CHAIN_AT: [&str; 16] = [
+    "chain r0 ",
+    "chain r1 ",
+    "chain r2 ",
+    "chain r3 ",
+    "chain r4 ",
+    "chain r5 ",
+    "chain r6 ",
+    "chain r7 ",
+    "chain r8 ",
+    "chain r9 ",
+    "chain r10 ",
+    "chain r11 ",
+    "chain r12 ",
+    "chain r13 ",
+    "chain r14 ",
+    "chain r15 ",
+];
+
+/// The rounds of slots, by their numbers, behind the slot.
+static IN_ROUNDS: [&str; 17] = [
+    " 0", " 1", " 2", " 3", " 4", " 5", " 6", " 7", " 8", " 9", " 10", " 11", " 12", " 13", " 14",
+    " 15", " 16",
+];
 
 /// Writes the note of this event, whose envelope is told so, as a line of data.
 pub(crate) fn write_data(
@@ -21,23 +47,6 @@ pub(crate) fn write_data(
     told: Option<&Told>,
 ) -> Result<(), Refusal> {
     match note {
-        Note::Silence { .. } | Note::Chain { .. } | Note::Kept { .. } => {
-            write_chains(out, note, told)
-        }
-        Note::Closed { .. } | Note::Decided { .. } => write_end(out, world, note),
-        Note::Unproposed { .. }
-        | Note::Acted { .. }
-        | Note::Stale { .. }
-        | Note::Held { .. }
-        | Note::Dropped { .. } => write_request(out, note),
-        _ => write_client(out, world, event, note),
-    }
-}
-
-/// Writes a note of what a replica took or kept.
-fn write_chains(out: &mut String, note: &Note, told: Option<&Told>) -> Result<(), Refusal> {
-    match note {
-        Note::Silence { replica, round } => writeln!(out, "silence {replica} {round}")?,
         Note::Chain {
             replica,
             place,
@@ -48,8 +57,30 @@ fn write_chains(out: &mut String, note: &Note, told: Option<&Told>) -> Result<()
             if let Some(told) = told {
                 out.push_str(told.chain(*place))?;
             }
-            write_fate(out, fate)?;
+            write_fate(out, fate)
         }
+        _ => write_other(out, world, event, note),
+    }
+}
+
+/// Writes a note of anything else than a chain that was taken.
+fn write_other(out: &mut String, world: &World, event: &Event, note: &Note) -> Result<(), Refusal> {
+    match note {
+        Note::Silence { .. } | Note::Kept { .. } => write_kept(out, note),
+        Note::Closed { .. } | Note::Decided { .. } => write_end(out, world, note),
+        Note::Unproposed { .. }
+        | Note::Acted { .. }
+        | Note::Stale { .. }
+        | Note::Held { .. }
+        | Note::Dropped { .. } => write_request(out, note),
+        _ => write_client(out, world, event, note),
+    }
+}
+
+/// Writes a note of what a replica did not count, or kept.
+fn write_kept(out: &mut String, note: &Note) -> Result<(), Refusal> {
+    match note {
+        Note::Silence { replica, round } => writeln!(out, "silence {replica} {round}")?,
         Note::Kept {
             replica,
             chain,
@@ -119,6 +150,20 @@ fn write_client(
     note: &Note,
 ) -> Result<(), Refusal> {
     match note {
+        Note::Accepted { client } => write_accepted(out, world, *client),
+        Note::Refused(why) => {
+            out.push_str("why ")?;
+            write_reason(out, world, event, why)?;
+            out.push_str("\n")?;
+            Ok(())
+        }
+        _ => write_vote(out, note),
+    }
+}
+
+/// Writes whether what a client took is a vote.
+fn write_vote(out: &mut String, note: &Note) -> Result<(), Refusal> {
+    match note {
         Note::Vote {
             client,
             replica,
@@ -132,20 +177,18 @@ fn write_client(
         } => {
             write!(out, "no-vote {client} {replica} ")?;
             write_no_vote(out, why)?;
-            writeln!(out)?;
-        }
-        Note::Accepted { client } => {
-            if let Some(reply) = accepted_last(world, *client) {
-                let (number, place, answer) = (reply.number, reply.place, reply.answer);
-                writeln!(out, "accept {client} {number} {place} {answer}")?;
-            }
-        }
-        Note::Refused(why) => {
-            write!(out, "why ")?;
-            write_reason(out, world, event, why)?;
-            writeln!(out)?;
+            out.push_str("\n")?;
         }
         _ => {}
+    }
+    Ok(())
+}
+
+/// Writes which reply the client accepted last.
+fn write_accepted(out: &mut String, world: &World, client: ClientId) -> Result<(), Refusal> {
+    if let Some(reply) = accepted_last(world, client) {
+        let (number, place, answer) = (reply.number, reply.place, reply.answer);
+        writeln!(out, "accept {client} {number} {place} {answer}")?;
     }
     Ok(())
 }
@@ -170,33 +213,31 @@ fn write_read(
         ChainFate::NotInFlight => 0,
         ChainFate::Read { round, .. } => *round,
     };
-    out.push_str("chain ")?;
-    out.push_str(replica_name(replica))?;
-    out.push_str(" ")?;
+    out.push_str(CHAIN_AT[replica.number() as usize])?;
     put_number(out, slot)?;
-    out.push_str(" ")?;
-    put_number(out, round as u64)
+    match IN_ROUNDS.get(round as usize) {
+        Some(round) => out.push_str(*round)?,
+        None => {}
+    }
+    Ok(())
 }
 
 /// Writes the end of a chain's line: what became of it.
 fn write_fate(out: &mut String, fate: &ChainFate) -> Result<(), Refusal> {
-    out.push_str(match fate {
-        ChainFate::NotInFlight => "not-in-flight",
-        ChainFate::Read { fate, .. } => fate_word(fate),
-    })?;
-    out.push_str("\n")?;
-    Ok(())
-}
-
-/// The name of what reading a chain does.
-fn fate_word(fate: &Fate) -> &'static str {
     match fate {
-        Fate::First => "first",
-        Fate::Second => "second",
-        Fate::NotNew => "not-new",
-        Fate::OneTooMany => "one-too-many",
-        Fate::Improper(fault) => fault_word(fault),
+        ChainFate::NotInFlight => out.push_str("not-in-flight\n")?,
+        ChainFate::Read { fate, .. } => match fate {
+            Fate::First => out.push_str("first\n")?,
+            Fate::Second => out.push_str("second\n")?,
+            Fate::NotNew => out.push_str("not-new\n")?,
+            Fate::OneTooMany => out.push_str("one-too-many\n")?,
+            Fate::Improper(fault) => {
+                out.push_str(fault_word(fault))?;
+                out.push_str("\n")?;
+            }
+        },
     }
+    Ok(())
 }
 
 /// The name of why something was dropped.

@@ -1,43 +1,49 @@
 //! What actors do, as the lines of events say it.
 
-use crate::pieces::{CLIENTS, MOST_ACTORS, REPLICAS, place_of};
-use crate::wanted::actor_of;
-use dsr_names::Refusal;
+use crate::pieces::name_of;
+use crate::wanted::{actor_of, other_of};
+use dsr_names::{Actor, Refusal, Shape};
 use dsr_world::Event;
 use std::alloc::Global;
+use std::fmt::Write;
 
 /// What the four kinds of events are in words, and as data.
 static WORDS: [&str; 4] = [" posts to ", " plants for ", " takes from ", " tells "];
 
 static DATA: [&str; 4] = ["post ", "plant ", "take ", "tell "];
 
-/// What each actor does in each kind of events, put together once: in words as `: r0 takes from `, as data as `take r0 `.
+/// What any two actors of a shape did in an event, put together once: in words as `: r0 takes from r1`, as data as `take r0 r1 done`.
 #[derive(Drop)]
 pub(crate) struct Doings {
-    /// By the kind, and then by the actor's place.
+    shape: Shape,
+    /// By the kind of the event, the place of who did it, and that of the other.
     texts: Vec<String>,
 }
 
 impl Doings {
     /// All of them, as data or in words. `NoMemory` where memory runs out.
-    pub(crate) fn new(alloc: Global, as_data: bool) -> Result<Doings, Refusal> {
-        let mut texts = Vec::with_capacity(alloc, 4 * MOST_ACTORS)?;
+    pub(crate) fn new(alloc: Global, shape: Shape, as_data: bool) -> Result<Doings, Refusal> {
+        let mut texts = Vec::new(alloc);
         for kind in 0..4 {
-            for name in REPLICAS {
-                texts.push(doing(alloc, kind, name, as_data)?)?;
-            }
-            for name in CLIENTS {
-                texts.push(doing(alloc, kind, name, as_data)?)?;
+            for actor in 0..shape.size() {
+                for other in 0..shape.size() {
+                    let (actor, other) = (shape.actor_at(actor), shape.actor_at(other));
+                    texts.push(done(alloc, as_data, kind, actor, other)?)?;
+                }
             }
         }
-        Ok(Doings { texts })
+        Ok(Doings { shape, texts })
     }
 
-    /// What the event's actor does by it.
-    pub(crate) fn of(&self, event: &Event) -> &str {
+    /// What was done by this event, whose actors are of the shape.
+    pub(crate) fn done(&self, event: &Event) -> &str {
+        let actors = self.shape.size();
+        let (actor, other) = (actor_of(event), other_of(event));
         let place = kind_of(event)
-            .saturating_mul(MOST_ACTORS)
-            .saturating_add(place_of(actor_of(event)));
+            .saturating_mul(actors)
+            .saturating_add(self.shape.place(&actor))
+            .saturating_mul(actors)
+            .saturating_add(self.shape.place(&other));
         match self.texts.get(place) {
             Some(text) => text.as_str(),
             None => "",
@@ -45,19 +51,65 @@ impl Doings {
     }
 }
 
-/// What the actor of this name does in events of this kind.
-fn doing(alloc: Global, kind: usize, name: &str, as_data: bool) -> Result<String, Refusal> {
-    let mut text = String::with_capacity(alloc, 20)?;
+/// What the actor did to the other in an event of this kind.
+fn done(
+    alloc: Global,
+    as_data: bool,
+    kind: usize,
+    actor: Actor,
+    other: Actor,
+) -> Result<String, Refusal> {
+    let mut text = String::with_capacity(alloc, 24)?;
+    write_doing(&mut text, as_data, kind, actor, other)?;
     if as_data {
-        text.push_str(word_of(&DATA, kind))?;
-        text.push_str(name)?;
-        text.push_str(" ")?;
-    } else {
-        text.push_str(": ")?;
-        text.push_str(name)?;
-        text.push_str(word_of(&WORDS, kind))?;
+        text.push_str(" done")?;
     }
     Ok(text)
+}
+
+/// Writes what the actor does to the other in events of this kind.
+fn write_doing(
+    out: &mut String,
+    as_data: bool,
+    kind: usize,
+    actor: Actor,
+    other: Actor,
+) -> Result<(), Refusal> {
+    if as_data {
+        out.push_str(word_of(&DATA, kind))?;
+        out.push_str(name_of(actor))?;
+        out.push_str(" ")?;
+    } else {
+        out.push_str(": ")?;
+        out.push_str(name_of(actor))?;
+        out.push_str(word_of(&WORDS, kind))?;
+    }
+    out.push_str(name_of(other))?;
+    Ok(())
+}
+
+/// Writes what was not done by this event, and how it was refused.
+pub(crate) fn write_refused(
+    out: &mut String,
+    as_data: bool,
+    event: &Event,
+    refusal: &Refusal,
+) -> Result<(), Refusal> {
+    let (code, word) = (refusal.code(), refusal.word());
+    if !as_data {
+        write!(out, ": refused, E{code} {word}")?;
+    }
+    write_doing(
+        out,
+        as_data,
+        kind_of(event),
+        actor_of(event),
+        other_of(event),
+    )?;
+    if as_data {
+        write!(out, " E{code}")?;
+    }
+    Ok(())
 }
 
 /// The word of this kind.

@@ -223,17 +223,29 @@ fn write_slot(out: &mut String, world: &World, slot: usize, kept: &KeptBy) -> Re
     }
     let content = Content(decided_content(world, slot));
     write!(out, ": {content}")?;
-    for number in 0..world.shape().n() {
-        if let Some(count) = kept[number as usize] {
-            match count {
-                0 => write!(out, "; r{number} kept nothing")?,
-                1 => write!(out, "; r{number} kept one content")?,
-                _ => write!(out, "; r{number} kept two contents")?,
-            }
+    write_counts(out, world.shape().n(), kept)?;
+    out.push_str("\n")?;
+    Ok(())
+}
+
+/// Writes how many contents each of so many replicas kept of a slot that it decided.
+fn write_counts(out: &mut String, replicas: u8, kept: &KeptBy) -> Result<(), Refusal> {
+    for number in 0..replicas {
+        if let Some(Some(count)) = kept.get(number as usize) {
+            let kept = kept_word(*count);
+            write!(out, "; r{number} kept {kept}")?;
         }
     }
-    writeln!(out)?;
     Ok(())
+}
+
+/// So many contents, in words.
+fn kept_word(count: u8) -> &'static str {
+    match count {
+        0 => "nothing",
+        1 => "one content",
+        _ => "two contents",
+    }
 }
 
 /// What was decided of the slot, by the first loyal replica that has decided it.

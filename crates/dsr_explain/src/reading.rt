@@ -132,10 +132,8 @@ fn tell_chain(
     states: &[SlotState],
     notes: &mut Notes,
 ) -> Result<(), Refusal> {
-    for state in states {
-        if state.slot() == chain.slot() {
-            return tell_fate(state, chain, place, replica, notes);
-        }
+    if let Some(state) = state_of(states, chain.slot()) {
+        return tell_fate(state, chain, place, replica, notes);
     }
     notes.push(Note::Chain {
         replica,
@@ -143,6 +141,17 @@ fn tell_chain(
         slot: chain.slot(),
         fate: ChainFate::NotInFlight,
     })
+}
+
+/// The state of this slot, if it is in flight: slots in flight follow each other.
+fn state_of(states: &[SlotState], slot: u64) -> Option<&SlotState> {
+    let oldest = states.first()?.slot();
+    let state = states.get(slot.saturating_sub(oldest) as usize)?;
+    if state.slot() == slot {
+        Some(state)
+    } else {
+        None
+    }
 }
 
 /// Tells what becomes of the chain when it is read in this slot.

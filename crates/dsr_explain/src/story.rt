@@ -3,15 +3,15 @@
 use crate::before::Before;
 use crate::client_notes::tell_reply;
 use crate::data::write_data;
-use crate::doings::Doings;
+use crate::doings::{Doings, write_refused};
 use crate::note::Note;
 use crate::notes::Notes;
-use crate::pieces::{name_of, put_number};
+use crate::pieces::put_number;
 use crate::reading::read_envelope;
 use crate::replica_notes::{tell_ask, tell_take, tell_unproposed};
 use crate::standing::last_envelope;
 use crate::texts::{Texts, Told, write_draft, write_none};
-use crate::wanted::{Wanted, other_of};
+use crate::wanted::Wanted;
 use crate::why::why_of;
 use crate::words::{write_choice, write_note};
 use dsr_envelope::Pick;
@@ -55,13 +55,10 @@ pub(crate) struct Story {
 impl Story {
     /// The story before any event. `NoMemory` where memory runs out.
     pub(crate) fn begin(alloc: Global, shape: Shape, wanted: &Wanted) -> Result<Story, Refusal> {
-        let world = World::open(alloc, shape)?;
+        let out = first_line(alloc, shape, wanted.data)?;
         let texts = Texts::new(alloc, wanted.data)?;
-        let doings = Doings::new(alloc, wanted.data)?;
-        let mut out = String::new(alloc);
-        if wanted.data {
-            writeln!(out, "dsr-explain 1 {shape}")?;
-        }
+        let doings = Doings::new(alloc, shape, wanted.data)?;
+        let world = World::open(alloc, shape)?;
         Ok(Story {
             world,
             wanted: *wanted,
@@ -181,11 +178,15 @@ impl Story {
         }
         self.set_line(line)?;
         let told = self.texts.told(event, refusal.is_none());
-        let (head, number, doing) = (self.head.as_str(), self.events, self.doings.of(event));
-        if self.wanted.data {
-            write_event_data(&mut self.out, head, number, doing, event, refusal)?;
-        } else {
-            write_event(&mut self.out, head, number, doing, event, refusal)?;
+        write_head(
+            &mut self.out,
+            self.wanted.data,
+            self.head.as_str(),
+            self.events,
+        )?;
+        match refusal {
+            Some(refusal) => write_refused(&mut self.out, self.wanted.data, event, &refusal)?,
+            None => self.out.push_str(self.doings.done(event))?,
         }
         write_end(&mut self.out, self.wanted.data, event, told)?;
         write_notes(&mut self.out, &self.world, &self.wanted, event, notes, told)
@@ -205,6 +206,15 @@ impl Story {
         }
         Ok(())
     }
+}
+
+/// What is told before any event: as data its version and the shape.
+fn first_line(alloc: Global, shape: Shape, as_data: bool) -> Result<String, Refusal> {
+    let mut out = String::new(alloc);
+    if as_data {
+        writeln!(out, "dsr-explain 1 {shape}")?;
+    }
+    Ok(out)
 }
 
 /// Writes the end of the event's line: its envelope, or what was to be posted where it was refused.
@@ -296,46 +306,15 @@ fn tell_post(
     }
 }
 
-/// Writes the event in words, but for its envelope.
-fn write_event(
-    out: &mut String,
-    head: &str,
-    number: u64,
-    doing: &str,
-    event: &Event,
-    refusal: Option<Refusal>,
-) -> Result<(), Refusal> {
-    out.push_str(head)?;
-    put_number(out, number)?;
-    if let Some(refusal) = refusal {
-        let (code, word) = (refusal.code(), refusal.word());
-        write!(out, ": refused, E{code} {word}")?;
-    }
-    out.push_str(doing)?;
-    out.push_str(name_of(other_of(event)))?;
-    Ok(())
-}
-
-/// Writes the event as a line of data, but for its envelope.
-fn write_event_data(
-    out: &mut String,
-    head: &str,
-    number: u64,
-    doing: &str,
-    event: &Event,
-    refusal: Option<Refusal>,
-) -> Result<(), Refusal> {
-    out.push_str("event ")?;
-    put_number(out, number)?;
-    out.push_str(head)?;
-    out.push_str(doing)?;
-    out.push_str(name_of(other_of(event)))?;
-    match refusal {
-        Some(refusal) => {
-            let code = refusal.code();
-            write!(out, " E{code}")?;
-        }
-        None => out.push_str(" done")?,
+/// Writes the beginning of an event's line: its number, and the line of the play.
+fn write_head(out: &mut String, as_data: bool, line: &str, number: u64) -> Result<(), Refusal> {
+    if as_data {
+        out.push_str("event ")?;
+        put_number(out, number)?;
+        out.push_str(line)?;
+    } else {
+        out.push_str(line)?;
+        put_number(out, number)?;
     }
     Ok(())
 }

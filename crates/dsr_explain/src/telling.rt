@@ -9,6 +9,7 @@ use dsr_base::split_once;
 use dsr_names::Refusal;
 use dsr_world::{Event, Play};
 use std::alloc::Global;
+use std::mem;
 
 /// What is told of a play, and the refusal that a reader of the play has, if it has one.
 #[derive(Drop)]
@@ -17,6 +18,14 @@ pub struct Explained {
     pub text: String,
     /// `BadShape` or `BadText` where the text is no play.
     pub refusal: Option<Refusal>,
+    spent: Option<Spent>,
+}
+
+/// A play that was told, with its world. It is kept for whoever ends soon and would rather forget it: to free a long one takes a while.
+#[derive(Drop)]
+struct Spent {
+    play: Play,
+    story: Story,
 }
 
 /// Plays the play that the text spells, in a world of its own, and tells what is wanted of it: events, each with its line, what came of it and
@@ -28,7 +37,7 @@ pub fn explain(alloc: Global, text: &[u8], wanted: &Wanted) -> Result<Explained,
     ensures refusal { IsOkUnless result Refusal.NoMemory }
 {
     match Play::read(alloc, text) {
-        Ok(play) => match tell_all(alloc, text, &play, wanted) {
+        Ok(play) => match tell_all(alloc, text, play, wanted) {
             Ok(explained) => Ok(explained),
             Err(_) => Err(Refusal::NoMemory),
         },
@@ -37,6 +46,7 @@ pub fn explain(alloc: Global, text: &[u8], wanted: &Wanted) -> Result<Explained,
             Ok(text) => Ok(Explained {
                 text,
                 refusal: Some(refusal),
+                spent: None,
             }),
             Err(_) => Err(Refusal::NoMemory),
         },
@@ -44,19 +54,31 @@ pub fn explain(alloc: Global, text: &[u8], wanted: &Wanted) -> Result<Explained,
 }
 
 /// Tells of each event of the play, line by line.
-fn tell_all(alloc: Global, text: &[u8], play: &Play, wanted: &Wanted) -> Result<Explained, Refusal>
+fn tell_all(alloc: Global, text: &[u8], play: Play, wanted: &Wanted) -> Result<Explained, Refusal>
     ensures { IfOk result (λ explained. explained.refusal ≡ None) }
 {
     let mut story = Story::begin(alloc, play.shape(), wanted)?;
-    story.make_room(play.events().len());
-    if let Some((header, lines)) = split_once(text, b'\n') {
-        tell_lines(alloc, header, lines, play.events(), &mut story)?;
-    }
-    story.end()?;
+    tell_story(alloc, text, play.events(), &mut story)?;
+    let told = mem::replace(&mut story.out, String::new(alloc));
     Ok(Explained {
-        text: story.out,
+        text: told,
         refusal: None,
+        spent: Some(Spent { play, story }),
     })
+}
+
+/// Tells of the events, which are those of the play's text, and of what stands at the end.
+fn tell_story(
+    alloc: Global,
+    text: &[u8],
+    events: &[Event],
+    story: &mut Story,
+) -> Result<(), Refusal> {
+    story.make_room(events.len());
+    if let Some((header, lines)) = split_once(text, b'\n') {
+        tell_lines(alloc, header, lines, events, story)?;
+    }
+    story.end()
 }
 
 /// Tells of the events, which are those of these lines.

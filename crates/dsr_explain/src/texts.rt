@@ -10,24 +10,18 @@ use dsr_script::Draft;
 use dsr_world::Event;
 use std::alloc::Global;
 use std::fmt::Write;
-use std::sync::Arc;
+use std::mem;
 
 /// What most lines need no more than, in bytes: so many are reserved at once.
 const ROOM: usize = 120;
 
 /// What is told of an envelope.
 #[derive(Drop)]
-struct Written {
+pub(crate) struct Told {
     /// What ends the line of an event that posts or takes it: its text.
     end: String,
     /// What is told of each of its chains, whatever becomes of it.
     chains: Vec<String>,
-}
-
-/// What is told of an envelope, shared by all events that post or take it.
-#[derive(Drop)]
-pub(crate) struct Told {
-    written: Arc<Written, Global>,
 }
 
 impl Told {
@@ -41,26 +35,17 @@ impl Told {
             write_none(&mut end, as_data)?;
         }
         let chains = tell_chains(alloc, envelope, as_data)?;
-        let written = Arc::new(alloc, Written { end, chains })?;
-        Ok(Told { written })
-    }
-
-    /// The same once more. `NoMemory` where one handle more is refused.
-    fn try_copy(&self) -> Result<Told, Refusal> {
-        match Arc::try_clone(&self.written) {
-            Ok(written) => Ok(Told { written }),
-            Err(_) => Err(Refusal::NoMemory),
-        }
+        Ok(Told { end, chains })
     }
 
     /// What ends the line of an event that posts or takes the envelope.
     pub(crate) fn end(&self) -> &str {
-        self.written.end.as_str()
+        self.end.as_str()
     }
 
     /// What is told of the chain at this place of the envelope, whatever becomes of it.
     pub(crate) fn chain(&self, place: usize) -> &str {
-        match self.written.chains.get(place) {
+        match self.chains.get(place) {
             Some(chain) => chain.as_str(),
             None => "",
         }
@@ -102,23 +87,72 @@ fn tell_chain(alloc: Global, chain: &Chain, as_data: bool) -> Result<String, Ref
     Ok(text)
 }
 
-/// What is told of the envelopes that may be posted again or taken. None where it was not written.
+/// What is told of the envelopes that a loyal actor posts to replicas: the last one, which it may post again, and the one before, which
+/// may not be taken yet.
+#[derive(Drop)]
+struct Posted {
+    /// How many there were.
+    count: u64,
+    last: Option<Told>,
+    before: Option<Told>,
+}
+
+impl Posted {
+    /// None.
+    fn nothing() -> Posted {
+        Posted {
+            count: 0,
+            last: None,
+            before: None,
+        }
+    }
+
+    /// Puts what is told of one more, or that it is not told.
+    fn put(&mut self, told: Option<Told>) {
+        self.before = mem::replace(&mut self.last, told);
+        self.count = self.count.saturating_add(1);
+    }
+
+    /// What is told of the one of this number, counted from 1.
+    fn told(&self, number: u64) -> Option<&Told> {
+        if number == self.count {
+            return self.last.as_ref();
+        }
+        if number.saturating_add(1) == self.count {
+            return self.before.as_ref();
+        }
+        None
+    }
+}
+
+/// What is told of what lies in a box.
+#[derive(Drop)]
+enum Lying {
+    /// Nothing.
+    Nothing,
+    /// What is told of the envelope of this number that its poster posted to replicas.
+    Posted(u64),
+    /// This, of an envelope that was posted to this box alone.
+    Alone(Told),
+}
+
+/// What is told of the envelopes that may be posted again or taken.
 #[derive(Drop)]
 pub(crate) struct Texts {
     as_data: bool,
-    /// What each actor last posted to a replica, by its place.
-    posted: Vec<Option<Told>>,
-    /// What was last posted from one actor to another, by their places.
-    boxes: Vec<Option<Told>>,
+    /// By the poster's place.
+    posted: Vec<Posted>,
+    /// By the places of poster and taker.
+    boxes: Vec<Lying>,
 }
 
 impl Texts {
-    /// Nothing written, as data or in words. `NoMemory` where memory runs out.
+    /// Nothing told, as data or in words. `NoMemory` where memory runs out.
     pub(crate) fn new(alloc: Global, as_data: bool) -> Result<Texts, Refusal> {
         Ok(Texts {
             as_data,
-            posted: no_texts(alloc, MOST_ACTORS)?,
-            boxes: no_texts(alloc, MOST_ACTORS * MOST_ACTORS)?,
+            posted: nothing_posted(alloc)?,
+            boxes: empty_boxes(alloc)?,
         })
     }
 
@@ -129,34 +163,49 @@ impl Texts {
         event: &Event,
         envelope: &Envelope,
     ) -> Result<(), Refusal> {
-        let (poster, there) = (place_of(actor_of(event)), box_of(event));
+        if is_to_replica(event) {
+            return self.note_posted(alloc, event, envelope);
+        }
         if let Event::Take { .. } = event {
-            if is_told(&self.boxes, there) {
-                return Ok(());
-            }
-        } else if is_again(event) {
-            if let Some(told) = copy_at(&self.posted, poster)? {
-                keep(&mut self.boxes, there, Some(told));
+            if self.told(event, true).is_some() {
                 return Ok(());
             }
         }
         let told = Told::of(alloc, envelope, self.as_data)?;
-        if let Event::Post {
-            to: Actor::Replica(_),
-            ..
-        } = event
-        {
-            keep(&mut self.posted, poster, Some(told.try_copy()?));
+        self.lay(event, Lying::Alone(told));
+        Ok(())
+    }
+
+    /// Has the envelope told that a loyal actor posted to a replica.
+    fn note_posted(
+        &mut self,
+        alloc: Global,
+        event: &Event,
+        envelope: &Envelope,
+    ) -> Result<(), Refusal> {
+        let as_data = self.as_data;
+        let Some(posted) = self.posted.get_mut(poster_of(event)) else {
+            return Ok(());
+        };
+        if !is_again(event) {
+            posted.put(Some(Told::of(alloc, envelope, as_data)?));
+        } else if posted.last.is_none() {
+            posted.last = Some(Told::of(alloc, envelope, as_data)?);
         }
-        keep(&mut self.boxes, there, Some(told));
+        let number = posted.count;
+        self.lay(event, Lying::Posted(number));
         Ok(())
     }
 
     /// What is told of the envelope that this event posted or took, if it was done.
     pub(crate) fn told(&self, event: &Event, was_done: bool) -> Option<&Told> {
-        match self.boxes.get(box_of(event)) {
-            Some(Some(told)) if was_done => Some(told),
-            _ => None,
+        if !was_done {
+            return None;
+        }
+        match self.boxes.get(box_of(event))? {
+            Lying::Nothing => None,
+            Lying::Posted(number) => self.posted.get(poster_of(event))?.told(*number),
+            Lying::Alone(told) => Some(told),
         }
     }
 
@@ -165,15 +214,39 @@ impl Texts {
         if let Event::Take { .. } = event {
             return;
         }
-        if !is_again(event) {
-            keep(&mut self.posted, place_of(actor_of(event)), None);
+        let lying = match self.posted.get_mut(poster_of(event)) {
+            Some(posted) if is_to_replica(event) => {
+                if !is_again(event) {
+                    posted.put(None);
+                }
+                Lying::Posted(posted.count)
+            }
+            _ => Lying::Nothing,
+        };
+        self.lay(event, lying);
+    }
+
+    /// Has this lie in the event's box.
+    fn lay(&mut self, event: &Event, lying: Lying) {
+        if let Some(place) = self.boxes.get_mut(box_of(event)) {
+            *place = lying;
         }
-        keep(&mut self.boxes, box_of(event), None);
     }
 }
 
-/// Whether a loyal actor posted by this event, which was done, what it posted before: a replica to another than replica 0 in a round, or a
-/// client that asks again.
+/// Whether a loyal actor posts by it to a replica.
+fn is_to_replica(event: &Event) -> bool {
+    match event {
+        Event::Post {
+            to: Actor::Replica(_),
+            ..
+        } => true,
+        _ => false,
+    }
+}
+
+/// Whether a loyal actor posts by it what it posted to a replica before: a replica to another than replica 0 in a round, or a client that
+/// asks again.
 fn is_again(event: &Event) -> bool {
     match event {
         Event::Post {
@@ -198,44 +271,39 @@ fn is_plain(pick: &Pick) -> bool {
     }
 }
 
+/// The place of the actor whose box the event fills or empties.
+fn poster_of(event: &Event) -> usize {
+    match event {
+        Event::Take { .. } => place_of(other_of(event)),
+        _ => place_of(actor_of(event)),
+    }
+}
+
 /// The place of the box that the event fills or empties.
 fn box_of(event: &Event) -> usize {
-    let (actor, other) = (place_of(actor_of(event)), place_of(other_of(event)));
-    let (from, to) = match event {
-        Event::Take { .. } => (other, actor),
-        _ => (actor, other),
+    let taker = match event {
+        Event::Take { .. } => place_of(actor_of(event)),
+        _ => place_of(other_of(event)),
     };
-    from.saturating_mul(MOST_ACTORS).saturating_add(to)
+    poster_of(event)
+        .saturating_mul(MOST_ACTORS)
+        .saturating_add(taker)
 }
 
-/// So many places at which nothing is written.
-fn no_texts(alloc: Global, count: usize) -> Result<Vec<Option<Told>>, Refusal> {
-    let mut texts = Vec::with_capacity(alloc, count)?;
-    for _ in 0..count {
-        texts.push(None)?;
+/// Nothing posted, by each poster.
+fn nothing_posted(alloc: Global) -> Result<Vec<Posted>, Refusal> {
+    let mut posted = Vec::with_capacity(alloc, MOST_ACTORS)?;
+    for _ in 0..MOST_ACTORS {
+        posted.push(Posted::nothing())?;
     }
-    Ok(texts)
+    Ok(posted)
 }
 
-/// What is written at this place, shared.
-fn copy_at(texts: &[Option<Told>], place: usize) -> Result<Option<Told>, Refusal> {
-    match texts.get(place) {
-        Some(Some(told)) => Ok(Some(told.try_copy()?)),
-        _ => Ok(None),
+/// Boxes in which nothing lies.
+fn empty_boxes(alloc: Global) -> Result<Vec<Lying>, Refusal> {
+    let mut boxes = Vec::with_capacity(alloc, MOST_ACTORS * MOST_ACTORS)?;
+    for _ in 0..MOST_ACTORS * MOST_ACTORS {
+        boxes.push(Lying::Nothing)?;
     }
-}
-
-/// Whether something is written at this place.
-fn is_told(texts: &[Option<Told>], place: usize) -> bool {
-    match texts.get(place) {
-        Some(told) => told.is_some(),
-        None => false,
-    }
-}
-
-/// Writes this at the place.
-fn keep(texts: &mut Vec<Option<Told>>, place: usize, told: Option<Told>) {
-    if let Some(kept) = texts.get_mut(place) {
-        *kept = told;
-    }
+    Ok(boxes)
 }

@@ -42,18 +42,24 @@ pub(crate) fn write_note(
     told: Option<&Told>,
 ) -> Result<(), Refusal> {
     match note {
-        Note::Silence { replica, round } => {
-            writeln!(
-                out,
-                "    {replica} is in round {round}: this is not its envelope, and counts as no chains"
-            )?;
-        }
         Note::Chain { place, fate, .. } => {
             if let Some(told) = told {
                 out.push_str(told.chain(*place))?;
             }
-            write_chain_fate(out, world, *place, fate)?;
+            write_chain_fate(out, world, *place, fate)
         }
+        _ => write_other(out, world, event, note),
+    }
+}
+
+/// Writes a note of anything else than a chain that was taken.
+fn write_other(out: &mut String, world: &World, event: &Event, note: &Note) -> Result<(), Refusal> {
+    match note {
+        Note::Silence { replica, round } => writeln!(
+            out,
+            "    {replica} is in round {round}: this is not its envelope, and counts as no chains"
+        )?,
+        Note::Chain { .. } => {}
         Note::Kept {
             replica,
             chain,
@@ -101,23 +107,26 @@ fn write_chain_fate(
 ) -> Result<(), Refusal> {
     match fate {
         ChainFate::NotInFlight => out.push_str(": dropped, as the slot is not in flight\n")?,
-        ChainFate::Read {
-            round,
-            fate: Fate::NotNew,
-        } => {
-            out.push_str(in_round(*round))?;
-            out.push_str("not new, as its content is kept already\n")?;
-        }
         ChainFate::Read { round, fate } => {
-            if let Some(chain) = last_chain(world, place) {
-                out.push_str(", for ")?;
-                write_content(out, chain)?;
+            if !is_not_new(fate) {
+                if let Some(chain) = last_chain(world, place) {
+                    out.push_str(", for ")?;
+                    write_content(out, chain)?;
+                }
             }
             out.push_str(in_round(*round))?;
             write_fate(out, world, place, fate)?;
         }
     }
     Ok(())
+}
+
+/// Whether the chain's content is kept already.
+fn is_not_new(fate: &Fate) -> bool {
+    match fate {
+        Fate::NotNew => true,
+        _ => false,
+    }
 }
 
 /// Writes the content of the chain: its requests, joined by commas, or that it is idle.
@@ -409,13 +418,7 @@ pub(crate) fn write_reason(
         Why::NoActor(actor) => write!(out, "{actor} is no actor of this shape")?,
         Why::Traitor(actor) => write!(out, "{actor} is a traitor: what it posts is planted")?,
         Why::Loyal(actor) => write!(out, "{actor} is loyal: only traitors plant")?,
-        Why::BothClients => write!(out, "clients post nothing to each other: they tell")?,
-        Why::NotTwoClients => write!(out, "only a client tells, and only another client")?,
-        Why::FromItself => write!(out, "a client takes nothing from itself")?,
-        Why::NotTaken => write!(out, "what was posted there before has not been taken")?,
-        Why::NothingPosted => write!(out, "nothing was posted there that has not been taken")?,
         Why::Forged => write_forged(out, world, event)?,
-        Why::Exhausted => write!(out, "a counter would pass its limit")?,
         _ => write_undue(out, why)?,
     }
     Ok(())
@@ -435,7 +438,7 @@ fn write_forged(out: &mut String, world: &World, event: &Event) -> Result<(), Re
     Ok(())
 }
 
-/// Writes why an actor's conduct has no such step.
+/// Writes why an actor's conduct, or a box, has no such step.
 fn write_undue(out: &mut String, why: &Why) -> Result<(), Refusal> {
     match why {
         Why::PostsFirst { to } => write!(out, "its next step with replicas is the post to {to}")?,
@@ -443,21 +446,32 @@ fn write_undue(out: &mut String, why: &Why) -> Result<(), Refusal> {
             out,
             "its next step with replicas is the take from {from}"
         )?,
-        Why::ChosenBefore => write!(out, "what it proposes is chosen at its post to r0")?,
-        Why::OtherSender { slot, sender } => {
-            write!(
-                out,
-                "the slot that begins with this round, {slot}, has the sender {sender}"
-            )?;
-        }
+        Why::OtherSender { slot, sender } => write!(
+            out,
+            "the slot that begins with this round, {slot}, has the sender {sender}"
+        )?,
         Why::NothingHeld { client } => write!(out, "it holds no ask of {client}")?,
-        Why::BeginsNothing => write!(out, "a replica begins no request")?,
         Why::NothingActed { client } => write!(out, "no request of {client} has acted there yet")?,
-        Why::NoChoice => write!(out, "a replica has no choice at a post to a client")?,
-        Why::ProposesNothing => write!(out, "a client proposes nothing")?,
         Why::Outstanding(number) => write!(out, "its request {number} is outstanding")?,
-        Why::NothingOutstanding => write!(out, "no request of it is outstanding")?,
-        _ => {}
+        _ => out.push_str(reason_of(why))?,
     }
     Ok(())
+}
+
+/// Why an event was refused, where that is said alike each time.
+fn reason_of(why: &Why) -> &'static str {
+    match why {
+        Why::BothClients => "clients post nothing to each other: they tell",
+        Why::NotTwoClients => "only a client tells, and only another client",
+        Why::FromItself => "a client takes nothing from itself",
+        Why::NotTaken => "what was posted there before has not been taken",
+        Why::NothingPosted => "nothing was posted there that has not been taken",
+        Why::Exhausted => "a counter would pass its limit",
+        Why::ChosenBefore => "what it proposes is chosen at its post to r0",
+        Why::BeginsNothing => "a replica begins no request",
+        Why::NoChoice => "a replica has no choice at a post to a client",
+        Why::ProposesNothing => "a client proposes nothing",
+        Why::NothingOutstanding => "no request of it is outstanding",
+        _ => "",
+    }
 }
