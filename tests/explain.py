@@ -89,6 +89,9 @@ NO_PLAYS = [
 
 # What c0 asks, and each replica takes.
 HELD = ["asks c0 begin write a 5", "hears c0"]
+# All close a round, and so the next; r0 and r1 reply, and c0 accepts that.
+ROUND = ["posts *", "takes *"]
+REPLIES = ["post r0 c0", "take c0 r0", "post r1 c0", "take c0 r1"]
 # Lines of a play of three loyal replicas and one client; ends of lines that are told of it; and what is nowhere.
 SAYINGS = [
     # r0 keeps c0's ask back; r1 proposes it, so r2 has no reason to.
@@ -107,6 +110,15 @@ SAYINGS = [
     ([*HELD, "post c0 r1 begin swap a none 6"],
      [": c0 posts to r1, to begin the request swap a none 6", "refused: 1, the first in line 4; those after it may follow from it"], []),
     (HELD, ["    r2 holds the request c0#1:write:a:5"], ["refused"]),
+    # r1 closes round 0, and posts in round 1, before r2 takes its envelope of round 0.
+    ([*HELD, "posts r0 from c0", "posts r1", "posts r2", "takes r0", "takes r1", "posts r1", "take r2 r0", "take r2 r1"],
+     [": r1 posts to r0: round 1 0/c0#1:write:a:5~c0/r0+r1 1/idle/r1", ": r2 takes from r1: empty"], ["r2 takes from r1: round 1"]),
+    # c0 asks twice more before r2 takes its first ask.
+    (["asks c0 begin write a 5", "take r0 c0", "posts r0 from c0", "posts r1", "posts r2", "takes *", *ROUND, *REPLIES,
+      "post c0 r0 begin write a 6", "take r0 c0", *ROUND, "posts r0 from c0", "posts r1", "posts r2", "takes *", *ROUND, *REPLIES,
+      "post c0 r0 begin write a 7", "take r2 c0"],
+     [": c0 posts to r0: ask c0#3:write:a:7~c0", ": r2 takes from c0: ask c0#1:write:a:5~c0", "    r2 holds the request c0#1:write:a:5"],
+     ["r2 takes from c0: ask c0#3"]),
 ]
 
 
