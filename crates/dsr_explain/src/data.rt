@@ -215,9 +215,8 @@ fn write_read(
     };
     out.push_str(CHAIN_AT[replica.number() as usize])?;
     put_number(out, slot)?;
-    match IN_ROUNDS.get(round as usize) {
-        Some(round) => out.push_str(*round)?,
-        None => {}
+    if let Some(round) = IN_ROUNDS.get(round as usize) {
+        out.push_str(*round)?;
     }
     Ok(())
 }

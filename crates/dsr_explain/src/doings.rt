@@ -2,7 +2,7 @@
 
 use crate::pieces::name_of;
 use crate::wanted::{actor_of, other_of};
-use dsr_names::{Actor, Refusal, Shape};
+use dsr_names::{Refusal, Shape};
 use dsr_world::Event;
 use std::alloc::Global;
 use std::fmt::Write;
@@ -12,80 +12,53 @@ static WORDS: [&str; 4] = [" posts to ", " plants for ", " takes from ", " tells
 
 static DATA: [&str; 4] = ["post ", "plant ", "take ", "tell "];
 
-/// What any two actors of a shape did in an event, put together once: in words as `: r0 takes from r1`, as data as `take r0 r1 done`.
+/// What two actors of a shape did in an event, put together when it is first told: in words as `: r0 takes from r1`, as data as
+/// `take r0 r1 done`.
 #[derive(Drop)]
 pub(crate) struct Doings {
     shape: Shape,
-    /// By the kind of the event, the place of who did it, and that of the other.
+    as_data: bool,
+    /// By the kind of the event, the place of who did it, and that of the other. Empty where it was not told yet.
     texts: Vec<String>,
 }
 
 impl Doings {
-    /// All of them, as data or in words. `NoMemory` where memory runs out.
+    /// Nothing told yet, as data or in words. `NoMemory` where memory runs out.
     pub(crate) fn new(alloc: Global, shape: Shape, as_data: bool) -> Result<Doings, Refusal> {
-        let mut texts = Vec::new(alloc);
-        for kind in 0..4 {
-            for actor in 0..shape.size() {
-                for other in 0..shape.size() {
-                    let (actor, other) = (shape.actor_at(actor), shape.actor_at(other));
-                    texts.push(done(alloc, as_data, kind, actor, other)?)?;
-                }
+        let count = shape.size().saturating_mul(shape.size()).saturating_mul(4);
+        let mut texts = Vec::with_capacity(alloc, count)?;
+        for _ in 0..count {
+            texts.push(String::new(alloc))?;
+        }
+        Ok(Doings {
+            shape,
+            as_data,
+            texts,
+        })
+    }
+
+    /// Writes what was done by this event, whose actors are of the shape.
+    pub(crate) fn write_done(&mut self, out: &mut String, event: &Event) -> Result<(), Refusal> {
+        let (place, as_data) = (self.place(event), self.as_data);
+        if let Some(text) = self.texts.get_mut(place) {
+            if text.is_empty() {
+                write_doing(text, as_data, event)?;
+                text.push_str(if as_data { " done" } else { "" })?;
             }
+            out.push_str(text.as_str())?;
         }
-        Ok(Doings { shape, texts })
+        Ok(())
     }
 
-    /// What was done by this event, whose actors are of the shape.
-    pub(crate) fn done(&self, event: &Event) -> &str {
+    /// The place of what was done by this event.
+    fn place(&self, event: &Event) -> usize {
         let actors = self.shape.size();
-        let (actor, other) = (actor_of(event), other_of(event));
-        let place = kind_of(event)
+        kind_of(event)
             .saturating_mul(actors)
-            .saturating_add(self.shape.place(&actor))
+            .saturating_add(self.shape.place(&actor_of(event)))
             .saturating_mul(actors)
-            .saturating_add(self.shape.place(&other));
-        match self.texts.get(place) {
-            Some(text) => text.as_str(),
-            None => "",
-        }
+            .saturating_add(self.shape.place(&other_of(event)))
     }
-}
-
-/// What the actor did to the other in an event of this kind.
-fn done(
-    alloc: Global,
-    as_data: bool,
-    kind: usize,
-    actor: Actor,
-    other: Actor,
-) -> Result<String, Refusal> {
-    let mut text = String::with_capacity(alloc, 24)?;
-    write_doing(&mut text, as_data, kind, actor, other)?;
-    if as_data {
-        text.push_str(" done")?;
-    }
-    Ok(text)
-}
-
-/// Writes what the actor does to the other in events of this kind.
-fn write_doing(
-    out: &mut String,
-    as_data: bool,
-    kind: usize,
-    actor: Actor,
-    other: Actor,
-) -> Result<(), Refusal> {
-    if as_data {
-        out.push_str(word_of(&DATA, kind))?;
-        out.push_str(name_of(actor))?;
-        out.push_str(" ")?;
-    } else {
-        out.push_str(": ")?;
-        out.push_str(name_of(actor))?;
-        out.push_str(word_of(&WORDS, kind))?;
-    }
-    out.push_str(name_of(other))?;
-    Ok(())
 }
 
 /// Writes what was not done by this event, and how it was refused.
@@ -96,19 +69,29 @@ pub(crate) fn write_refused(
     refusal: &Refusal,
 ) -> Result<(), Refusal> {
     let (code, word) = (refusal.code(), refusal.word());
-    if !as_data {
-        write!(out, ": refused, E{code} {word}")?;
-    }
-    write_doing(
-        out,
-        as_data,
-        kind_of(event),
-        actor_of(event),
-        other_of(event),
-    )?;
     if as_data {
+        write_doing(out, as_data, event)?;
         write!(out, " E{code}")?;
+    } else {
+        write!(out, ": refused, E{code} {word}")?;
+        write_doing(out, as_data, event)?;
     }
+    Ok(())
+}
+
+/// Writes who does what to whom by this event.
+fn write_doing(out: &mut String, as_data: bool, event: &Event) -> Result<(), Refusal> {
+    let (kind, actor) = (kind_of(event), name_of(actor_of(event)));
+    if as_data {
+        out.push_str(word_of(&DATA, kind))?;
+        out.push_str(actor)?;
+        out.push_str(" ")?;
+    } else {
+        out.push_str(": ")?;
+        out.push_str(actor)?;
+        out.push_str(word_of(&WORDS, kind))?;
+    }
+    out.push_str(name_of(other_of(event)))?;
     Ok(())
 }
 

@@ -7,13 +7,13 @@ use itoa::Buffer;
 pub(crate) const MOST_ACTORS: usize = 48;
 
 /// The names of replicas, by their numbers.
-pub(crate) static REPLICAS: [&str; 16] = [
+static REPLICAS: [&str; 16] = [
     "r0", "r1", "r2", "r3", "r4", "r5", "r6", "r7", "r8", "r9", "r10", "r11", "r12", "r13", "r14",
     "r15",
 ];
 
 /// The names of clients, by their numbers.
-pub(crate) static CLIENTS: [&str; 32] = [
+static CLIENTS: [&str; 32] = [
     "c0", "c1", "c2", "c3", "c4", "c5", "c6", "c7", "c8", "c9", "c10", "c11", "c12", "c13", "c14",
     "c15", "c16", "c17", "c18", "c19", "c20", "c21", "c22", "c23", "c24", "c25", "c26", "c27",
     "c28", "c29", "c30", "c31",

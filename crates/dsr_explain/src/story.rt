@@ -186,7 +186,7 @@ impl Story {
         )?;
         match refusal {
             Some(refusal) => write_refused(&mut self.out, self.wanted.data, event, &refusal)?,
-            None => self.out.push_str(self.doings.done(event))?,
+            None => self.doings.write_done(&mut self.out, event)?,
         }
         write_end(&mut self.out, self.wanted.data, event, told)?;
         write_notes(&mut self.out, &self.world, &self.wanted, event, notes, told)

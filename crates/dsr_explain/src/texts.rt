@@ -167,6 +167,7 @@ impl Texts {
             return self.note_posted(alloc, event, envelope);
         }
         if let Event::Take { .. } = event {
+            // What a client asked before its last two requests may lie still, and is told anew.
             if self.told(event, true).is_some() {
                 return Ok(());
             }
