@@ -89,7 +89,7 @@ NO_PLAYS = [
 
 # What c0 asks, and each replica takes.
 HELD = ["asks c0 begin write a 5", "hears c0"]
-# All close a round, and so the next; r0 and r1 reply, and c0 accepts that.
+# All post and take, and so each closes a round; and r0 and r1 reply, which c0 accepts.
 ROUND = ["posts *", "takes *"]
 REPLIES = ["post r0 c0", "take c0 r0", "post r1 c0", "take c0 r1"]
 # Lines of a play of three loyal replicas and one client; ends of lines that are told of it; and what is nowhere.
