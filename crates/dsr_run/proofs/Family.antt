@@ -30,18 +30,18 @@ use Rattle.dsr_run.proofs.Posts.{IsValue, IsOfSlot, post_of_slot, part_at, part_
 
 -- ---- places
 
-some_at : {A : Type 0} (xs : List A) (place : ℕ) → place < length xs → (x : A) × (slice_get xs place ≡ Some x)
+pub some_at : {A : Type 0} (xs : List A) (place : ℕ) → place < length xs → (x : A) × (slice_get xs place ≡ Some x)
 some_at [] place inside = absurd (omega (arith, inside))
 some_at (x ∷ xs) zero inside = (x, refl)
 some_at (x ∷ xs) (suc place) inside = some_at xs place (omega (arith, inside))
 
 -- what was taken at a place was posted at that place
-at_place : (posted taken : List Envelope) → IsBox posted taken → (place : ℕ) (x : Envelope) → slice_get taken place ≡ Some x
+pub at_place : (posted taken : List Envelope) → IsBox posted taken → (place : ℕ) (x : Envelope) → slice_get taken place ≡ Some x
     → slice_get posted place ≡ Some x
 at_place posted taken (inl empty) place x e = ap (λ xs. slice_get xs place) empty ∙ e
 at_place posted taken (inr full) place x e = ap (λ xs. slice_get xs place) full.1 ∙ get_grown taken (full.0 ∷ []) place x e
 
-at_least : (posted taken : List Envelope) → IsBox posted taken → length taken ≤ length posted
+pub at_least : (posted taken : List Envelope) → IsBox posted taken → length taken ≤ length posted
 at_least posted taken (inl empty) = let same = ap length empty in omega (arith, same)
 at_least posted taken (inr full) = let same = ap length full.1 in let more = length_push taken full.0 in omega (arith, same, more)
 

@@ -40,7 +40,7 @@ In-reverse x (y ∷ xs) h =
       | inr last ↦ here (In-one x y last)
     ]
 
-In-reversed : {A : Type 0} (x : A) (xs : List A) → In x xs → In x (reverse xs)
+pub In-reversed : {A : Type 0} (x : A) (xs : List A) → In x xs → In x (reverse xs)
 In-reversed x [] h = h
 In-reversed x (y ∷ xs) (here e) = subst (In x) (sym (reverse-append (y ∷ []) xs)) (In-append_right x (reverse xs) (y ∷ []) (here e))
 In-reversed x (y ∷ xs) (there h) =

@@ -1,7 +1,10 @@
 pub mod Agreement
+pub mod Answered
 pub mod Blind
+pub mod Eager
 pub mod History
 pub mod Known
+pub mod Linearizable
 pub mod OwnStep
 pub mod Right
 pub mod Run

@@ -1,14 +1,18 @@
 //! The headline: what clients accept is right. Laws of runs, as the contracts of functions that do nothing.
 
-ghost use Rattle.std.specs.Prelude.{ℕ, ◌*◌, ◌<◌, List};
+ghost use Rattle.std.specs.Prelude.{◌≡◌, ℕ, ◌*◌, ◌<◌, List};
+ghost use Rattle.dsr_base.specs.Growth.{Extends};
 ghost use Rattle.dsr_base.specs.Member.{In};
 ghost use Rattle.dsr_names.specs.Shape.{Shape, HasFewTraitors};
+ghost use Rattle.dsr_names.specs.declared.actor.Actor.{Actor};
 ghost use Rattle.dsr_names.specs.declared.actor.Actor.TheVariants.{Client};
+ghost use Rattle.dsr_request.specs.Request.{Request};
 ghost use Rattle.dsr_ledger.specs.declared.reply.Reply.{Reply as AReply};
 ghost use Rattle.dsr_run.specs.History.{accepted_by, history};
+ghost use Rattle.dsr_run.specs.Linearizable.{IsInvoked, HasResponse, Precedes, IsLinearization, AreStronglyLinearizable, LinearizesLogs};
 ghost use Rattle.dsr_run.specs.Right.{IsRightReply, IsRight, TookAllReplies, HasReplyTo};
-ghost use Rattle.dsr_run.specs.Run.{IsRun};
-ghost use Rattle.dsr_run.specs.Step.{Step, log_of};
+ghost use Rattle.dsr_run.specs.Run.{IsRun, AreLogs};
+ghost use Rattle.dsr_run.specs.Step.{Step, Logs, log_of};
 
 /// Every run is right, where at most f replicas are traitors. For each reply that a client accepted, the request that the client
 /// posted under its number stands in the history at the reply's place, with the reply's answer, and that place is not before what the
@@ -25,4 +29,40 @@ pub fn runs_are_right()
 pub fn clients_are_answered()
     ensures { (shape : Shape) (run : List Step) → HasFewTraitors shape → 2 * shape.f < shape.n → IsRun shape run
         → (c number : ℕ) → TookAllReplies shape (log_of run (Client c)) number → HasReplyTo number (accepted_by shape (log_of run) c) }
+{}
+
+/// Runs are strongly linearizable, in the order of their steps, where at most f replicas are traitors: each request seems to act at one
+/// instant between its client's first ask for it and the reply that the client accepts, and what seems to have happened stays so. Of
+/// logs one order linearizes every run with these logs, in whichever order the steps came about.
+///
+/// By any clock: where the logs of all actors were those of a run both at an earlier and at a later moment, and by the earlier one a
+/// request had a response when another one was not yet invoked, whoever their clients are, the other one has the greater place.
+pub fn runs_are_linearizable()
+    ensures strongly { (shape : Shape) → HasFewTraitors shape → AreStronglyLinearizable shape }
+    ensures logs { (shape : Shape) (logs : Logs) → HasFewTraitors shape → (order : List Request) × LinearizesLogs shape logs order }
+    ensures moments { (shape : Shape) (logs earlier : Logs) → HasFewTraitors shape → AreLogs shape logs → AreLogs shape earlier
+        → ((a : Actor) → Extends (logs a) (earlier a)) → (first second : Request) (reply later : AReply)
+        → HasResponse shape earlier first reply → ¬ IsInvoked earlier second → HasResponse shape logs second later → reply.place < later.place }
+{}
+
+/// The order that linearizes a run, where at most f replicas are traitors, is the history, which is one of the logs alone.
+pub fn history_linearizes()
+    ensures run { (shape : Shape) (run : List Step) → HasFewTraitors shape → IsRun shape run
+        → IsLinearization shape run (history shape (log_of run)) }
+    ensures logs { (shape : Shape) (logs : Logs) → HasFewTraitors shape → LinearizesLogs shape logs (history shape logs) }
+{}
+
+/// What the definition means, of any run and any order that linearizes it: of two answered requests of which the first had its response
+/// when the second was not yet invoked, the second has the greater place.
+pub fn linearizations_keep_real_time()
+    ensures { (shape : Shape) (run moment : List Step) (order : List Request) → IsLinearization shape run order → Extends run moment
+        → (first second : Request) (reply later : AReply) → HasResponse shape (log_of moment) first reply → ¬ IsInvoked (log_of moment) second
+        → HasResponse shape (log_of run) second later → reply.place < later.place }
+{}
+
+/// Each client invokes one request after another: what is invoked of a client precedes in real time what is invoked of it under a
+/// greater number. So runs are well-formed histories (Herlihy and Wing 1990), however many are traitors.
+pub fn clients_take_turns()
+    ensures { (shape : Shape) (run : List Step) → IsRun shape run → (first second : Request) → IsInvoked (log_of run) first
+        → IsInvoked (log_of run) second → first.client ≡ second.client → first.number < second.number → Precedes shape run first second }
 {}
