@@ -33,12 +33,12 @@ use Rattle.dsr_boxes.proofs.Moves.{IsMove, IsHome, moved}
 use Rattle.dsr_boxes.proofs.Numbers.{one_word, slot_below, word_below}
 
 -- a word is not two numbers
-never : (n a b : ℕ) → n ≡ a → n ≡ b → a ≢ b → ⊥
+pub never : (n a b : ℕ) → n ≡ a → n ≡ b → a ≢ b → ⊥
 never n a b e f apart = apart (sym e ∙ f)
 
 -- ---- what lies at home
 
-home_is : (homes : List (maybe.Option (Option Envelope))) (slot : ℕ) (x : maybe.Option (Option Envelope)) → slot < length homes
+pub home_is : (homes : List (maybe.Option (Option Envelope))) (slot : ℕ) (x : maybe.Option (Option Envelope)) → slot < length homes
     → IsHome homes (slice_set homes slot x) slot (some x)
 home_is homes slot x low = record { long = length-set homes slot x; own = set_here homes slot x low; others = λ k apart. set_else homes slot k x apart }
 
@@ -46,17 +46,18 @@ home_is homes slot x low = record { long = length-set homes slot x; own = set_he
 
 module _ (shape : Shape) (run : List Step) where
   -- what a box holds is within the limits
-  held_within : IsRun shape run → (me from : Actor) (x : Envelope) → posted_to me (log_of run from) ≡ taken_from from (log_of run me) ++ x ∷ [] → IsEnvelope x
+  pub held_within : IsRun shape run → (me from : Actor) (x : Envelope) → posted_to me (log_of run from) ≡ taken_from from (log_of run me) ++ x ∷ [] → IsEnvelope x
   held_within is me from x full =
       let stands : In x (posted_to me (log_of run from)) =
       subst (In x) (sym full) (In-append_right x (taken_from from (log_of run me)) (x ∷ []) (here refl)) in
       posted_within shape run is from me x (posted_entry me (log_of run from) x stands)
 
   -- a step that is none of a run
-  silent : (me p q : Actor) (old new : ℕ) (home : maybe.Option (maybe.Option (Option Envelope))) → IsRun shape run → (old ≡ 1 → p ≡ me) → (old ≡ 3 → q ≡ me)
+  pub silent : (me p q : Actor) (old new : ℕ) (home : maybe.Option (maybe.Option (Option Envelope))) → IsRun shape run → (old ≡ 1 → p ≡ me) → (old ≡ 3 → q ≡ me)
       → Agrees new (posted_to q (log_of run p)) (taken_from p (log_of run q)) home → IsMove shape run run me p q old new home
   silent me p q old new home is fills empties agrees = record {
     is = is;
+    grows = ([], refl);
     others = λ a apart. refl;
     fills = fills;
     empties = empties;
@@ -90,11 +91,12 @@ module _ (shape : Shape) (run : List Step) where
       hit = ap (λ b. if b then taken_from from (log_of run me) ++ x ∷ [] else taken_from from (log_of run me)) ((actor_eq-Decides from from).1 refl)
 
   -- a post, of a box whose poster fills it
-  posting : (me to : Actor) (x : Envelope) (old : ℕ) → IsRun shape run → IsNextStep shape (log_of run) (me, Post to x) → (old ≡ 3 → to ≡ me)
+  pub posting : (me to : Actor) (x : Envelope) (old : ℕ) → IsRun shape run → IsNextStep shape (log_of run) (me, Post to x) → (old ≡ 3 → to ≡ me)
       → posted_to to (log_of run me) ≡ taken_from me (log_of run to)
       → IsMove shape run ((me, Post to x) ∷ run) me me to old 2 (some (some (Some x)))
   posting me to x old is next empties empty = record {
     is = (is, next);
+    grows = ((me, Post to x) ∷ [], refl);
     others = λ a apart. other_log me (Post to x) a apart;
     fills = λ e. refl;
     empties = empties;
@@ -107,12 +109,13 @@ module _ (shape : Shape) (run : List Step) where
   }
 
   -- a take, of a box that is full
-  taking : (me from : Actor) (x : Envelope) (old : ℕ) (home : maybe.Option (maybe.Option (Option Envelope))) → IsRun shape run
+  pub taking : (me from : Actor) (x : Envelope) (old : ℕ) (home : maybe.Option (maybe.Option (Option Envelope))) → IsRun shape run
       → IsNextStep shape (log_of run) (me, Take from x) → (old ≡ 1 → from ≡ me)
       → posted_to me (log_of run from) ≡ taken_from from (log_of run me) ++ x ∷ []
       → IsMove shape run ((me, Take from x) ∷ run) me from me old 3 home
   taking me from x old home is next fills full = record {
     is = (is, next);
+    grows = ((me, Take from x) ∷ [], refl);
     others = λ a apart. other_log me (Take from x) a apart;
     fills = fills;
     empties = λ e. refl;
@@ -124,22 +127,22 @@ module _ (shape : Shape) (run : List Step) where
     agrees = posted_still me from x run from me ∙ (full ∙ sym (take_own me from x));
   }
 
+pub set_same : (ns : List ℕ) (i : ℕ) → slice_set ns i (slice_index ns i) ≡ ns
+set_same [] i = refl
+set_same (n ∷ ns) zero = refl
+set_same (n ∷ ns) (suc i) = λ j. n ∷ set_same ns i j
+
 -- nothing changed
 pub unmoved : (shape : Shape) (table : Table) (i id : ℕ) (v : View) → get_elem? table.views id ≡ some v → Kept shape table
     → Kept shape (record { words = slice_set table.words i (slice_index table.words i); homes = table.homes; views = slice_set table.views id v })
 unmoved shape table i id v there kept =
     subst (λ ws. Kept shape (record { words = ws; homes = table.homes; views = slice_set table.views id v })) (sym (set_same table.words i))
     (subst (λ vs. Kept shape (record { words = table.words; homes = table.homes; views = vs })) (sym (set_again table.views id v there)) kept)
-  where
-    set_same : (ns : List ℕ) (i : ℕ) → slice_set ns i (slice_index ns i) ≡ ns
-    set_same [] i = refl
-    set_same (n ∷ ns) zero = refl
-    set_same (n ∷ ns) (suc i) = λ j. n ∷ set_same ns i j
 
 -- ---- the steps
 
 -- the log of an actor in a run
-in_run : (shape : Shape) (run : List Step) → IsRun shape run → (me : Actor) (log : List Entry) → log_of run me ≡ log → IsInRun shape me log
+pub in_run : (shape : Shape) (run : List Step) → IsRun shape run → (me : Actor) (log : List Entry) → log_of run me ≡ log → IsInRun shape me log
 in_run shape run is me log own = record { logs = log_of run; are = record { run = run; is = is; each = λ a. refl }; own = own }
 
 module _ (shape : Shape) (slots id : ℕ) (me : Actor) (log : List Entry) (in_me : IsActor shape me) where
@@ -153,7 +156,7 @@ module _ (shape : Shape) (slots id : ℕ) (me : Actor) (log : List Entry) (in_me
     abbrev claim_step : TableStep (Option Envelope)
     claim_step = step slots (word_of shape me to) 0 1 none
 
-    claim_hit : (s : Table) → (kept : Kept shape s) → get_elem? s.views id ≡ some (sitting shape me log Resting) → slice_index s.words (word_of shape me to) ≡ 0
+    unfoldable pub claim_hit : (s : Table) → (kept : Kept shape s) → get_elem? s.views id ≡ some (sitting shape me log Resting) → slice_index s.words (word_of shape me to) ≡ 0
         → Outcome s (word_of shape me to) [] (Claims claim_step (resting shape me log)) 1
     claim_hit s kept there empty =
         let box = subst (λ w. Agrees w (posted_to to (log_of kept.run me)) (taken_from me (log_of kept.run to)) (get_elem? s.homes (slot_of shape me to)))
@@ -196,7 +199,7 @@ module _ (shape : Shape) (slots id : ℕ) (me : Actor) (log : List Entry) (in_me
       abbrev publish_step : TableStep (Option Envelope)
       publish_step = step slots (word_of shape me to) 1 2 none
 
-      publish_hit : (s : Table) → (kept : Kept shape s) → get_elem? s.views id ≡ some (sitting shape me log (Filling to))
+      unfoldable pub publish_hit : (s : Table) → (kept : Kept shape s) → get_elem? s.views id ≡ some (sitting shape me log (Filling to))
           → slice_index s.words (word_of shape me to) ≡ 1
           → Outcome s (word_of shape me to) ((slot_of shape me to, Some x) ∷ []) (Publishes publish_step (filling shape me log to (Some x))) 2
       publish_hit s kept there fills =
@@ -238,7 +241,7 @@ module _ (shape : Shape) (slots id : ℕ) (me : Actor) (log : List Entry) (in_me
       abbrev fetch_step : TableStep (Option Envelope)
       fetch_step = step slots (word_of shape from me) 2 3 none
 
-      fetch_hit : (s : Table) → (kept : Kept shape s) → get_elem? s.views id ≡ some (sitting shape me log Resting) → slice_index s.words (word_of shape from me) ≡ 2
+      unfoldable pub fetch_hit : (s : Table) → (kept : Kept shape s) → get_elem? s.views id ≡ some (sitting shape me log Resting) → slice_index s.words (word_of shape from me) ≡ 2
           → Outcome s (word_of shape from me) [] (Fetches fetch_step (resting shape me log)) 3
       fetch_hit s kept there full =
           let own = kept.stand id (sitting shape me log Resting) there in
@@ -293,7 +296,7 @@ module _ (shape : Shape) (slots id : ℕ) (me : Actor) (log : List Entry) (in_me
     abbrev release_step : TableStep (Option Envelope)
     release_step = step slots (word_of shape from me) 3 0 none
 
-    release_hit : (s : Table) → (kept : Kept shape s) → get_elem? s.views id ≡ some (sitting shape me log (Emptying from))
+    unfoldable pub release_hit : (s : Table) → (kept : Kept shape s) → get_elem? s.views id ≡ some (sitting shape me log (Emptying from))
         → slice_index s.words (word_of shape from me) ≡ 3
         → Outcome s (word_of shape from me) ((slot_of shape from me, None) ∷ []) (Releases release_step (emptying shape me log from None)) 0
     release_hit s kept there empties =

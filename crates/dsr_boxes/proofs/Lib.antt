@@ -2,7 +2,10 @@ pub mod BoxSteps
 pub mod Dealing
 pub mod FewPosts
 pub mod FirstRound
+pub mod Looking
 pub mod Moves
 pub mod Numbers
+pub mod Ordering
 pub mod Parts
+pub mod Plainly
 pub mod Told

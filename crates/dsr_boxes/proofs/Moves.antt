@@ -1,31 +1,35 @@
 -- A step on one box keeps the rule: the views of others stand on, and other boxes are as they were.
-use Rattle.std.proofs.Common.{◌≡◌, ◌≢◌, ℕ, ◌+◌, ◌<◌, List, length, ◌⊎◌, inl, inr, ⊎_elim, sym, ◌∙◌, subst, arith}
+use Rattle.std.proofs.Common.{◌≡◌, ◌≢◌, ℕ, ◌+◌, ◌<◌, List, [], ◌∷◌, length, ◌⊎◌, inl, inr, ⊎_elim, sym, ◌∙◌, subst, arith}
 use Rattle.std.specs.Prelude.{Option, slice_index, slice_set}
 use Rattle.std.proofs.lemmas.List.{get_or-set_same, get_or-set_other, length-set}
 use mathlib.Core.Option.{some}
 use mathlib.Core.Option as maybe
 use lib.ListN.{get_elem?}
 use Rattle.atomic_table.proofs.Lists.{at_set}
+use Rattle.dsr_base.specs.Growth.{Extends}
 use Rattle.dsr_names.specs.Places.{place_of}
 use Rattle.dsr_names.specs.Shape.{Shape, IsActor}
 use Rattle.dsr_names.specs.declared.actor.Actor.{Actor}
 use Rattle.dsr_envelope.specs.declared.envelope.Envelope.{Envelope}
+use Rattle.dsr_envelope.specs.declared.entry.Entry.{Entry}
 use Rattle.dsr_envelope.specs.Log.{posted_to, taken_from}
 use Rattle.dsr_run.specs.Run.{IsRun}
 use Rattle.dsr_run.specs.Step.{Step, log_of}
+use Rattle.dsr_run.proofs.Lemmas.{extends_on}
 use Rattle.dsr_boxes.specs.declared.view.Doing.{Doing}
-use Rattle.dsr_boxes.specs.declared.view.Doing.TheVariants.{Resting, Filling, Emptying}
+use Rattle.dsr_boxes.specs.declared.view.Doing.TheVariants.{Resting, Filling, Emptying, Recalling}
 use Rattle.dsr_boxes.specs.declared.view.Part.{Part}
-use Rattle.dsr_boxes.specs.declared.view.Part.TheVariants.{Keeping, Sitting}
+use Rattle.dsr_boxes.specs.declared.view.Part.TheVariants.{Keeping, Sitting, Watching}
 use Rattle.dsr_boxes.specs.declared.view.View.{View}
 use Rattle.dsr_boxes.specs.Place.{slot_of, word_of}
-use Rattle.dsr_boxes.specs.Rule.{Table, IsOf, IsDoing, Stands, Agrees, IsHead, Kept}
+use Rattle.dsr_boxes.specs.Rule.{Table, IsOf, IsDoing, HasLogs, ArePast, Stands, Agrees, IsHead, Kept}
 use Rattle.dsr_boxes.proofs.Numbers.{word_below, one_or_apart}
 
 -- what a step of `me` on the box from p to q makes of a run, if it adds to it; the box's word, as it was and as it is; and what lies at home
 -- in its slot then
 pub record IsMove (shape : Shape) (run after : List Step) (me p q : Actor) (old new : ℕ) (home : maybe.Option (maybe.Option (Option Envelope))) : Type 0 where
   pub is : IsRun shape after
+  pub grows : Extends after run
   pub others : (a : Actor) → me ≢ a → log_of after a ≡ log_of run a
   pub fills : old ≡ 1 → p ≡ me
   pub empties : old ≡ 3 → q ≡ me
@@ -48,7 +52,7 @@ module _ (shape : Shape) (run after : List Step) (me p q : Actor) (words : List 
   word_other : (a b : Actor) → word_of shape a b ≢ word_of shape p q → slice_index changed (word_of shape a b) ≡ slice_index words (word_of shape a b)
   word_other a b apart = get_or-set_other words (word_of shape p q) (word_of shape a b) new 0 apart
 
-  doing_on : (who : Actor) → IsActor shape who → me ≢ who → (doing : Doing) → IsDoing shape words who doing → IsDoing shape changed who doing
+  doing_on : (who : Actor) → IsActor shape who → me ≢ who → (doing : Doing) → IsDoing shape words run who doing → IsDoing shape changed after who doing
   doing_on who inside apart Resting is = tt
   doing_on who inside apart (Filling to) is = elim (one_or_apart shape who to p q inside is.0 in_p in_q) [
     | inr other ↦ (is.0, word_other who to other.1 ∙ is.1)
@@ -62,16 +66,28 @@ module _ (shape : Shape) (run after : List Step) (me p q : Actor) (words : List 
         let three = subst (λ a. slice_index words (word_of shape a q) ≡ 3) same.0 (subst (λ b. slice_index words (word_of shape from b) ≡ 3) same.1 is.1) in
         absurd (apart (sym (move.empties three) ∙ sym same.1))
   ]
+  doing_on who inside apart (Recalling past) is = extends_on after run past move.grows is
+
+  past_on : (moments : List (List Step)) → ArePast run moments → ArePast after moments
+  past_on [] are = tt
+  past_on (past ∷ moments) are = (extends_on after run past move.grows are.0, past_on moments are.1)
+
+  logs_on : (kept : List (List Entry)) → ((a : Actor) → IsActor shape a → place_of shape a < length kept → me ≢ a) → HasLogs shape run kept → HasLogs shape after kept
+  logs_on kept apart stand a inside low = move.others a (apart a inside low) ∙ stand a inside low
 
   -- the view of others stands on
-  stands_on : (part : Part) → ¬ IsOf shape part me → Stands shape words (log_of run) part → Stands shape changed (log_of after) part
+  pub stands_on : (part : Part) → ¬ IsOf shape part me → Stands shape words run part → Stands shape changed after part
   stands_on (Keeping kept) apart stand =
-      λ a inside low. move.others a (λ e. apart (subst (λ x. IsActor shape x × (place_of shape x < length kept)) (sym e) (inside, low))) ∙ stand a inside low
+      logs_on kept (λ a inside low e. apart (subst (λ x. IsActor shape x × (place_of shape x < length kept)) (sym e) (inside, low))) stand
+  stands_on (Watching kept moments) apart stand = (
+    logs_on kept (λ a inside low e. apart (subst (λ x. IsActor shape x × (place_of shape x < length kept)) (sym e) (inside, low))) stand.0,
+    past_on moments stand.1,
+  )
   stands_on (Sitting who log doing) apart stand =
       let other : me ≢ who = λ e. apart (sym e) in
       (stand.0, move.others who other ∙ stand.1, doing_on who stand.0 other doing stand.2)
 
-  box_on : (homes homes_after : List (maybe.Option (Option Envelope))) → IsHome homes homes_after (slot_of shape p q) home
+  pub box_on : (homes homes_after : List (maybe.Option (Option Envelope))) → IsHome homes homes_after (slot_of shape p q) home
       → word_of shape p q < length words → (a b : Actor) → IsActor shape a → IsActor shape b
       → Agrees (slice_index words (word_of shape a b)) (posted_to b (log_of run a)) (taken_from a (log_of run b)) (get_elem? homes (slot_of shape a b))
       → Agrees (slice_index changed (word_of shape a b)) (posted_to b (log_of after a)) (taken_from a (log_of after b)) (get_elem? homes_after (slot_of shape a b))
@@ -93,7 +109,7 @@ module _ (shape : Shape) (run after : List Step) (me p q : Actor) (words : List 
         (subst (λ h. Agrees (slice_index words (word_of shape a b)) (posted_to b (log_of run a)) (taken_from a (log_of run b)) h) (sym (at.others (slot_of shape a b) other.0)) agrees)))
   ]
 
-  head_on : IsHead shape words → IsHead shape changed
+  pub head_on : IsHead shape words → IsHead shape changed
   head_on head = record {
     n = first 0 (omega arith) ∙ head.n;
     f = first 1 (omega arith) ∙ head.f;
@@ -108,12 +124,12 @@ module _ (shape : Shape) (run after : List Step) (me p q : Actor) (words : List 
           behind slot i low e = omega (arith, low, e)
 
 -- a step of `me`, whose view has the number `id`, on the box from p to q keeps the rule
-pub moved : (shape : Shape) (table : Table) (kept : Kept shape table) (after : List Step) (me p q : Actor) (new : ℕ) (home : maybe.Option (maybe.Option (Option Envelope)))
+unfoldable pub moved : (shape : Shape) (table : Table) (kept : Kept shape table) (after : List Step) (me p q : Actor) (new : ℕ) (home : maybe.Option (maybe.Option (Option Envelope)))
     → IsMove shape kept.run after me p q (slice_index table.words (word_of shape p q)) new home → IsActor shape p → IsActor shape q
     → (homes : List (maybe.Option (Option Envelope))) → IsHome table.homes homes (slot_of shape p q) home
     → (id : ℕ) (v w : View) → get_elem? table.views id ≡ some v → IsOf shape v.part me
     → ((a : Actor) → IsOf shape w.part a → IsOf shape v.part a)
-    → Stands shape (slice_set table.words (word_of shape p q) new) (log_of after) w.part
+    → Stands shape (slice_set table.words (word_of shape p q) new) after w.part
     → Kept shape (record { words = slice_set table.words (word_of shape p q) new; homes = homes; views = slice_set table.views id w })
 moved shape table kept after me p q new home move in_p in_q homes at id v w there own same stand = record {
   allowed = kept.allowed;
@@ -123,7 +139,7 @@ moved shape table kept after me p q new home move in_p in_q homes at id v w ther
   wide = length-set table.words (word_of shape p q) new ∙ kept.wide;
   deep = at.long ∙ kept.deep;
   stand = λ i u e. elim (at_set table.views id i w u e) [
-    | inl here ↦ subst (λ x. Stands shape (slice_set table.words (word_of shape p q) new) (log_of after) x.part) here.1 stand
+    | inl here ↦ subst (λ x. Stands shape (slice_set table.words (word_of shape p q) new) after x.part) here.1 stand
     | inr other ↦
         stands_on shape kept.run after me p q table.words new home move in_p in_q u.part
         (λ of_me. other.0 (kept.apart i id u v me other.1 there of_me own)) (kept.stand i u other.1)

@@ -22,6 +22,7 @@ use Rattle.dsr_run.proofs.Lemmas.{actors_within, no_logs}
 use Rattle.dsr_boxes.specs.declared.view.Doing.TheVariants.{Resting}
 use Rattle.dsr_boxes.specs.declared.view.Part.TheVariants.{Keeping, Sitting}
 use Rattle.dsr_boxes.specs.declared.view.View.{View}
+use Rattle.dsr_boxes.specs.Moves.{GoesOn}
 use Rattle.dsr_boxes.specs.Pass.{IsInRun, logs_in}
 use Rattle.dsr_boxes.specs.Place.{slot_of, word_of}
 use Rattle.dsr_boxes.specs.Play.{Learns, Enters as EntersAs, without_last, last_alone, with_next, spent}
@@ -51,7 +52,7 @@ actor_inside shape place low = by_test (nat_lt place shape.n) refl
     by_test false e = grind (arith, nat_tests)
 
 -- the last of a longer list, or one of the list
-at_end : {A : Type 0} (l : List A) (a b : A) (j : ℕ) → get_elem? (l ++ a ∷ []) j ≡ some b → (get_elem? l j ≡ some b) ⊎ ((j ≡ length l) × (a ≡ b))
+pub at_end : {A : Type 0} (l : List A) (a b : A) (j : ℕ) → get_elem? (l ++ a ∷ []) j ≡ some b → (get_elem? l j ≡ some b) ⊎ ((j ≡ length l) × (a ≡ b))
 at_end [] a b zero e = inr (refl, some-injective a b e)
 at_end [] a b (suc j) e = absurd (some-ne-none b (sym e))
 at_end (x ∷ xs) a b zero e = inl e
@@ -67,14 +68,14 @@ at_below (x ∷ xs) a zero e = omega arith
 at_below (x ∷ xs) a (suc j) e = let low = at_below xs a j e in omega (arith, low)
 
 -- the view with this number stands for the actor
-record Owner (shape : Shape) (views : List View) (i : ℕ) (a : Actor) : Type 0 where
-  view : View
-  there : get_elem? views i ≡ some view
-  own : IsOf shape view.part a
+pub record Owner (shape : Shape) (views : List View) (i : ℕ) (a : Actor) : Type 0 where
+  pub view : View
+  pub there : get_elem? views i ≡ some view
+  pub own : IsOf shape view.part a
 
 -- other views, by which each actor still has one owner
-reviewed : (shape : Shape) (table : Table) (kept : Kept shape table) (views : List View)
-    → ((i : ℕ) (v : View) → get_elem? views i ≡ some v → Stands shape table.words (log_of kept.run) v.part)
+abbrev pub reviewed : (shape : Shape) (table : Table) (kept : Kept shape table) (views : List View)
+    → ((i : ℕ) (v : View) → get_elem? views i ≡ some v → Stands shape table.words kept.run v.part)
     → ((i j : ℕ) (a : Actor) → Owner shape views i a → Owner shape views j a → i ≡ j)
     → Kept shape (record { words = table.words; homes = table.homes; views = views })
 reviewed shape table kept views stand apart = record {
@@ -90,7 +91,7 @@ reviewed shape table kept views stand apart = record {
 }
 
 -- two owners of old
-old_apart : (shape : Shape) (table : Table) (kept : Kept shape table) (i j : ℕ) (a : Actor) → Owner shape table.views i a → Owner shape table.views j a → i ≡ j
+pub old_apart : (shape : Shape) (table : Table) (kept : Kept shape table) (i j : ℕ) (a : Actor) → Owner shape table.views i a → Owner shape table.views j a → i ≡ j
 old_apart shape table kept i j a one two = kept.apart i j one.view two.view a one.there two.there one.own two.own
 
 -- ---- a pass is parted from the token of all
@@ -115,22 +116,22 @@ module _ (shape : Shape) (id : ℕ) (log : List Entry) (logs : List (List Entry)
     abbrev parted : List View
     parted = slice_set table.views id fewer ++ alone ∷ []
 
-    stand_all : Stands shape table.words (log_of kept.run) (Keeping (log ∷ logs))
+    stand_all : Stands shape table.words kept.run (Keeping (log ∷ logs))
     stand_all = kept.stand id all there
 
-    fewer_stands : Stands shape table.words (log_of kept.run) (Keeping logs)
+    fewer_stands : Stands shape table.words kept.run (Keeping logs)
     fewer_stands a inside lower = stand_all a inside (omega (arith, lower)) ∙ log_lower shape log logs a lower
 
-    alone_stands : Stands shape table.words (log_of kept.run) (Sitting last log Resting)
+    alone_stands : Stands shape table.words kept.run (Sitting last log Resting)
     alone_stands =
         let inside = actor_inside shape (length logs) low in
         (inside, stand_all last inside (let at = last_place in omega (arith, at)) ∙ log_last shape log logs last last_place, tt)
 
-    parted_stand : (i : ℕ) (v : View) → get_elem? parted i ≡ some v → Stands shape table.words (log_of kept.run) v.part
+    parted_stand : (i : ℕ) (v : View) → get_elem? parted i ≡ some v → Stands shape table.words kept.run v.part
     parted_stand i v e = elim (at_end (slice_set table.views id fewer) alone v i e) [
-      | inr new ↦ subst (λ x. Stands shape table.words (log_of kept.run) x.part) new.1 alone_stands
+      | inr new ↦ subst (λ x. Stands shape table.words kept.run x.part) new.1 alone_stands
       | inl old ↦ elim (at_set table.views id i fewer v old) [
-        | inl own ↦ subst (λ x. Stands shape table.words (log_of kept.run) x.part) own.1 fewer_stands
+        | inl own ↦ subst (λ x. Stands shape table.words kept.run x.part) own.1 fewer_stands
         | inr other ↦ kept.stand i v other.1
       ]
     ]
@@ -177,6 +178,14 @@ module _ (shape : Shape) (id : ℕ) (log : List Entry) (logs : List (List Entry)
   pub splits : Splits (Kept shape) id (keeping shape (log ∷ logs)) (keeping shape logs) (sitting shape (actor_at shape (length logs)) log Resting)
   splits table kept there = reviewed shape table kept (parted table kept there) (parted_stand table kept there) (parted_apart table kept there)
 
+  pub parts_on : (table : Table) (kept : Kept shape table) → get_elem? table.views id ≡ some (keeping shape (log ∷ logs))
+      → GoesOn shape table kept (record {
+        words = table.words;
+        homes = table.homes;
+        views = slice_set table.views id (keeping shape logs) ++ sitting shape (actor_at shape (length logs)) log Resting ∷ [];
+      }) []
+  parts_on table kept there = (reviewed shape table kept (parted table kept there) (parted_stand table kept there) (parted_apart table kept there), refl)
+
 -- ---- a pass comes back
 
 module _ (shape : Shape) (id other : ℕ) (me : Actor) (log : List Entry) (logs : List (List Entry)) (next : place_of shape me ≡ length logs) where
@@ -200,10 +209,10 @@ module _ (shape : Shape) (id other : ℕ) (me : Actor) (log : List Entry) (logs 
       | inr old ↦ old.1
     ]
 
-    my_stand : Stands shape table.words (log_of kept.run) (Sitting me log Resting)
+    my_stand : Stands shape table.words kept.run (Sitting me log Resting)
     my_stand = kept.stand other mine own_there
 
-    joined_stands : Stands shape table.words (log_of kept.run) (Keeping (log ∷ logs))
+    joined_stands : Stands shape table.words kept.run (Keeping (log ∷ logs))
     joined_stands a inside low = elim (below_next (place_of shape a) (length logs) low) [
       | inl at ↦
           let same : me ≡ a = same_place shape me a my_stand.0 inside (next ∙ sym at) in
@@ -211,12 +220,12 @@ module _ (shape : Shape) (id other : ℕ) (me : Actor) (log : List Entry) (logs 
       | inr lower ↦ kept.stand id before there a inside lower ∙ sym (log_lower shape log logs a lower)
     ]
 
-    merged_stand : (i : ℕ) (v : View) → get_elem? merged i ≡ some v → Stands shape table.words (log_of kept.run) v.part
+    merged_stand : (i : ℕ) (v : View) → get_elem? merged i ≡ some v → Stands shape table.words kept.run v.part
     merged_stand i v e = elim (at_set (slice_set table.views id joined) other i spent v e) [
       | inl gone ↦
-          subst (λ x. Stands shape table.words (log_of kept.run) x.part) gone.1 (λ a inside low. absurd (omega (arith, low)))
+          subst (λ x. Stands shape table.words kept.run x.part) gone.1 (λ a inside low. absurd (omega (arith, low)))
       | inr old ↦ elim (at_set table.views id i joined v old.1) [
-        | inl own ↦ subst (λ x. Stands shape table.words (log_of kept.run) x.part) own.1 joined_stands
+        | inl own ↦ subst (λ x. Stands shape table.words kept.run x.part) own.1 joined_stands
         | inr more ↦ kept.stand i v more.1
       ]
     ]
@@ -263,6 +272,16 @@ module _ (shape : Shape) (id other : ℕ) (me : Actor) (log : List Entry) (logs 
   joins table kept there apart here_now =
       reviewed shape table kept (merged table kept there apart here_now) (merged_stand table kept there apart here_now) (merged_apart table kept there apart here_now)
 
+  pub joins_on : (table : Table) (kept : Kept shape table) → get_elem? table.views id ≡ some (keeping shape logs) → ¬ (other ≡ id)
+      → get_elem? (slice_set table.views id (keeping shape (log ∷ logs))) other ≡ some (sitting shape me log Resting)
+      → GoesOn shape table kept (record {
+        words = table.words;
+        homes = table.homes;
+        views = slice_set (slice_set table.views id (keeping shape (log ∷ logs))) other spent;
+      }) []
+  joins_on table kept there apart here_now =
+      (reviewed shape table kept (merged table kept there apart here_now) (merged_stand table kept there apart here_now) (merged_apart table kept there apart here_now), refl)
+
 -- ---- a token of nobody
 
 pub enters : (shape : Shape) (slots word : ℕ)
@@ -273,10 +292,10 @@ enters shape slots word table kept long small = (
   refl,
 )
   where
-    stand : (i : ℕ) (v : View) → get_elem? (table.views ++ keeping shape [] ∷ []) i ≡ some v → Stands shape table.words (log_of kept.run) v.part
+    stand : (i : ℕ) (v : View) → get_elem? (table.views ++ keeping shape [] ∷ []) i ≡ some v → Stands shape table.words kept.run v.part
     stand i v e = elim (at_end table.views (keeping shape []) v i e) [
       | inl old ↦ kept.stand i v old
-      | inr new ↦ subst (λ x. Stands shape table.words (log_of kept.run) x.part) new.1 (λ a inside low. absurd (omega (arith, low)))
+      | inr new ↦ subst (λ x. Stands shape table.words kept.run x.part) new.1 (λ a inside low. absurd (omega (arith, low)))
     ]
 
     was : (i : ℕ) (a : Actor) → Owner shape (table.views ++ keeping shape [] ∷ []) i a → Owner shape table.views i a
@@ -292,7 +311,7 @@ enters shape slots word table kept long small = (
 
 -- ---- all logs are those of a run
 
-is_actor_cases : (shape : Shape) (a : Actor) → (IsActor shape a × (is_actor shape a ≡ true)) ⊎ ((¬ IsActor shape a) × (is_actor shape a ≡ false))
+pub is_actor_cases : (shape : Shape) (a : Actor) → (IsActor shape a × (is_actor shape a ≡ true)) ⊎ ((¬ IsActor shape a) × (is_actor shape a ≡ false))
 is_actor_cases shape (Replica p) = by_test (nat_lt p shape.n) refl
   where
     by_test : (b : Bool) → nat_lt p shape.n ≡ b → ((p < shape.n) × (nat_lt p shape.n ≡ true)) ⊎ ((¬ (p < shape.n)) × (nat_lt p shape.n ≡ false))
@@ -304,7 +323,7 @@ is_actor_cases shape (Client c) = by_test (nat_lt c shape.m) refl
     by_test true e = inl (grind (arith, nat_tests), e)
     by_test false e = inr ((λ low. grind (arith, nat_tests)), e)
 
-outside_empty : (shape : Shape) (run : List Step) → IsRun shape run → (a : Actor) → ¬ IsActor shape a → log_of run a ≡ []
+pub outside_empty : (shape : Shape) (run : List Step) → IsRun shape run → (a : Actor) → ¬ IsActor shape a → log_of run a ≡ []
 outside_empty shape run is a outside = by_first (log_of run a) refl
   where
     by_first : (log : List Entry) → log_of run a ≡ log → log_of run a ≡ []
@@ -337,7 +356,7 @@ learns shape slots id word logs table kept long there small = (
 
 -- ---- the boxes before any step
 
-abbrev first_words : Shape → List ℕ
+abbrev pub first_words : Shape → List ℕ
 first_words shape = shape.n ∷ shape.f ∷ shape.m ∷ shape.traitors ∷ replicate (size shape * size shape) 0
 
 pub opens : (shape : Shape) → IsAllowed shape
@@ -361,9 +380,9 @@ opens shape allowed = record {
     length_map [] = refl
     length_map (x ∷ xs) = ap suc (length_map xs)
 
-    stand : (i : ℕ) (v : View) → get_elem? (first_view shape ∷ []) i ≡ some v → Stands shape (first_words shape) (log_of []) v.part
+    stand : (i : ℕ) (v : View) → get_elem? (first_view shape ∷ []) i ≡ some v → Stands shape (first_words shape) [] v.part
     stand zero v e =
-        subst (λ x. Stands shape (first_words shape) (log_of []) x.part) (some-injective _ _ e) (λ a inside low. sym (log_blank shape (size shape) a))
+        subst (λ x. Stands shape (first_words shape) [] x.part) (some-injective _ _ e) (λ a inside low. sym (log_blank shape (size shape) a))
     stand (suc i) v e = absurd (some-ne-none v (sym e))
 
     zero_only : (i : ℕ) (v : View) → get_elem? (first_view shape ∷ []) i ≡ some v → i ≡ 0
@@ -385,6 +404,10 @@ opens shape allowed = record {
         subst (λ w. Agrees w [] [] (get_elem? (map some (replicate {A = Option Envelope} (size shape * size shape) None)) (slot_of shape a b)))
         (sym (ap (slice_index (first_words shape)) (sym (four (slot_of shape a b))) ∙ word_zero (slot_of shape a b) low))
         (refl, nothing_there (size shape * size shape) (slot_of shape a b) low)
+
+pub opens_empty : (shape : Shape) (allowed : IsAllowed shape) → (opens shape allowed).run ≡ []
+unfolding opens
+opens_empty shape allowed = refl
 
 -- who has done nothing is in the run of no step
 pub new_in_run : (shape : Shape) (me : Actor) (log : List Entry) → log ≡ [] → IsInRun shape me log

@@ -1,3 +1,6 @@
+pub mod Box
+pub mod Moment
+pub mod Moves
 pub mod Pass
 pub mod Place
 pub mod Play

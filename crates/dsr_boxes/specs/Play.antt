@@ -1,6 +1,7 @@
 -- What each step on a word tells the pass that makes it (this project).
 use Rattle.std.specs.Prelude.{◌≡◌, ◌≢◌, ℕ, List, [], ◌∷◌, Option, None, Some, length}
 use Rattle.atomic_table.specs.Table.{Step}
+use Rattle.dsr_base.specs.Growth.{Extends}
 use Rattle.dsr_names.specs.Places.{size, actor_at}
 use Rattle.dsr_names.specs.Shape.{Shape, IsActor, shape_of}
 use Rattle.dsr_names.specs.declared.actor.Actor.{Actor}
@@ -8,12 +9,17 @@ use Rattle.dsr_envelope.specs.declared.envelope.Envelope.{Envelope}
 use Rattle.dsr_envelope.specs.declared.entry.Entry.{Entry}
 use Rattle.dsr_envelope.specs.declared.entry.Entry.TheVariants.{Post, Take}
 use Rattle.dsr_envelope.specs.Limits.{IsEnvelope}
-use Rattle.dsr_run.specs.Run.{AreLogs}
-use Rattle.dsr_boxes.specs.declared.view.Doing.TheVariants.{Resting}
+use Rattle.dsr_envelope.specs.Log.{posted_to, taken_from}
+use Rattle.dsr_run.specs.Run.{IsRun, AreLogs}
+use Rattle.dsr_run.specs.Step.{Step as RunStep, log_of}
+use Rattle.dsr_boxes.specs.declared.view.Doing.TheVariants.{Resting, Recalling}
 use Rattle.dsr_boxes.specs.declared.view.View.{View}
+use Rattle.dsr_boxes.specs.Box.{IsBox}
+use Rattle.dsr_boxes.specs.Moment.{AreLogsAfter}
 use Rattle.dsr_boxes.specs.Pass.{IsInRun, logs_in}
 use Rattle.dsr_boxes.specs.Place.{word_of}
-use Rattle.dsr_boxes.specs.View.{Holding, sitting, keeping, actor_in, log_in, logs_kept, end_in, content_in, resting, filling, emptying}
+use Rattle.dsr_boxes.specs.Rule.{ArePast}
+use Rattle.dsr_boxes.specs.View.{Holding, sitting, keeping, watching, actor_in, log_in, logs_kept, moments_in, moment_in, end_in, content_in, resting, filling, emptying, recalling, looking_back}
 
 -- what a play says: of the step, the pass before, the number found, and the pass after
 abbrev pub Telling : Type 1
@@ -77,3 +83,52 @@ with_next v w = keeping v.shape (log_in w.part ∷ logs_kept v.part)
 -- a pass that stands for nobody any more
 abbrev pub spent : View
 spent = keeping (shape_of 0 0 0 0) []
+
+-- a look at the boxes by what is new there: it knows the run, as it is; and a word that is a box's agrees with what was posted there and taken
+abbrev pub Looks : Telling
+Looks step before found after = (now : List RunStep) × IsRun before.0.shape now
+    × ((from to : Actor) → IsActor before.0.shape from → IsActor before.0.shape to → step.word ≡ word_of before.0.shape from to
+    → IsBox found (posted_to to (log_of now from)) (taken_from from (log_of now to)))
+    × (after ≡ looking_back before.0.shape now)
+
+-- a look by an actor: it knows the run, as it is, in which its own log is what it has
+abbrev pub Remembers : Telling
+Remembers step before found after = (now : List RunStep) × IsRun before.0.shape now × (log_of now (actor_in before.0.part) ≡ log_in before.0.part)
+    × (after ≡ recalling before.0.shape (actor_in before.0.part) (log_in before.0.part) now)
+
+-- a look by an actor that was shown a past moment: its own log then is a past of what it has. It need not know the moment any more
+abbrev pub Compares : Telling
+Compares step before found after =
+    (after ≡ resting before.0.shape (actor_in before.0.part) (log_in before.0.part))
+    × Extends (log_in before.0.part) (log_of (moment_in before.0.part) (actor_in before.0.part))
+
+-- a look by what knows past moments: the run, as it is, goes on from each of them. From now on it knows this one alone
+abbrev pub Meets : Telling
+Meets step before found after = (now : List RunStep) × IsRun before.0.shape now × ArePast now (moments_in before.0.part)
+    × (after ≡ looking_back before.0.shape now)
+
+-- a look at the end by what has the logs of all actors and knows a past moment: they are the logs of a run that goes on from it
+abbrev pub LearnsAll : Telling
+LearnsAll step before found after =
+    (length (logs_kept before.0.part) ≡ size before.0.shape
+    → AreLogsAfter before.0.shape (moment_in before.0.part) (logs_in before.0.shape (logs_kept before.0.part)))
+
+-- the view of one actor that knows nothing of the past any more
+abbrev pub forgetful : View → View
+forgetful v = sitting v.shape (actor_in v.part) (log_in v.part) Resting
+
+-- of a view, the moment that it was shown last, alone
+abbrev pub moment_alone : View → View
+moment_alone v = watching v.shape [] (moment_in v.part ∷ [])
+
+-- a view as it is
+abbrev pub as_it_is : View → View
+as_it_is v = v
+
+-- the view of one actor that is shown the moment of another
+abbrev pub reminded : View → View → View
+reminded v w = sitting v.shape (actor_in v.part) (log_in v.part) (Recalling (moment_in w.part))
+
+-- the view of many, or of nobody, that is shown the moment of another
+abbrev pub with_moment : View → View → View
+with_moment v w = watching v.shape (logs_kept v.part) (moment_in w.part ∷ moments_in v.part)

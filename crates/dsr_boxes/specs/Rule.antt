@@ -5,6 +5,7 @@ use mathlib.Core.Option.{some}
 use mathlib.Core.Option as maybe
 use lib.ListN.{get_elem?}
 use Rattle.atomic_table.specs.Table.{State}
+use Rattle.dsr_base.specs.Growth.{Extends}
 use Rattle.dsr_names.specs.Places.{size, place_of}
 use Rattle.dsr_names.specs.Shape.{Shape, IsAllowed, IsActor}
 use Rattle.dsr_names.specs.declared.actor.Actor.{Actor}
@@ -12,11 +13,11 @@ use Rattle.dsr_envelope.specs.declared.envelope.Envelope.{Envelope}
 use Rattle.dsr_envelope.specs.declared.entry.Entry.{Entry}
 use Rattle.dsr_envelope.specs.Log.{posted_to, taken_from}
 use Rattle.dsr_run.specs.Run.{IsRun}
-use Rattle.dsr_run.specs.Step.{Step, Logs, log_of}
+use Rattle.dsr_run.specs.Step.{Step, log_of}
 use Rattle.dsr_boxes.specs.declared.view.Doing.{Doing}
-use Rattle.dsr_boxes.specs.declared.view.Doing.TheVariants.{Resting, Filling, Emptying}
+use Rattle.dsr_boxes.specs.declared.view.Doing.TheVariants.{Resting, Filling, Emptying, Recalling}
 use Rattle.dsr_boxes.specs.declared.view.Part.{Part}
-use Rattle.dsr_boxes.specs.declared.view.Part.TheVariants.{Keeping, Sitting}
+use Rattle.dsr_boxes.specs.declared.view.Part.TheVariants.{Keeping, Sitting, Watching}
 use Rattle.dsr_boxes.specs.declared.view.View.{View}
 use Rattle.dsr_boxes.specs.Place.{slot_of, word_of}
 use Rattle.dsr_boxes.specs.View.{keeping}
@@ -37,17 +38,31 @@ first_view shape = keeping shape (replicate (size shape) [])
 abbrev pub IsOf : Shape → Part → Actor → Type 0
 IsOf shape (Keeping logs) a = IsActor shape a × (place_of shape a < length logs)
 IsOf shape (Sitting me log doing) a = me ≡ a
+IsOf shape (Watching logs moments) a = IsActor shape a × (place_of shape a < length logs)
 
--- what an actor does between two steps of a run, as its box's word shows it: 1 while it fills the box, 3 while it empties it
-abbrev pub IsDoing : Shape → List ℕ → Actor → Doing → Type 0
-IsDoing shape words me Resting = Unit {0}
-IsDoing shape words me (Filling to) = IsActor shape to × (slice_index words (word_of shape me to) ≡ 1)
-IsDoing shape words me (Emptying from) = IsActor shape from × (slice_index words (word_of shape from me) ≡ 3)
+-- what an actor does between two steps of a run, as its box's word shows it: 1 while it fills the box, 3 while it empties it. What it was shown is
+-- a past of the run
+abbrev pub IsDoing : Shape → List ℕ → List Step → Actor → Doing → Type 0
+IsDoing shape words run me Resting = Unit {0}
+IsDoing shape words run me (Filling to) = IsActor shape to × (slice_index words (word_of shape me to) ≡ 1)
+IsDoing shape words run me (Emptying from) = IsActor shape from × (slice_index words (word_of shape from me) ≡ 3)
+IsDoing shape words run me (Recalling past) = Extends run past
 
--- the view has the logs of its actors; one of one actor is of an actor of the shape, whose box's word shows what it does
-abbrev pub Stands : Shape → List ℕ → Logs → Part → Type 0
-Stands shape words logs (Keeping kept) = (a : Actor) → IsActor shape a → place_of shape a < length kept → logs a ≡ log_at shape kept a
-Stands shape words logs (Sitting me log doing) = IsActor shape me × (logs me ≡ log) × IsDoing shape words me doing
+-- each of these is a past of the run: the run is that, with newer steps
+abbrev pub ArePast : List Step → List (List Step) → Type 0
+ArePast run [] = Unit {0}
+ArePast run (past ∷ moments) = Extends run past × ArePast run moments
+
+-- the logs of the actors of the lowest places are these
+abbrev pub HasLogs : Shape → List Step → List (List Entry) → Type 0
+HasLogs shape run kept = (a : Actor) → IsActor shape a → place_of shape a < length kept → log_of run a ≡ log_at shape kept a
+
+-- the view has the logs of its actors in the run; one of one actor is of an actor of the shape, whose box's word shows what it does. What it
+-- knows of the past is a past of the run, and stays one, whatever is done later
+abbrev pub Stands : Shape → List ℕ → List Step → Part → Type 0
+Stands shape words run (Keeping kept) = HasLogs shape run kept
+Stands shape words run (Sitting me log doing) = IsActor shape me × (log_of run me ≡ log) × IsDoing shape words run me doing
+Stands shape words run (Watching kept moments) = HasLogs shape run kept × ArePast run moments
 
 -- a box's word, what was posted there, what was taken, and what lies in its slot if nobody holds it. Where the word is 0 all that was posted was
 -- taken, and nothing lies there; where it is 2 one envelope was not taken, and lies there; where it is 1, while its poster fills it, or 3, while
@@ -75,7 +90,7 @@ pub record Kept (shape : Shape) (table : Table) : Type 0 where
   pub head : IsHead shape table.words
   pub wide : length table.words ≡ 4 + size shape * size shape
   pub deep : length table.homes ≡ size shape * size shape
-  pub stand : (i : ℕ) (v : View) → get_elem? table.views i ≡ some v → Stands shape table.words (log_of run) v.part
+  pub stand : (i : ℕ) (v : View) → get_elem? table.views i ≡ some v → Stands shape table.words run v.part
   pub apart : (i j : ℕ) (v w : View) (a : Actor) → get_elem? table.views i ≡ some v → get_elem? table.views j ≡ some w
       → IsOf shape v.part a → IsOf shape w.part a → i ≡ j
   pub boxes : (a b : Actor) → IsActor shape a → IsActor shape b

@@ -8,9 +8,10 @@ use Rattle.dsr_envelope.specs.declared.envelope.Envelope.{Envelope}
 use Rattle.dsr_envelope.specs.declared.envelope.Envelope.TheVariants.{Empty}
 use Rattle.dsr_envelope.specs.declared.entry.Entry.{Entry}
 use Rattle.dsr_boxes.specs.declared.view.Doing.{Doing}
-use Rattle.dsr_boxes.specs.declared.view.Doing.TheVariants.{Resting, Filling, Emptying}
+use Rattle.dsr_run.specs.Step.{Step}
+use Rattle.dsr_boxes.specs.declared.view.Doing.TheVariants.{Resting, Filling, Emptying, Recalling}
 use Rattle.dsr_boxes.specs.declared.view.Part.{Part}
-use Rattle.dsr_boxes.specs.declared.view.Part.TheVariants.{Keeping, Sitting}
+use Rattle.dsr_boxes.specs.declared.view.Part.TheVariants.{Keeping, Sitting, Watching}
 use Rattle.dsr_boxes.specs.declared.view.View.{View}
 use Rattle.dsr_boxes.specs.Place.{slot_of}
 
@@ -26,20 +27,45 @@ sitting shape me log doing = record { shape = shape; part = Sitting me log doing
 abbrev pub keeping : Shape → List (List Entry) → View
 keeping shape logs = record { shape = shape; part = Keeping logs }
 
+-- the view of the actors of these logs that knows these past moments of the run
+abbrev pub watching : Shape → List (List Entry) → List (List Step) → View
+watching shape logs moments = record { shape = shape; part = Watching logs moments }
+
 -- the actor of a view of one; of others it says nothing
 abbrev pub actor_in : Part → Actor
 actor_in (Keeping logs) = Replica 0
 actor_in (Sitting me log doing) = me
+actor_in (Watching logs moments) = Replica 0
 
 -- its log; empty of others
 abbrev pub log_in : Part → List Entry
 log_in (Keeping logs) = []
 log_in (Sitting me log doing) = log
+log_in (Watching logs moments) = []
 
 -- the logs of a view of many; none of others
 abbrev pub logs_kept : Part → List (List Entry)
 logs_kept (Keeping logs) = logs
 logs_kept (Sitting me log doing) = []
+logs_kept (Watching logs moments) = logs
+
+-- the past moments that a view knows, the last one that it was shown first
+abbrev pub moments_in : Part → List (List Step)
+moments_in (Keeping logs) = []
+moments_in (Sitting me log Resting) = []
+moments_in (Sitting me log (Filling to)) = []
+moments_in (Sitting me log (Emptying from)) = []
+moments_in (Sitting me log (Recalling past)) = past ∷ []
+moments_in (Watching logs moments) = moments
+
+-- the first of them; where there is none, that of no step
+abbrev pub first_moment : List (List Step) → List Step
+first_moment [] = []
+first_moment (past ∷ moments) = past
+
+-- the past moment that a view was shown last
+abbrev pub moment_in : Part → List Step
+moment_in part = first_moment (moments_in part)
 
 -- the other end of the box that an actor fills or empties; of one that does neither it says nothing
 abbrev pub end_in : Part → Actor
@@ -47,6 +73,8 @@ end_in (Keeping logs) = Replica 0
 end_in (Sitting me log Resting) = me
 end_in (Sitting me log (Filling to)) = to
 end_in (Sitting me log (Emptying from)) = from
+end_in (Sitting me log (Recalling past)) = me
+end_in (Watching logs moments) = Replica 0
 
 -- the envelope in the slot that was taken last; the empty one where there is none
 abbrev pub content_in : List (ℕ × Option Envelope) → Envelope
@@ -65,3 +93,11 @@ filling shape me log to content = (sitting shape me log (Filling to), (slot_of s
 -- an actor that has fetched the box from another, with what lies in the slot
 abbrev pub emptying : Shape → Actor → List Entry → Actor → Option Envelope → Holding
 emptying shape me log from content = (sitting shape me log (Emptying from), (slot_of shape from me, content) ∷ [])
+
+-- an actor between two steps that was shown this past moment
+abbrev pub recalling : Shape → Actor → List Entry → List Step → Holding
+recalling shape me log past = (sitting shape me log (Recalling past), [])
+
+-- what stands for nobody, and knows this past moment
+abbrev pub looking_back : Shape → List Step → Holding
+looking_back shape past = (watching shape [] (past ∷ []), [])

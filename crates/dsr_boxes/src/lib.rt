@@ -2,6 +2,9 @@
 //! whatever the threads do, their logs are those of a run.
 #![tactic(auto)]
 
+mod box_state;
+mod laws;
+mod moment;
 mod open;
 mod parcel;
 mod parking;
@@ -14,6 +17,9 @@ mod steps;
 mod tests;
 mod view;
 
+pub use box_state::BoxState;
+pub use laws::{every_moment_is_of_a_run, moments_order_requests, steps_keep_the_rule};
+pub use moment::Moment;
 pub use parcel::Parcel;
 pub use pass::Pass;
 pub use returned::Returned;

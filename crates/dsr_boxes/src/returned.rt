@@ -12,7 +12,7 @@ use std::marker::Model;
 /// The passes that came back, for the boxes to be closed. It stands for their logs.
 #[derive(Drop)]
 pub struct Returned {
-    token: Token,
+    pub(crate) token: Token,
 }
 
 impl Model for Returned {

@@ -98,3 +98,92 @@ impl Join<View> for Gather {
 
     ghost spent = { spent };
 }
+
+/// What a new moment is told.
+pub(crate) struct Look;
+
+impl Play<Option<Parcel>, View> for Look {
+    ghost use Rattle.dsr_boxes.specs.Play.{Looks};
+
+    ghost then = { Looks };
+}
+
+/// What an actor is told of the present moment.
+pub(crate) struct Remember;
+
+impl Play<Option<Parcel>, View> for Remember {
+    ghost use Rattle.dsr_boxes.specs.Play.{Remembers};
+
+    ghost then = { Remembers };
+}
+
+/// What an actor is told that was shown a past moment.
+pub(crate) struct Compare;
+
+impl Play<Option<Parcel>, View> for Compare {
+    ghost use Rattle.dsr_boxes.specs.Play.{Compares};
+
+    ghost then = { Compares };
+}
+
+/// What is told to what knows past moments.
+pub(crate) struct Meet;
+
+impl Play<Option<Parcel>, View> for Meet {
+    ghost use Rattle.dsr_boxes.specs.Play.{Meets};
+
+    ghost then = { Meets };
+}
+
+/// What is told at the end to what has all logs and knows a past moment.
+pub(crate) struct LearnAll;
+
+impl Play<Option<Parcel>, View> for LearnAll {
+    ghost use Rattle.dsr_boxes.specs.Play.{LearnsAll};
+
+    ghost then = { LearnsAll };
+}
+
+/// How the moment that an actor knows is parted from its pass.
+pub(crate) struct Show;
+
+impl Split<View> for Show {
+    ghost use Rattle.dsr_boxes.specs.Play.{forgetful, moment_alone};
+
+    ghost left = { forgetful };
+
+    ghost right = { moment_alone };
+}
+
+/// How a moment is copied.
+pub(crate) struct Copy;
+
+impl Split<View> for Copy {
+    ghost use Rattle.dsr_boxes.specs.Play.{as_it_is, moment_alone};
+
+    ghost left = { as_it_is };
+
+    ghost right = { moment_alone };
+}
+
+/// How an actor is shown a moment.
+pub(crate) struct Recall;
+
+impl Join<View> for Recall {
+    ghost use Rattle.dsr_boxes.specs.Play.{reminded, spent};
+
+    ghost both = { reminded };
+
+    ghost spent = { spent };
+}
+
+/// How a moment, or what stands for all logs, is shown another moment.
+pub(crate) struct Remind;
+
+impl Join<View> for Remind {
+    ghost use Rattle.dsr_boxes.specs.Play.{with_moment, spent};
+
+    ghost both = { with_moment };
+
+    ghost spent = { spent };
+}

@@ -13,8 +13,13 @@ ghost use Rattle.dsr_envelope.specs.declared.envelope.Envelope.{Envelope as AnEn
 ghost use Rattle.dsr_envelope.specs.declared.envelope.Envelope.TheVariants.{Empty, Seen};
 ghost use Rattle.dsr_envelope.specs.declared.entry.Entry.TheVariants.{Post, Take};
 ghost use Rattle.dsr_run.specs.OwnStep.{MayPost};
+ghost use Rattle.dsr_base.specs.Growth.{Extends};
+ghost use Rattle.dsr_run.specs.Step.{log_of};
+ghost use Rattle.dsr_boxes.specs.Moment.{IsMomentOf};
 ghost use Rattle.dsr_boxes.specs.Pass.{IsPassOf, MayTake, new_pass, with_entry};
 
+use crate::box_state::BoxState;
+use crate::moment::Moment;
 use crate::parcel::Parcel;
 use crate::pass::Pass;
 use crate::shared_boxes::SharedBoxes;
@@ -425,5 +430,66 @@ fn waits_return_where_there_is_nothing_to_wait_for(rt: HostRuntime) -> Result<()
     first.wait_from(&rt, &boxes, &replica(0));
     second.wait_to(&rt, &boxes, &replica(0));
     boxes.wake_all();
+    Ok(())
+}
+
+/// Has the first client tell the second one its front, hands the moment after that on to the second, and has this one then tell the first. At the
+/// moment the first one had told, and the second had done nothing.
+fn tell_in_order(
+    alloc: Global,
+    boxes: &SharedBoxes,
+    first: &mut Pass,
+    second: &mut Pass,
+) -> Result<Moment, Fail>
+    requires shape { boxes.now.shape ≡ shape_of 3 1 2 1 }
+    requires first { first.old ≡ new_pass boxes.now (Client 0) }
+    requires second { second.old ≡ new_pass boxes.now (Client 1) }
+    ensures boxes { IfOk result (λ moment. IsMomentOf boxes.now moment) }
+    ensures first { IfOk result (λ moment. log_of moment.run (Client 0) ≡ Post (Client 1) (Seen 0) ∷ []) }
+    ensures second { IfOk result (λ moment. Extends [] (log_of moment.run (Client 1))) }
+    ensures told { OnOk result ((first.new ≡ with_entry first.old (Post (Client 1) (Seen 0))) × (second.new ≡ with_entry second.old (Post (Client 0) (Seen 0)))) }
+{
+    tell(alloc, boxes, first, &client(1))?;
+    let mut moment = first.moment(boxes);
+    second.recall(boxes, moment.copy(boxes));
+    tell(alloc, boxes, second, &client(0))?;
+    Ok(moment)
+}
+
+/// Fails unless the box from the traitor to the first client looks as is said.
+fn looks_so(boxes: &SharedBoxes, full: bool) -> Result<(), Fail>
+    requires shape { boxes.now.shape ≡ shape_of 3 1 2 1 }
+{
+    let (state, _moment) = boxes.look_at(&replica(0), &client(0));
+    match state {
+        BoxState::Empty if !full => Ok(()),
+        BoxState::Full if full => Ok(()),
+        _ => Err("a box that looks otherwise")?,
+    }
+}
+
+#[test]
+fn the_last_run_goes_on_from_each_moment(rt: HostRuntime) -> Result<(), Fail> {
+    let Small {
+        boxes,
+        mut traitor,
+        one,
+        two,
+        mut first,
+        mut second,
+    } = open_small(rt.alloc())?;
+    let mut moment = boxes.moment();
+    looks_so(&boxes, false)?;
+    plant(rt.alloc(), &boxes, &mut traitor, &client(0))?;
+    looks_so(&boxes, true)?;
+    let told = tell_in_order(rt.alloc(), &boxes, &mut first, &mut second)?;
+    moment.meet(&boxes, told);
+    let mut returned = boxes.none_returned();
+    returned.take_back(&boxes, traitor);
+    returned.take_back(&boxes, one);
+    returned.take_back(&boxes, two);
+    returned.take_back(&boxes, first);
+    returned.take_back(&boxes, second);
+    boxes.close_after(returned, moment);
     Ok(())
 }

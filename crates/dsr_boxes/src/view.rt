@@ -11,6 +11,8 @@ pub enum Doing {
     Filling(Actor),
     /// It has fetched this actor's box to it, and empties it.
     Emptying(Actor),
+    /// Nothing, and it was shown this past of the run, the newest step first.
+    Recalling(LinkedList<(Actor, Entry), Global>),
 }
 
 /// For whom a pass stands.
@@ -19,6 +21,11 @@ pub enum Part {
     Keeping(LinkedList<LinkedList<Entry, Global>, Global>),
     /// For one actor, with its log, the newest entry first, and what it does.
     Sitting(Actor, LinkedList<Entry, Global>, Doing),
+    /// For the actors of these logs, as above, and for past moments: what the run was then, the newest step first.
+    Watching(
+        LinkedList<LinkedList<Entry, Global>, Global>,
+        LinkedList<LinkedList<(Actor, Entry), Global>, Global>,
+    ),
 }
 
 /// What a pass knows. No value of it is made: it stands in proofs alone.

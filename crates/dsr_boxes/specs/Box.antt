@@ -1,0 +1,21 @@
+-- A box by its word, in plain terms (this project).
+use Rattle.std.specs.Prelude.{◌≡◌, ◌⊎◌, ℕ, List, [], ◌∷◌, ◌++◌}
+use Rattle.dsr_envelope.specs.declared.envelope.Envelope.{Envelope}
+use Rattle.dsr_boxes.specs.declared.box_state.BoxState.{BoxState}
+use Rattle.dsr_boxes.specs.declared.box_state.BoxState.TheVariants.{Empty, BeingFilled, Full, BeingEmptied}
+
+-- one envelope was posted that was not taken
+abbrev pub HasOne : List Envelope → List Envelope → Type 0
+HasOne posted taken = (envelope : Envelope) × (posted ≡ taken ++ envelope ∷ [])
+
+-- a box by its word, as to what was posted there and taken: empty (0), being filled (1) and being emptied (3), all was taken; full (2), all but one
+abbrev pub IsBox : ℕ → List Envelope → List Envelope → Type 0
+IsBox word posted taken =
+    ((word ≡ 0) × (posted ≡ taken)) ⊎ (((word ≡ 1) × (posted ≡ taken)) ⊎ (((word ≡ 2) × HasOne posted taken) ⊎ ((word ≡ 3) × (posted ≡ taken))))
+
+-- what each state of a box says of what was posted there and taken
+abbrev pub IsBoxIn : BoxState → List Envelope → List Envelope → Type 0
+IsBoxIn Empty posted taken = posted ≡ taken
+IsBoxIn BeingFilled posted taken = posted ≡ taken
+IsBoxIn Full posted taken = HasOne posted taken
+IsBoxIn BeingEmptied posted taken = posted ≡ taken

@@ -1,0 +1,148 @@
+//! Moments: what the run was, as tokens without bytes that threads hand on. Who has a moment knows that whatever the run is later, it goes on from
+//! this one.
+
+ghost use Rattle.std.specs.Prelude.{◌≡◌, length};
+ghost use Rattle.dsr_base.specs.Growth.{Extends};
+ghost use Rattle.dsr_names.specs.Places.{size};
+ghost use Rattle.dsr_names.specs.Shape.{IsActor};
+ghost use Rattle.dsr_envelope.specs.Log.{posted_to, taken_from};
+ghost use Rattle.dsr_run.specs.Run.{IsRun};
+ghost use Rattle.dsr_run.specs.Step.{log_of};
+ghost use Rattle.dsr_boxes.specs.Box.{IsBoxIn};
+ghost use Rattle.dsr_boxes.specs.Moment.{IsMomentOf, AreLogsAfter};
+ghost use Rattle.dsr_boxes.specs.Pass.{IsPassOf, IsReturnedTo, logs_in};
+
+use crate::box_state::BoxState;
+use crate::pass::Pass;
+use crate::returned::Returned;
+use crate::rule::{Compare, Copy, LearnAll, Look, Meet, Recall, Remember, Remind, Show, Token};
+use crate::shared_boxes::SharedBoxes;
+use crate::steps::{EMPTY, EMPTYING, FILLING, FULL};
+use dsr_names::Actor;
+use std::marker::Model;
+
+/// A moment of the boxes. It stands for all steps that had been taken by then.
+#[derive(Drop)]
+pub struct Moment {
+    pub(crate) token: Token,
+}
+
+impl Model for Moment {
+    ghost use Rattle.std.specs.Prelude.{◌≡◌};
+    ghost use Rattle.dsr_run.specs.Run.{IsRun};
+    ghost use Rattle.dsr_boxes.specs.Moment.{Moment};
+    ghost use Rattle.dsr_boxes.specs.View.{moment_in, looking_back};
+
+    ghost Value = { Moment };
+
+    ghost view = { λ m. record { id = m.token.table_id; shape = m.token.me.0.shape; run = moment_in m.token.me.0.part } };
+
+    ghost invariant = { λ m. (m.token.me ≡ looking_back m.token.me.0.shape (moment_in m.token.me.0.part))
+        × IsRun m.token.me.0.shape (moment_in m.token.me.0.part) };
+}
+
+impl SharedBoxes {
+    /// The present moment.
+    pub fn moment(&self) -> Moment
+        ensures boxes { IsMomentOf self.now result }
+        ensures run { IsRun self.now.shape result.run }
+    {
+        // A token enters at a load; what it finds does not matter.
+        let (_word, token) = self.memory.shared.load_new_seat::<Look>(0);
+        Moment { token }
+    }
+
+    /// How the box from one actor to another looks, and the moment of this look.
+    pub fn look_at(&self, from: &Actor, to: &Actor) -> (BoxState, Moment)
+        requires from { IsActor self.now.shape from.now }
+        requires to { IsActor self.now.shape to.now }
+        ensures boxes { IsMomentOf self.now result.1 }
+        ensures run { IsRun self.now.shape result.1.run }
+        ensures state { IsBoxIn result.0 (posted_to to.now (log_of result.1.run from.now)) (taken_from from.now (log_of result.1.run to.now)) }
+    {
+        let word = self.word_of(from, to);
+        let (found, token) = self.memory.shared.load_new_seat::<Look>(word);
+        let state = match found {
+            EMPTY => BoxState::Empty,
+            FILLING => BoxState::BeingFilled,
+            FULL => BoxState::Full,
+            EMPTYING => BoxState::BeingEmptied,
+            _ => unreachable!(),
+        };
+        (state, Moment { token })
+    }
+
+    /// Closes the boxes, for which each actor's pass must have come back: their logs are those of a run that goes on from the moment.
+    pub fn close_after(self, returned: Returned, moment: Moment)
+        requires boxes { IsReturnedTo self returned }
+        requires moment { IsMomentOf self moment }
+        requires all { length returned.logs ≡ size self.shape }
+        ensures run { AreLogsAfter self.shape moment.run (logs_in self.shape returned.logs) }
+    {
+        let mut returned = returned;
+        let Moment { token: past } = moment;
+        self.memory
+            .shared
+            .join_seat::<Remind>(&mut returned.token, past);
+        self.memory.shared.load::<LearnAll>(&mut returned.token, 0);
+    }
+}
+
+impl Pass {
+    /// The present moment, at which the actor's log is that of this pass.
+    pub fn moment(&mut self, boxes: &SharedBoxes) -> Moment
+        requires boxes { IsPassOf boxes.now self.old }
+        ensures same { self.new ≡ self.old }
+        ensures boxes { IsMomentOf boxes.now result }
+        ensures run { IsRun boxes.now.shape result.run }
+        ensures own { log_of result.run self.old.actor ≡ self.old.log }
+    {
+        boxes.memory.shared.load::<Remember>(&mut self.token, 0);
+        let token = boxes.memory.shared.split_seat::<Show>(&mut self.token);
+        Moment { token }
+    }
+
+    /// Shows the pass a moment, which is then past: of what the pass has done, the actor had done at that moment a part, the oldest, at most all.
+    pub fn recall(&mut self, boxes: &SharedBoxes, moment: Moment)
+        requires boxes { IsPassOf boxes.now self.old }
+        requires moment { IsMomentOf boxes.now moment }
+        ensures same { self.new ≡ self.old }
+        ensures past { Extends self.old.log (log_of moment.run self.old.actor) }
+    {
+        let Moment { token } = moment;
+        boxes
+            .memory
+            .shared
+            .join_seat::<Recall>(&mut self.token, token);
+        boxes.memory.shared.load::<Compare>(&mut self.token, 0);
+    }
+}
+
+impl Moment {
+    /// The same moment once more, for another thread.
+    pub fn copy(&mut self, boxes: &SharedBoxes) -> Moment
+        requires boxes { IsMomentOf boxes.now self.old }
+        ensures same { self.new ≡ self.old }
+        ensures copy { result ≡ self.old }
+    {
+        let token = boxes.memory.shared.split_seat::<Copy>(&mut self.token);
+        Moment { token }
+    }
+
+    /// The present moment, which comes after this one and after the other.
+    pub fn meet(&mut self, boxes: &SharedBoxes, other: Moment)
+        requires boxes { IsMomentOf boxes.now self.old }
+        requires other { IsMomentOf boxes.now other }
+        ensures boxes { IsMomentOf boxes.now self.new }
+        ensures run { IsRun boxes.now.shape self.new.run }
+        ensures own { Extends self.new.run self.old.run }
+        ensures other { Extends self.new.run other.run }
+    {
+        let Moment { token } = other;
+        boxes
+            .memory
+            .shared
+            .join_seat::<Remind>(&mut self.token, token);
+        boxes.memory.shared.load::<Meet>(&mut self.token, 0);
+    }
+}
