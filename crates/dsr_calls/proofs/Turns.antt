@@ -20,6 +20,7 @@ use Rattle.dsr_client.specs.State.{outstanding, accepted}
 use Rattle.dsr_node.specs.Conduct.{post_of, AcceptsBy}
 use Rattle.dsr_boxes.specs.Pass.{SharedBoxes, Pass, IsPassOf, with_entry}
 use Rattle.dsr_calls.specs.Calls.{GoesOn, number_of, awaited, IsAwaited, IsAnswered, IsTurn, IsByTurns, Awaits, AddsTurns}
+use Rattle.dsr_calls.specs.Course.{IsCourse}
 use Rattle.dsr_calls.specs.Visits.{pick_beside, HasAskTurn, HasTakeTurn, Keeps, Becomes}
 use Rattle.dsr_calls.proofs.Awaiting.{given_is, still_awaited, awaited_first, awaited_posted, awaited_taken, answered_taken}
 
@@ -239,3 +240,4 @@ pub record IsOnTheWay (boxes : SharedBoxes) (first seat : Pass) (op : Option Op)
   pub all : n ≡ seat.shape.n
   pub few : n ≤ 16
   pub inside : number < n
+  pub course : (visits : ℕ) × IsCourse op first.shape.n visits first turns number seat left

@@ -1,3 +1,4 @@
 pub mod Calls
+pub mod Course
 pub mod Limits
 pub mod Visits

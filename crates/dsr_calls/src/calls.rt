@@ -3,6 +3,7 @@ ghost use Rattle.dsr_names.specs.declared.refusal.Refusal.{Refusal};
 ghost use Rattle.dsr_client.specs.State.{accepted, outstanding};
 ghost use Rattle.dsr_boxes.specs.Pass.{IsPassOf};
 ghost use Rattle.dsr_calls.specs.Calls.{GoesOn, number_of, awaited, Awaits, AddsTurns, Answers};
+ghost use Rattle.dsr_calls.specs.Course.{HasCourse};
 ghost use Rattle.dsr_calls.specs.Limits.{CallRefusal};
 
 use crate::visits::visit;
@@ -30,6 +31,7 @@ pub fn ask(
     ensures log { GoesOn seat.new seat.old }
     ensures turns { AddsTurns seat.old (Some op) seat.new }
     ensures few { length seat.new.log ≤ length seat.old.log + turns }
+    ensures course { IsNone (outstanding seat.old.shape seat.old.log) → HasCourse (Some op) turns seat.old seat.new result }
     ensures busy { IsErrOf result Refusal.Busy ↔ IsSome (outstanding seat.old.shape seat.old.log) }
     ensures unchanged { IsErrOf result Refusal.Busy → seat.new ≡ seat.old }
     ensures answered { IfOk result (Answers seat.old (Some op) seat.new) }
@@ -58,6 +60,7 @@ pub fn go_on(
     ensures log { GoesOn seat.new seat.old }
     ensures turns { AddsTurns seat.old None seat.new }
     ensures few { length seat.new.log ≤ length seat.old.log + turns }
+    ensures course { IsSome (outstanding seat.old.shape seat.old.log) → HasCourse None turns seat.old seat.new result }
     ensures idle { IsErrOf result Refusal.NotDue ↔ IsNone (outstanding seat.old.shape seat.old.log) }
     ensures unchanged { IsErrOf result Refusal.NotDue → seat.new ≡ seat.old }
     ensures answered { IfOk result (Answers seat.old None seat.new) }
@@ -85,6 +88,7 @@ fn go_round(
     ensures log { GoesOn seat.new seat.old }
     ensures turns { AddsTurns seat.old op.now seat.new }
     ensures few { length seat.new.log ≤ length seat.old.log + turns }
+    ensures course { HasCourse op.now turns seat.old seat.new result }
     ensures answered { IfOk result (Answers seat.old op.now seat.new) }
     ensures awaited { OnErr result (Awaits seat.old op.now seat.new) }
     ensures same { OnErr result (accepted seat.new.shape seat.new.log ≡ accepted seat.old.shape seat.old.log) }

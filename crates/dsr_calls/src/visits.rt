@@ -1,9 +1,13 @@
-ghost use Rattle.std.specs.Prelude.{◌≡◌, ◌<◌, ◌≤◌, ◌+◌, ◌-◌, length, IsSome, IfOk, IfErr, OnOk, OnErr};
+ghost use Rattle.std.specs.Prelude.{◌≡◌, ◌⊎◌, Some, ◌<◌, ◌≤◌, ◌+◌, ◌-◌, length, IsSome, IfOk, IfErr, OnOk, OnErr};
 ghost use Rattle.dsr_client.specs.State.{outstanding};
 ghost use Rattle.dsr_boxes.specs.Pass.{IsPassOf};
 ghost use Rattle.dsr_mail.specs.Refusals.{HasAsked};
 ghost use Rattle.dsr_calls.specs.Calls.{GoesOn, number_of, awaited, AddsTurns};
 ghost use Rattle.dsr_calls.specs.Limits.{CallRefusal};
+ghost use Rattle.dsr_calls.specs.Course.{IsAskTurn, IsTakeTurn, IsVisit, IsRefusedVisit, ask_refused};
+ghost use Rattle.dsr_mail.specs.Refusals.{take_refused};
+ghost use Rattle.dsr_names.specs.declared.actor.Actor.TheVariants.{Replica};
+ghost use Rattle.dsr_names.specs.declared.refusal.Refusal.TheVariants.{NoMemory};
 ghost use Rattle.dsr_calls.specs.Visits.{pick_beside, HasAskTurn, HasTakeTurn, Keeps, Becomes};
 
 use dsr_envelope::Pick;
@@ -34,6 +38,8 @@ pub(crate) fn visit(
     ensures added { AddsTurns seat.old op.now seat.new }
     ensures few { length seat.new.log + left.new ≤ length seat.old.log + left.old }
     ensures turns { OnOk result (left.new < left.old) }
+    ensures visited { IfOk result (λ reply. IsVisit op.now replica seat.old left.old seat.new left.new reply) }
+    ensures stopped { IfErr result (λ refusal. IsRefusedVisit op.now replica seat.old left.old seat.new refusal) }
 {
     // For the proof: what its contract says.
     let _client = seat.client();
@@ -63,6 +69,9 @@ fn post_turn(
     ensures refused { IfErr result (CallRefusal seat.old) }
     ensures few { length seat.new.log + left.new ≤ length seat.old.log + left.old }
     ensures turns { left.new ≤ left.old }
+    ensures turn { OnOk result (IsAskTurn op.now replica seat.old left.old seat.new left.new) }
+    ensures stopped { IfErr result (λ refusal. (¬ HasAsked seat.old.shape seat.old.log replica)
+        × ((ask_refused op.now replica seat.old ≡ Some refusal) ⊎ (refusal ≡ NoMemory))) }
 {
     // For the proof: what its contract says.
     let _client = seat.client();
@@ -105,6 +114,9 @@ fn take_turn(
     ensures refused { IfErr result (CallRefusal seat.old) }
     ensures few { length seat.new.log + left.new ≤ length seat.old.log + left.old }
     ensures turns { left.new ≡ left.old - 1 }
+    ensures turn { IfOk result (λ reply. IsTakeTurn replica seat.old left.old seat.new left.new reply) }
+    ensures stopped { IfErr result (λ refusal. (0 < left.old)
+        × ((take_refused seat.old.shape seat.old.actor seat.old.log (Replica replica) ≡ Some refusal) ⊎ (refusal ≡ NoMemory))) }
 {
     // For the proof: what its contract says.
     let _client = seat.client();

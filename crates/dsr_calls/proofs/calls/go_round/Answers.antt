@@ -1,4 +1,5 @@
-use Rattle.std.proofs.Common.{refl, sym, ap, ◌∙◌, subst, arith}
+use Rattle.std.proofs.Common.{◌≡◌, suc, None, Some, inl, inr, refl, sym, ap, ◌∙◌, subst, arith}
+use Rattle.dsr_calls.specs.Course.{IsCourse, IsVisit, IsRefusedVisit, next_of}
 use Rattle.dsr_calls.specs.Visits.{Becomes}
 use Rattle.dsr_calls.proofs.Turns.{goes_same, goes_then, still_own, still_due, waits_first, adds_none, adds_then, accepted_same}
 use Rattle.dsr_calls.proofs.calls.go_round.Goals as goal
@@ -20,6 +21,7 @@ loop-left-init c =
       all = same ∙ ap (λ s. s.n) (c.shape.ensures ∙ sym c.requires.mail.1);
       few = omega (arith, same, few);
       inside = omega (arith, same, some);
+      course = (0, (refl, refl, refl));
     }
 
 pub visit-requires-clause-due : goal.visit-requires-clause-due
@@ -63,6 +65,21 @@ loop-left-preserved c =
       all = way.all ∙ ap (λ s. s.n) (sym on.shape);
       few = way.few;
       inside = c.next_after-number.ensures.inside;
+      course =
+          let op = c.args.op.now in
+          let all = way.all ∙ ap (λ s. s.n) way.goes.shape in
+          let visit = subst (IsVisit op c.of-replica.result seat c.loop-left.left new c.visit.new.left) c.in-Ok-None.field-0-is c.in-Ok-None.ensures.visited in (
+            suc way.course.0,
+            (
+              c.loop-left.number,
+              seat,
+              c.loop-left.left,
+              way.course.1,
+              c.loop-left-test.true,
+              subst (λ q. IsVisit op q seat c.loop-left.left new c.visit.new.left None) c.of-replica.ensures visit,
+              subst (λ n. c.next_after-number.result ≡ next_of n c.loop-left.number) all c.next_after-number.ensures.next,
+            ),
+          );
     }
 
 pub returns-clause-same : goal.returns-clause-same
@@ -85,3 +102,42 @@ returns-in-Err-clause-turns c =
 
 pub returns-in-Err-clause-few : goal.returns-in-Err-clause-few
 returns-in-Err-clause-few c = let was = c.loop-left.invariant.short in let more = c.in-Err.ensures.few in omega (arith, was, more)
+
+pub returns-in-Ok-Some-clause-course : goal.returns-in-Ok-Some-clause-course
+returns-in-Ok-Some-clause-course c =
+    let way = c.loop-left.invariant in
+    let seat = c.loop-left.seat in
+    let new = c.visit.new.seat in
+    let op = c.args.op.now in
+    let visit = subst (IsVisit op c.of-replica.result seat c.loop-left.left new c.visit.new.left) c.in-Ok-Some.field-0-is c.in-Ok-Some.ensures.visited in (
+      c.loop-left.number,
+      seat,
+      c.loop-left.left,
+      c.visit.new.left,
+      record { visits = way.course.0; course = way.course.1; turn = c.loop-left-test.true },
+      subst (λ q. IsVisit op q seat c.loop-left.left new c.visit.new.left (Some c.in-Ok-Some.reply)) c.of-replica.ensures visit,
+    )
+
+pub returns-in-Err-clause-course : goal.returns-in-Err-clause-course
+returns-in-Err-clause-course c =
+    let way = c.loop-left.invariant in
+    let seat = c.loop-left.seat in
+    inr (
+      c.loop-left.number,
+      seat,
+      c.loop-left.left,
+      record { visits = way.course.0; course = way.course.1; turn = c.loop-left-test.true },
+      subst (λ q. IsRefusedVisit c.args.op.now q seat c.loop-left.left c.visit.new.seat c.in-Err.refusal) c.of-replica.ensures c.in-Err.ensures.stopped,
+    )
+
+pub returns-clause-course : goal.returns-clause-course
+returns-clause-course c =
+    let way = c.loop-left.invariant in
+    let test = c.loop-left-test.false in
+    inl (
+      refl,
+      way.course.0,
+      c.loop-left.number,
+      subst (λ l. IsCourse c.args.op.now c.args.seat.now.shape.n way.course.0 c.args.seat.now c.args.turns c.loop-left.number c.loop-left.seat l)
+          (omega (arith, test)) way.course.1,
+    )
