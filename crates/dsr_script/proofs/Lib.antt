@@ -3,6 +3,7 @@ mod BriefLemmas
 mod ChainTextLemmas
 mod EnvelopeLemmas
 pub mod FeedLemmas
+mod ForgedLemmas
 mod HeldLemmas
 mod InTurn
 mod KeptLemmas

@@ -1,8 +1,13 @@
 //! Which signature of a draft would be forged.
 
-ghost use Rattle.std.specs.Prelude.{IfSome};
-ghost use Rattle.dsr_desk.specs.Signature.{signed};
-ghost use Rattle.dsr_script.specs.Held.{IsHeldOrKnown};
+ghost use Rattle.std.specs.Prelude.{◌≡◌, ◌+◌, ◌≤◌, length, map, IfSome, IfNone};
+ghost use Rattle.dsr_base.specs.Member.{In};
+ghost use Rattle.dsr_desk.specs.Signature.{Signature, signed};
+ghost use Rattle.dsr_envelope.specs.Envelope.{Carries, IsOn};
+ghost use Rattle.dsr_script.specs.Held.{IsHeldOrKnown, IsUnforged};
+ghost use Rattle.dsr_script.specs.Support.Described.{described};
+ghost use Rattle.dsr_script.specs.Support.Links.{said_by};
+ghost use Rattle.dsr_script.specs.Support.Carried.{IsOnOne};
 
 use crate::brief::Brief;
 use crate::building::is_held;
@@ -12,7 +17,7 @@ use crate::plan::Plan;
 use crate::said::{Said, SaidRequest};
 use crate::said_chain::{SaidChain, link_at};
 use crate::said_text::content_of;
-use dsr_desk::{Key, MOST_SIGNERS, Signers, Statement};
+use dsr_desk::{Key, Signers, Statement};
 use dsr_names::Actor;
 use dsr_request::Requests;
 
@@ -25,73 +30,128 @@ pub struct Forged {
     pub statement: Statement,
 }
 
-/// A signature that the draft describes, and for which `build` refuses it as forged: it is neither by the holder of one of the keys nor
-/// known. `None` where none is found. That one is found wherever `build` answers `Forged` is tested, not proved.
+/// The first signature that the draft describes for which `build` refuses it as forged: it is neither by the holder of one of the keys
+/// nor known. `None` exactly if `build` does not.
 pub fn forged_in(draft: &Draft, keys: &[Key], known: &Known) -> Option<Forged>
-    ensures { IfSome result (λ forged. ¬ IsHeldOrKnown keys.now known.now.signatures (signed forged.signer forged.statement)) }
+    ensures carried { IfSome result (λ forged. Carries draft.now (signed forged.signer forged.statement)) }
+    ensures forged { IfSome result (λ forged. ¬ IsHeldOrKnown keys.now known.now.signatures (signed forged.signer forged.statement)) }
+    ensures none { IfNone result (IsUnforged keys.now known.now.signatures draft.now) }
 {
     match draft.plan() {
-        Some(Plan::Round { chains, .. }) => forged_in_chains(chains.as_slice(), keys, known),
-        Some(Plan::Ask(ask)) => forged_request(ask, keys, known),
-        None | Some(Plan::Reply(_) | Plan::Seen(_)) => None,
+        None => None,
+        Some(plan) => forged_in_plan(plan, keys, known),
+    }
+}
+
+/// A forged signature of the plan.
+fn forged_in_plan(plan: &Plan, keys: &[Key], known: &Known) -> Option<Forged>
+    ensures carried { IfSome result (λ forged. Carries (described plan.now) (signed forged.signer forged.statement)) }
+    ensures forged { IfSome result (λ forged. ¬ IsHeldOrKnown keys.now known.now.signatures (signed forged.signer forged.statement)) }
+    ensures none { IfNone result (IsUnforged keys.now known.now.signatures (described plan.now)) }
+{
+    match plan {
+        Plan::Round { chains, .. } => forged_in_chains(chains.as_slice(), keys, known),
+        Plan::Ask(ask) => forged_request(ask, keys, known),
+        Plan::Reply(_) | Plan::Seen(_) => None,
     }
 }
 
 /// A forged signature of the chains.
 fn forged_in_chains(chains: &[SaidChain], keys: &[Key], known: &Known) -> Option<Forged>
-    ensures { IfSome result (λ forged. ¬ IsHeldOrKnown keys.now known.now.signatures (signed forged.signer forged.statement)) }
+    ensures carried { IfSome result (λ forged. IsOnOne chains.now (signed forged.signer forged.statement)) }
+    ensures forged { IfSome result (λ forged. ¬ IsHeldOrKnown keys.now known.now.signatures (signed forged.signer forged.statement)) }
+    ensures none { IfNone result ((s : Signature) → IsOnOne chains.now s → IsHeldOrKnown keys.now known.now.signatures s) }
 {
-    for chain in chains {
-        let content = content_of(chain.asks());
-        let links = forged_link(chain.slot(), &content, chain.links(), keys, known);
-        if links.is_some() {
-            return links;
-        }
-        for ask in chain.asks() {
-            let request = forged_request(ask, keys, known);
-            if request.is_some() {
-                return request;
+    match chains {
+        [] => None,
+        [first, rest @ ..] => {
+            if let Some(forged) = forged_in_chain(first, keys, known) {
+                return Some(forged);
             }
+            forged_in_chains(rest, keys, known)
         }
     }
-    None
 }
 
-/// A forged signature among those of a chain of this slot and content.
+/// A forged signature of the chain.
+fn forged_in_chain(chain: &SaidChain, keys: &[Key], known: &Known) -> Option<Forged>
+    ensures carried { IfSome result (λ forged. IsOn (signed forged.signer forged.statement) chain.now) }
+    ensures forged { IfSome result (λ forged. ¬ IsHeldOrKnown keys.now known.now.signatures (signed forged.signer forged.statement)) }
+    ensures none { IfNone result ((s : Signature) → IsOn s chain.now → IsHeldOrKnown keys.now known.now.signatures s) }
+{
+    let content = content_of(chain.asks());
+    if let Some(forged) = forged_link(
+        chain.slot(),
+        &content,
+        &Signers::new(),
+        chain.links(),
+        keys,
+        known,
+    ) {
+        return Some(forged);
+    }
+    forged_beside(chain.asks(), keys, known)
+}
+
+/// A forged signature among those that are said in a chain of this slot and content after these signers.
 fn forged_link(
     slot: u64,
     content: &Option<Requests>,
+    before: &Signers,
     links: &[Brief],
     keys: &[Key],
     known: &Known,
 ) -> Option<Forged>
-    ensures { IfSome result (λ forged. ¬ IsHeldOrKnown keys.now known.now.signatures (signed forged.signer forged.statement)) }
+    requires { length before.now + length links.now ≤ 16 }
+    ensures carried { IfSome result (λ forged. In (signed forged.signer forged.statement) (said_by slot content.now before.now links.now)) }
+    ensures forged { IfSome result (λ forged. ¬ IsHeldOrKnown keys.now known.now.signatures (signed forged.signer forged.statement)) }
+    ensures none { IfNone result ((s : Signature) → In s (said_by slot content.now before.now links.now) → IsHeldOrKnown keys.now known.now.signatures s) }
 {
-    let mut before = Signers::new();
-    for link in links {
-        let said = link.said_in(&link_at(slot, content, before));
-        let forged = forged_of(&said, keys, known);
-        if forged.is_some() {
-            return forged;
-        }
-        // a chain has no more links than that
-        if before.len() < MOST_SIGNERS {
-            before.push(link.signer());
+    match links {
+        [] => None,
+        [link, rest @ ..] => {
+            let said = link.said_in(&link_at(slot, content, *before));
+            if let Some(forged) = forged_of(&said, keys, known) {
+                return Some(forged);
+            }
+            let mut after = *before;
+            after.push(link.signer());
+            forged_link(slot, content, &after, rest, keys, known)
         }
     }
-    None
+}
+
+/// A forged signature among those beside these requests.
+fn forged_beside(asks: &[SaidRequest], keys: &[Key], known: &Known) -> Option<Forged>
+    ensures carried { IfSome result (λ forged. In (signed forged.signer forged.statement) (map (λ r. r.signature) asks.now)) }
+    ensures forged { IfSome result (λ forged. ¬ IsHeldOrKnown keys.now known.now.signatures (signed forged.signer forged.statement)) }
+    ensures none { IfNone result ((s : Signature) → In s (map (λ r. r.signature) asks.now) → IsHeldOrKnown keys.now known.now.signatures s) }
+{
+    match asks {
+        [] => None,
+        [first, rest @ ..] => {
+            if let Some(forged) = forged_request(first, keys, known) {
+                return Some(forged);
+            }
+            forged_beside(rest, keys, known)
+        }
+    }
 }
 
 /// The signature beside the request, where it is forged.
 fn forged_request(ask: &SaidRequest, keys: &[Key], known: &Known) -> Option<Forged>
-    ensures { IfSome result (λ forged. ¬ IsHeldOrKnown keys.now known.now.signatures (signed forged.signer forged.statement)) }
+    ensures carried { IfSome result (λ forged. ask.now.signature ≡ signed forged.signer forged.statement) }
+    ensures forged { IfSome result (λ forged. ¬ IsHeldOrKnown keys.now known.now.signatures (signed forged.signer forged.statement)) }
+    ensures none { IfNone result (IsHeldOrKnown keys.now known.now.signatures ask.now.signature) }
 {
     forged_of(&ask.said(), keys, known)
 }
 
 /// The signature that is said, where it is forged.
 fn forged_of(said: &Said, keys: &[Key], known: &Known) -> Option<Forged>
-    ensures { IfSome result (λ forged. ¬ IsHeldOrKnown keys.now known.now.signatures (signed forged.signer forged.statement)) }
+    ensures carried { IfSome result (λ forged. said.now ≡ signed forged.signer forged.statement) }
+    ensures forged { IfSome result (λ forged. ¬ IsHeldOrKnown keys.now known.now.signatures (signed forged.signer forged.statement)) }
+    ensures none { IfNone result (IsHeldOrKnown keys.now known.now.signatures said.now) }
 {
     if is_held(said, keys, known) {
         return None;

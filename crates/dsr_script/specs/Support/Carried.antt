@@ -4,6 +4,8 @@ use Rattle.dsr_names.specs.declared.actor.Actor.{Actor}
 use Rattle.dsr_desk.specs.Signature.{Signature}
 use Rattle.dsr_chain.specs.Chain.{Chain}
 use Rattle.dsr_chain.specs.Content.{signed_in}
+use Rattle.dsr_base.specs.Member.{In}
+use Rattle.dsr_envelope.specs.Envelope.{IsOn}
 use Rattle.dsr_envelope.specs.declared.envelope.Envelope.{Envelope}
 use Rattle.dsr_envelope.specs.declared.envelope.Envelope.TheVariants.{Empty, Round, Ask, Reply, Seen}
 use Rattle.dsr_chain.specs.declared.signed_request.SignedRequest.{SignedRequest}
@@ -38,3 +40,7 @@ IsHeldEnvelope holders known (Round round chains) = All (IsHeldChain holders kno
 IsHeldEnvelope holders known (Ask request) = IsHeldRequest holders known request
 IsHeldEnvelope holders known (Reply reply) = Unit {0}
 IsHeldEnvelope holders known (Seen front) = Unit {0}
+
+-- the signature is on one of these chains
+abbrev pub IsOnOne : List Chain → Signature → Type 0
+IsOnOne chains s = (chain : Chain) × In chain chains × IsOn s chain
