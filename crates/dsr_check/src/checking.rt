@@ -3,6 +3,7 @@ ghost use Rattle.dsr_check.specs.Check.{IsFirstBad};
 ghost use Rattle.dsr_check.specs.Support.Audit.{StandsFor};
 ghost use Rattle.dsr_check.specs.Verdict.{IsVerdict};
 ghost use Rattle.dsr_run.specs.Agreement.{HasAgreement};
+ghost use Rattle.dsr_run.specs.Linearizable.{IsLinearization};
 ghost use Rattle.dsr_run.specs.Right.{IsRight};
 ghost use Rattle.dsr_run.specs.Run.{IsRun};
 
@@ -24,6 +25,7 @@ pub fn check(alloc: Global, recorded: &Record) -> Result<Verdict, Refusal>
     ensures run { OnOk result (IsRun recorded.now.shape recorded.now.run) }
     ensures verdict { IfOk result (IsVerdict recorded.now.shape recorded.now.run) }
     ensures right { OnOk result (IsRight recorded.now.shape recorded.now.run) }
+    ensures linearizes { IfOk result (λ verdict. IsLinearization recorded.now.shape recorded.now.run (reverse verdict.history)) }
     ensures agreement { OnOk result (HasAgreement recorded.now.shape recorded.now.run) }
     ensures line { (line : ℕ) → result ≡ Err (Refusal.NotARun line) → IsFirstBad recorded.now.shape recorded.now.run line }
     ensures names { (line : ℕ) → IsFirstBad recorded.now.shape recorded.now.run line

@@ -1,9 +1,13 @@
--- Which clients a replica has not answered since it took something of them, and how its seat knows it (this project).
-use Rattle.std.specs.Prelude.{◌≡◌, ◌↔◌, ℕ, ◌<◌, ◌==◌, true, false, Bool, List, [], ◌∷◌, if◌then◌else◌, replicate, slice_index_or, slice_set}
+-- Which clients a replica has not answered since it took something of them, which one it proposed last, and how its seat knows both (this
+-- project).
+use Rattle.std.specs.Prelude.{◌≡◌, ◌↔◌, ℕ, ◌<◌, ◌==◌, true, false, Bool, List, [], ◌∷◌, Option, None, Some, if◌then◌else◌, replicate, reverse, slice_index_or, slice_set}
 use Rattle.dsr_names.specs.declared.actor.Actor.{Actor}
 use Rattle.dsr_names.specs.declared.actor.Actor.TheVariants.{Replica, Client}
 use Rattle.dsr_envelope.specs.declared.entry.Entry.{Entry}
 use Rattle.dsr_envelope.specs.declared.entry.Entry.TheVariants.{Post, Take}
+use Rattle.dsr_envelope.specs.declared.pick.Pick.{Pick}
+use Rattle.dsr_envelope.specs.declared.pick.Pick.TheVariants.{Plain, From, Begin}
+use Rattle.dsr_run.specs.Eager.{first_or}
 
 -- of a log's entries with this client the newest is a take
 abbrev pub is_unanswered : ℕ → List Entry → Bool
@@ -33,3 +37,14 @@ AreUnanswered log marks = (c : ℕ) → c < 32 → IsMarked marks c ↔ IsUnansw
 abbrev pub marks_after : Bool → Actor → List Bool → List Bool
 marks_after mark (Replica q) marks = marks
 marks_after mark (Client c) marks = slice_set marks c mark
+
+-- which client was picked last, after a post by a choice: the last of those that it names
+abbrev pub picked_after : Pick → Option ℕ → Option ℕ
+picked_after Plain before = before
+picked_after (From clients) before = first_or before (reverse clients)
+picked_after (Begin op) before = before
+
+-- the marks, and which client was picked last
+pub record Served : Type 0 where
+  pub marks : List Bool
+  pub picked : Option ℕ

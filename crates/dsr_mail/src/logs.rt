@@ -7,6 +7,7 @@ ghost use Rattle.dsr_ledger.specs.declared.reply.Reply.{Reply as AReply};
 ghost use Rattle.dsr_history.specs.History.{IsLegal};
 ghost use Rattle.dsr_node.specs.Node.{Plays, PlaysReplica};
 ghost use Rattle.dsr_run.specs.History.{accepted_by, decided_at, history};
+ghost use Rattle.dsr_run.specs.Linearizable.{LinearizesLogs};
 ghost use Rattle.dsr_run.specs.Right.{IsRightReply, TookAllReplies, HasReplyTo};
 ghost use Rattle.dsr_run.specs.Run.{AreLogs};
 ghost use Rattle.dsr_boxes.specs.Pass.{logs_in};
@@ -114,6 +115,7 @@ impl Logs {
     /// The history: the requests that acted, in their order, by the loyal replica with the most closed slots.
     pub fn history(&self) -> &[Request]
         ensures same { result.now ≡ reverse (history self.now.shape (logs_of self.now)) }
+        ensures linearizes { LinearizesLogs self.now.shape (logs_of self.now) (reverse result.now) }
         ensures legal { IsLegal (history self.now.shape (logs_of self.now)) }
     {
         let mut history: &[Request] = &[];

@@ -11,6 +11,7 @@ ghost use Rattle.dsr_replica.specs.Conduct.{IsLoyalLog, envelope_to, reply_to};
 ghost use Rattle.dsr_replica.specs.Held.{held};
 ghost use Rattle.dsr_node.specs.Conduct.{post_of};
 ghost use Rattle.dsr_node.specs.Node.{IsReplicaNumber};
+ghost use Rattle.dsr_run.specs.Eager.{last_proposed};
 ghost use Rattle.dsr_boxes.specs.Pass.{IsPassOf, IsInRun, with_entry};
 ghost use Rattle.dsr_mail.specs.Refusals.{IsRefusedBy, post_refused, take_refused, wait_refused};
 ghost use Rattle.dsr_mail.specs.Serving.{IsUnanswered};
@@ -33,7 +34,9 @@ pub struct ReplicaSeat {
 }
 
 impl Model for ReplicaSeat {
+    ghost use Rattle.std.specs.Prelude.{◌≡◌};
     ghost use Rattle.dsr_node.specs.Node.{IsReplicaNumber};
+    ghost use Rattle.dsr_run.specs.Eager.{last_proposed};
     ghost use Rattle.dsr_boxes.specs.Pass.{Pass};
     ghost use Rattle.dsr_mail.specs.Serving.{AreUnanswered};
 
@@ -41,7 +44,7 @@ impl Model for ReplicaSeat {
 
     ghost view = { λ s. s.loyal };
 
-    ghost invariant = { λ s. IsReplicaNumber s.loyal.actor × AreUnanswered s.loyal.log s.serving };
+    ghost invariant = { λ s. IsReplicaNumber s.loyal.actor × AreUnanswered s.loyal.log s.serving.marks × (s.serving.picked ≡ last_proposed s.loyal.shape s.loyal.log) };
 }
 
 impl ReplicaSeat {
@@ -126,8 +129,10 @@ impl ReplicaSeat {
         self.serving.has(client)
     }
 
-    /// The last of the clients that it picked last, if it picked any. Nothing more is promised of it.
-    pub fn last_picked(&self) -> Option<ClientId> {
+    /// The last client that it proposed, in a slot of its own; `None` where it proposed none.
+    pub fn last_picked(&self) -> Option<ClientId>
+        ensures { result ≡ last_proposed self.now.shape self.now.log }
+    {
         self.serving.picked()
     }
 

@@ -1,5 +1,5 @@
-ghost use Rattle.std.specs.Prelude.{◌≡◌, ◌↔◌, true, false, length, IsTrue};
-ghost use Rattle.dsr_mail.specs.Serving.{IsMarked, nobody, marks_after};
+ghost use Rattle.std.specs.Prelude.{◌≡◌, ◌↔◌, true, false, None, length, IsTrue};
+ghost use Rattle.dsr_mail.specs.Serving.{IsMarked, nobody, marks_after, picked_after};
 
 use dsr_envelope::Pick;
 use dsr_names::{Actor, ClientId};
@@ -16,11 +16,12 @@ pub(crate) struct Serving {
 }
 
 impl Model for Serving {
-    ghost use Rattle.std.specs.Prelude.{◌≡◌, Bool, List, length};
+    ghost use Rattle.std.specs.Prelude.{◌≡◌, length};
+    ghost use Rattle.dsr_mail.specs.Serving.{Served};
 
-    ghost Value = { List Bool };
+    ghost Value = { Served };
 
-    ghost view = { λ s. s.marks };
+    ghost view = { λ s. record { marks = s.marks; picked = s.picked } };
 
     ghost invariant = { λ s. length s.marks ≡ 32 };
 }
@@ -28,7 +29,8 @@ impl Model for Serving {
 impl Serving {
     /// Nothing was taken of any client, and none was picked.
     pub(crate) fn none() -> Serving
-        ensures { result ≡ nobody }
+        ensures marks { result.marks ≡ nobody }
+        ensures picked { result.picked ≡ None }
     {
         Serving {
             marks: [false; MOST_CLIENTS],
@@ -38,20 +40,23 @@ impl Serving {
 
     /// Whether the client was not answered since something of it was taken.
     pub(crate) fn has(&self, client: ClientId) -> bool
-        ensures { IsTrue result ↔ IsMarked self.now client }
+        ensures { IsTrue result ↔ IsMarked self.now.marks client }
     {
         self.marks[client.number() as usize]
     }
 
     /// The client that was picked last, if one was.
-    pub(crate) fn picked(&self) -> Option<ClientId> {
+    pub(crate) fn picked(&self) -> Option<ClientId>
+        ensures { result ≡ self.now.picked }
+    {
         self.picked
     }
 
     /// Notes a take from an actor: a client is to be answered.
     pub(crate) fn note_take(&mut self, from: &Actor)
-        ensures noted { self.new ≡ marks_after true from.now self.old }
-        ensures long { length self.old ≡ 32 }
+        ensures noted { self.new.marks ≡ marks_after true from.now self.old.marks }
+        ensures picked { self.new.picked ≡ self.old.picked }
+        ensures long { length self.old.marks ≡ 32 }
     {
         if let Actor::Client(client) = from {
             self.marks[client.number() as usize] = true;
@@ -60,14 +65,23 @@ impl Serving {
 
     /// Notes a post to an actor by a choice: a client is answered, and of those that were picked the last counts.
     pub(crate) fn note_post(&mut self, to: &Actor, pick: &Pick)
-        ensures noted { self.new ≡ marks_after false to.now self.old }
-        ensures long { length self.old ≡ 32 }
+        ensures noted { self.new.marks ≡ marks_after false to.now self.old.marks }
+        ensures picked { self.new.picked ≡ picked_after pick.now self.old.picked }
+        ensures long { length self.old.marks ≡ 32 }
     {
         if let Actor::Client(client) = to {
             self.marks[client.number() as usize] = false;
         }
-        if let Pick::From(clients) = pick {
-            self.picked = clients.as_slice().last().copied();
-        }
+        self.picked = last_of(pick, self.picked);
+    }
+}
+
+/// The last of the clients that a choice names; where it names none, this one.
+fn last_of(pick: &Pick, before: Option<ClientId>) -> Option<ClientId>
+    ensures { result ≡ picked_after pick.now before }
+{
+    match pick {
+        Pick::From(clients) => clients.as_slice().last().copied(),
+        Pick::Plain | Pick::Begin(_) => before,
     }
 }

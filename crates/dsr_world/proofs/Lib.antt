@@ -1,9 +1,9 @@
 mod Blindness
 mod Ending
-mod NextSteps
+pub mod NextSteps
 mod Opening
 mod Repeating
 mod Stepping
 mod WorldPosts
-mod WorldTakes
-mod Worlds
+pub mod WorldTakes
+pub mod Worlds

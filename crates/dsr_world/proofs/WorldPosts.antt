@@ -33,7 +33,7 @@ use Rattle.dsr_world.proofs.Stepping.{boxes_posted}
 use Rattle.std.proofs.lemmas.Bool.Decides.{Decides-eqb}
 use Rattle.dsr_envelope.specs.Limits.{IsEnvelope}
 use Rattle.dsr_client.specs.State.{seen}
-use Rattle.dsr_script.specs.Held.{IsUnforged}
+use Rattle.dsr_script.specs.Held.{IsHeldOrKnown, IsUnforged}
 use Rattle.dsr_world.specs.Event.{refusals, IsRefusedBy, IsForgedAtLast}
 use Rattle.dsr_node.specs.Conduct.{are_two_clients}
 use Rattle.dsr_run.specs.Run.{IsMadeOrPosted, HasPosted, ForgesNothing}
@@ -186,9 +186,8 @@ module _ (shape : Shape) (run : List Step) (nodes : List Node) (rows : List (Lis
   ]
 
   -- and what can be sent is held or known
-  pub made_unforged : (p : ℕ) → IsTraitor shape (Replica p) → (x : Envelope) → ((s : Signature) → Carries x s → IsMadeOrPosted shape (log_of run) s)
-      → IsUnforged keys known x
-  made_unforged p traitor x made s carried = elim (made s carried) [
+  pub made_held : (p : ℕ) → IsTraitor shape (Replica p) → (s : Signature) → IsMadeOrPosted shape (log_of run) s → IsHeldOrKnown keys known s
+  made_held p traitor s made = elim made [
     | inl by ↦ inl ((are.held s.signer).1 by)
     | inr posted ↦
         by_signer s.signer refl (is_traitor_of shape s.signer) refl
@@ -208,6 +207,10 @@ module _ (shape : Shape) (run : List Step) (nodes : List Node) (rows : List (Lis
       by_signer a same true bad inside posted = inl ((are.held s.signer).1 (subst (IsTraitor shape) (sym same) (traitor_one a inside bad)))
       by_signer a same false good inside posted =
           inr ((are.knows p traitor).all s s.signer (subst (IsLoyal shape) (sym same) (loyal_one a inside good)) posted)
+
+  pub made_unforged : (p : ℕ) → IsTraitor shape (Replica p) → (x : Envelope) → ((s : Signature) → Carries x s → IsMadeOrPosted shape (log_of run) s)
+      → IsUnforged keys known x
+  made_unforged p traitor x made s carried = made_held p traitor s (made s carried)
 
   pub parts_after_plant : (p : ℕ) (to : Actor) (x : Envelope) → IsAllowed shape → p < shape.n → IsActor shape to → is_traitor shape p ≡ true → IsEnvelope x
       → is_used_up (log_of run) (Replica p) to ≡ false → is_full (log_of run) (Replica p) to ≡ false → ForgesNothing shape (log_of run) (PostEntry to x)

@@ -70,7 +70,7 @@ cleared_take shape logs at from e =
     }
 
 -- it is no client's from itself
-not_own : (at from : Actor) → is_own_client at from ≡ false → at ≡ from → (c : ℕ) → at ≡ Client c → ⊥
+pub not_own : (at from : Actor) → is_own_client at from ≡ false → at ≡ from → (c : ℕ) → at ≡ Client c → ⊥
 not_own (Replica p) from own same c is = absurd cc
 not_own (Client d) (Replica q) own same c is = absurd cc
 not_own (Client d) (Client e) own same c is =

@@ -1,4 +1,4 @@
-ghost use Rattle.std.specs.Prelude.{true, false, ◌++◌, IfSome, IsSome, ◌⊎◌, Any, OnOk, vec_len, vec_capacity, ◌≡◌, ◌≢◌, ◌↔◌, ◌&&◌, ℕ, ◌<◌, ◌≤◌, ◌+◌, [], ◌∷◌, List, Option, None, Some, Err, length, reverse, slice_index_or, IfOk, IsOk, OnErr, IsTrue, IsOkUnless};
+ghost use Rattle.std.specs.Prelude.{true, false, ◌++◌, IfSome, IfNone, IsSome, ◌⊎◌, Any, OnOk, vec_len, vec_capacity, ◌≡◌, ◌≢◌, ◌↔◌, ◌&&◌, ℕ, ◌<◌, ◌≤◌, ◌+◌, [], ◌∷◌, List, Option, None, Some, Err, length, reverse, slice_index_or, IfOk, IsOk, OnErr, IsTrue, IsOkUnless};
 ghost use Rattle.std.specs.Option.{option_map, option_to_list};
 ghost use Rattle.dsr_names.specs.Shape.{IsActor, IsLoyal, is_traitor};
 ghost use Rattle.dsr_names.specs.declared.actor.Actor.TheVariants.{Replica as ReplicaNumber, Client as ClientNumber};
@@ -7,13 +7,14 @@ ghost use Rattle.dsr_client.specs.Client.{StandsFor as StandsForClient};
 ghost use Rattle.dsr_names.specs.declared.refusal.Refusal.TheVariants.{NoActor, WrongRole};
 ghost use Rattle.dsr_envelope.specs.declared.envelope.Envelope.{Envelope};
 ghost use Rattle.dsr_envelope.specs.Limits.{IsEnvelope};
+ghost use Rattle.dsr_envelope.specs.Log.{posted_to};
 ghost use Rattle.dsr_envelope.specs.Pick.{IsPick};
 ghost use Rattle.dsr_play.specs.declared.event.Event.TheVariants.{Post, Plant, Take, Tell};
 ghost use Rattle.dsr_base.specs.Growth.{Extends};
 ghost use Rattle.dsr_base.specs.Member.{In};
 ghost use Rattle.dsr_history.specs.History.{IsLegal};
 ghost use Rattle.dsr_desk.specs.Keys.{is_taken};
-ghost use Rattle.dsr_desk.specs.Signature.{Signature};
+ghost use Rattle.dsr_desk.specs.Signature.{Signature, signed};
 ghost use Rattle.dsr_envelope.specs.Envelope.{Carries};
 ghost use Rattle.dsr_names.specs.declared.actor.Actor.{Actor};
 ghost use Rattle.dsr_names.specs.declared.refusal.Refusal.{Refusal};
@@ -25,9 +26,10 @@ ghost use Rattle.dsr_client.specs.Conduct.{ask_to};
 ghost use Rattle.dsr_run.specs.History.{accepted_by, decided_at, history, seen_by};
 ghost use Rattle.dsr_world.specs.Outcome.{HasEnded};
 ghost use Rattle.dsr_run.specs.Agreement.{HasAgreement};
+ghost use Rattle.dsr_run.specs.Linearizable.{IsLinearization, IsLinearizable};
 ghost use Rattle.dsr_run.specs.Right.{IsRight, IsRightReply, TookAllReplies, HasReplyTo};
 ghost use Rattle.dsr_ledger.specs.declared.reply.Reply.{Reply as AReply};
-ghost use Rattle.dsr_run.specs.Run.{IsRun, ForgesNothing};
+ghost use Rattle.dsr_run.specs.Run.{IsRun, IsTraitor, IsMadeOrPosted, ForgesNothing};
 ghost use Rattle.dsr_run.specs.Step.{Step, log_of};
 ghost use Rattle.dsr_world.specs.Support.WorldFields.{box_refusal};
 ghost use Rattle.dsr_node.specs.Conduct.{HasSpelledOp};
@@ -191,9 +193,25 @@ impl World {
         self.boxes.item(poster, taker)
     }
 
-    /// A signature of the draft for which a traitor's post of it is refused as forged, by now: it is no traitor's, and no loyal actor
-    /// posted it. `None` where none is found; that one is found wherever `step` answers `Forged` is tested, not proved.
-    pub fn forged_in(&self, draft: &Draft) -> Option<Forged> {
+    /// How many envelopes were posted in the box from one actor to another. Requires two actors of the shape.
+    pub fn posts(&self, from: &Actor, to: &Actor) -> u64
+        requires from { IsActor self.now.shape from.now }
+        requires to { IsActor self.now.shape to.now }
+        ensures { result ≡ length (posted_to to.now (log_of self.now.run from.now)) }
+    {
+        let (poster, taker) = (self.shape.place(from), self.shape.place(to));
+        self.boxes.posts(poster, taker)
+    }
+
+    /// The first signature of the draft for which a traitor's post of it is refused as forged, by now: it is no traitor's, and its signer
+    /// has not posted it. `None` exactly if there is none. It is meant where there is a traitor; elsewhere nothing is known of posts.
+    pub fn forged_in(&self, draft: &Draft) -> Option<Forged>
+        ensures carried { IfSome result (λ forged. Carries draft.now (signed forged.signer forged.statement)) }
+        ensures forged { (p : ℕ) → IsTraitor self.now.shape (ReplicaNumber p)
+            → IfSome result (λ forged. ¬ IsMadeOrPosted self.now.shape (log_of self.now.run) (signed forged.signer forged.statement)) }
+        ensures none { (p : ℕ) → IsTraitor self.now.shape (ReplicaNumber p)
+            → IfNone result ((s : Signature) → Carries draft.now s → IsMadeOrPosted self.now.shape (log_of self.now.run) s) }
+    {
         forged_in(draft, self.keys.as_slice(), &self.known)
     }
 
@@ -214,6 +232,7 @@ impl World {
     /// The history: the requests that acted, in their order, by the loyal replica with the most closed slots.
     pub fn history(&self) -> &[Request]
         ensures same { result.now ≡ reverse (history self.now.shape (log_of self.now.run)) }
+        ensures linearizes { IsLinearization self.now.shape self.now.run (reverse result.now) }
         ensures legal { IsLegal (history self.now.shape (log_of self.now.run)) }
         ensures grew { (earlier : List Step) → Extends self.now.run earlier
             → Extends (history self.now.shape (log_of self.now.run)) (history self.now.shape (log_of earlier)) }
@@ -265,6 +284,7 @@ impl World {
         ensures run { IsRun self.new.shape self.new.run }
         ensures agreement { HasAgreement self.new.shape self.new.run }
         ensures right { IsRight self.new.shape self.new.run }
+        ensures linearizable { IsLinearizable self.new.shape self.new.run }
     {
         let mut end = RunEnd::new();
         for event in events {

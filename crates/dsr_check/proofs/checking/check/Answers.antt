@@ -1,10 +1,13 @@
 use Rattle.std.proofs.Common.{◌∙◌, inl, inr, ap, reverse, sym, subst}
 use Rattle.std.specs.Prelude.{Err}
-use Rattle.std.proofs.lemmas.List.{length-reverse}
+use Rattle.std.proofs.lemmas.List.{length-reverse, reverse-reverse}
 use Rattle.dsr_names.specs.Shape.{HasFewTraitors}
 use Rattle.dsr_names.specs.declared.refusal.Refusal.TheVariants.{NotARun}
 use Rattle.dsr_run.specs.Run.{IsRun}
-use Rattle.dsr_run.proofs.Lemmas.{all_agree, all_right}
+use Rattle.dsr_run.specs.History.{history}
+use Rattle.dsr_run.specs.Linearizable.{IsLinearization}
+use Rattle.dsr_run.specs.Step.{log_of}
+use Rattle.dsr_run.proofs.Lemmas.{all_agree, all_right, linearized}
 use Rattle.dsr_check.specs.Check.{IsFirstBad}
 use Rattle.dsr_check.specs.Verdict.{IsVerdict}
 use Rattle.dsr_check.proofs.FirstBad.{none_bad, same_line}
@@ -50,6 +53,20 @@ returns-clause-right c =
     let few = subst HasFewTraitors c.shape-shape.ensures c.n-n.ensures.allowed.few_traitors in
     let is = subst (λ s. IsRun s recorded.run) shape_is (subst (IsRun c.follow_all.new.audit.shape) c.entries.ensures c.in-Ok.ensures.stands.is_run) in
     all_right recorded.shape few recorded.run is
+
+pub returns-clause-linearizes : goal.returns-clause-linearizes
+returns-clause-linearizes c =
+    let recorded = c.args.recorded.now in
+    let shape_is = c.follow_all.ensures.shape ∙ (c.in_ok-audit.ensures.shape ∙ c.shape-shape.ensures) in
+    let few = subst HasFewTraitors c.shape-shape.ensures c.n-n.ensures.allowed.few_traitors in
+    let is = subst (λ s. IsRun s recorded.run) shape_is (subst (IsRun c.follow_all.new.audit.shape) c.entries.ensures c.in-Ok.ensures.stands.is_run) in
+    let count = length-reverse c.entries.result.now ∙ sym c.in-Ok.ensures.entries in
+    let verdict : IsVerdict recorded.shape recorded.run c.in_ok-verdict.verdict =
+    subst (λ s. IsVerdict s recorded.run c.in_ok-verdict.verdict) shape_is
+    (subst (λ r. IsVerdict c.follow_all.new.audit.shape r c.in_ok-verdict.verdict) c.entries.ensures
+    (c.in_ok-verdict.ensures.verdict (reverse c.entries.result.now) c.in-Ok.ensures.stands count)) in
+    subst (IsLinearization recorded.shape recorded.run) (sym (ap reverse verdict.history ∙ reverse-reverse (history recorded.shape (log_of recorded.run))))
+    (linearized recorded.shape few recorded.run is)
 
 pub returns-clause-agreement : goal.returns-clause-agreement
 returns-clause-agreement c =

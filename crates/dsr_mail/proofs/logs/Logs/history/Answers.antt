@@ -1,10 +1,15 @@
 use Rattle.std.proofs.Common.{reverse, length}
 use Rattle.dsr_names.specs.declared.actor.Actor.TheVariants.{Replica as ReplicaNumber}
 use Rattle.dsr_mail.specs.Logs.{logs_of}
-use Rattle.std.proofs.Common.{ap, ◌∙◌}
+use Rattle.std.proofs.Common.{◌≡◌, ap, sym, ◌∙◌, subst, rules}
+use Rattle.std.proofs.lemmas.List.{reverse-reverse}
+use Rattle.dsr_names.specs.Shape.{HasFewTraitors}
 use Rattle.dsr_history.specs.History.{acted}
 use Rattle.dsr_replica.specs.Decided.{decided_requests, decided_values}
-use Rattle.dsr_run.proofs.Lemmas.{best_kept, best_more, as_best, history_legal}
+use Rattle.dsr_run.specs.History.{history}
+use Rattle.dsr_run.specs.Linearizable.{LinearizesLogs}
+use Rattle.dsr_run.proofs.Lemmas.{best_kept, best_more, as_best, history_legal, logs_linearized}
+use Rattle.dsr_mail.specs.Logs.{Logs}
 use Rattle.dsr_mail.proofs.LogsLemmas.{best_without}
 use Rattle.dsr_mail.proofs.logs.Logs.history.Goals.{in-Some+then-decided-closed, in-Some+else-decided-closed, in_default}
 use Rattle.dsr_mail.proofs.logs.Logs.history.Goals as goal
@@ -40,3 +45,11 @@ loop-number-preserved c =
       ],
       c.loop-number.invariant.1,
     )
+
+pub returns-clause-linearizes : goal.returns-clause-linearizes
+returns-clause-linearizes c =
+    let logs = c.args.self.now in
+    let few = subst (λ (l : Logs). HasFewTraitors l.shape) c.self.view_is c.n-number-end.ensures.allowed.few_traitors in
+    let same : c.loop-number.history.now ≡ reverse (history logs.shape (logs_of logs)) = search rules in
+    subst (LinearizesLogs logs.shape (logs_of logs)) (sym (ap reverse same ∙ reverse-reverse (history logs.shape (logs_of logs))))
+    (logs_linearized logs.shape few (logs_of logs))

@@ -1,4 +1,5 @@
-use Rattle.std.proofs.Common.{◌<◌, length, reverse, ap, sym, ◌∙◌, subst, arith}
+use Rattle.std.proofs.Common.{◌≡◌, ◌<◌, length, reverse, ap, sym, ◌∙◌, subst, arith, rules}
+use Rattle.std.proofs.lemmas.List.{reverse-reverse}
 use Rattle.dsr_names.specs.Shape.{HasFewTraitors}
 use Rattle.dsr_names.specs.declared.actor.Actor.TheVariants.{Replica}
 use Rattle.dsr_history.specs.History.{acted}
@@ -8,7 +9,9 @@ use Rattle.dsr_run.specs.Step.{log_of}
 use Rattle.dsr_node.specs.Node.{Plays}
 use Rattle.dsr_world.specs.World.{World}
 use Rattle.dsr_run.proofs.Lemmas.{best_past, best_kept, best_more, as_best}
-use Rattle.dsr_run.proofs.Lemmas.{history_grows, history_legal}
+use Rattle.dsr_run.specs.History.{history}
+use Rattle.dsr_run.specs.Linearizable.{IsLinearization}
+use Rattle.dsr_run.proofs.Lemmas.{history_grows, history_legal, linearized}
 use Rattle.dsr_run.proofs.Lemmas.{logs_grew}
 use Rattle.dsr_world.proofs.world.World.history.Goals.{in-Some+then-decided-closed, in-Some+else-decided-closed, in_default}
 use Rattle.dsr_world.proofs.world.World.history.Goals as goal
@@ -60,3 +63,12 @@ returns-clause-grew c earlier grown =
     let few = subst (λ (w : World). HasFewTraitors w.shape) c.self.view_is c.n-number-end.ensures.allowed.few_traitors in
     let is = subst (λ (w : World). IsRun w.shape w.run) c.self.view_is c.self.invariant.0.is_run in
     history_grows world.shape few world.run is (log_of earlier) (logs_grew world.run earlier grown)
+
+pub returns-clause-linearizes : goal.returns-clause-linearizes
+returns-clause-linearizes c =
+    let world = c.args.self.now in
+    let few = subst (λ (w : World). HasFewTraitors w.shape) c.self.view_is c.n-number-end.ensures.allowed.few_traitors in
+    let is = subst (λ (w : World). IsRun w.shape w.run) c.self.view_is c.self.invariant.0.is_run in
+    let same : c.loop-number.history.now ≡ reverse (history world.shape (log_of world.run)) = search rules in
+    subst (IsLinearization world.shape world.run) (sym (ap reverse same ∙ reverse-reverse (history world.shape (log_of world.run))))
+    (linearized world.shape few world.run is)

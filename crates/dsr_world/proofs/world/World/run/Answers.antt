@@ -5,7 +5,9 @@ use Rattle.dsr_run.specs.Run.{IsRun}
 use Rattle.dsr_world.specs.World.{World}
 use Rattle.dsr_run.proofs.Lemmas.{all_agree}
 use Rattle.dsr_world.proofs.Ending.{step_outcome, ended_next, ended_few, ended_last, ended_all, ended_grew}
-use Rattle.dsr_run.proofs.Lemmas.{all_right}
+use Rattle.dsr_run.specs.History.{history}
+use Rattle.dsr_run.specs.Step.{log_of}
+use Rattle.dsr_run.proofs.Lemmas.{all_right, linearized}
 use Rattle.dsr_world.proofs.world.World.run.Goals as goal
 
 pub with-end-requires-clause-few : goal.with-end-requires-clause-few
@@ -71,3 +73,10 @@ returns-clause-right c =
     let few = subst (λ (w : World). HasFewTraitors w.shape) c.self.view_is c.n-n.ensures.allowed.few_traitors in
     let is = subst (λ (w : World). IsRun w.shape w.run) c.self.view_is c.self.invariant.0.is_run in
     all_right world.shape few world.run is
+
+pub returns-clause-linearizable : goal.returns-clause-linearizable
+returns-clause-linearizable c =
+    let world = c.loop-event.self in
+    let few = subst (λ (w : World). HasFewTraitors w.shape) c.self.view_is c.n-n.ensures.allowed.few_traitors in
+    let is = subst (λ (w : World). IsRun w.shape w.run) c.self.view_is c.self.invariant.0.is_run in
+    (history world.shape (log_of world.run), linearized world.shape few world.run is)
