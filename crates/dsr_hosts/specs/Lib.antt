@@ -1,5 +1,6 @@
 pub mod Causes
 pub mod Hosted
+pub mod Leaving
 pub mod Posted
 pub mod Ranks
 pub mod Requests

@@ -1,14 +1,18 @@
 //! The operations of a client.
 
-ghost use Rattle.std.specs.Prelude.{◌≡◌, None, OnOk, OnErr, IfErr, IsSome, IsNone};
+ghost use Rattle.std.specs.Prelude.{◌≡◌, true, None, Some, Err, IsErrOf, OnOk, OnErr, IfErr, IsSome, IsNone};
+ghost use Rattle.dsr_names.specs.declared.refusal.Refusal.TheVariants.{Unanswered};
+ghost use Rattle.dsr_rounds.specs.declared.end.End.TheVariants.{Fault};
 ghost use Rattle.dsr_client.specs.State.{accepted, outstanding};
 ghost use Rattle.dsr_boxes.specs.Pass.{IsPassOf};
 ghost use Rattle.dsr_calls.specs.Calls.{GoesOn};
+ghost use Rattle.dsr_calls.specs.Course.{HasCourse};
 ghost use Rattle.dsr_hosts.specs.Causes.{ClientRefusal, IsUnserved};
 ghost use Rattle.dsr_hosts.specs.Hosted.{ClientEnd, IsServed};
 ghost use Rattle.dsr_hosts.specs.Requests.{HasMade, Answers, Keeps};
 ghost use Rattle.dsr_hosts.specs.Seats.{IsNewSeat};
 
+use crate::over::Calls;
 use crate::service::Service;
 use dsr_calls::{ask, calls_follow_each_other, go_on};
 use dsr_mail::ClientSeat;
@@ -31,28 +35,35 @@ impl<'a, R: Wait, G: Gate> Service<'a, R, G> {
     {
         let mut turn = Turn::first();
         for op in self.script.ops(seat.client()) {
-            self.make(seat, &mut turn, op)?;
+            self.make(seat, &mut turn, op, &mut Calls::none())?;
         }
         Ok(())
     }
 
     /// Makes one operation: asks again and again until the reply is accepted. Where the replicas and traitors have all ended it asks once more, and
     /// ends if that brings no reply. Requires a seat of the service's mail, with nothing outstanding.
-    fn make(&self, seat: &mut ClientSeat, turn: &mut Turn, op: &Op) -> Result<(), End>
+    fn make(
+        &self,
+        seat: &mut ClientSeat,
+        turn: &mut Turn,
+        op: &Op,
+        calls: &mut Calls,
+    ) -> Result<(), End>
         requires mail { IsPassOf self.now.host.mail.now seat.old }
         requires idle { outstanding seat.old.shape seat.old.log ≡ None }
         ensures log { GoesOn seat.new seat.old }
         ensures made { OnOk result (HasMade op.now seat.old seat.new) }
         ensures same { OnErr result (accepted seat.new.shape seat.new.log ≡ accepted seat.old.shape seat.old.log) }
+        ensures last { IsErrOf result (Fault Unanswered) → calls.new.last ≡ true }
         ensures end { IfErr result (ClientEnd (G.may_refuse self.now.host.gate.now) seat.new) }
     {
         for _ in self.host.rt.forever() {
-            let over = self.have_all_ended();
+            calls.begin(self.look_over());
             self.host.pass(seat.actor(), turn)?;
-            match self.call(seat, op) {
+            match self.call(seat, op, calls) {
                 Ok(()) => return Ok(()),
                 Err(Refusal::Unanswered) => {
-                    if over {
+                    if calls.is_last() {
                         return Err(End::Fault(Refusal::Unanswered));
                     }
                 }
@@ -63,13 +74,15 @@ impl<'a, R: Wait, G: Gate> Service<'a, R, G> {
     }
 
     /// Makes one call for the operation: goes on where a request is outstanding, else asks. Requires a seat of the service's mail.
-    fn call(&self, seat: &mut ClientSeat, op: &Op) -> Result<(), Refusal>
+    fn call(&self, seat: &mut ClientSeat, op: &Op, calls: &mut Calls) -> Result<(), Refusal>
         requires { IsPassOf self.now.host.mail.now seat.old }
         ensures log { GoesOn seat.new seat.old }
         ensures answered { OnOk result (Answers op.now seat.old seat.new) }
         ensures awaited { OnErr result (Keeps op.now seat.old seat.new) }
         ensures refused { IfErr result (ClientRefusal (G.may_refuse self.now.host.gate.now) seat.new) }
+        ensures last { calls.new.last ≡ calls.old.over }
     {
+        calls.note();
         if seat.outstanding().is_some() {
             self.go_on_for(seat, op)
         } else {
@@ -84,6 +97,7 @@ impl<'a, R: Wait, G: Gate> Service<'a, R, G> {
         ensures log { GoesOn seat.new seat.old }
         ensures answered { OnOk result (Answers op.now seat.old seat.new) }
         ensures awaited { OnErr result (Keeps op.now seat.old seat.new) }
+        ensures course { IfErr result (λ refusal. HasCourse None 1000 seat.old seat.new (Err refusal)) }
         ensures refused { IfErr result (ClientRefusal (G.may_refuse self.now.host.gate.now) seat.new) }
     {
         let _ = op;
@@ -103,6 +117,7 @@ impl<'a, R: Wait, G: Gate> Service<'a, R, G> {
         ensures log { GoesOn seat.new seat.old }
         ensures answered { OnOk result (Answers op.now seat.old seat.new) }
         ensures awaited { OnErr result (Keeps op.now seat.old seat.new) }
+        ensures course { IfErr result (λ refusal. HasCourse (Some op.now) 1000 seat.old seat.new (Err refusal)) }
         ensures refused { IfErr result (ClientRefusal (G.may_refuse self.now.host.gate.now) seat.new) }
     {
         // For the proof: what their contracts say.

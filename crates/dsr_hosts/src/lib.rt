@@ -5,6 +5,7 @@ mod any_seat;
 mod back;
 mod client;
 mod ends;
+mod over;
 mod ran;
 mod service;
 mod serving;

@@ -1,14 +1,16 @@
 //! The host of a seat in a service, and how it ends.
 
-ghost use Rattle.std.specs.Prelude.{◌≡◌, []};
+ghost use Rattle.std.specs.Prelude.{◌≡◌, ◌↔◌, true, false, [], IsSome, IfSome};
 ghost use Rattle.dsr_boxes.specs.Pass.{IsPassOf};
 ghost use Rattle.dsr_hosts.specs.Hosted.{ComesBack};
-ghost use Rattle.dsr_hosts.specs.Seats.{pass_of, IsNewSeat, IsAgain};
+ghost use Rattle.dsr_hosts.specs.Leaving.{HasTold};
+ghost use Rattle.dsr_hosts.specs.Seats.{pass_of, is_of_client, IsNewSeat, IsAgain};
 
 use crate::any_seat::AnySeat;
 use crate::back::Back;
+use crate::over::Over;
 use dsr_mail::{ClientSeat, ReplicaSeat, TraitorSeat};
-use dsr_rounds::{End, Gate, Host};
+use dsr_rounds::{End, Gate, Host, Noted, Told};
 use dsr_script::Script;
 use std::sync::Wait;
 use std::sync::atomic::AtomicU64;
@@ -29,6 +31,14 @@ pub(crate) struct Service<'a, R, G> {
     pub(crate) clients: &'a AtomicU64,
 }
 
+/// What was done when a host left.
+#[derive(Drop)]
+pub(crate) struct Leaving {
+    told: Option<Told>,
+    noted: Option<Noted>,
+    over: Option<Over>,
+}
+
 impl<'a, R: Wait, G: Gate> Service<'a, R, G> {
     /// Hosts the seat until the work is done, or something ends it. Requires a seat of the service's mail, at which nothing was done.
     pub(crate) fn run(&self, seat: AnySeat) -> Back
@@ -40,7 +50,7 @@ impl<'a, R: Wait, G: Gate> Service<'a, R, G> {
             AnySeat::Traitor(seat) => self.run_traitor(seat),
             AnySeat::OfClient(seat) => self.run_client(seat),
         };
-        self.leave(&back);
+        let _left = self.leave(&back);
         back
     }
 
@@ -91,38 +101,75 @@ impl<'a, R: Wait, G: Gate> Service<'a, R, G> {
 
     /// The host of the seat has ended. A refusal tells all others to stop, and so does the last client's work when it is done. Whoever tells them
     /// first sees them end.
-    fn leave(&self, back: &Back)
+    fn leave(&self, back: &Back) -> Leaving
         requires { IsPassOf self.now.host.mail.now (pass_of back.now.seat) }
+        ensures told { HasTold (is_of_client back.now.seat) back.now.end result.told }
+        ensures noted { IsSome result.noted ↔ (is_of_client back.now.seat ≡ false) }
+        ensures over { IfSome result.told (λ told. told.first ≡ true → IsSome result.over) }
     {
-        let tells = match &back.end {
-            Some(End::Fault(_)) => true,
-            Some(End::Told) => false,
-            None => back.seat.is_of_client() && self.clients.fetch_sub(1, SeqCst) == 1,
+        let told = self.tell_after(back);
+        let noted = self.note_end_of(back);
+        let over = match &told {
+            Some(told) => self.see_end_after(told, &back.seat),
+            None => None,
         };
-        let first = tells && self.host.stop.tell();
-        if !back.seat.is_of_client() {
-            self.host.stop.note_end();
-        }
-        if first {
-            self.see_all_end(&back.seat);
+        Leaving { told, noted, over }
+    }
+
+    /// Tells all others to stop where the host of the seat was refused, and where it did the last client's work.
+    fn tell_after(&self, back: &Back) -> Option<Told>
+        ensures { HasTold (is_of_client back.now.seat) back.now.end result }
+    {
+        match &back.end {
+            Some(End::Fault(_)) => Some(self.host.stop.tell()),
+            Some(End::Told) => None,
+            None => {
+                if back.seat.is_of_client() && self.clients.fetch_sub(1, SeqCst) == 1 {
+                    Some(self.host.stop.tell())
+                } else {
+                    None
+                }
+            }
         }
     }
 
+    /// Notes that one more host has ended, but for a client's.
+    fn note_end_of(&self, back: &Back) -> Option<Noted>
+        ensures { IsSome result ↔ (is_of_client back.now.seat ≡ false) }
+    {
+        if back.seat.is_of_client() {
+            return None;
+        }
+        Some(self.host.stop.note_end())
+    }
+
+    /// Who told the others first sees them end.
+    fn see_end_after(&self, told: &Told, seat: &AnySeat) -> Option<Over>
+        requires { IsPassOf self.now.host.mail.now (pass_of seat.now) }
+        ensures { told.now.first ≡ true → IsSome result }
+    {
+        if !told.is_first() {
+            return None;
+        }
+        Some(self.see_all_end(seat))
+    }
+
     /// Wakes those who sleep at the mail, again and again, until the hosts of all replicas and traitors have ended.
-    pub(crate) fn see_all_end(&self, seat: &AnySeat)
+    pub(crate) fn see_all_end(&self, seat: &AnySeat) -> Over
         requires { IsPassOf self.now.host.mail.now (pass_of seat.now) }
     {
         for _ in self.host.rt.forever() {
-            if self.have_all_ended() {
-                return;
+            if let Some(over) = self.look_over() {
+                return over;
             }
             seat.wake(self.host.mail);
             thread::yield_now();
         }
+        unreachable!()
     }
 
     /// Whether the hosts of all replicas and traitors have ended.
-    pub(crate) fn have_all_ended(&self) -> bool {
-        self.host.stop.ended() >= self.host.mail.shape().n() as u64
+    pub(crate) fn look_over(&self) -> Option<Over> {
+        Over::of(self.host.stop.ended(), self.host.mail.shape().n())
     }
 }

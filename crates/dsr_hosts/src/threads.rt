@@ -139,7 +139,7 @@ fn start<'s, E, R: Wait + Sync, G: Gate + Sync>(
     ) {
         Ok(handle) => Started::Runs(handle),
         Err(refused) => {
-            service.host.stop.tell();
+            let _told = service.host.stop.tell();
             Started::Ended(refused_back((refused.value)()))
         }
     }
@@ -172,7 +172,7 @@ fn finish<R: Threads + Wait, G: Gate>(
     match started {
         Started::Runs(handle) => handle.join(service.host.rt),
         Started::Ended(back) => {
-            service.see_all_end(&back.seat);
+            let _over = service.see_all_end(&back.seat);
             back
         }
     }

@@ -13,11 +13,13 @@ use Rattle.dsr_names.specs.declared.refusal.Refusal.{Refusal}
 use Rattle.dsr_names.specs.declared.refusal.Refusal.TheVariants.{NoActor, WrongRole, NotDue, Exhausted, BoxFull, BoxEmpty}
 use Rattle.dsr_envelope.specs.declared.envelope.Envelope.{Envelope}
 use Rattle.dsr_envelope.specs.declared.entry.Entry.{Entry}
+use Rattle.dsr_envelope.specs.declared.entry.Entry.TheVariants.{Post}
 use Rattle.dsr_envelope.specs.declared.pick.Pick.{Pick}
 use Rattle.dsr_node.specs.Conduct.{post_of, is_exhausted, is_undue, is_actor, is_traitor_of, are_clients, is_own_client}
 use Rattle.dsr_boxes.specs.Pass.{SharedBoxes, Pass, IsPassOf, with_entry}
 use Rattle.dsr_mail.specs.Refusals.{IsRefusedBy, is_spent, post_refused, take_refused, plant_refused}
 use Rattle.dsr_calls.specs.Calls.{GoesOn}
+use Rattle.dsr_rounds.specs.Eagerness.{HasPosted}
 use Rattle.dsr_rounds.specs.Ends.{HostRefusal, HostEnd, IsTried}
 use Rattle.dsr_rounds.specs.declared.end.End.{End}
 use Rattle.dsr_rounds.specs.declared.end.End.TheVariants.{Told, Fault}
@@ -143,6 +145,37 @@ pub replica_post_ends : (may : Actor → Type 0) (seat later : Pass) (to : Actor
 replica_post_ends may seat later to pick e me same is loyal inside given by other =
     subst (λ s. HostRefusal may s e) (sym same)
     (post_ends may seat to pick e (loyal_is seat.shape seat.actor loyal) inside (ap (λ a. are_clients a to) is) given by other)
+
+-- ---- what a post shows
+
+-- what a post that was made gave
+abbrev was_posted : Result (Unit {0}) Refusal
+was_posted = Ok tt
+
+ok_err : (e : Refusal) → was_posted ≡ Err e → ⊥
+ok_err e same = cc
+
+not_past : (a b n x s : Bool) → ((e : Refusal)
+    → (if not a then Some NoActor else if b then Some WrongRole else if n then Some NotDue else if x || s then Some Exhausted else None) ≡ Some e
+    → was_posted ≡ Err e) → x ≡ false
+not_past a b n false s h = refl
+not_past false b n true s h = absurd (ok_err NoActor (h NoActor refl))
+not_past true true n true s h = absurd (ok_err WrongRole (h WrongRole refl))
+not_past true false true true s h = absurd (ok_err NotDue (h NotDue refl))
+not_past true false false true s h = absurd (ok_err Exhausted (h Exhausted refl))
+
+-- a post that was made is below the limit of rounds
+pub has_posted : (tried : Result (Unit {0}) Refusal) (old new : Pass) (to : Actor) (pick : Pick)
+    → OnOk tried ((x : Envelope) × (post_of old.shape old.log old.actor to pick ≡ Some x) × (new ≡ with_entry old (Post to x)))
+    → ((e : Refusal) → post_refused old.shape old.actor old.log to pick ≡ Some e → tried ≡ Err e) → OnOk tried (HasPosted old new to pick)
+has_posted (Ok tt) old new to pick made refused = (
+  made.0,
+  made.1,
+  made.2,
+  not_past (is_actor old.shape to) (are_clients old.actor to) (is_none (post_of old.shape old.log old.actor to pick))
+      (is_exhausted old.shape old.log old.actor to pick) (is_spent old.log to) refused,
+)
+has_posted (Err e) old new to pick made refused = tt
 
 -- ---- tries
 

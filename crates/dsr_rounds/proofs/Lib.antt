@@ -1,4 +1,5 @@
 pub mod Going
+pub mod Proposing
 pub mod Rounds
 pub mod Scripts
 pub mod Turns

@@ -1,5 +1,5 @@
 -- How the rounds of a replica close.
-use Rattle.std.proofs.Common.{◌≡◌, ℕ, suc, ◌+◌, ◌-◌, ◌<◌, ◌≤◌, ◌==◌, ◌⊎◌, inl, inr, Bool, true, false, List, [], ◌∷◌, ◌++◌, length, if◌then◌else◌, refl, ap, sym, ◌∙◌, subst, arith}
+use Rattle.std.proofs.Common.{◌≡◌, ℕ, zero, suc, ◌+◌, ◌-◌, ◌<◌, ◌≤◌, ◌==◌, ◌⊎◌, inl, inr, Bool, true, false, List, [], ◌∷◌, ◌++◌, length, if◌then◌else◌, refl, ap, sym, ◌∙◌, subst, arith}
 use Rattle.std.specs.Prelude.{IsSome}
 use Rattle.std.proofs.lemmas.Bool.Decides.{nat_tests, Decides-eqb}
 use Rattle.std.proofs.lemmas.List.{length-append, append_assoc}
@@ -16,32 +16,49 @@ use Rattle.dsr_replica.specs.Conduct.{IsLoyalLog}
 use Rattle.dsr_replica.specs.Counts.{IsInside}
 use Rattle.dsr_replica.proofs.Lemmas.{counts, plain_possible}
 use Rattle.dsr_node.specs.Conduct.{post_of}
+use Rattle.dsr_envelope.specs.declared.pick.Pick.{Pick}
 use Rattle.dsr_envelope.specs.declared.pick.Pick.TheVariants.{Plain}
 use Rattle.dsr_boxes.specs.Pass.{Pass, with_entry}
 use Rattle.dsr_calls.specs.Calls.{GoesOn}
+use Rattle.dsr_run.specs.Eager.{ProposesNext, IsEager}
+use Rattle.dsr_rounds.specs.Eagerness.{WasEager, IsEagerPost, HasTriedPost}
 use Rattle.dsr_rounds.specs.Ends.{HasTried}
-use Rattle.dsr_rounds.specs.Replicas.{HasClosed, IsOwed, AreOwed, AnswersOwed, KeepsRound, IsAtPost, IsTaking, IsAtTake}
+use Rattle.dsr_rounds.specs.Replicas.{HasClosed, IsOwed, AreOwed, AnswersOwed, DoesDuty, KeepsRound, IsAtPost, IsTaking, IsAtTake}
 
--- ---- what is posted to clients is owed to them
+-- ---- what is posted to clients is owed to them, and what is posted to replica 0 is eager
 
-pub owing_same : (later earlier : Pass) → later ≡ earlier → AnswersOwed later earlier
-owing_same later earlier e =
-    subst (λ (s : Pass). AnswersOwed s earlier) (sym e) (record { id = refl; shape = refl; actor = refl; added = []; log = refl; owed = tt })
+pub duty_same : (later earlier : Pass) → later ≡ earlier → DoesDuty later earlier
+duty_same later earlier e =
+    subst (λ (s : Pass). DoesDuty s earlier) (sym e)
+    (record { id = refl; shape = refl; actor = refl; added = []; log = refl; owed = tt; eager = tt })
 
-pub owing_take : (later earlier : Pass) (from : Actor) (x : Envelope) → later ≡ with_entry earlier (Take from x) → AnswersOwed later earlier
-owing_take later earlier from x e =
-    subst (λ (s : Pass). AnswersOwed s earlier) (sym e) (record { id = refl; shape = refl; actor = refl; added = Take from x ∷ []; log = refl; owed = tt })
+pub duty_take : (later earlier : Pass) (from : Actor) (x : Envelope) → later ≡ with_entry earlier (Take from x) → DoesDuty later earlier
+duty_take later earlier from x e =
+    subst (λ (s : Pass). DoesDuty s earlier) (sym e)
+    (record { id = refl; shape = refl; actor = refl; added = Take from x ∷ []; log = refl; owed = tt; eager = tt })
 
-pub owing_post : (later earlier : Pass) (q : ℕ) (x : Envelope) → later ≡ with_entry earlier (Post (Replica q) x) → AnswersOwed later earlier
-owing_post later earlier q x e =
-    subst (λ (s : Pass). AnswersOwed s earlier) (sym e)
-    (record { id = refl; shape = refl; actor = refl; added = Post (Replica q) x ∷ []; log = refl; owed = tt })
+eager_post : (seat : Pass) (q : ℕ) (x : Envelope) → IsEagerPost seat q x → IsEager seat.shape seat.actor seat.log (Post (Replica q) x ∷ [])
+eager_post seat zero x eager = (tt, eager)
+eager_post seat (suc q) x eager = tt
 
-owing_answer : (later earlier : Pass) (c : ℕ) (x : Envelope) → IsOwed earlier.shape earlier.log c → later ≡ with_entry earlier (Post (Client c) x)
-    → AnswersOwed later earlier
-owing_answer later earlier c x owed e =
-    subst (λ (s : Pass). AnswersOwed s earlier) (sym e)
-    (record { id = refl; shape = refl; actor = refl; added = Post (Client c) x ∷ []; log = refl; owed = (tt, owed) })
+pub duty_post : (later earlier : Pass) (q : ℕ) (x : Envelope) → IsEagerPost earlier q x → later ≡ with_entry earlier (Post (Replica q) x)
+    → DoesDuty later earlier
+duty_post later earlier q x eager e =
+    subst (λ (s : Pass). DoesDuty s earlier) (sym e) (record {
+      id = refl;
+      shape = refl;
+      actor = refl;
+      added = Post (Replica q) x ∷ [];
+      log = refl;
+      owed = tt;
+      eager = eager_post earlier q x eager;
+    })
+
+duty_answer : (later earlier : Pass) (c : ℕ) (x : Envelope) → IsOwed earlier.shape earlier.log c → later ≡ with_entry earlier (Post (Client c) x)
+    → DoesDuty later earlier
+duty_answer later earlier c x owed e =
+    subst (λ (s : Pass). DoesDuty s earlier) (sym e)
+    (record { id = refl; shape = refl; actor = refl; added = Post (Client c) x ∷ []; log = refl; owed = (tt, owed); eager = tt })
 
 owed_further : (shape : Shape) (base was more : List Entry) → AreOwed shape (was ++ base) more → AreOwed shape base was → AreOwed shape base (more ++ was)
 owed_further shape base was [] later earlier = earlier
@@ -50,8 +67,17 @@ owed_further shape base was (Post (Client c) x ∷ more) later earlier =
 owed_further shape base was (Post (Replica q) x ∷ more) later earlier = owed_further shape base was more later earlier
 owed_further shape base was (Take from x ∷ more) later earlier = owed_further shape base was more later earlier
 
-pub owing_further : (last later earlier : Pass) → AnswersOwed last later → AnswersOwed later earlier → AnswersOwed last earlier
-owing_further last later earlier more was = record {
+eager_further : (shape : Shape) (me : Actor) (base was more : List Entry) → IsEager shape me (was ++ base) more → IsEager shape me base was
+    → IsEager shape me base (more ++ was)
+eager_further shape me base was [] later earlier = earlier
+eager_further shape me base was (Post (Replica zero) x ∷ more) later earlier =
+    (eager_further shape me base was more later.0 earlier, subst (λ l. ProposesNext shape me l x) (sym (append_assoc more was base)) later.1)
+eager_further shape me base was (Post (Replica (suc q)) x ∷ more) later earlier = eager_further shape me base was more later earlier
+eager_further shape me base was (Post (Client c) x ∷ more) later earlier = eager_further shape me base was more later earlier
+eager_further shape me base was (Take from x ∷ more) later earlier = eager_further shape me base was more later earlier
+
+pub duty_further : (last later earlier : Pass) → DoesDuty last later → DoesDuty later earlier → DoesDuty last earlier
+duty_further last later earlier more was = record {
   id = more.id ∙ was.id;
   shape = more.shape ∙ was.shape;
   actor = more.actor ∙ was.actor;
@@ -60,24 +86,34 @@ owing_further last later earlier more was = record {
   owed = owed_further earlier.shape earlier.log was.added more.added
       (subst (λ (s : Shape). AreOwed s (was.added ++ earlier.log) more.added) was.shape
       (subst (λ l. AreOwed later.shape l more.added) was.log more.owed)) was.owed;
+  eager = eager_further earlier.shape earlier.actor earlier.log was.added more.added
+      (subst (λ a. IsEager earlier.shape a (was.added ++ earlier.log) more.added) was.actor
+      (subst (λ (s : Shape). IsEager s later.actor (was.added ++ earlier.log) more.added) was.shape
+      (subst (λ l. IsEager later.shape later.actor l more.added) was.log more.eager))) was.eager;
 }
 
-pub owing_goes : (later earlier : Pass) → AnswersOwed later earlier → GoesOn later earlier
-owing_goes later earlier answers =
-    record { id = answers.id; shape = answers.shape; actor = answers.actor; log = (answers.added, answers.log) }
+pub duty_goes : (later earlier : Pass) → DoesDuty later earlier → GoesOn later earlier
+duty_goes later earlier duty = record { id = duty.id; shape = duty.shape; actor = duty.actor; log = (duty.added, duty.log) }
+
+pub duty_owes : (later earlier : Pass) → DoesDuty later earlier → AnswersOwed later earlier
+duty_owes later earlier duty =
+    record { id = duty.id; shape = duty.shape; actor = duty.actor; added = duty.added; log = duty.log; owed = duty.owed }
+
+pub duty_eager : (later earlier : Pass) → DoesDuty later earlier → WasEager later earlier
+duty_eager later earlier duty = (duty.added, duty.log, duty.eager)
 
 -- ---- what clients send and get leaves the round as it is
 
 pub keeps_same : (later earlier : Pass) → later ≡ earlier → KeepsRound later earlier
 keeps_same later earlier e = record {
-  answers = owing_same later earlier e;
+  duty = duty_same later earlier e;
   due = ap (λ (s : Pass). due s.shape s.log) e;
   rounds = ap (λ (s : Pass). rounds s.shape s.log) e;
 }
 
 pub keeps_take : (later earlier : Pass) (c : ℕ) (x : Envelope) → later ≡ with_entry earlier (Take (Client c) x) → KeepsRound later earlier
 keeps_take later earlier c x e = record {
-  answers = owing_take later earlier (Client c) x e;
+  duty = duty_take later earlier (Client c) x e;
   due = ap (λ (s : Pass). due s.shape s.log) e;
   rounds = ap (λ (s : Pass). rounds s.shape s.log) e;
 }
@@ -85,14 +121,14 @@ keeps_take later earlier c x e = record {
 pub keeps_post : (later earlier : Pass) (c : ℕ) (x : Envelope) → IsOwed earlier.shape earlier.log c → later ≡ with_entry earlier (Post (Client c) x)
     → KeepsRound later earlier
 keeps_post later earlier c x owed e = record {
-  answers = owing_answer later earlier c x owed e;
+  duty = duty_answer later earlier c x owed e;
   due = ap (λ (s : Pass). due s.shape s.log) e;
   rounds = ap (λ (s : Pass). rounds s.shape s.log) e;
 }
 
 pub keeps_further : (last later earlier : Pass) → KeepsRound last later → KeepsRound later earlier → KeepsRound last earlier
 keeps_further last later earlier more was = record {
-  answers = owing_further last later earlier more.answers was.answers;
+  duty = duty_further last later earlier more.duty was.duty;
   due = more.due ∙ was.due;
   rounds = more.rounds ∙ was.rounds;
 }
@@ -101,10 +137,10 @@ pub take_keeps : (c : ℕ) (earlier later : Pass) (made : Bool) → HasTried (Ta
 take_keeps c earlier later true tried = keeps_take later earlier c tried.0 tried.1
 take_keeps c earlier later false tried = keeps_same later earlier tried
 
-pub post_keeps : (c : ℕ) (earlier later : Pass) (made : Bool) → IsOwed earlier.shape earlier.log c → HasTried (Post (Client c)) earlier later made
-    → KeepsRound later earlier
-post_keeps c earlier later true owed tried = keeps_post later earlier c tried.0 owed tried.1
-post_keeps c earlier later false owed tried = keeps_same later earlier tried
+pub post_keeps : (c : ℕ) (earlier later : Pass) (pick : Pick) (made : Bool) → IsOwed earlier.shape earlier.log c
+    → HasTriedPost earlier later (Client c) pick made → KeepsRound later earlier
+post_keeps c earlier later pick true owed tried = keeps_post later earlier c tried.0 owed tried.2
+post_keeps c earlier later pick false owed tried = keeps_same later earlier tried
 
 -- ---- posts
 
@@ -211,19 +247,19 @@ post_here seat to p allowed loyal is same =
 pub take_here : (seat : Pass) (from p : ℕ) → TakeFrom from ≡ due seat.shape seat.log → p ≡ seat.shape.n → IsAtPost seat.shape.n p (due seat.shape seat.log)
 take_here seat from p is same = subst (IsAtPost seat.shape.n p) is same
 
-pub take_step : (first earlier later : Pass) (p closed : ℕ) (x : Envelope) → AnswersOwed earlier first → p < first.shape.n → IsAtTake earlier first.shape.n p closed
-    → later ≡ with_entry earlier (Take (Replica p) x) → AnswersOwed later first × IsAtTake later first.shape.n (p + 1) closed
+pub take_step : (first earlier later : Pass) (p closed : ℕ) (x : Envelope) → DoesDuty earlier first → p < first.shape.n → IsAtTake earlier first.shape.n p closed
+    → later ≡ with_entry earlier (Take (Replica p) x) → DoesDuty later first × IsAtTake later first.shape.n (p + 1) closed
 take_step first earlier later p closed x goes less at e = (
-  owing_further later earlier first (owing_take later earlier (Replica p) x e) goes,
+  duty_further later earlier first (duty_take later earlier (Replica p) x e) goes,
   subst (λ k. IsAtTake later first.shape.n k closed) (one_more p)
       (take_at later earlier first.shape.n p closed x (sym (ap (λ (s : Shape). s.n) goes.shape)) less (due_at_take earlier first.shape.n p closed less at).1 e),
 )
 
-pub post_step : (first earlier later : Pass) (q : ℕ) (x : Envelope) → AnswersOwed earlier first → q < first.shape.n → rounds earlier.shape earlier.log ≡ rounds first.shape first.log
-    → later ≡ with_entry earlier (Post (Replica q) x)
-    → AnswersOwed later first × IsAtPost first.shape.n (q + 1) (due later.shape later.log) × (rounds later.shape later.log ≡ rounds first.shape first.log)
-post_step first earlier later q x goes less same e = (
-  owing_further later earlier first (owing_post later earlier q x e) goes,
+pub post_step : (first earlier later : Pass) (q : ℕ) (x : Envelope) → DoesDuty earlier first → q < first.shape.n → rounds earlier.shape earlier.log ≡ rounds first.shape first.log
+    → later ≡ with_entry earlier (Post (Replica q) x) → IsEagerPost earlier q x
+    → DoesDuty later first × IsAtPost first.shape.n (q + 1) (due later.shape later.log) × (rounds later.shape later.log ≡ rounds first.shape first.log)
+post_step first earlier later q x goes less same e eager = (
+  duty_further later earlier first (duty_post later earlier q x eager e) goes,
   subst (λ k. IsAtPost first.shape.n k (due later.shape later.log)) (one_more q)
       (post_at later earlier first.shape.n q x (sym (ap (λ (s : Shape). s.n) goes.shape)) less e),
   post_rounds later earlier q x e ∙ same,
@@ -238,7 +274,7 @@ plain_post seat me q is honest loyal due_is =
     subst (λ a. IsSome (post_of seat.shape seat.log a (Replica q) Plain)) (sym is)
     (plain_possible seat.shape (Replica me) seat.log (omega (arith, less)) (subst (λ a. IsLoyalLog seat.shape a seat.log) is loyal) q due_is)
 
-pub round_step : (first earlier later : Pass) (count : ℕ) → AnswersOwed earlier first → AnswersOwed later earlier → HasClosed first earlier count → HasClosed earlier later 1
-    → AnswersOwed later first × HasClosed first later (count + 1)
+pub round_step : (first earlier later : Pass) (count : ℕ) → DoesDuty earlier first → DoesDuty later earlier → HasClosed first earlier count → HasClosed earlier later 1
+    → DoesDuty later first × HasClosed first later (count + 1)
 round_step first earlier later count goes more was one =
-    (owing_further later earlier first more goes, subst (HasClosed first later) (one_more count) (more_closed first earlier later count was one))
+    (duty_further later earlier first more goes, subst (HasClosed first later) (one_more count) (more_closed first earlier later count was one))

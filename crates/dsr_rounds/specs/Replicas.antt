@@ -13,6 +13,7 @@ use Rattle.dsr_envelope.specs.declared.due.Due.{Due}
 use Rattle.dsr_envelope.specs.declared.due.Due.TheVariants.{Post as PostTo, Take as TakeFrom}
 use Rattle.dsr_replica.specs.Conduct.{reply_to}
 use Rattle.dsr_replica.specs.Held.{held}
+use Rattle.dsr_run.specs.Eager.{IsEager}
 use Rattle.dsr_boxes.specs.Pass.{Pass}
 use Rattle.dsr_mail.specs.Serving.{IsUnanswered}
 
@@ -41,9 +42,19 @@ pub record AnswersOwed (later earlier : Pass) : Type 0 where
   pub log : later.log ≡ added ++ earlier.log
   pub owed : AreOwed earlier.shape earlier.log added
 
+-- the later seat goes on from the earlier one as a host does: it has posted to clients only what they were owed, and was eager in its own slots
+pub record DoesDuty (later earlier : Pass) : Type 0 where
+  pub id : later.id ≡ earlier.id
+  pub shape : later.shape ≡ earlier.shape
+  pub actor : later.actor ≡ earlier.actor
+  pub added : List Entry
+  pub log : later.log ≡ added ++ earlier.log
+  pub owed : AreOwed earlier.shape earlier.log added
+  pub eager : IsEager earlier.shape earlier.actor earlier.log added
+
 -- the same, and nothing between replicas was done
 pub record KeepsRound (later earlier : Pass) : Type 0 where
-  pub answers : AnswersOwed later earlier
+  pub duty : DoesDuty later earlier
   pub due : due later.shape later.log ≡ due earlier.shape earlier.log
   pub rounds : rounds later.shape later.log ≡ rounds earlier.shape earlier.log
 

@@ -3,6 +3,7 @@
 ghost use Rattle.std.specs.Prelude.{IfErr, OnOk};
 ghost use Rattle.dsr_boxes.specs.Pass.{IsPassOf};
 ghost use Rattle.dsr_calls.specs.Calls.{GoesOn};
+ghost use Rattle.dsr_rounds.specs.Eagerness.{WasEager};
 ghost use Rattle.dsr_rounds.specs.Ends.{HostRefusal};
 ghost use Rattle.dsr_rounds.specs.Replicas.{HasClosed, AnswersOwed};
 ghost use Rattle.dsr_rounds.specs.Traitors.{RanScript, Follows};
@@ -22,9 +23,11 @@ use std::sync::Wait;
 /// from all, and posts once to each client that is owed its reply. A round that was begun before is the first.
 ///
 /// With `Ok` exactly so many more rounds are closed. However it ends, each client to which it posted was owed that reply: it was not answered since
-/// something of it was taken, and the request held of it is the one that the reply is for. Each post and each take is made in a turn that the gate
-/// may let pass, in the order of turns (the last is 2^40-1, and stays). `Exhausted` where its next post is past a limit, `Stopped` where the gate
-/// answered false, `NoMemory` where memory ran out: what was done until then stands, and the host can be run again. Requires a seat of this mail.
+/// something of it was taken, and the request held of it is the one that the reply is for; and each slot of its own it began with the requests that
+/// were next: those held of the first 8 clients that wait, in turn after the client that it proposed last. Each post and each take is made in a turn
+/// that the gate may let pass, in the order of turns (the last is 2^40-1, and stays). `Exhausted` where its next post is past a limit, `Stopped` where
+/// the gate answered false, `NoMemory` where memory ran out: what was done until then stands, and the host can be run again. Requires a seat of this
+/// mail.
 pub fn run_replica<R: Wait, G: Gate>(
     rt: &R,
     alloc: Global,
@@ -37,6 +40,7 @@ pub fn run_replica<R: Wait, G: Gate>(
     ensures closed { OnOk result (HasClosed seat.old seat.new rounds) }
     ensures log { GoesOn seat.new seat.old }
     ensures answers { AnswersOwed seat.new seat.old }
+    ensures eager { WasEager seat.new seat.old }
     ensures turns { HasTurns (G.may_pass gate.now) seat.old seat.new }
     ensures refused { IfErr result (HostRefusal (G.may_refuse gate.now) seat.new) }
 {

@@ -15,5 +15,5 @@ pub use alone::{run_replica, run_traitor};
 pub use end::End;
 pub use gate::Gate;
 pub use host::Host;
-pub use stop::Stop;
+pub use stop::{Ended, Noted, Stop, Told};
 pub use turn::Turn;

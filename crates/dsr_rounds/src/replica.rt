@@ -10,9 +10,10 @@ ghost use Rattle.dsr_envelope.specs.Log.{due, rounds};
 ghost use Rattle.dsr_node.specs.Conduct.{post_of, is_undue};
 ghost use Rattle.dsr_boxes.specs.Pass.{IsPassOf, with_entry};
 ghost use Rattle.dsr_calls.specs.Calls.{GoesOn};
+ghost use Rattle.dsr_rounds.specs.Eagerness.{WasEager, IsEagerPost, IsEagerPick, HasPosted, HasTriedPost};
 ghost use Rattle.dsr_rounds.specs.Ends.{HostEnd, HasTried, turn_after};
 ghost use Rattle.dsr_rounds.specs.Turns.{HasTurns, KeepsTurns};
-ghost use Rattle.dsr_rounds.specs.Replicas.{HasClosed, AnswersOwed, KeepsRound, IsAtPost, IsTaking};
+ghost use Rattle.dsr_rounds.specs.Replicas.{HasClosed, IsOwed, AnswersOwed, DoesDuty, KeepsRound, IsAtPost, IsTaking};
 
 use crate::end::End;
 use crate::gate::Gate;
@@ -44,6 +45,7 @@ impl<'a, R: Wait, G: Gate> Host<'a, R, G> {
         ensures closed { OnOk result (HasClosed seat.old seat.new rounds) }
         ensures log { GoesOn seat.new seat.old }
         ensures answers { AnswersOwed seat.new seat.old }
+        ensures eager { WasEager seat.new seat.old }
         ensures turns { HasTurns (G.may_pass self.now.gate.now) seat.old seat.new }
         ensures end { IfErr result (HostEnd (G.may_refuse self.now.gate.now) self.now.stop.now seat.new) }
     {
@@ -58,8 +60,9 @@ impl<'a, R: Wait, G: Gate> Host<'a, R, G> {
     /// One round.
     fn make_round(&self, seat: &mut ReplicaSeat, turn: &mut Turn, ring: &Ring) -> Result<(), End>
         requires mail { IsPassOf self.now.mail.now seat.old }
+        requires ring { ring.now ≡ seat.old.shape.m }
         ensures closed { OnOk result (HasClosed seat.old seat.new 1) }
-        ensures log { AnswersOwed seat.new seat.old }
+        ensures duty { DoesDuty seat.new seat.old }
         ensures turns { KeepsTurns (G.may_pass self.now.gate.now) seat.old seat.new turn.old.number turn.new.number }
         ensures end { IfErr result (HostEnd (G.may_refuse self.now.gate.now) self.now.stop.now seat.new) }
     {
@@ -135,9 +138,10 @@ impl<'a, R: Wait, G: Gate> Host<'a, R, G> {
     /// Posts to all replicas to which it has not posted in this round.
     fn post_all(&self, seat: &mut ReplicaSeat, turn: &mut Turn, ring: &Ring) -> Result<(), End>
         requires mail { IsPassOf self.now.mail.now seat.old }
+        requires ring { ring.now ≡ seat.old.shape.m }
         ensures posted { OnOk result (IsTaking (due seat.new.shape seat.new.log)) }
         ensures rounds { OnOk result (rounds seat.new.shape seat.new.log ≡ rounds seat.old.shape seat.old.log) }
-        ensures log { AnswersOwed seat.new seat.old }
+        ensures duty { DoesDuty seat.new seat.old }
         ensures turns { KeepsTurns (G.may_pass self.now.gate.now) seat.old seat.new turn.old.number turn.new.number }
         ensures end { IfErr result (HostEnd (G.may_refuse self.now.gate.now) self.now.stop.now seat.new) }
     {
@@ -160,7 +164,8 @@ impl<'a, R: Wait, G: Gate> Host<'a, R, G> {
         requires mail { IsPassOf self.now.mail.now seat.old }
         requires inside { to < seat.old.shape.n }
         requires due { due seat.old.shape seat.old.log ≡ PostTo to }
-        ensures posted { OnOk result ((envelope : Envelope) × (seat.new ≡ with_entry seat.old (Post (Replica to) envelope))) }
+        requires ring { ring.now ≡ seat.old.shape.m }
+        ensures posted { OnOk result ((envelope : Envelope) × (seat.new ≡ with_entry seat.old (Post (Replica to) envelope)) × IsEagerPost seat.old to envelope) }
         ensures unchanged { OnErr result (seat.new ≡ seat.old) }
         ensures turns { KeepsTurns (G.may_pass self.now.gate.now) seat.old seat.new turn.old.number turn.new.number }
         ensures end { IfErr result (HostEnd (G.may_refuse self.now.gate.now) self.now.stop.now seat.new) }
@@ -180,7 +185,7 @@ impl<'a, R: Wait, G: Gate> Host<'a, R, G> {
         requires mail { IsPassOf self.now.mail.now seat.old }
         requires inside { to < seat.old.shape.n }
         requires given { IsSome (post_of seat.old.shape seat.old.log seat.old.actor (Replica to) pick.now) }
-        ensures posted { OnOk result ((envelope : Envelope) × (seat.new ≡ with_entry seat.old (Post (Replica to) envelope))) }
+        ensures posted { OnOk result (HasPosted seat.old seat.new (Replica to) pick.now) }
         ensures unchanged { OnErr result (seat.new ≡ seat.old) }
         ensures turns { KeepsTurns (G.may_pass self.now.gate.now) seat.old seat.new turn.old.number turn.new.number }
         ensures end { IfErr result (HostEnd (G.may_refuse self.now.gate.now) self.now.stop.now seat.new) }
@@ -199,7 +204,7 @@ impl<'a, R: Wait, G: Gate> Host<'a, R, G> {
         requires mail { IsPassOf self.now.mail.now seat.old }
         requires taking { IsTaking (due seat.old.shape seat.old.log) }
         ensures closed { OnOk result (HasClosed seat.old seat.new 1) }
-        ensures log { AnswersOwed seat.new seat.old }
+        ensures duty { DoesDuty seat.new seat.old }
         ensures turns { KeepsTurns (G.may_pass self.now.gate.now) seat.old seat.new turn.old.number turn.new.number }
         ensures end { IfErr result (HostEnd (G.may_refuse self.now.gate.now) self.now.stop.now seat.new) }
     {
@@ -256,6 +261,7 @@ impl<'a, R: Wait, G: Gate> Host<'a, R, G> {
         requires mail { IsPassOf self.now.mail.now seat.old }
         requires inside { client < seat.old.shape.m }
         ensures kept { KeepsRound seat.new seat.old }
+        ensures tried { IsOwed seat.old.shape seat.old.log client → OnOk result (turn.new.number ≡ turn_after turn.old.number) }
         ensures turns { KeepsTurns (G.may_pass self.now.gate.now) seat.old seat.new turn.old.number turn.new.number }
         ensures end { IfErr result (HostEnd (G.may_refuse self.now.gate.now) self.now.stop.now seat.new) }
     {
@@ -279,7 +285,7 @@ impl<'a, R: Wait, G: Gate> Host<'a, R, G> {
         requires mail { IsPassOf self.now.mail.now seat.old }
         requires inside { IsActor seat.old.shape to.now }
         requires given { IsSome (post_of seat.old.shape seat.old.log seat.old.actor to.now pick.now) }
-        ensures tried { IfOk result (HasTried (Post to.now) seat.old seat.new) }
+        ensures tried { IfOk result (HasTriedPost seat.old seat.new to.now pick.now) }
         ensures passed { OnOk result (G.may_pass self.now.gate.now seat.old.actor turn.old.number) }
         ensures next { OnOk result (turn.new.number ≡ turn_after turn.old.number) }
         ensures unchanged { OnErr result (seat.new ≡ seat.old) }
@@ -313,8 +319,10 @@ impl<'a, R: Wait, G: Gate> Host<'a, R, G> {
 
 /// The choice for the post to a replica that is due.
 fn choice(seat: &ReplicaSeat, ring: &Ring, to: ReplicaId) -> Pick
-    requires { due seat.now.shape seat.now.log ≡ PostTo to }
-    ensures { IsSome (post_of seat.now.shape seat.now.log seat.now.actor (Replica to) result) }
+    requires due { due seat.now.shape seat.now.log ≡ PostTo to }
+    requires ring { ring.now ≡ seat.now.shape.m }
+    ensures given { IsSome (post_of seat.now.shape seat.now.log seat.now.actor (Replica to) result) }
+    ensures eager { IsEagerPick seat.now to result }
 {
     if to.number() == 0 {
         return ring.proposal(seat);

@@ -1,19 +1,26 @@
 //! Whose requests a replica proposes next, and to whom it owes a reply. Both go by what its seat knows, so that a call goes on where the one before
 //! it ended.
 
-ghost use Rattle.std.specs.Prelude.{◌≡◌, Some, IsSome, IfSome, IsTrue};
+ghost use Rattle.std.specs.Prelude.{◌≡◌, ◌↔◌, ◌⊎◌, ◌<◌, ◌≤◌, [], false, length, Some, IsSome, IfSome, IsTrue};
+ghost use Rattle.std.specs.Option.{option_map};
 ghost use Rattle.dsr_names.specs.declared.actor.Actor.TheVariants.{Replica};
+ghost use Rattle.dsr_history.specs.History.{reply};
 ghost use Rattle.dsr_envelope.specs.declared.due.Due.TheVariants.{Post as PostTo};
 ghost use Rattle.dsr_envelope.specs.declared.envelope.Envelope.TheVariants.{Reply};
 ghost use Rattle.dsr_envelope.specs.Log.{due};
+ghost use Rattle.dsr_envelope.specs.Pick.{IsClients};
 ghost use Rattle.dsr_ledger.specs.declared.reply.Reply.{Reply as AReply};
 ghost use Rattle.dsr_replica.specs.Conduct.{reply_to};
-ghost use Rattle.dsr_node.specs.Conduct.{post_of};
+ghost use Rattle.dsr_replica.specs.Decided.{decided_requests};
+ghost use Rattle.dsr_node.specs.Conduct.{post_of, is_exhausted};
+ghost use Rattle.dsr_run.specs.Eager.{is_waiting, last_proposed, next_client, first_in_turn, next_proposed};
+ghost use Rattle.dsr_rounds.specs.Eagerness.{IsEagerPick, with_waiting};
 ghost use Rattle.dsr_rounds.specs.Replicas.{IsOwed};
 
 use dsr_envelope::{Clients, Envelope, Pick};
 use dsr_mail::ReplicaSeat;
 use dsr_names::{ClientId, ReplicaId};
+use std::marker::Model;
 
 /// The most clients whose requests one slot carries.
 const MOST_PICKED: usize = 8;
@@ -25,9 +32,23 @@ pub(crate) struct Ring {
     clients: u8,
 }
 
+impl Model for Ring {
+    ghost use Rattle.std.specs.Prelude.{ℕ, ◌<◌, ◌≤◌};
+
+    ghost Value = { ℕ };
+
+    ghost view = { λ r. r.clients };
+
+    ghost invariant = { λ r. (0 < r.clients) × (r.clients ≤ 32) };
+}
+
 impl Ring {
     /// That of so many clients, at least one and at most 32.
-    pub(crate) fn of(clients: u8) -> Ring {
+    pub(crate) fn of(clients: u8) -> Ring
+        requires some { 0 < clients }
+        requires few { clients ≤ 32 }
+        ensures { result ≡ clients }
+    {
         Ring { clients }
     }
 
@@ -46,8 +67,10 @@ impl Ring {
     /// The choice for the post to replica 0, which must be due: the first 8 clients in the ring whose held requests would act, where the slot is
     /// the replica's own and there are any; else nothing in particular. The ring begins after the client that was proposed last.
     pub(crate) fn proposal(&self, seat: &ReplicaSeat) -> Pick
-        requires { due seat.now.shape seat.now.log ≡ PostTo 0 }
-        ensures { IsSome (post_of seat.now.shape seat.now.log seat.now.actor (Replica 0) result) }
+        requires due { due seat.now.shape seat.now.log ≡ PostTo 0 }
+        requires ring { self.now ≡ seat.now.shape.m }
+        ensures given { IsSome (post_of seat.now.shape seat.now.log seat.now.actor (Replica 0) result) }
+        ensures eager { IsEagerPick seat.now 0 result }
     {
         // For the proof: that it is a replica, whose conduct has a post.
         let _replica = seat.replica();
@@ -63,20 +86,27 @@ impl Ring {
     }
 
     /// The first 8 clients in the ring whose held requests would act.
-    fn waiting(&self, seat: &ReplicaSeat) -> Waiting {
+    fn waiting(&self, seat: &ReplicaSeat) -> Waiting
+        requires ring { self.now ≡ seat.now.shape.m }
+        ensures next { result ≡ next_proposed seat.now.shape seat.now.log }
+        ensures good { (result ≡ []) ⊎ IsClients result }
+    {
         let mut waiting = Waiting::none();
         let mut number = self.first(seat);
-        for _ in 0..self.clients {
-            if let Ok(client) = ClientId::new(number) {
-                waiting.add_if_held(seat, client);
-            }
+        for passed in 0..self.clients {
+            waiting.add_if_held(seat, ClientId::of(number));
             number = self.after(number);
         }
         waiting
     }
 
     /// The number of the client with which the ring begins: the one after the last that was picked, at first client 0.
-    fn first(&self, seat: &ReplicaSeat) -> u8 {
+    fn first(&self, seat: &ReplicaSeat) -> u8
+        ensures first { result ≡ first_in_turn self.now (last_proposed seat.now.shape seat.now.log) }
+        ensures inside { result < self.now }
+    {
+        // For the proof: that there is a client.
+        let _clients = self.clients;
         match seat.last_picked() {
             Some(last) => self.after(last.number()),
             None => 0,
@@ -84,7 +114,11 @@ impl Ring {
     }
 
     /// The number of the next client in the ring.
-    fn after(&self, number: u8) -> u8 {
+    fn after(&self, number: u8) -> u8
+        ensures next { result ≡ next_client self.now number }
+        ensures inside { result < self.now }
+        ensures small { self.now ≤ 32 }
+    {
         if number < self.clients.saturating_sub(1) {
             number + 1
         } else {
@@ -100,9 +134,21 @@ struct Waiting {
     count: usize,
 }
 
+impl Model for Waiting {
+    ghost use Rattle.std.specs.Prelude.{◌≡◌, ℕ, ◌≤◌, List, length, take};
+
+    ghost Value = { List ℕ };
+
+    ghost view = { λ w. take w.count w.list };
+
+    ghost invariant = { λ w. (length w.list ≡ 8) × (w.count ≤ 8) };
+}
+
 impl Waiting {
     /// No clients.
-    fn none() -> Waiting {
+    fn none() -> Waiting
+        ensures { result ≡ [] }
+    {
         Waiting {
             list: [ClientId::FIRST; MOST_PICKED],
             count: 0,
@@ -110,23 +156,29 @@ impl Waiting {
     }
 
     /// Adds the client if the request that is held of it would act, and there is room.
-    fn add_if_held(&mut self, seat: &ReplicaSeat, client: ClientId) {
+    fn add_if_held(&mut self, seat: &ReplicaSeat, client: ClientId)
+        ensures added { self.new ≡ with_waiting seat.now.shape seat.now.log client self.old }
+        ensures few { length self.new ≤ 8 }
+    {
         if self.count < MOST_PICKED && acts(seat, client) {
             self.list[self.count] = client;
             self.count += 1;
         }
     }
 
-    /// The clients, if there are any.
-    fn clients(&self) -> Option<Clients> {
-        Clients::of(self.list.get(..self.count)?)
+    /// The clients, if there are any, and all are different.
+    fn clients(&self) -> Option<Clients>
+        ensures some { IfSome result (λ list. list ≡ self.now) }
+        ensures when { IsSome result ↔ IsClients self.now }
+    {
+        Clients::of(&self.list[..self.count])
     }
 }
 
 /// Whether the client is owed its reply: it was not answered since something of it was taken, and the request that is held of it is the one that the
 /// reply is for.
 pub(crate) fn owes(seat: &ReplicaSeat, client: ClientId) -> bool
-    ensures owed { IsTrue result → IsOwed seat.now.shape seat.now.log client }
+    ensures owed { IsTrue result ↔ IsOwed seat.now.shape seat.now.log client }
     ensures reply { IsTrue result → IsSome (reply_to seat.now.shape seat.now.log client) }
 {
     if !seat.is_unanswered(client) {
@@ -139,7 +191,9 @@ pub(crate) fn owes(seat: &ReplicaSeat, client: ClientId) -> bool
 }
 
 /// Whether the request that is held of the client would act: its number is above that of the last that did.
-fn acts(seat: &ReplicaSeat, client: ClientId) -> bool {
+fn acts(seat: &ReplicaSeat, client: ClientId) -> bool
+    ensures { result ≡ is_waiting seat.now.shape seat.now.log client }
+{
     match (seat.held(client), replied_number(seat, client)) {
         (Some(held), Some(number)) => held.number() > number,
         (Some(_), None) => true,
@@ -149,6 +203,7 @@ fn acts(seat: &ReplicaSeat, client: ClientId) -> bool {
 
 /// The number of the client's last request that acted, if one did.
 fn replied_number(seat: &ReplicaSeat, client: ClientId) -> Option<u64>
+    ensures last { result ≡ option_map (λ (r : AReply). r.number) (reply (decided_requests seat.now.shape seat.now.log) client) }
     ensures some { IsSome result → IsSome (reply_to seat.now.shape seat.now.log client) }
     ensures number { IfSome result (λ number. (reply : AReply) × (reply_to seat.now.shape seat.now.log client ≡ Some (Reply reply))
         × (reply.number ≡ number)) }
@@ -159,9 +214,10 @@ fn replied_number(seat: &ReplicaSeat, client: ClientId) -> Option<u64>
     }
 }
 
-/// Whether the replica may post to replica 0 by this choice.
+/// Whether the replica may post to replica 0 by this choice, which the round must be below 2^36 for.
 fn is_allowed(seat: &ReplicaSeat, pick: &Pick) -> bool
-    ensures { IsTrue result → IsSome (post_of seat.now.shape seat.now.log seat.now.actor (Replica 0) pick.now) }
+    ensures { IsTrue result ↔ (IsSome (post_of seat.now.shape seat.now.log seat.now.actor (Replica 0) pick.now)
+        × (is_exhausted seat.now.shape seat.now.log seat.now.actor (Replica 0) pick.now ≡ false)) }
 {
     // For the proof: that it is a replica.
     let _replica = seat.replica();

@@ -1,4 +1,4 @@
-ghost use Rattle.std.specs.Prelude.{◌≡◌, true, false, Bool, IsTrue};
+ghost use Rattle.std.specs.Prelude.{◌≡◌, ◌↔◌, ◌≤◌, true, false, Bool, IsTrue};
 
 use std::marker::Model;
 use std::sync::atomic::Ordering::SeqCst;
@@ -10,6 +10,42 @@ pub struct Stop {
     serves: bool,
     told: AtomicBool,
     ended: AtomicU64,
+}
+
+/// That the hosts were told to stop: nothing else makes it.
+#[derive(Drop)]
+pub struct Told {
+    first: bool,
+}
+
+impl Told {
+    /// Whether nobody had told them before.
+    pub fn is_first(&self) -> bool
+        ensures { result ≡ self.now.first }
+    {
+        self.first
+    }
+}
+
+/// That one more host was noted to have ended: nothing else makes it.
+#[derive(Drop)]
+pub struct Noted {
+    before: u64,
+}
+
+/// How many hosts had ended when the counter was looked at: nothing else makes it.
+#[derive(Drop)]
+pub struct Ended {
+    count: u64,
+}
+
+impl Ended {
+    /// Whether so many had ended.
+    pub fn is_all(&self, hosts: u8) -> bool
+        ensures { IsTrue result ↔ (hosts ≤ self.now.count) }
+    {
+        self.count >= hosts as u64
+    }
 }
 
 impl Model for Stop {
@@ -44,9 +80,11 @@ impl Stop {
         }
     }
 
-    /// Tells the hosts to stop. Says whether this call was the first to tell them.
-    pub fn tell(&self) -> bool {
-        !self.told.swap(true, SeqCst)
+    /// Tells the hosts to stop.
+    pub fn tell(&self) -> Told {
+        Told {
+            first: !self.told.swap(true, SeqCst),
+        }
     }
 
     /// Whether the hosts were told to stop.
@@ -57,12 +95,16 @@ impl Stop {
     }
 
     /// Notes that one more host has ended.
-    pub fn note_end(&self) {
-        self.ended.fetch_add(1, SeqCst);
+    pub fn note_end(&self) -> Noted {
+        Noted {
+            before: self.ended.fetch_add(1, SeqCst),
+        }
     }
 
     /// How many hosts have ended.
-    pub fn ended(&self) -> u64 {
-        self.ended.load(SeqCst)
+    pub fn ended(&self) -> Ended {
+        Ended {
+            count: self.ended.load(SeqCst),
+        }
     }
 }

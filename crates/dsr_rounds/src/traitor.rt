@@ -10,6 +10,7 @@ ghost use Rattle.dsr_boxes.specs.Pass.{IsPassOf, with_entry};
 ghost use Rattle.dsr_calls.specs.Calls.{GoesOn};
 ghost use Rattle.dsr_rounds.specs.Ends.{HostEnd, HasTried, turn_after};
 ghost use Rattle.dsr_rounds.specs.Turns.{HasTurns, KeepsTurns};
+ghost use Rattle.dsr_rounds.specs.Tries.{TriesTake, TriesTakes, TriesPost, TriesPosts};
 ghost use Rattle.dsr_rounds.specs.Traitors.{RanScript, Follows, StillFollows, StillTakes, IsPlanned, IsPlanting, IsScripted, HasPlanted, KeepsCounts, PostsToClients, PostsDrafts, TakesFromAll, MakesRound, count_at};
 
 use crate::end::End;
@@ -80,6 +81,7 @@ impl<'a, R: Wait, G: Gate> Host<'a, R, G> {
     /// Takes once from each client.
     fn take_from_each_client(&self, seat: &mut TraitorSeat, turn: &mut Turn) -> Result<(), End>
         requires mail { IsPassOf self.now.mail.now seat.old }
+        ensures tried { OnOk result (TriesTakes (G.may_pass self.now.gate.now) self.now.mail.now.shape.m seat.old seat.new turn.old.number turn.new.number) }
         ensures kept { KeepsCounts seat.old seat.new }
         ensures turns { KeepsTurns (G.may_pass self.now.gate.now) seat.old seat.new turn.old.number turn.new.number }
         ensures end { IfErr result (HostEnd (G.may_refuse self.now.gate.now) self.now.stop.now seat.new) }
@@ -99,6 +101,7 @@ impl<'a, R: Wait, G: Gate> Host<'a, R, G> {
     ) -> Result<(), End>
         requires mail { IsPassOf self.now.mail.now seat.old }
         requires inside { client < seat.old.shape.m }
+        ensures tried { OnOk result (TriesTake (G.may_pass self.now.gate.now) client seat.old seat.new turn.old.number turn.new.number) }
         ensures kept { KeepsCounts seat.old seat.new }
         ensures turns { KeepsTurns (G.may_pass self.now.gate.now) seat.old seat.new turn.old.number turn.new.number }
         ensures end { IfErr result (HostEnd (G.may_refuse self.now.gate.now) self.now.stop.now seat.new) }
@@ -224,6 +227,7 @@ impl<'a, R: Wait, G: Gate> Host<'a, R, G> {
         round: u64,
     ) -> Result<(), End>
         requires mail { IsPassOf self.now.mail.now seat.old }
+        ensures tried { OnOk result (TriesPosts (G.may_pass self.now.gate.now) script.now round self.now.mail.now.shape.m seat.old seat.new turn.old.number turn.new.number) }
         ensures kept { PostsToClients script.now round self.now.mail.now.shape.n seat.old seat.new }
         ensures turns { KeepsTurns (G.may_pass self.now.gate.now) seat.old seat.new turn.old.number turn.new.number }
         ensures end { IfErr result (HostEnd (G.may_refuse self.now.gate.now) self.now.stop.now seat.new) }
@@ -245,6 +249,7 @@ impl<'a, R: Wait, G: Gate> Host<'a, R, G> {
     ) -> Result<(), End>
         requires mail { IsPassOf self.now.mail.now seat.old }
         requires inside { client < seat.old.shape.m }
+        ensures tried { OnOk result (TriesPost (G.may_pass self.now.gate.now) script.now round client seat.old seat.new turn.old.number turn.new.number) }
         ensures kept { PostsToClients script.now round self.now.mail.now.shape.n seat.old seat.new }
         ensures turns { KeepsTurns (G.may_pass self.now.gate.now) seat.old seat.new turn.old.number turn.new.number }
         ensures end { IfErr result (HostEnd (G.may_refuse self.now.gate.now) self.now.stop.now seat.new) }

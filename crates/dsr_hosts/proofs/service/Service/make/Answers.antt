@@ -8,11 +8,11 @@ returns-in_err-pass-clause-same g c =
 pub returns-in-Ok-clause-log : goal.returns-in-Ok-clause-log
 returns-in-Ok-clause-log g c = goes_on c.call.new.seat c.loop.seat c.args.seat.now c.call.ensures.log c.loop.invariant.goes
 
-pub returns-then-over-clause-log : goal.returns-then-over-clause-log
-returns-then-over-clause-log g c = goes_on c.call.new.seat c.loop.seat c.args.seat.now c.call.ensures.log c.loop.invariant.goes
+pub returns-then-is_last-clause-log : goal.returns-then-is_last-clause-log
+returns-then-is_last-clause-log g c = goes_on c.call.new.seat c.loop.seat c.args.seat.now c.call.ensures.log c.loop.invariant.goes
 
-pub returns-then-over-clause-same : goal.returns-then-over-clause-same
-returns-then-over-clause-same g c =
+pub returns-then-is_last-clause-same : goal.returns-then-is_last-clause-same
+returns-then-is_last-clause-same g c =
     same_on_way c.args.op.now c.args.seat.now c.call.new.seat
     (goes_on c.call.new.seat c.loop.seat c.args.seat.now c.call.ensures.log c.loop.invariant.goes)
     (c.in-Err-Unanswered.ensures.awaited c.args.seat.now c.loop.invariant)
@@ -24,12 +24,14 @@ loop-preserved g c = record {
   way = c.in-Err-Unanswered.ensures.awaited c.args.seat.now c.loop.invariant;
 }
 
-pub returns-in-Err : goal.returns-in-Err
-returns-in-Err g c =
-    let goes = goes_on c.call.new.seat c.loop.seat c.args.seat.now c.call.ensures.log c.loop.invariant.goes in
-    record {
-      log = goes;
-      made = tt;
-      same = same_on_way c.args.op.now c.args.seat.now c.call.new.seat goes (c.in-Err.ensures.awaited c.args.seat.now c.loop.invariant);
-      end = c.in-Err.ensures.refused;
-    }
+pub returns-in-Err-clause-log : goal.returns-in-Err-clause-log
+returns-in-Err-clause-log g c = goes_on c.call.new.seat c.loop.seat c.args.seat.now c.call.ensures.log c.loop.invariant.goes
+
+pub returns-in-Err-clause-same : goal.returns-in-Err-clause-same
+returns-in-Err-clause-same g c =
+    same_on_way c.args.op.now c.args.seat.now c.call.new.seat
+    (goes_on c.call.new.seat c.loop.seat c.args.seat.now c.call.ensures.log c.loop.invariant.goes)
+    (c.in-Err.ensures.awaited c.args.seat.now c.loop.invariant)
+
+pub returns-in-Err-clause-end : goal.returns-in-Err-clause-end
+returns-in-Err-clause-end g c = c.in-Err.ensures.refused

@@ -4,18 +4,20 @@ use Rattle.dsr_names.specs.declared.actor.Actor.TheVariants.{Replica}
 use Rattle.dsr_envelope.specs.declared.entry.Entry.TheVariants.{Post}
 use Rattle.dsr_envelope.specs.Log.{due}
 use Rattle.dsr_boxes.specs.Pass.{with_entry}
-use Rattle.dsr_rounds.proofs.Rounds.{owing_same, post_step, taking_at}
+use Rattle.dsr_rounds.specs.Eagerness.{IsEagerPost}
+use Rattle.dsr_rounds.proofs.Rounds.{duty_same, post_step, taking_at}
 use Rattle.dsr_rounds.proofs.host.Host.post_all.Goals as goal
 
 pub loop-number-init : goal.loop-number-init
-loop-number-init g c = (owing_same c.args.seat.now c.args.seat.now refl, c.next_post-first.ensures, refl, λ first was. was)
+loop-number-init g c = (duty_same c.args.seat.now c.args.seat.now refl, c.next_post-first.ensures, refl, λ first was. was)
 
 pub loop-number-preserved : goal.loop-number-preserved
 loop-number-preserved g c =
     let x = c.in_ok-post_next.ensures.posted.0 in
     let step = post_step c.args.seat.now c.loop-number.seat c.post_next.new.seat c.loop-number.number x c.loop-number.invariant.0
     (subst (λ k. c.loop-number.number < k) (c.n-number-end.ensures.same ∙ ap (λ (s : Shape). s.n) (c.shape-shape.ensures ∙ sym c.requires.mail.1)) c.loop-number-test.true) c.loop-number.invariant.2
-    (subst (λ p. c.post_next.new.seat ≡ with_entry c.loop-number.seat (Post (Replica p) x)) c.of.ensures c.in_ok-post_next.ensures.posted.1) in
+    (subst (λ p. c.post_next.new.seat ≡ with_entry c.loop-number.seat (Post (Replica p) x)) c.of.ensures c.in_ok-post_next.ensures.posted.1)
+    (subst (λ p. IsEagerPost c.loop-number.seat p x) c.of.ensures c.in_ok-post_next.ensures.posted.2) in
     (step.0, step.1, step.2, λ first was. c.post_next.ensures.turns first (c.loop-number.invariant.3 first was))
 
 pub returns-clause-posted : goal.returns-clause-posted

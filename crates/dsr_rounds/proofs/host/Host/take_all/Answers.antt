@@ -4,12 +4,12 @@ use Rattle.dsr_names.specs.declared.actor.Actor.TheVariants.{Replica}
 use Rattle.dsr_envelope.specs.declared.entry.Entry.TheVariants.{Take}
 use Rattle.dsr_envelope.specs.Log.{rounds}
 use Rattle.dsr_boxes.specs.Pass.{with_entry}
-use Rattle.dsr_rounds.proofs.Rounds.{owing_same, first_take, take_step}
+use Rattle.dsr_rounds.proofs.Rounds.{duty_same, first_take, take_step}
 use Rattle.dsr_rounds.proofs.host.Host.take_all.Goals as goal
 
 pub loop-number-init : goal.loop-number-init
 loop-number-init g c = (
-  owing_same c.args.seat.now c.args.seat.now refl,
+  duty_same c.args.seat.now c.args.seat.now refl,
   first_take c.args.seat.now c.in-Take.first c.number-number.result
       (subst IsAllowed (c.shape.ensures ∙ sym c.requires.mail.1) c.n-number-end.ensures.allowed) c.in-Take.ensures.conduct c.in-Take.ensures.same c.number-number.ensures.same,
   λ first was. was,

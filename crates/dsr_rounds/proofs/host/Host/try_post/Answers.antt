@@ -2,15 +2,20 @@ use Rattle.std.proofs.Common.{◌≡◌, refl, subst}
 use Rattle.dsr_envelope.specs.declared.entry.Entry.TheVariants.{Post}
 use Rattle.dsr_names.specs.declared.refusal.Refusal.TheVariants.{BoxFull}
 use Rattle.dsr_mail.specs.Refusals.{IsRefusedBy, post_refused}
+use Rattle.dsr_rounds.specs.Eagerness.{HasTriedPost}
 use Rattle.dsr_rounds.specs.Ends.{HasTried}
-use Rattle.dsr_rounds.proofs.Going.{if_tried, err_tried, end_tried, replica_post_ends}
+use Rattle.dsr_rounds.proofs.Going.{has_posted, if_tried, err_tried, end_tried, replica_post_ends}
 use Rattle.dsr_rounds.proofs.Turns.{tried_turn, turns_pass}
 use Rattle.dsr_rounds.proofs.host.Host.try_post.Goals as goal
 
 pub returns-clause-tried : goal.returns-clause-tried
 returns-clause-tried g c =
-    if_tried c.try_post.result c.was_made.result (HasTried (λ x. Post c.args.to.now x) c.args.seat.now c.try_post.new.self) c.was_made.ensures
-    c.try_post.ensures.ok c.try_post.ensures.err (λ made. (made.0, made.2)) (λ same. same)
+    let seat = c.args.seat.now in
+    let to = c.args.to.now in
+    let pick = c.args.pick.now in
+    if_tried c.try_post.result c.was_made.result (HasTriedPost seat c.try_post.new.self to pick) c.was_made.ensures
+    (has_posted c.try_post.result seat c.try_post.new.self to pick c.try_post.ensures.ok c.try_post.ensures.refused) c.try_post.ensures.err
+    (λ made. made) (λ same. same)
 
 pub returns-clause-unchanged : goal.returns-clause-unchanged
 returns-clause-unchanged g c = err_tried c.try_post.result c.was_made.result (c.try_post.new.self ≡ c.args.seat.now) c.was_made.ensures c.try_post.ensures.err

@@ -1,0 +1,11 @@
+-- What a host does when it has ended. No public contract cites this.
+use Rattle.std.specs.Prelude.{◌≡◌, Bool, false, Option, None, Some, IsSome}
+use Rattle.dsr_rounds.specs.declared.end.End.{End}
+use Rattle.dsr_rounds.specs.declared.end.End.TheVariants.{Told, Fault}
+use Rattle.dsr_rounds.specs.declared.stop.Told.{Told as WasTold}
+
+-- a host that was refused told the others to stop, whatever its seat; one that was told did not, and no replica or traitor whose work was done
+abbrev pub HasTold : Bool → Option End → Option WasTold → Type 0
+HasTold is_client (Some (Fault refusal)) told = IsSome told
+HasTold is_client (Some Told) told = told ≡ None
+HasTold is_client None told = is_client ≡ false → told ≡ None
