@@ -1,0 +1,161 @@
+-- When a loyal replica has an envelope for a choice, and when none.
+use Rattle.std.proofs.Common.{◌≡◌, ℕ, zero, suc, ◌<◌, ◌==◌, Bool, true, false, List, [], ◌∷◌, Option, None, Some, if◌then◌else◌, refl, ap, sym, ◌∙◌, subst, arith}
+use Rattle.std.specs.Prelude.{IsSome, IfNone, slice_get}
+use Rattle.std.specs.Option.{option_map}
+use Rattle.std.proofs.lemmas.Bool.{true≢false, false≢true}
+use Rattle.std.proofs.lemmas.Bool.Decides.{Decides-eqb}
+use Rattle.std.proofs.lemmas.Option.{none-some, same_Some}
+use Rattle.dsr_names.specs.Shape.{Shape}
+use Rattle.dsr_names.specs.declared.actor.Actor.{Actor}
+use Rattle.dsr_names.specs.declared.actor.Actor.TheVariants.{Replica as ReplicaNumber}
+use Rattle.dsr_names.specs.Support.ActorEquality.{actor_eq}
+use Rattle.dsr_request.specs.declared.op.Op.{Op}
+use Rattle.dsr_chain.specs.Proper.{sender_of}
+use Rattle.dsr_chain.specs.declared.signed_request.SignedRequest.{SignedRequest}
+use Rattle.dsr_chain.specs.declared.slot_value.SlotValue.TheVariants.{Act}
+use Rattle.dsr_envelope.specs.declared.envelope.Envelope.{Envelope}
+use Rattle.dsr_envelope.specs.declared.entry.Entry.{Entry}
+use Rattle.dsr_envelope.specs.declared.due.Due.{Due}
+use Rattle.dsr_envelope.specs.declared.due.Due.TheVariants.{Post as PostTo, Take as TakeFrom}
+use Rattle.dsr_envelope.specs.declared.pick.Pick.{Pick}
+use Rattle.dsr_envelope.specs.declared.pick.Pick.TheVariants.{Plain, From, Begin}
+use Rattle.dsr_envelope.specs.Log.{posted_to, due, rounds}
+use Rattle.dsr_replica.specs.Conduct.{from_held, envelope_with, chosen, is_due, envelope_to}
+use Rattle.dsr_replica.specs.Held.{held, put_before, all_held}
+use Rattle.dsr_replica.specs.Replica.{Replica, IsLaterPost, StandsFor}
+use Rattle.dsr_facts.specs.Undue.{IsFirstUnheld, IsUndueRound}
+use Rattle.dsr_facts.specs.declared.undue.Undue.{Undue}
+use Rattle.dsr_facts.specs.declared.undue.Undue.TheVariants.{First, ChosenBefore, OtherSender, NothingHeld, BeginsNothing}
+
+-- ---- asks
+
+put_none : {A : Type 0} (o : Option A) → put_before o None ≡ None
+put_none None = refl
+put_none (Some x) = refl
+
+put_some : {A : Type 0} (o : Option A) (os : Option (List A)) → IsSome o → IsSome os → IsSome (put_before o os)
+put_some None os one more = absurd (false≢true one)
+put_some (Some x) None one more = absurd (false≢true more)
+put_some (Some x) (Some xs) one more = refl
+
+-- there are all asks where there is one for each place
+pub each_place_held : (shape : Shape) (log : List Entry) (clients : List ℕ)
+    → ((i c : ℕ) → slice_get clients i ≡ Some c → IsSome (held shape c log)) → IsSome (all_held shape log clients)
+each_place_held shape log [] each = refl
+each_place_held shape log (client ∷ more) each =
+    put_some (held shape client log) (all_held shape log more) (each 0 client refl) (each_place_held shape log more (λ i. each (suc i)))
+
+-- and not all where there is none for one
+pub unheld_none : (shape : Shape) (log : List Entry) (clients : List ℕ) (place client : ℕ) → slice_get clients place ≡ Some client
+    → held shape client log ≡ None → all_held shape log clients ≡ None
+unheld_none shape log [] place client at none = absurd (none-some client at)
+unheld_none shape log (first ∷ more) zero client at none =
+    ap (λ o. put_before o (all_held shape log more)) (ap (λ c. held shape c log) (same_Some first client at) ∙ none)
+unheld_none shape log (first ∷ more) (suc place) client at none =
+    ap (put_before (held shape first log)) (unheld_none shape log more place client at none) ∙ put_none (held shape first log)
+
+-- nothing is there where its part is not
+pub none_mapped : {A B : Type 0} (f : A → B) (o : Option A) → option_map f o ≡ None → o ≡ None
+none_mapped f None e = refl
+none_mapped f (Some x) e = absurd (none-some (f x) (sym e))
+
+some_mapped : {A B : Type 0} (f : A → B) (o : Option A) → IsSome o → IsSome (option_map f o)
+some_mapped f None some = some
+some_mapped f (Some x) some = refl
+
+some_not_none : {A : Type 0} (o : Option A) → o ≡ None → IsSome o → ⊥
+some_not_none None e some = false≢true some
+some_not_none (Some x) e some = none-some x (sym e)
+
+-- ---- what is due
+
+-- where the post is due, its envelope is what is chosen
+pub due_here : (shape : Shape) (me : Actor) (log : List Entry) (q : ℕ) (pick : Pick) → due shape log ≡ PostTo q
+    → envelope_to shape me log q pick ≡ chosen shape me log q pick
+due_here shape me log q pick e =
+    ap (λ b. if b then chosen shape me log q pick else None) (ap (λ d. is_due d q) e ∙ (Decides-eqb q q).1 refl)
+
+-- where it is not, there is none
+pub not_due_here : (shape : Shape) (me : Actor) (log : List Entry) (q : ℕ) (pick : Pick) (next : Due) → due shape log ≡ next → is_due next q ≡ false
+    → envelope_to shape me log q pick ≡ None
+not_due_here shape me log q pick next e undue =
+    ap (λ b. if b then chosen shape me log q pick else None) (ap (λ d. is_due d q) e ∙ undue)
+
+pub is_due_post : (d : Due) (q : ℕ) → is_due d q ≡ true → d ≡ PostTo q
+is_due_post (PostTo k) q e = ap PostTo ((Decides-eqb k q).0 e)
+is_due_post (TakeFrom p) q e = absurd (false≢true e)
+
+-- the plain choice has an envelope where the post is due
+plain_chosen : (r : Replica) (log : List Entry) (q : ℕ) → StandsFor r log → r.next ≡ PostTo q → rounds r.shape log ≡ r.round
+    → IsSome (chosen r.shape r.me log q Plain)
+plain_chosen r log zero stands next round = refl
+plain_chosen r log (suc q) stands next round =
+    let later : IsLaterPost r.next = subst IsLaterPost (sym next) (omega arith) in
+    subst IsSome (sym (ap (slice_get (posted_to (ReplicaNumber 0) log)) round ∙ stands.posted later)) refl
+
+pub plain_there : (r : Replica) (log : List Entry) (q : ℕ) → StandsFor r log → r.next ≡ PostTo q → rounds r.shape log ≡ r.round
+    → IsSome (envelope_to r.shape r.me log q Plain)
+plain_there r log q stands next round =
+    subst IsSome (sym (due_here r.shape r.me log q Plain (sym stands.due_is ∙ next))) (plain_chosen r log q stands next round)
+
+-- a replica that is not the sender proposes nothing
+from_other : (shape : Shape) (me : Actor) (round : ℕ) (asks : Option (List SignedRequest)) → actor_eq me (sender_of shape round) ≡ false
+    → from_held shape me round asks ≡ None
+from_other shape me round asks other = ap (λ b. if b then option_map Act asks else None) other
+
+from_sender : (shape : Shape) (me : Actor) (round : ℕ) (asks : Option (List SignedRequest)) → actor_eq me (sender_of shape round) ≡ true
+    → IsSome asks → IsSome (from_held shape me round asks)
+from_sender shape me round asks own some =
+    subst IsSome (sym (ap (λ b. if b then option_map Act asks else None) own)) (some_mapped Act asks some)
+
+from_none : (shape : Shape) (me : Actor) (round : ℕ) → from_held shape me round None ≡ None
+from_none shape me round = by_sender (actor_eq me (sender_of shape round))
+  where
+    by_sender : (b : Bool) → (if b then option_map Act None else None) ≡ None
+    by_sender true = refl
+    by_sender false = refl
+
+-- where all asks are held and there is no envelope, another one is the sender
+pub sender_else : (shape : Shape) (me : Actor) (log : List Entry) (clients : List ℕ) → due shape log ≡ PostTo 0 → IsSome (all_held shape log clients)
+    → envelope_to shape me log 0 (From clients) ≡ None → actor_eq me (sender_of shape (rounds shape log)) ≡ false
+sender_else shape me log clients here some none = by_sender (actor_eq me (sender_of shape (rounds shape log))) refl
+  where
+    by_sender : (b : Bool) → actor_eq me (sender_of shape (rounds shape log)) ≡ b → b ≡ false
+    by_sender false e = refl
+    by_sender true e =
+        let made = from_sender shape me (rounds shape log) (all_held shape log clients) e some in
+        absurd (some_not_none (chosen shape me log 0 (From clients)) (sym (due_here shape me log 0 (From clients) here) ∙ none)
+        (some_mapped (envelope_with shape me log) (from_held shape me (rounds shape log) (all_held shape log clients)) made))
+
+-- ---- a cause refuses
+
+chosen_later : (shape : Shape) (me : Actor) (log : List Entry) (q : ℕ) (clients : List ℕ) → 0 < q → chosen shape me log q (From clients) ≡ None
+chosen_later shape me log zero clients later = absurd (omega (arith, later))
+chosen_later shape me log (suc q) clients later = refl
+
+chosen_begun : (shape : Shape) (me : Actor) (log : List Entry) (q : ℕ) (op : Op) → chosen shape me log q (Begin op) ≡ None
+chosen_begun shape me log zero op = refl
+chosen_begun shape me log (suc q) op = refl
+
+-- a choice for which there is a cause has no envelope
+pub undue_refuses : (shape : Shape) (me : Actor) (log : List Entry) (q : ℕ) (pick : Pick) (why : Undue) → IsUndueRound shape me log q pick why
+    → envelope_to shape me log q pick ≡ None
+undue_refuses shape me log q pick (First next) is = not_due_here shape me log q pick next is.0 is.1
+undue_refuses shape me log q (Begin op) BeginsNothing is = due_here shape me log q (Begin op) is ∙ chosen_begun shape me log q op
+undue_refuses shape me log q (From clients) ChosenBefore is = due_here shape me log q (From clients) is.0 ∙ chosen_later shape me log q clients is.1
+undue_refuses shape me log q (From clients) (NothingHeld client) is =
+    due_here shape me log q (From clients) is.0
+    ∙ subst (λ k. chosen shape me log k (From clients) ≡ None) (sym is.1)
+    (ap (option_map (envelope_with shape me log))
+    (ap (from_held shape me (rounds shape log)) (unheld_none shape log clients is.2.place client is.2.at is.2.none) ∙ from_none shape me (rounds shape log)))
+undue_refuses shape me log q (From clients) OtherSender is =
+    due_here shape me log q (From clients) is.0
+    ∙ subst (λ k. chosen shape me log k (From clients) ≡ None) (sym is.1)
+    (ap (option_map (envelope_with shape me log)) (from_other shape me (rounds shape log) (all_held shape log clients) is.3))
+undue_refuses shape me log q pick why is = elim is [ ]
+
+-- ---- options
+
+pub where_none : {X : Type 0} → (o : Option X) (A : Type 0) → o ≡ None → IfNone o A → A
+where_none None A e h = h
+where_none (Some x) A e h = absurd (none-some x (sym e))

@@ -1,0 +1,47 @@
+-- Why a recorded post of a loyal replica may not follow (this project).
+use Rattle.std.specs.Prelude.{◌≡◌, ◌<◌, ◌^◌, ℕ, List, Option, None, Some, IsSome}
+use Rattle.dsr_names.specs.Shape.{Shape}
+use Rattle.dsr_names.specs.declared.actor.Actor.{Actor}
+use Rattle.dsr_names.specs.declared.actor.Actor.TheVariants.{Replica}
+use Rattle.dsr_envelope.specs.declared.envelope.Envelope.{Envelope}
+use Rattle.dsr_envelope.specs.declared.entry.Entry.{Entry}
+use Rattle.dsr_envelope.specs.declared.entry.Entry.TheVariants.{Post}
+use Rattle.dsr_envelope.specs.declared.pick.Pick.{Pick}
+use Rattle.dsr_envelope.specs.declared.pick.Pick.TheVariants.{Plain, From}
+use Rattle.dsr_envelope.specs.Log.{rounds}
+use Rattle.dsr_envelope.specs.Pick.{IsPick}
+use Rattle.dsr_replica.specs.Conduct.{IsNext, envelope_to}
+use Rattle.dsr_replica.specs.Shown.{shown_choice}
+use Rattle.dsr_facts.specs.Difference.{IsDifference}
+use Rattle.dsr_facts.specs.Undue.{IsUndueRound}
+use Rattle.dsr_facts.specs.declared.fault.Fault.{Fault}
+use Rattle.dsr_facts.specs.declared.fault.Fault.TheVariants.{Refused, OtherHeld, OtherPosted}
+use Rattle.dsr_facts.specs.declared.cause.Cause.TheVariants.{NotDue, Exhausted}
+use Rattle.dsr_facts.specs.declared.cause.Limit.TheVariants.{Rounds}
+
+-- the choice of these clients; nothing in particular where there are none
+abbrev pub choice_by : Option (List ℕ) → Pick
+choice_by None = Plain
+choice_by (Some clients) = From clients
+
+-- the choice is the one that the envelope shows, where that is one that can be made
+abbrev pub IsRead : Shape → Actor → ℕ → Envelope → Pick → Type 0
+IsRead shape me q found pick = IsPick (shown_choice shape me q found) → pick ≡ shown_choice shape me q found
+
+-- why a loyal replica with this log does not post this envelope to this replica, where it would be by this choice: by it no post is due;
+-- the rounds are exhausted; or another envelope is posted, from which this one differs so
+abbrev pub IsRoundFault : Shape → Actor → List Entry → ℕ → Envelope → Pick → Fault → Type 0
+IsRoundFault shape me log q found pick (Refused (NotDue why)) = IsUndueRound shape me log q pick why
+IsRoundFault shape me log q found pick (Refused (Exhausted Rounds)) = IsSome (envelope_to shape me log q pick) × (rounds shape log < 2 ^ 36 → ⊥)
+IsRoundFault shape me log q found pick (OtherPosted wanted how) = (envelope_to shape me log q pick ≡ Some wanted) × IsDifference wanted found how
+IsRoundFault shape me log q found pick fault = ⊥
+
+-- the same, by the choice that the envelope shows
+pub record HoldsRoundFault (shape : Shape) (me : Actor) (log : List Entry) (q : ℕ) (found : Envelope) (fault : Fault) : Type 0 where
+  pub pick : Pick
+  pub read : IsRead shape me q found pick
+  pub why : IsRoundFault shape me log q found pick fault
+
+-- a loyal replica with this log may post this envelope to this replica
+abbrev pub MayPostRound : Shape → Actor → List Entry → ℕ → Envelope → Type 0
+MayPostRound shape me log q found = IsNext shape me log (Post (Replica q) found) × (rounds shape log < 2 ^ 36)

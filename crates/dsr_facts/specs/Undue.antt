@@ -1,0 +1,34 @@
+-- Why a post or a take is not due (this project).
+use Rattle.std.specs.Prelude.{◌≡◌, ℕ, ◌<◌, false, List, None, Some, IsSome, slice_get}
+use Rattle.dsr_names.specs.Shape.{Shape}
+use Rattle.dsr_names.specs.declared.actor.Actor.{Actor}
+use Rattle.dsr_names.specs.Support.ActorEquality.{actor_eq}
+use Rattle.dsr_chain.specs.Proper.{sender_of}
+use Rattle.dsr_envelope.specs.declared.entry.Entry.{Entry}
+use Rattle.dsr_envelope.specs.declared.due.Due.TheVariants.{Post as PostTo}
+use Rattle.dsr_envelope.specs.declared.pick.Pick.{Pick}
+use Rattle.dsr_envelope.specs.declared.pick.Pick.TheVariants.{Plain, From, Begin}
+use Rattle.dsr_envelope.specs.Log.{due, rounds}
+use Rattle.dsr_replica.specs.Conduct.{is_due}
+use Rattle.dsr_replica.specs.Held.{held, all_held}
+use Rattle.dsr_facts.specs.declared.undue.Undue.{Undue}
+use Rattle.dsr_facts.specs.declared.undue.Undue.TheVariants.{First, ChosenBefore, OtherSender, NothingHeld, BeginsNothing}
+
+-- of these clients it is the first of whom the replica holds no ask
+pub record IsFirstUnheld (shape : Shape) (log : List Entry) (clients : List ℕ) (client : ℕ) : Type 0 where
+  pub place : ℕ
+  pub at : slice_get clients place ≡ Some client
+  pub none : held shape client log ≡ None
+  pub before : (i c : ℕ) → i < place → slice_get clients i ≡ Some c → IsSome (held shape c log)
+
+-- why a loyal replica with this log does not post to this replica by this choice. First: with the replicas something else is due.
+-- Otherwise the post is due, and the choice is not allowed there: a replica begins no request; what is proposed was chosen at the post
+-- to replica 0; of this one of the clients, the first of them, it holds no ask; the slot that begins with the round has another sender
+abbrev pub IsUndueRound : Shape → Actor → List Entry → ℕ → Pick → Undue → Type 0
+IsUndueRound shape me log q pick (First next) = (due shape log ≡ next) × (is_due next q ≡ false)
+IsUndueRound shape me log q (Begin op) BeginsNothing = due shape log ≡ PostTo q
+IsUndueRound shape me log q (From clients) ChosenBefore = (due shape log ≡ PostTo q) × (0 < q)
+IsUndueRound shape me log q (From clients) (NothingHeld client) = (due shape log ≡ PostTo q) × (q ≡ 0) × IsFirstUnheld shape log clients client
+IsUndueRound shape me log q (From clients) OtherSender =
+    (due shape log ≡ PostTo q) × (q ≡ 0) × IsSome (all_held shape log clients) × (actor_eq me (sender_of shape (rounds shape log)) ≡ false)
+IsUndueRound shape me log q pick why = ⊥

@@ -1,0 +1,418 @@
+ghost use Rattle.std.specs.Prelude.{◌≡◌, ◌&&◌, ◌||◌, ◌<◌, ℕ, true, false, List, None, IfSome, IfNone, IsTrue};
+ghost use Rattle.std.specs.Option.{is_none};
+ghost use Rattle.dsr_names.specs.Shape.{Shape as AShape, IsActor, IsLoyal};
+ghost use Rattle.dsr_names.specs.declared.actor.Actor.TheVariants.{Replica as ReplicaNumber, Client as ClientNumber};
+ghost use Rattle.dsr_envelope.specs.declared.entry.Entry.{Entry};
+ghost use Rattle.dsr_replica.specs.Replica.{StandsFor};
+ghost use Rattle.dsr_client.specs.Client.{StandsFor as StandsForClient};
+ghost use Rattle.dsr_node.specs.Conduct.{post_of, is_exhausted, is_undue, is_actor, is_traitor_of, are_clients, is_own_client};
+ghost use Rattle.dsr_play.specs.declared.event.Event.TheVariants.{Post, Plant, Take, Tell};
+ghost use Rattle.dsr_desk.specs.Signature.{Signature, signed};
+ghost use Rattle.dsr_envelope.specs.Envelope.{Carries};
+ghost use Rattle.dsr_envelope.specs.declared.entry.Entry.TheVariants.{Post as PostEntry};
+ghost use Rattle.dsr_run.specs.Run.{ForgesNothing, IsMadeOrPosted};
+ghost use Rattle.dsr_run.specs.Step.{Logs, log_of};
+ghost use Rattle.dsr_world.specs.Event.{is_full, is_used_up, refusal_of, MayBeDone, IsRefusedBy};
+ghost use Rattle.dsr_names.specs.declared.actor.Actor.{Actor as AnActor};
+ghost use Rattle.dsr_node.specs.Node.{PlaysReplica};
+ghost use Rattle.dsr_play.specs.declared.event.Event.{Event as AnEvent};
+ghost use Rattle.dsr_facts.specs.declared.cause.Cause.{Cause as ACause};
+ghost use Rattle.dsr_facts.specs.Cause.{HoldsCause, refusal_by, IsOutsider, IsUndue, IsUndueAsk, IsUndueReply, IsSpent};
+
+use crate::undue::{Undue, undue_round};
+use dsr_client::Client;
+use dsr_envelope::{Due, Pick};
+use dsr_names::{Actor, ClientId, NUMBER_END, Refusal, ReplicaId, Shape};
+use dsr_replica::Replica;
+use dsr_script::{Draft, Forged};
+use dsr_world::{Event, World};
+
+/// Why an event is not its actor's part.
+#[derive(Clone, Copy, Debug, PartialEq, Eq)]
+pub enum Part {
+    /// The actor is a traitor: what it posts is planted.
+    Traitor,
+    /// The actor is loyal: only traitors plant.
+    Loyal,
+    /// Clients post nothing to each other, but tell.
+    BothClients,
+    /// A client takes nothing from itself.
+    FromItself,
+    /// Only a client tells, and only another client.
+    NotTwoClients,
+}
+
+/// Which counter would pass its limit.
+#[derive(Clone, Copy, Debug, PartialEq, Eq)]
+pub enum Limit {
+    /// The rounds of a loyal replica.
+    Rounds,
+    /// The numbers of a client's requests.
+    Numbers,
+    /// The posts in the box.
+    Posts,
+}
+
+/// Why an event is refused.
+#[derive(Clone, Copy, Debug)]
+pub enum Cause {
+    /// This is no actor of the shape.
+    NoActor(Actor),
+    /// It is not the actor's part.
+    WrongRole(Part),
+    /// The actor's conduct has no such step now.
+    NotDue(Undue),
+    /// A counter would pass its limit.
+    Exhausted(Limit),
+    /// The box holds an envelope.
+    BoxFull,
+    /// The box holds none.
+    BoxEmpty,
+    /// This signature is no traitor's, and its signer has not posted it.
+    Forged(Forged),
+}
+
+/// Why the event is refused by this world. `None` exactly if nothing refuses it. It allocates nothing.
+pub fn why_refused(world: &World, event: &Event) -> Option<Cause>
+    ensures some { IfSome result (HoldsCause world.now.shape (log_of world.now.run) event.now) }
+    ensures none { IfNone result (MayBeDone world.now.shape (log_of world.now.run) event.now) }
+{
+    match event {
+        Event::Post { from, to, pick } => post_cause(world, from, to, &pick.pick()),
+        Event::Plant { from, to, draft } => plant_cause(world, from, to, draft),
+        Event::Take { at, from } => take_cause(world, at, from),
+        Event::Tell { from, to } => tell_cause(world, from, to),
+    }
+}
+
+/// Why a loyal actor's post is refused.
+pub(crate) fn post_cause(world: &World, from: &Actor, to: &Actor, pick: &Pick) -> Option<Cause>
+    ensures some { IfSome result (HoldsCause world.now.shape (log_of world.now.run) (Post from.now to.now pick.now)) }
+    ensures none { IfNone result (refusal_of world.now.shape (log_of world.now.run) (Post from.now to.now pick.now) ≡ None) }
+{
+    if let Some(actor) = outsider(world.shape(), from, to) {
+        return Some(Cause::NoActor(actor));
+    }
+    if is_traitor(world.shape(), from) {
+        return Some(Cause::WrongRole(Part::Traitor));
+    }
+    if are_clients(from, to) {
+        return Some(Cause::WrongRole(Part::BothClients));
+    }
+    if let Some(why) = undue_post(world, from, to, pick) {
+        return Some(Cause::NotDue(why));
+    }
+    if let Some(limit) = spent_by_post(world, from, to, pick) {
+        return Some(Cause::Exhausted(limit));
+    }
+    if is_full(world, from, to) {
+        return Some(Cause::BoxFull);
+    }
+    None
+}
+
+/// Why a traitor's post is refused.
+fn plant_cause(world: &World, from: &Actor, to: &Actor, draft: &Draft) -> Option<Cause>
+    ensures some { IfSome result (HoldsCause world.now.shape (log_of world.now.run) (Plant from.now to.now draft.now)) }
+    ensures none { IfNone result (refusal_of world.now.shape (log_of world.now.run) (Plant from.now to.now draft.now) ≡ None) }
+    ensures forges { IfNone result (ForgesNothing world.now.shape (log_of world.now.run) (PostEntry to.now draft.now)) }
+{
+    if let Some(actor) = outsider(world.shape(), from, to) {
+        return Some(Cause::NoActor(actor));
+    }
+    if !is_traitor(world.shape(), from) {
+        return Some(Cause::WrongRole(Part::Loyal));
+    }
+    if is_used_up(world, from, to) {
+        return Some(Cause::Exhausted(Limit::Posts));
+    }
+    if is_full(world, from, to) {
+        return Some(Cause::BoxFull);
+    }
+    let forged = forged_by(world, from, draft)?;
+    Some(Cause::Forged(forged))
+}
+
+/// The first signature that a traitor who posts the draft would forge.
+fn forged_by(world: &World, from: &Actor, draft: &Draft) -> Option<Forged>
+    requires inside { IsActor world.now.shape from.now }
+    requires traitor { is_traitor_of world.now.shape from.now ≡ true }
+    ensures carried { IfSome result (λ forged. Carries draft.now (signed forged.signer forged.statement)) }
+    ensures forged { IfSome result (λ forged. IsMadeOrPosted world.now.shape (log_of world.now.run) (signed forged.signer forged.statement) → ⊥) }
+    ensures none { IfNone result ((s : Signature) → Carries draft.now s → IsMadeOrPosted world.now.shape (log_of world.now.run) s) }
+{
+    world.forged_in(draft)
+}
+
+/// Why a take is refused.
+pub(crate) fn take_cause(world: &World, at: &Actor, from: &Actor) -> Option<Cause>
+    ensures some { IfSome result (HoldsCause world.now.shape (log_of world.now.run) (Take at.now from.now)) }
+    ensures none { IfNone result (refusal_of world.now.shape (log_of world.now.run) (Take at.now from.now) ≡ None) }
+    ensures at { IfNone result (IsActor world.now.shape at.now) }
+    ensures from { IfNone result (IsActor world.now.shape from.now) }
+    ensures full { IfNone result (is_full (log_of world.now.run) from.now at.now ≡ true) }
+{
+    if let Some(actor) = outsider(world.shape(), at, from) {
+        return Some(Cause::NoActor(actor));
+    }
+    if is_own_client(at, from) {
+        return Some(Cause::WrongRole(Part::FromItself));
+    }
+    if let Some(why) = undue_take(world, at, from) {
+        return Some(Cause::NotDue(why));
+    }
+    if !is_full(world, from, at) {
+        return Some(Cause::BoxEmpty);
+    }
+    None
+}
+
+/// Why it is refused that an actor tells another its seen front.
+fn tell_cause(world: &World, from: &Actor, to: &Actor) -> Option<Cause>
+    ensures some { IfSome result (HoldsCause world.now.shape (log_of world.now.run) (Tell from.now to.now)) }
+    ensures none { IfNone result (refusal_of world.now.shape (log_of world.now.run) (Tell from.now to.now) ≡ None) }
+{
+    if let Some(actor) = outsider(world.shape(), from, to) {
+        return Some(Cause::NoActor(actor));
+    }
+    if !are_clients(from, to) || is_own_client(from, to) {
+        return Some(Cause::WrongRole(Part::NotTwoClients));
+    }
+    if is_used_up(world, from, to) {
+        return Some(Cause::Exhausted(Limit::Posts));
+    }
+    if is_full(world, from, to) {
+        return Some(Cause::BoxFull);
+    }
+    None
+}
+
+/// Why a loyal actor has no such post.
+fn undue_post(world: &World, from: &Actor, to: &Actor, pick: &Pick) -> Option<Undue>
+    requires from { IsActor world.now.shape from.now }
+    requires to { IsActor world.now.shape to.now }
+    requires loyal { is_traitor_of world.now.shape from.now ≡ false }
+    requires apart { are_clients from.now to.now ≡ false }
+    ensures some { IfSome result (IsUndue world.now.shape (log_of world.now.run) (Post from.now to.now pick.now)) }
+    ensures refused { IfSome result (λ why. is_none (post_of world.now.shape (log_of world.now.run from.now) from.now to.now pick.now) ≡ true) }
+    ensures none { IfNone result (is_none (post_of world.now.shape (log_of world.now.run from.now) from.now to.now pick.now) ≡ false) }
+{
+    match (from, to) {
+        (Actor::Replica(poster), Actor::Replica(taker)) => {
+            undue_round(loyal_of(world, *poster), *taker, pick)
+        }
+        (Actor::Replica(poster), Actor::Client(client)) => {
+            undue_reply(loyal_of(world, *poster), *client, pick)
+        }
+        (Actor::Client(client), Actor::Replica(_)) => undue_ask(client_of(world, *client), pick),
+        (Actor::Client(_), Actor::Client(_)) => unreachable!(),
+    }
+}
+
+/// Why a loyal replica posts no reply to this client by this choice.
+fn undue_reply(replica: &Replica, client: ClientId, pick: &Pick) -> Option<Undue>
+    ensures some { (log : List Entry) → StandsFor replica.now log → IfSome result (IsUndueReply replica.now.shape log client pick.now) }
+    ensures none { (log : List Entry) (p : ℕ) → StandsFor replica.now log
+        → IfNone result (is_none (post_of replica.now.shape log (ReplicaNumber p) (ClientNumber client) pick.now) ≡ false) }
+{
+    match pick {
+        Pick::Plain => match replica.reply_for(client) {
+            Some(_) => None,
+            None => Some(Undue::NothingActed),
+        },
+        Pick::From(_) | Pick::Begin(_) => Some(Undue::NoChoice),
+    }
+}
+
+/// Why a client asks nothing by this choice.
+fn undue_ask(client: &Client, pick: &Pick) -> Option<Undue>
+    ensures some { (log : List Entry) → StandsForClient client.now log → IfSome result (IsUndueAsk client.now.shape log pick.now) }
+    ensures none { (log : List Entry) (q : ℕ) → StandsForClient client.now log
+        → IfNone result (is_none (post_of client.now.shape log (ClientNumber client.now.me) (ReplicaNumber q) pick.now) ≡ false) }
+{
+    match (pick, client.outstanding()) {
+        (Pick::From(_), _) => Some(Undue::ProposesNothing),
+        (Pick::Plain, None) => Some(Undue::NothingOutstanding),
+        (Pick::Begin(_), Some(number)) => Some(Undue::Outstanding { number }),
+        (Pick::Plain, Some(_)) | (Pick::Begin(_), None) => None,
+    }
+}
+
+/// Why a take is not due.
+fn undue_take(world: &World, at: &Actor, from: &Actor) -> Option<Undue>
+    requires at { IsActor world.now.shape at.now }
+    ensures some { IfSome result (IsUndue world.now.shape (log_of world.now.run) (Take at.now from.now)) }
+    ensures refused { IfSome result (λ why. is_undue world.now.shape (log_of world.now.run at.now) at.now from.now ≡ true) }
+    ensures none { IfNone result (is_undue world.now.shape (log_of world.now.run at.now) at.now from.now ≡ false) }
+{
+    match (at, from) {
+        (Actor::Replica(taker), Actor::Replica(poster)) => match world.replica(*taker) {
+            Ok(loyal) => {
+                if loyal.due() == Due::Take(*poster) {
+                    None
+                } else {
+                    Some(Undue::First(loyal.due()))
+                }
+            }
+            Err(_) => None,
+        },
+        _ => None,
+    }
+}
+
+/// Which counter would pass its limit by a loyal actor's post, for which there is an envelope.
+fn spent_by_post(world: &World, from: &Actor, to: &Actor, pick: &Pick) -> Option<Limit>
+    requires from { IsActor world.now.shape from.now }
+    requires to { IsActor world.now.shape to.now }
+    requires loyal { is_traitor_of world.now.shape from.now ≡ false }
+    requires given { is_none (post_of world.now.shape (log_of world.now.run from.now) from.now to.now pick.now) ≡ false }
+    ensures some { IfSome result (IsSpent world.now.shape (log_of world.now.run) (Post from.now to.now pick.now)) }
+    ensures refused { IfSome result (λ limit. (is_exhausted world.now.shape (log_of world.now.run from.now) from.now to.now pick.now
+        || is_used_up (log_of world.now.run) from.now to.now) ≡ true) }
+    ensures none { IfNone result ((is_exhausted world.now.shape (log_of world.now.run from.now) from.now to.now pick.now
+        || is_used_up (log_of world.now.run) from.now to.now) ≡ false) }
+{
+    match (from, to) {
+        (Actor::Replica(poster), Actor::Replica(taker)) => {
+            if has_no_round(loyal_of(world, *poster), *taker, pick) {
+                return Some(Limit::Rounds);
+            }
+        }
+        (Actor::Client(client), _) => {
+            if has_no_number(client_of(world, *client), pick) {
+                return Some(Limit::Numbers);
+            }
+        }
+        (Actor::Replica(_), Actor::Client(_)) => {}
+    }
+    if is_used_up(world, from, to) {
+        Some(Limit::Posts)
+    } else {
+        None
+    }
+}
+
+/// Whether the round in progress is none in which a loyal replica posts, which has an envelope for this choice.
+fn has_no_round(replica: &Replica, to: ReplicaId, pick: &Pick) -> bool
+    ensures { (log : List Entry) (p : ℕ) → StandsFor replica.now log → replica.now.me ≡ ReplicaNumber p
+        → is_none (post_of replica.now.shape log (ReplicaNumber p) (ReplicaNumber to) pick.now) ≡ false
+        → result ≡ is_exhausted replica.now.shape log (ReplicaNumber p) (ReplicaNumber to) pick.now }
+{
+    match replica.refusal(to, *pick) {
+        Some(Refusal::Exhausted) => true,
+        _ => false,
+    }
+}
+
+/// Whether there is no number for a client's new request, where one is begun.
+fn has_no_number(client: &Client, pick: &Pick) -> bool
+    ensures { (log : List Entry) (to : AnActor) → StandsForClient client.now log
+        → is_none (post_of client.now.shape log (ClientNumber client.now.me) to pick.now) ≡ false
+        → result ≡ is_exhausted client.now.shape log (ClientNumber client.now.me) to pick.now }
+{
+    match pick {
+        Pick::Begin(op) => client.first_ask(*op).is_none(),
+        Pick::Plain | Pick::From(_) => false,
+    }
+}
+
+/// The loyal replica of this number.
+pub(crate) fn loyal_of(world: &World, number: ReplicaId) -> &Replica
+    requires { IsLoyal world.now.shape (ReplicaNumber number) }
+    ensures { PlaysReplica world.now.shape number (log_of world.now.run (ReplicaNumber number)) result.now }
+{
+    match world.replica(number) {
+        Ok(loyal) => loyal,
+        Err(_) => unreachable!(),
+    }
+}
+
+/// The client of this number.
+fn client_of(world: &World, number: ClientId) -> &Client
+    requires { number < world.now.shape.m }
+    ensures stands { StandsForClient result.now (log_of world.now.run (ClientNumber number)) }
+    ensures me { result.now.me ≡ number }
+    ensures shape { result.now.shape ≡ world.now.shape }
+{
+    match world.client(number) {
+        Ok(client) => client,
+        Err(_) => unreachable!(),
+    }
+}
+
+/// The first of these two that is no actor of the shape.
+fn outsider(shape: &Shape, one: &Actor, other: &Actor) -> Option<Actor>
+    ensures some { IfSome result (IsOutsider shape.now one.now other.now) }
+    ensures refused { IfSome result (λ actor. (is_actor shape.now one.now && is_actor shape.now other.now) ≡ false) }
+    ensures none { IfNone result ((is_actor shape.now one.now && is_actor shape.now other.now) ≡ true) }
+    ensures one { IfNone result (IsActor shape.now one.now) }
+    ensures other { IfNone result (IsActor shape.now other.now) }
+{
+    if !is_inside(shape, one) {
+        return Some(*one);
+    }
+    if !is_inside(shape, other) {
+        return Some(*other);
+    }
+    None
+}
+
+/// Whether it is an actor of the shape.
+fn is_inside(shape: &Shape, actor: &Actor) -> bool
+    ensures same { result ≡ is_actor shape.now actor.now }
+    ensures inside { IsTrue result → IsActor shape.now actor.now }
+{
+    shape.has(*actor)
+}
+
+/// Whether an actor of the shape is a traitor.
+fn is_traitor(shape: &Shape, actor: &Actor) -> bool
+    requires { IsActor shape.now actor.now }
+    ensures { result ≡ is_traitor_of shape.now actor.now }
+{
+    !shape.is_loyal(*actor)
+}
+
+/// Whether both are clients.
+fn are_clients(one: &Actor, other: &Actor) -> bool
+    ensures { result ≡ are_clients one.now other.now }
+{
+    match (one, other) {
+        (Actor::Client(_), Actor::Client(_)) => true,
+        _ => false,
+    }
+}
+
+/// Whether both are one client.
+fn is_own_client(one: &Actor, other: &Actor) -> bool
+    ensures { result ≡ is_own_client one.now other.now }
+{
+    match (one, other) {
+        (Actor::Client(client), Actor::Client(another)) => client.number() == another.number(),
+        _ => false,
+    }
+}
+
+/// Whether the box from one actor to another holds an envelope.
+fn is_full(world: &World, from: &Actor, to: &Actor) -> bool
+    requires from { IsActor world.now.shape from.now }
+    requires to { IsActor world.now.shape to.now }
+    ensures { result ≡ is_full (log_of world.now.run) from.now to.now }
+{
+    world.in_box(from, to).is_some()
+}
+
+/// Whether the box from one actor to another has had all the posts that it may have.
+fn is_used_up(world: &World, from: &Actor, to: &Actor) -> bool
+    requires from { IsActor world.now.shape from.now }
+    requires to { IsActor world.now.shape to.now }
+    ensures { result ≡ is_used_up (log_of world.now.run) from.now to.now }
+{
+    world.posts(from, to) >= NUMBER_END - 1
+}
+
+/// A cause is one: the event is refused with the cause's refusal, by its actor's conduct or by the boxes.
+pub fn causes_refuse()
+    ensures { (shape : AShape) (logs : Logs) (event : AnEvent) (cause : ACause) → HoldsCause shape logs event cause
+        → IsRefusedBy shape logs event (refusal_by cause) }
+{}

@@ -1,0 +1,64 @@
+ghost use Rattle.std.specs.Prelude.{◌≡◌, true, Some, IfOk, IfSome, IfNone, IsOkUnless};
+ghost use Rattle.dsr_names.specs.Shape.{Shape as AShape, IsActor};
+ghost use Rattle.dsr_names.specs.declared.actor.Actor.{Actor as AnActor};
+ghost use Rattle.dsr_envelope.specs.declared.entry.Entry.TheVariants.{Take};
+ghost use Rattle.dsr_envelope.specs.declared.envelope.Envelope.{Envelope as AnEnvelope};
+ghost use Rattle.dsr_run.specs.Run.{IsNextStep};
+ghost use Rattle.dsr_run.specs.Step.{Logs, log_of};
+ghost use Rattle.dsr_world.specs.Event.{in_box, is_full};
+ghost use Rattle.dsr_facts.specs.TakeFault.{HoldsTakeFault};
+ghost use Rattle.dsr_facts.specs.declared.fault.Fault.{Fault as AFault};
+
+use crate::cause::take_cause;
+use crate::fault::Fault;
+use dsr_names::{Actor, Refusal};
+use dsr_script::Draft;
+use dsr_world::World;
+use std::alloc::Global;
+
+/// Why the recorded take of this envelope may not follow in this world. `None` exactly if it may. `NoMemory` if memory runs out.
+pub fn take_fault(
+    alloc: Global,
+    world: &World,
+    at: &Actor,
+    from: &Actor,
+    found: &Draft,
+) -> Result<Option<Fault>, Refusal>
+    ensures some { IfOk result (λ fault. IfSome fault (HoldsTakeFault world.now.shape (log_of world.now.run) at.now from.now found.now)) }
+    ensures none { IfOk result (λ fault. IfNone fault (IsNextStep world.now.shape (log_of world.now.run) (at.now, Take from.now found.now))) }
+    ensures refusal { IsOkUnless result Refusal.NoMemory }
+{
+    if let Some(cause) = take_cause(world, at, from) {
+        return Ok(Some(Fault::Refused(cause)));
+    }
+    let _n = world.shape().n();
+    let _entries = world.entries();
+    let held = held_in(alloc, world, from, at)?;
+    if held.same(found) {
+        Ok(None)
+    } else {
+        Ok(Some(Fault::OtherHeld))
+    }
+}
+
+/// What the box from one actor to another holds, as data. `NoMemory` if memory runs out.
+fn held_in(alloc: Global, world: &World, from: &Actor, to: &Actor) -> Result<Draft, Refusal>
+    requires from { IsActor world.now.shape from.now }
+    requires to { IsActor world.now.shape to.now }
+    requires full { is_full (log_of world.now.run) from.now to.now ≡ true }
+    ensures same { IfOk result (λ held. in_box (log_of world.now.run) from.now to.now ≡ Some held) }
+    ensures refusal { IsOkUnless result Refusal.NoMemory }
+{
+    let _entries = world.entries();
+    let Some(letter) = world.in_box(from, to) else {
+        unreachable!()
+    };
+    let held = Draft::of(alloc, letter.envelope())?;
+    Ok(held)
+}
+
+/// What a fault says is so: the take may not follow.
+pub fn take_faults_stop()
+    ensures { (shape : AShape) (logs : Logs) (at from : AnActor) (found : AnEnvelope) (fault : AFault)
+        → HoldsTakeFault shape logs at from found fault → IsNextStep shape logs (at, Take from found) → ⊥ }
+{}

@@ -1,0 +1,97 @@
+ghost use Rattle.std.specs.Prelude.{◌≡◌, List, IfSome, IfNone, IsSome};
+ghost use Rattle.dsr_envelope.specs.declared.due.Due.TheVariants.{Post as PostTo};
+ghost use Rattle.dsr_envelope.specs.declared.entry.Entry.{Entry};
+ghost use Rattle.dsr_envelope.specs.declared.pick.Pick.TheVariants.{From};
+ghost use Rattle.dsr_envelope.specs.Log.{due};
+ghost use Rattle.dsr_replica.specs.Conduct.{envelope_to, is_due};
+ghost use Rattle.dsr_replica.specs.Held.{all_held};
+ghost use Rattle.dsr_replica.specs.Replica.{StandsFor};
+ghost use Rattle.dsr_facts.specs.Undue.{IsFirstUnheld, IsUndueRound};
+
+use dsr_envelope::{Clients, Due, Pick};
+use dsr_names::{ClientId, Refusal, ReplicaId};
+use dsr_replica::Replica;
+
+/// Why a post or a take of a loyal replica is not due.
+#[derive(Clone, Copy, Debug, PartialEq, Eq)]
+pub enum Undue {
+    /// This is due first with the replicas.
+    First(Due),
+    /// What is proposed was chosen at the post to replica 0.
+    ChosenBefore,
+    /// No ask of this client is held.
+    NothingHeld { client: ClientId },
+    /// The slot that begins with the round has another sender.
+    OtherSender,
+    /// A replica begins no request.
+    BeginsNothing,
+    /// No request of the client has acted at the replica.
+    NothingActed,
+    /// A replica chooses nothing at a post to a client.
+    NoChoice,
+    /// A client proposes nothing.
+    ProposesNothing,
+    /// The client's request of this number is outstanding.
+    Outstanding { number: u64 },
+    /// No request of the client is outstanding.
+    NothingOutstanding,
+}
+
+/// Why the replica does not post to this replica by this choice. `None` exactly if it has an envelope for it. It allocates nothing.
+pub fn undue_round(replica: &Replica, to: ReplicaId, pick: &Pick) -> Option<Undue>
+    ensures some { (log : List Entry) → StandsFor replica.now log
+        → IfSome result (IsUndueRound replica.now.shape replica.now.me log to pick.now) }
+    ensures none { (log : List Entry) → StandsFor replica.now log
+        → IfNone result (IsSome (envelope_to replica.now.shape replica.now.me log to pick.now)) }
+{
+    if !is_due(replica.due(), to) {
+        return Some(Undue::First(replica.due()));
+    }
+    match pick {
+        Pick::Plain => None,
+        Pick::From(clients) => undue_choice(replica, to, clients),
+        Pick::Begin(_) => Some(Undue::BeginsNothing),
+    }
+}
+
+/// Why the replica does not propose the asks of these clients at a post to this replica, which is due.
+fn undue_choice(replica: &Replica, to: ReplicaId, clients: &Clients) -> Option<Undue>
+    ensures some { (log : List Entry) → StandsFor replica.now log → due replica.now.shape log ≡ PostTo to
+        → IfSome result (IsUndueRound replica.now.shape replica.now.me log to (From clients.now)) }
+    ensures none { (log : List Entry) → StandsFor replica.now log → due replica.now.shape log ≡ PostTo to
+        → IfNone result (IsSome (envelope_to replica.now.shape replica.now.me log to (From clients.now))) }
+{
+    if to.number() > 0 {
+        return Some(Undue::ChosenBefore);
+    }
+    if let Some(client) = first_unheld(replica, clients.as_slice()) {
+        return Some(Undue::NothingHeld { client });
+    }
+    match replica.refusal(to, Pick::From(*clients)) {
+        Some(Refusal::NotDue) => Some(Undue::OtherSender),
+        _ => None,
+    }
+}
+
+/// The first of these clients of whom the replica holds no ask.
+fn first_unheld(replica: &Replica, clients: &[ClientId]) -> Option<ClientId>
+    ensures some { (log : List Entry) → StandsFor replica.now log → IfSome result (IsFirstUnheld replica.now.shape log clients.now) }
+    ensures none { (log : List Entry) → StandsFor replica.now log → IfNone result (IsSome (all_held replica.now.shape log clients.now)) }
+{
+    for client in clients {
+        if replica.held(*client).is_none() {
+            return Some(*client);
+        }
+    }
+    None
+}
+
+/// Whether the post to this replica is due.
+fn is_due(next: Due, to: ReplicaId) -> bool
+    ensures { result ≡ is_due next to }
+{
+    match next {
+        Due::Post(replica) => replica == to,
+        Due::Take(_) => false,
+    }
+}
