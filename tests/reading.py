@@ -45,6 +45,8 @@ PROMISES = [
      "crates/dsr_script/src/building.rt: build; crates/dsr_script/src/laws.rt: nobody_forges"),
     ("The headline: each reply that a client accepts is the sequential directory's answer to its request at one place of one history that only grows",
      "crates/dsr_run/src/headline.rt: runs_are_right, clients_are_answered"),
+    ("Runs are strongly linearizable, in the order of their steps",
+     "crates/dsr_run/src/headline.rt: runs_are_linearizable"),
     ("In every run loyal replicas agree, and there is one history, which only grows",
      "crates/dsr_run/src/laws.rt: loyal_replicas_agree, loyal_senders_values_are_decided, no_signature_is_forged, "
      "history_only_grows"),
