@@ -4,7 +4,7 @@ use Rattle.dsr_envelope.specs.declared.envelope.Envelope.{Envelope}
 use Rattle.dsr_boxes.specs.declared.box_state.BoxState.{BoxState}
 use Rattle.dsr_boxes.specs.declared.box_state.BoxState.TheVariants.{Empty, BeingFilled, Full, BeingEmptied}
 
--- one envelope was posted that was not taken
+-- what was posted is what was taken and one envelope more
 abbrev pub HasOne : List Envelope → List Envelope → Type 0
 HasOne posted taken = (envelope : Envelope) × (posted ≡ taken ++ envelope ∷ [])
 

@@ -14,7 +14,7 @@ pub record Moment : Type 0 where
   pub shape : Shape
   pub run : List Step
 
--- the moment is one of these boxes
+-- the moment is of these boxes
 abbrev pub IsMomentOf : SharedBoxes → Moment → Type 0
 IsMomentOf boxes moment = (moment.id ≡ boxes.id) × (moment.shape ≡ boxes.shape)
 

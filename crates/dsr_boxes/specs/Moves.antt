@@ -16,7 +16,8 @@ use Rattle.dsr_boxes.specs.Rule.{Table, Kept, log_at}
 use Rattle.dsr_boxes.specs.declared.view.View.{View}
 use Rattle.dsr_boxes.specs.View.{sitting, keeping}
 
--- at this moment these are the logs of a run; each pass has its actor's, and each box's word agrees with what was posted there and taken
+-- at this moment these are the logs of a run: each pass has its actor's, and so have the passes that came back and only wait, and each box's word agrees
+-- with what was posted there and taken
 pub record IsMoment (shape : Shape) (table : Table) (logs : Logs) : Type 0 where
   pub are : AreLogs shape logs
   pub own : (i : ℕ) (me : Actor) (log : List Entry) (doing : Doing) → get_elem? table.views i ≡ some (sitting shape me log doing) → logs me ≡ log
@@ -24,7 +25,7 @@ pub record IsMoment (shape : Shape) (table : Table) (logs : Logs) : Type 0 where
       → (a : Actor) → IsActor shape a → place_of shape a < length kept → logs a ≡ log_at shape kept a
   pub boxes : (a b : Actor) → IsActor shape a → IsActor shape b → IsBox (slice_index table.words (word_of shape a b)) (posted_to b (logs a)) (taken_from a (logs b))
 
--- the boxes after a step keep the rule too, and these steps were added to the run, which are one or none
+-- the boxes after a step keep the rule too, and these steps were added to the run
 abbrev pub GoesOn : (shape : Shape) (table : Table) → Kept shape table → Table → List Step → Type 0
 GoesOn shape table kept after steps = (next : Kept shape after) × (next.run ≡ steps ++ kept.run)
 

@@ -31,14 +31,14 @@ ghost use Rattle.dsr_boxes.specs.Play.{spent};
 ghost use Rattle.dsr_boxes.specs.Rule.{Table as ATable, Kept, IsOf, Stands, first_view};
 ghost use Rattle.dsr_boxes.specs.View.{sitting, keeping};
 
-/// Whatever the boxes are while they keep the rule, there is a run, whose logs the passes have, and each box agrees with it.
+/// Whatever the boxes are while they keep the rule, there are logs of a run that the passes have, and each box agrees with them.
 pub fn every_moment_is_of_a_run()
     ensures { (shape : Shape) (table : ATable) → Kept shape table → (logs : Logs) × IsMoment shape table logs }
 {}
 
-/// Each atomic step on a box keeps the rule. A claim adds nothing to the run, a publish the poster's post, a fetch the taker's take of what lies in the
-/// box, a release nothing, and an exchange or a look that finds another word nothing; nor does what parts a
-/// pass, takes one back, makes a new one for nobody, or changes what one knows, so long as it is true.
+/// Each atomic step on a box keeps the rule. A publish adds the poster's post to the run, and a fetch the taker's take of what lies in the box. A claim,
+/// a release, and an exchange or a look that leaves the word as it is, add nothing; nor does what parts a pass, takes one back, makes a new one for
+/// nobody, or changes what one knows to something true.
 pub fn steps_keep_the_rule()
     ensures claim { (shape : Shape) (table : ATable) (kept : Kept shape table) (id : ℕ) (me to : AnActor) (log : List Entry) → IsActor shape me → IsActor shape to
         → get_elem? table.views id ≡ some (sitting shape me log Resting) → slice_index table.words (word_of shape me to) ≡ 0
@@ -75,8 +75,9 @@ pub fn steps_keep_the_rule()
         → Stands shape table.words kept.run w.part → GoesOn shape table kept (with_views table (table.views ++ w ∷ [])) [] }
 {}
 
-/// Threads by a clock: where a client had a response at some moment, and another client, which was shown this moment, had then not yet asked for a
-/// second request, the first request precedes the second in real time, in the run that goes on to the end, and has the lower place.
+/// A moment that is handed on orders requests. Let a first request have a response at some moment, and let the client of a second request, which was
+/// shown this moment, not have asked for it before that, by its own log. Then the first request precedes the second in real time, in the run that goes
+/// on from the moment to the end. If at most f replicas are traitors and the second request has a response at the end, it has the greater place.
 pub fn moments_order_requests()
     ensures precedes { (shape : Shape) (past : List Step) (logs : Logs) (own : List Entry) (first second : Request) (reply : AReply)
         → HasResponse shape (log_of past) first reply → Extends own (log_of past (Client second.client)) → ((ask : SignedRequest) → ask.request ≡ second → ¬ WasPosted own ask)

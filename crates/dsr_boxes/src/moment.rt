@@ -1,5 +1,5 @@
-//! Moments: what the run was, as tokens without bytes that threads hand on. Who has a moment knows that whatever the run is later, it goes on from
-//! this one.
+//! Moments: tokens without bytes that represent the run so far, and that threads hand on. Whoever has a moment knows that the run, whatever it is later,
+//! goes on from it. No clause says that a moment is the present one: a moment of no step is one too.
 
 ghost use Rattle.std.specs.Prelude.{◌≡◌, length};
 ghost use Rattle.dsr_base.specs.Growth.{Extends};
@@ -21,7 +21,7 @@ use crate::steps::{EMPTY, EMPTYING, FILLING, FULL};
 use dsr_names::Actor;
 use std::marker::Model;
 
-/// A moment of the boxes. It stands for all steps that had been taken by then.
+/// A moment of the boxes: it represents all steps that had been taken by then.
 #[derive(Drop)]
 pub struct Moment {
     pub(crate) token: Token,
@@ -52,7 +52,7 @@ impl SharedBoxes {
         Moment { token }
     }
 
-    /// How the box from one actor to another looks, and the moment of this look.
+    /// How the box from one actor to another looks, and the moment of this look. Requires actors of the shape.
     pub fn look_at(&self, from: &Actor, to: &Actor) -> (BoxState, Moment)
         requires from { IsActor self.now.shape from.now }
         requires to { IsActor self.now.shape to.now }
@@ -72,7 +72,8 @@ impl SharedBoxes {
         (state, Moment { token })
     }
 
-    /// Closes the boxes, for which each actor's pass must have come back: their logs are those of a run that goes on from the moment.
+    /// Closes the boxes: the logs that came back are those of a run that goes on from the moment. Requires a moment of these boxes, and that the pass of
+    /// each actor has come back to them.
     pub fn close_after(self, returned: Returned, moment: Moment)
         requires boxes { IsReturnedTo self returned }
         requires moment { IsMomentOf self moment }
@@ -89,7 +90,7 @@ impl SharedBoxes {
 }
 
 impl Pass {
-    /// The present moment, at which the actor's log is that of this pass.
+    /// The present moment, at which the actor's log is that of this pass. Requires a pass of these boxes.
     pub fn moment(&mut self, boxes: &SharedBoxes) -> Moment
         requires boxes { IsPassOf boxes.now self.old }
         ensures same { self.new ≡ self.old }
@@ -102,7 +103,8 @@ impl Pass {
         Moment { token }
     }
 
-    /// Shows the pass a moment, which is then past: of what the pass has done, the actor had done at that moment a part, the oldest, at most all.
+    /// Shows the pass a moment, which is then past: what the actor had done at that moment is the oldest part of what the pass has done, at most all of
+    /// it. Requires a pass and a moment of these boxes.
     pub fn recall(&mut self, boxes: &SharedBoxes, moment: Moment)
         requires boxes { IsPassOf boxes.now self.old }
         requires moment { IsMomentOf boxes.now moment }
@@ -119,7 +121,7 @@ impl Pass {
 }
 
 impl Moment {
-    /// The same moment once more, for another thread.
+    /// The same moment once more, for another thread. Requires a moment of these boxes.
     pub fn copy(&mut self, boxes: &SharedBoxes) -> Moment
         requires boxes { IsMomentOf boxes.now self.old }
         ensures same { self.new ≡ self.old }
@@ -129,7 +131,7 @@ impl Moment {
         Moment { token }
     }
 
-    /// The present moment, which comes after this one and after the other.
+    /// Replaces this moment by the present one, which comes after this one and after the other. Requires moments of these boxes.
     pub fn meet(&mut self, boxes: &SharedBoxes, other: Moment)
         requires boxes { IsMomentOf boxes.now self.old }
         requires other { IsMomentOf boxes.now other }

@@ -1,4 +1,5 @@
--- The course of a client's call: its turns, one by one (this project). A turn is a try at a box; one that finds a box full or empty leaves no entry.
+-- The course of a client's call: its turns, one by one (this project). A turn is a try at a box. One that finds the box full or empty changes nothing,
+-- and no log shows it: what is said of such a turn is only that nothing changed.
 use Rattle.std.specs.Prelude.{◌≡◌, ◌⊎◌, ℕ, zero, suc, ◌<◌, ◌==◌, if◌then◌else◌, Option, None, Some, Result, Ok, Err}
 use Rattle.dsr_names.specs.declared.actor.Actor.TheVariants.{Replica}
 use Rattle.dsr_names.specs.declared.refusal.Refusal.{Refusal}
@@ -17,19 +18,19 @@ use Rattle.dsr_calls.specs.Visits.{pick_beside, HasTakeTurn}
 abbrev pub ask_refused : Option Op → ℕ → Pass → Option Refusal
 ask_refused op q seat = post_refused seat.shape seat.actor seat.log (Replica q) (pick_beside (outstanding seat.shape seat.log) op)
 
--- the replica was asked for what is awaited, and that is one entry more; or the box was full: then nothing changed, and it was not the own log that
--- refused it
+-- the replica was asked for what is awaited, and that is one entry more; or nothing changed, although the own log does not refuse the ask (the box
+-- was full)
 abbrev pub IsAskTry : Option Op → ℕ → Pass → Pass → Type 0
 IsAskTry op q seat new = ((new ≡ seat) × (ask_refused op q seat ≡ None))
     ⊎ ((x : Envelope) × (post_of seat.shape seat.log seat.actor (Replica q) (pick_beside (outstanding seat.shape seat.log) op) ≡ Some x)
     × (new ≡ with_entry seat (Post (Replica q) x)))
 
--- a replica that was asked already takes no turn; at any other exactly one turn goes to a try to ask it, also where the box was full
+-- a replica that was asked already takes no turn; at any other exactly one turn goes to a try to ask it
 abbrev pub IsAskTurn : Option Op → ℕ → Pass → ℕ → Pass → ℕ → Type 0
 IsAskTurn op q seat was new left = (HasAsked seat.shape seat.log q × (new ≡ seat) × (left ≡ was))
     ⊎ ((¬ HasAsked seat.shape seat.log q) × (suc left ≡ was) × IsAskTry op q seat new)
 
--- exactly one turn goes to a try to take from it, also where the box was empty, unless none is left
+-- exactly one turn goes to a try to take from it, unless none is left
 abbrev pub IsTakeTurn : ℕ → Pass → ℕ → Pass → ℕ → Option AReply → Type 0
 IsTakeTurn p seat was new left reply = ((was ≡ 0) × (left ≡ 0) × (new ≡ seat) × (reply ≡ None))
     ⊎ ((suc left ≡ was) × HasTakeTurn p seat new reply)
@@ -52,19 +53,20 @@ IsRefusedVisit op q seat was new refusal =
 abbrev pub next_of : ℕ → ℕ → ℕ
 next_of n q = if suc q == n then 0 else suc q
 
--- so many visits brought no reply, the first of them at replica 0, each other at the next replica, each with a turn left; the next is at replica q
+-- this many visits brought no reply, the first of them at replica 0, each other at the next replica, each begun with a turn left; they led from the
+-- first seat and turns to these, and the next visit is at replica q
 abbrev pub IsCourse : Option Op → ℕ → ℕ → Pass → ℕ → ℕ → Pass → ℕ → Type 0
 IsCourse op n zero seat turns q new left = (q ≡ 0) × (new ≡ seat) × (left ≡ turns)
 IsCourse op n (suc k) seat turns q new left = (p : ℕ) × (mid : Pass) × (between : ℕ) × IsCourse op n k seat turns p mid between
     × (0 < between) × IsVisit op p mid between new left None × (q ≡ next_of n p)
 
--- on its course the call came to the replica, with these turns left, of which there is one
+-- on its course the call came to the replica, with these turns left, at least one
 pub record ComesTo (op : Option Op) (n : ℕ) (seat : Pass) (turns q : ℕ) (new : Pass) (left : ℕ) : Type 0 where
   pub visits : ℕ
   pub course : IsCourse op n visits seat turns q new left
   pub turn : 0 < left
 
--- how the call ends: with the first reply that a visit brings; unanswered, where all of its turns were used; or at once by the first refusal
+-- how the call ends: with the first reply that a visit brings; unanswered, if all of its turns were used; or at once by the first refusal
 abbrev pub HasCourse : Option Op → ℕ → Pass → Pass → Result AReply Refusal → Type 0
 HasCourse op turns seat new (Ok reply) = (q : ℕ) × (mid : Pass) × (between left : ℕ) × ComesTo op seat.shape.n seat turns q mid between
     × IsVisit op q mid between new left (Some reply)

@@ -20,7 +20,7 @@ const HEADER_LINE: u64 = 1;
 ///
 /// `NotARun` names the line of the first step that may not be next: the header is line 1, the first step stands in line 2. `NoMemory`
 /// where memory runs out. There is no other refusal. What is proved of runs holds of each that is found to be one: its loyal replicas
-/// agree, and each reply that a client accepted is right.
+/// agree, each reply that a client accepted is right, and the history of the verdict linearizes it.
 pub fn check(alloc: Global, recorded: &Record) -> Result<Verdict, Refusal>
     ensures run { OnOk result (IsRun recorded.now.shape recorded.now.run) }
     ensures verdict { IfOk result (IsVerdict recorded.now.shape recorded.now.run) }

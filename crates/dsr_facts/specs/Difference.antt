@@ -1,5 +1,5 @@
 -- How an envelope differs from the one that an actor posts there (this project).
-use Rattle.std.specs.Prelude.{◌≡◌, ◌≢◌, ℕ, ◌<◌, List, [], ◌∷◌, Option, None, Some, Any, slice_get}
+use Rattle.std.specs.Prelude.{◌≡◌, ◌≢◌, ℕ, ◌<◌, List, [], Option, None, Some, Any, slice_get}
 use Rattle.dsr_chain.specs.Chain.{Chain, signers_of}
 use Rattle.dsr_envelope.specs.declared.envelope.Envelope.{Envelope}
 use Rattle.dsr_envelope.specs.declared.envelope.Envelope.TheVariants.{Empty, Round, Ask, Reply, Seen}
@@ -23,9 +23,9 @@ AreAlike x y = (x.slot ≡ y.slot) × (signers_of x.signatures ≡ signers_of y.
 abbrev pub IsOneOf : Chain → List Chain → Type 0
 IsOneOf x chains = Any (λ c. c ≡ x) chains
 
--- what is wrong where the lists part, as ours goes on with the first and theirs with the second. One too many: ours has ended, or what
--- stands there is nowhere in ours. Missing: theirs has ended, or ours goes on with what is nowhere in theirs. Misplaced: each stands in
--- the other list too. Another content: of one slot and with the same signers, and yet another chain
+-- what is wrong at the place at which the lists part, if ours goes on with the first and theirs with the second. Another content: both have
+-- one slot and the same signers. Otherwise, one too many: ours has ended, or theirs goes on with what is nowhere in ours; missing: theirs
+-- has ended, or it goes on with what is in ours, but ours with what is nowhere in theirs; misplaced: each is in the other list too
 abbrev pub IsParting : List Chain → List Chain → Option Chain → Option Chain → Parting → Type 0
 IsParting ours theirs None (Some y) TooMany = Unit {0}
 IsParting ours theirs (Some x) None Missing = Unit {0}
@@ -42,7 +42,8 @@ pub record ArePartedAt (place : ℕ) (ours theirs : List Chain) (how : Parting) 
   pub part : PartAt place ours theirs next other
   pub is : IsParting ours theirs next other how
 
--- how two lists of chains differ; no list is another kind of envelope than a list, where neither has a chain
+-- how two lists of chains differ, of which one is that of the empty envelope: they part somewhere, or have no chain, and then only the kinds
+-- of the envelopes differ
 abbrev pub DifferInChains : List Chain → List Chain → Difference → Type 0
 DifferInChains ours theirs (Chains place how) = ArePartedAt place ours theirs how
 DifferInChains ours theirs OtherKind = (ours ≡ []) × (theirs ≡ [])
@@ -54,7 +55,7 @@ DifferInRounds ours theirs xs ys OtherRound = ours ≢ theirs
 DifferInRounds ours theirs xs ys (Chains place how) = (ours ≡ theirs) × ArePartedAt place xs ys how
 DifferInRounds ours theirs xs ys d = ⊥
 
--- how the second envelope differs from the first, which is wanted. The empty envelope is one of a round with no chain
+-- how the second envelope differs from the first, which is wanted. The empty envelope is compared as the envelope of a round with no chain
 abbrev pub IsDifference : Envelope → Envelope → Difference → Type 0
 IsDifference (Round r xs) (Round s ys) d = DifferInRounds r s xs ys d
 IsDifference Empty (Round s ys) d = DifferInChains [] ys d

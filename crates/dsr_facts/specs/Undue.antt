@@ -7,7 +7,7 @@ use Rattle.dsr_chain.specs.Proper.{sender_of}
 use Rattle.dsr_envelope.specs.declared.entry.Entry.{Entry}
 use Rattle.dsr_envelope.specs.declared.due.Due.TheVariants.{Post as PostTo}
 use Rattle.dsr_envelope.specs.declared.pick.Pick.{Pick}
-use Rattle.dsr_envelope.specs.declared.pick.Pick.TheVariants.{Plain, From, Begin}
+use Rattle.dsr_envelope.specs.declared.pick.Pick.TheVariants.{From, Begin}
 use Rattle.dsr_envelope.specs.Log.{due, rounds}
 use Rattle.dsr_replica.specs.Conduct.{is_due}
 use Rattle.dsr_replica.specs.Held.{held, all_held}
@@ -21,9 +21,10 @@ pub record IsFirstUnheld (shape : Shape) (log : List Entry) (clients : List ℕ)
   pub none : held shape client log ≡ None
   pub before : (i c : ℕ) → i < place → slice_get clients i ≡ Some c → IsSome (held shape c log)
 
--- why a loyal replica with this log does not post to this replica by this choice. First: with the replicas something else is due.
--- Otherwise the post is due, and the choice is not allowed there: a replica begins no request; what is proposed was chosen at the post
--- to replica 0; of this one of the clients, the first of them, it holds no ask; the slot that begins with the round has another sender
+-- why a loyal replica with this log does not post to this replica by this choice. First: something else is due with the replicas.
+-- Otherwise the post is due, and the choice is not allowed there: a replica begins no request; or what is proposed was chosen at the post
+-- to replica 0; or this client is the first of the chosen ones of whom it holds no ask; or it holds all their asks, and the slot that
+-- begins with the round has another sender
 abbrev pub IsUndueRound : Shape → Actor → List Entry → ℕ → Pick → Undue → Type 0
 IsUndueRound shape me log q pick (First next) = (due shape log ≡ next) × (is_due next q ≡ false)
 IsUndueRound shape me log q (Begin op) BeginsNothing = due shape log ≡ PostTo q

@@ -72,7 +72,7 @@ pub enum Cause {
     Forged(Forged),
 }
 
-/// Why the event is refused by this world. `None` exactly if nothing refuses it. It allocates nothing.
+/// Why the event is refused by this world. `None` exactly if the event may be done, as far as there is memory. It allocates nothing.
 pub fn why_refused(world: &World, event: &Event) -> Option<Cause>
     ensures some { IfSome result (HoldsCause world.now.shape (log_of world.now.run) event.now) }
     ensures none { IfNone result (MayBeDone world.now.shape (log_of world.now.run) event.now) }
@@ -133,7 +133,7 @@ fn plant_cause(world: &World, from: &Actor, to: &Actor, draft: &Draft) -> Option
     Some(Cause::Forged(forged))
 }
 
-/// The first signature that a traitor who posts the draft would forge.
+/// A signature that a traitor who posts the draft would forge.
 fn forged_by(world: &World, from: &Actor, draft: &Draft) -> Option<Forged>
     requires inside { IsActor world.now.shape from.now }
     requires traitor { is_traitor_of world.now.shape from.now ≡ true }
@@ -411,7 +411,7 @@ fn is_used_up(world: &World, from: &Actor, to: &Actor) -> bool
     world.posts(from, to) >= NUMBER_END - 1
 }
 
-/// A cause is one: the event is refused with the cause's refusal, by its actor's conduct or by the boxes.
+/// An event that has a cause is refused, with the refusal of that cause.
 pub fn causes_refuse()
     ensures { (shape : AShape) (logs : Logs) (event : AnEvent) (cause : ACause) → HoldsCause shape logs event cause
         → IsRefusedBy shape logs event (refusal_by cause) }

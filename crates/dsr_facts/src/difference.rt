@@ -14,7 +14,7 @@ pub enum Parting {
     Missing,
     /// What stands there is posted elsewhere, and what is posted there stands elsewhere.
     Misplaced,
-    /// The slot and the signers are those of what is posted there, and the rest is not.
+    /// The slot and the signers are those of what is posted there, but the chain is another: its value, or a signature, differs.
     OtherContent,
 }
 
@@ -25,7 +25,7 @@ pub enum Difference {
     OtherKind,
     /// It is of another round.
     OtherRound,
-    /// Its chains are others, from this place on, counted from 0.
+    /// Its chains are those that are posted up to this place, counted from 0, and another one, or none, at it.
     Chains { place: u64, how: Parting },
     /// It is another ask.
     OtherAsk,

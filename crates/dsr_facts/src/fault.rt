@@ -16,7 +16,7 @@ use dsr_names::{Actor, Refusal, ReplicaId};
 use dsr_replica::Replica;
 use std::alloc::Global;
 
-/// Why a recorded step may not follow.
+/// Why a recorded take, or a recorded post of a loyal replica to a replica, may not follow.
 #[derive(Drop)]
 pub enum Fault {
     /// The event that it would be is refused for this.
@@ -27,8 +27,8 @@ pub enum Fault {
     OtherPosted { wanted: Envelope, how: Difference },
 }
 
-/// Why the replica, which is `me`, may not post this envelope to this replica next. `None` exactly if it may. `NoMemory` if memory runs
-/// out.
+/// Why the replica, which is `me`, may not post this envelope to this replica next, by its own log. `None` exactly if it may, whatever the box
+/// holds. `NoMemory` if memory runs out.
 pub fn round_fault(
     alloc: Global,
     replica: &Replica,

@@ -1,4 +1,5 @@
-//! Facts of plays and of recorded runs, apart from words: why an event is refused, and why a recorded step may not follow.
+//! Facts about plays and recorded runs, apart from words: why an event is refused, and why a recorded take, or a recorded post of a loyal replica to a
+//! replica, may not follow.
 #![tactic(auto)]
 
 mod cause;

@@ -1,5 +1,4 @@
 ghost use Rattle.std.specs.Prelude.{◌≡◌, IfOk, IsOkUnless, map};
-ghost use Rattle.dsr_chain.specs.Content.{signed_in};
 ghost use Rattle.dsr_envelope.specs.Pick.{IsPick};
 ghost use Rattle.dsr_replica.specs.Shown.{choice_of, last_value, shown_choice};
 ghost use Rattle.dsr_chain.specs.declared.slot_value.SlotValue.TheVariants.{Idle};

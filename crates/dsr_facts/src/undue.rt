@@ -12,7 +12,7 @@ use dsr_envelope::{Clients, Due, Pick};
 use dsr_names::{ClientId, Refusal, ReplicaId};
 use dsr_replica::Replica;
 
-/// Why a post or a take of a loyal replica is not due.
+/// Why a post of a loyal replica or of a client, or a take of a loyal replica, is not due.
 #[derive(Clone, Copy, Debug, PartialEq, Eq)]
 pub enum Undue {
     /// This is due first with the replicas.

@@ -80,6 +80,8 @@ impl<'a, R: Wait, G: Gate> Service<'a, R, G> {
         ensures answered { OnOk result (Answers op.now seat.old seat.new) }
         ensures awaited { OnErr result (Keeps op.now seat.old seat.new) }
         ensures refused { IfErr result (ClientRefusal (G.may_refuse self.now.host.gate.now) seat.new) }
+        ensures asked { IsNone (outstanding seat.old.shape seat.old.log) → IfErr result (λ refusal. HasCourse (Some op.now) 1000 seat.old seat.new (Err refusal)) }
+        ensures goes_on { IsSome (outstanding seat.old.shape seat.old.log) → IfErr result (λ refusal. HasCourse None 1000 seat.old seat.new (Err refusal)) }
         ensures last { calls.new.last ≡ calls.old.over }
     {
         calls.note();

@@ -1,6 +1,6 @@
 //! The host of a seat in a service, and how it ends.
 
-ghost use Rattle.std.specs.Prelude.{◌≡◌, ◌↔◌, true, false, [], IsSome, IfSome};
+ghost use Rattle.std.specs.Prelude.{◌≡◌, ◌↔◌, true, false, IsSome, IfSome};
 ghost use Rattle.dsr_boxes.specs.Pass.{IsPassOf};
 ghost use Rattle.dsr_hosts.specs.Hosted.{ComesBack};
 ghost use Rattle.dsr_hosts.specs.Leaving.{HasTold};
@@ -31,7 +31,7 @@ pub(crate) struct Service<'a, R, G> {
     pub(crate) clients: &'a AtomicU64,
 }
 
-/// What was done when a host left.
+/// What was done when a host left the service.
 #[derive(Drop)]
 pub(crate) struct Leaving {
     told: Option<Told>,
@@ -168,8 +168,8 @@ impl<'a, R: Wait, G: Gate> Service<'a, R, G> {
         unreachable!()
     }
 
-    /// Whether the hosts of all replicas and traitors have ended.
+    /// Looks whether the hosts of all replicas and traitors have ended.
     pub(crate) fn look_over(&self) -> Option<Over> {
-        Over::of(self.host.stop.ended(), self.host.mail.shape().n())
+        Over::of(self.host.stop.ended(), self.host.mail)
     }
 }

@@ -1,5 +1,5 @@
--- Which tries of a traitor's host came after each other in a round (this project). A try asks the gate with the host's next turn; one that finds a
--- box full or empty leaves no entry. No public contract cites this.
+-- Which tries at clients a traitor's host made in a round, in their order (this project). A try asks the gate with the host's next turn; one that
+-- finds a box full or empty leaves no entry. No public contract cites this.
 use Rattle.std.specs.Prelude.{◌≡◌, ◌⊎◌, ℕ, zero, suc, Bool, None, Some}
 use Rattle.dsr_names.specs.declared.actor.Actor.{Actor}
 use Rattle.dsr_names.specs.declared.actor.Actor.TheVariants.{Client}
@@ -12,23 +12,23 @@ use Rattle.dsr_rounds.specs.Ends.{HasTried, turn_after}
 use Rattle.dsr_rounds.specs.Traitors.{HasPlanted}
 use Rattle.dsr_rounds.specs.declared.traitor.Planting.{Planting}
 
--- exactly one turn, which the gate may let pass, went to a try to take from the client
+-- one turn, which the gate may let pass, went to a try to take from the client: the next turn is the one after it (the last, 2^40-1, stays)
 abbrev pub TriesTake : (Actor → ℕ → Type 0) → ℕ → Pass → Pass → ℕ → ℕ → Type 0
 TriesTake may c old new now next = may old.actor now × (next ≡ turn_after now) × ((made : Bool) × HasTried (Take (Client c)) old new made)
 
--- so to each of the clients below this one, in their order
+-- one such try went to each of the clients below this one, in their order
 abbrev pub TriesTakes : (Actor → ℕ → Type 0) → ℕ → Pass → Pass → ℕ → ℕ → Type 0
 TriesTakes may zero old new now next = (new ≡ old) × (next ≡ now)
 TriesTakes may (suc c) old new now next = (mid : Pass) × (turn : ℕ) × TriesTakes may c old mid now turn × TriesTake may c mid new turn next
 
--- where the script has a draft of the round for the client, exactly one turn went to a try to post it; else none did
+-- if the script has a draft of the round for the client, one turn went to a try to post it; else none did
 abbrev pub TriesPost : (Actor → ℕ → Type 0) → Script → ℕ → ℕ → Pass → Pass → ℕ → ℕ → Type 0
 TriesPost may script round c old new now next =
     ((draft_at script (place_of (number_of old.actor) round (Client c)) ≡ None) × (new ≡ old) × (next ≡ now))
     ⊎ ((draft : Envelope) × (draft_at script (place_of (number_of old.actor) round (Client c)) ≡ Some draft) × may old.actor now
     × (next ≡ turn_after now) × ((planting : Planting) × HasPlanted old new (Client c) draft planting))
 
--- so to each of the clients below this one, in their order
+-- that is so for each of the clients below this one, in their order
 abbrev pub TriesPosts : (Actor → ℕ → Type 0) → Script → ℕ → ℕ → Pass → Pass → ℕ → ℕ → Type 0
 TriesPosts may script round zero old new now next = (new ≡ old) × (next ≡ now)
 TriesPosts may script round (suc c) old new now next = (mid : Pass) × (turn : ℕ) × TriesPosts may script round c old mid now turn

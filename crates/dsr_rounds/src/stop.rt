@@ -1,4 +1,4 @@
-ghost use Rattle.std.specs.Prelude.{◌≡◌, ◌↔◌, ◌≤◌, true, false, Bool, IsTrue};
+ghost use Rattle.std.specs.Prelude.{◌≡◌, ◌↔◌, ◌≤◌, true, false, IsTrue};
 
 use std::marker::Model;
 use std::sync::atomic::Ordering::SeqCst;
@@ -12,7 +12,7 @@ pub struct Stop {
     ended: AtomicU64,
 }
 
-/// That the hosts were told to stop: nothing else makes it.
+/// Tells that the hosts were told to stop. Only `Stop::tell` makes one.
 #[derive(Drop)]
 pub struct Told {
     first: bool,
@@ -27,20 +27,20 @@ impl Told {
     }
 }
 
-/// That one more host was noted to have ended: nothing else makes it.
+/// Tells that one more host was noted to have ended. Only `Stop::note_end` makes one.
 #[derive(Drop)]
 pub struct Noted {
     before: u64,
 }
 
-/// How many hosts had ended when the counter was looked at: nothing else makes it.
+/// How many hosts had ended when the counter was looked at. Only `Stop::ended` makes one.
 #[derive(Drop)]
 pub struct Ended {
     count: u64,
 }
 
 impl Ended {
-    /// Whether so many had ended.
+    /// Whether at least this many had ended.
     pub fn is_all(&self, hosts: u8) -> bool
         ensures { IsTrue result ↔ (hosts ≤ self.now.count) }
     {

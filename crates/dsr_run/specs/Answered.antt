@@ -1,4 +1,4 @@
--- By when a request that an eager replica holds has acted, and is answered (this project).
+-- After how many closed rounds a request that an eager loyal replica holds has acted, and what then answers its client (this project).
 use Rattle.std.specs.Prelude.{◌≡◌, ℕ, ◌+◌, ◌*◌, ◌<◌, ◌≤◌, List, ◌++◌, Some, length}
 use Rattle.std.specs.Int.{div_ceil}
 use Rattle.dsr_base.specs.Member.{In}
@@ -15,8 +15,8 @@ use Rattle.dsr_run.specs.Eager.{IsEager}
 use Rattle.dsr_run.specs.Run.{IsRun}
 use Rattle.dsr_run.specs.Step.{Step, Logs, log_of}
 
--- since round t an eager replica holds the ask: at some moment, t rounds being closed, a loyal replica held it of its client, and from
--- then on it was eager
+-- an eager replica holds the ask since it had closed t rounds: at some moment at which a loyal replica had closed t rounds it held the
+-- ask of the ask's client, and from then on it was eager
 pub record IsHeldEagerly (shape : Shape) (logs : Logs) (ask : SignedRequest) (t : ℕ) : Type 0 where
   pub replica : ℕ
   pub loyal : IsLoyal shape (Replica replica)
@@ -27,12 +27,12 @@ pub record IsHeldEagerly (shape : Shape) (logs : Logs) (ask : SignedRequest) (t 
   pub holds : held shape ask.request.client base ≡ Some ask
   pub eager : IsEager shape (Replica replica) base added
 
--- in so many slots of its own an eager replica proposes each client that waits: 8 clients in each, so a slot for each 8 of the m
+-- in how many slots of its own an eager replica proposes each of m clients that waits, 8 clients in a slot
 abbrev pub turns : ℕ → ℕ
 turns m = div_ceil m 8
 
--- how many rounds it takes until a request has acted that an eager replica holds: its next slot begins at most n rounds later, and so
--- does each further one of its turns; and the last of them takes f+1 rounds to close
+-- how many rounds it takes at most until a request that an eager loyal replica holds has acted: the replica's next slot begins at most n
+-- rounds later, and so does each further one of its turns; and the last of them takes f+1 rounds to close
 abbrev pub rounds_to_act : Shape → ℕ
 rounds_to_act shape = shape.n * turns shape.m + shape.f + 1
 
@@ -40,8 +40,8 @@ rounds_to_act shape = shape.n * turns shape.m + shape.f + 1
 abbrev pub HasActed : Shape → List Entry → Request → Type 0
 HasActed shape log request = In request (acted (decided_requests shape log))
 
--- in each run of the shape a request that an eager replica holds since round t has acted at each loyal replica that has closed so many
--- rounds more
+-- in each run of the shape a request that an eager loyal replica holds since it had closed t rounds has acted at each loyal replica that
+-- has closed t + count rounds
 abbrev pub ActsWithin : Shape → ℕ → Type 0
 ActsWithin shape count = (run : List Step) → IsRun shape run → (ask : SignedRequest) (t : ℕ) → IsHeldEagerly shape (log_of run) ask t
     → (q : ℕ) → IsLoyal shape (Replica q) → t + count ≤ rounds shape (log_of run (Replica q)) → HasActed shape (log_of run (Replica q)) ask.request

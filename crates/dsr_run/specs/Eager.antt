@@ -18,17 +18,19 @@ use Rattle.dsr_replica.specs.Conduct.{envelope_with}
 use Rattle.dsr_replica.specs.Decided.{decided_requests}
 use Rattle.dsr_replica.specs.Held.{held, all_held}
 
--- whether the held ask would act after this last reply: its number is greater
+-- whether the held ask would act after the client's last reply, that is, has a greater number; not if none is held, and always if there
+-- is no reply
 abbrev pub is_newer : Option SignedRequest → Option Reply → Bool
 is_newer None last = false
 is_newer (Some ask) None = true
 is_newer (Some ask) (Some last) = nat_lt last.number ask.request.number
 
--- whether the client waits at the replica of this log: the request that is held of it would act
+-- whether the client waits at the replica of this log: the request held of it would act after what the closed slots decided (one that
+-- is in an open slot still waits)
 abbrev pub is_waiting : Shape → List Entry → ℕ → Bool
 is_waiting shape log client = is_newer (held shape client log) (reply (decided_requests shape log) client)
 
--- the clients whose requests stand in the chain of this slot
+-- the clients whose requests are in the first of these chains that is of this slot
 abbrev pub clients_in : ℕ → List Chain → List ℕ
 clients_in slot [] = []
 clients_in slot (chain ∷ more) =
@@ -39,8 +41,8 @@ abbrev pub first_or : Option ℕ → List ℕ → Option ℕ
 first_or other [] = other
 first_or other (client ∷ more) = Some client
 
--- the last client that the replica of this log proposed, in a slot of its own; none where it proposed none. (In the round in which
--- a slot begins its sender alone has a chain of it.)
+-- the last client that the loyal replica of this log proposed, in a slot of its own; none if it proposed none. (It is read from its
+-- chains of slots in the rounds in which these begin: there a loyal replica posts no other's.)
 abbrev pub last_proposed : Shape → List Entry → Option ℕ
 last_proposed shape [] = None
 last_proposed shape (Post (Replica zero) envelope ∷ older) =
@@ -53,7 +55,7 @@ last_proposed shape (Take from envelope ∷ older) = last_proposed shape older
 abbrev pub next_client : ℕ → ℕ → ℕ
 next_client m client = if nat_lt (suc client) m then suc client else 0
 
--- so many clients of m in turn, beginning with this one
+-- as many of the m clients as `count` says, in turn, beginning with this one
 abbrev pub in_turn : ℕ → ℕ → ℕ → List ℕ
 in_turn m zero client = []
 in_turn m (suc count) client = client ∷ in_turn m count (next_client m client)

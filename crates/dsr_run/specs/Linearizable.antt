@@ -1,5 +1,5 @@
--- Linearizable runs (Herlihy and Wing 1990): each request seems to act at one instant between its invocation and its response. What
--- seems to have happened stays so, whatever comes later (strong linearizability: Golab, Higham and Woelfel 2011).
+-- Linearizable runs (Herlihy and Wing 1990): each request that has a response seems to act at one instant between its invocation and its
+-- response. What seems to have happened stays so, whatever comes later (strong linearizability: Golab, Higham and Woelfel 2011).
 use Rattle.std.specs.Prelude.{◌≡◌, ℕ, List, ◌∷◌, ◌++◌}
 use Rattle.dsr_base.specs.Growth.{Extends}
 use Rattle.dsr_base.specs.Member.{In}
@@ -58,6 +58,6 @@ pub record AreStronglyLinearizable (shape : Shape) : Type 0 where
   pub each : (run : List Step) → IsRun shape run → IsLinearization shape run (order run)
   pub grows : (run earlier : List Step) → IsRun shape run → Extends run earlier → Extends (order run) (order earlier)
 
--- an order linearizes logs where it linearizes every run that has these logs, in whichever order its steps came about (this project)
+-- an order linearizes logs if it linearizes every run that has these logs, in whichever order its steps came about (this project)
 abbrev pub LinearizesLogs : Shape → Logs → List Request → Type 0
 LinearizesLogs shape logs order = (run : List Step) → IsRun shape run → ((a : Actor) → log_of run a ≡ logs a) → IsLinearization shape run order

@@ -1,5 +1,5 @@
-//! Bounded response: what a client asks of an eager replica acts, and is answered, within a number of rounds. Laws of runs, as the
-//! contracts of functions that do nothing.
+//! Bounded response: a request that an eager loyal replica holds acts within a stated number of closed rounds, and one more envelope
+//! from each loyal replica then answers its client. Laws of runs, as the contracts of functions that do nothing.
 
 ghost use Rattle.std.specs.Prelude.{◌≡◌, ℕ, ◌+◌, ◌*◌, ◌<◌, ◌≤◌, List};
 ghost use Rattle.dsr_base.specs.Growth.{Extends};
@@ -20,18 +20,18 @@ ghost use Rattle.dsr_run.specs.Right.{HasReplyTo};
 ghost use Rattle.dsr_run.specs.Run.{IsRun, AreLogs};
 ghost use Rattle.dsr_run.specs.Step.{Step, Logs, log_of};
 
-/// To be eager is a way to be loyal: wherever the post to replica 0 is due, there is an envelope with which a loyal replica may go on and
-/// is eager.
+/// To be eager is a way to be loyal: in a shape with a client, whenever the post to replica 0 is due, there is an envelope that is both
+/// what a loyal replica may post next and eager. Nothing is said here about limits and boxes.
 pub fn loyal_replicas_may_be_eager()
     ensures { (shape : Shape) → 0 < shape.m → (me : Actor) (log : List Entry) → due shape log ≡ PostTo 0
         → (envelope : Envelope) × IsNext shape me log (Post (Replica 0) envelope) × ProposesNext shape me log envelope }
 {}
 
-/// Bounded response, where at most f replicas are traitors. Let a loyal replica hold a client's request, t rounds being closed, and let it
-/// be eager from then on: it begins each slot of its own with the requests of the first 8 clients that wait, in turn. Then at each
-/// loyal replica that has closed t + n * turns(m) + f + 1 rounds the client's request has acted. No other replica need propose
-/// anything, and traitors do what they like. That rounds go on is no part of it. What holds of a run holds of
-/// its logs, in whatever order its steps came about.
+/// Held requests act, if at most f replicas are traitors. Let a loyal replica hold a client's request when it has closed t rounds, and let
+/// it be eager from then on: it begins each slot of its own with the requests of the first 8 clients that wait, in turn. Then the
+/// request has acted at each loyal replica that has closed t + n * turns(m) + f + 1 rounds. No other replica need propose anything,
+/// and traitors do what they like. Nothing says that rounds close. What holds of a run holds of its logs, in whatever order its
+/// steps came about.
 pub fn eager_replicas_answer()
     ensures runs { (shape : Shape) → HasFewTraitors shape → ActsWithin shape (rounds_to_act shape) }
     ensures logs { (shape : Shape) (logs : Logs) → HasFewTraitors shape → AreLogs shape logs
@@ -40,10 +40,10 @@ pub fn eager_replicas_answer()
         → HasActed shape (logs (Replica q)) ask.request }
 {}
 
-/// Bounded response to a client, where at most f replicas are traitors and n is at least 2f+1. Let an eager replica hold a client's request
-/// since round t, and look at a moment at which each loyal replica has closed t + n * turns(m) + f + 1 rounds. Of what each loyal
-/// replica posts to the client after that moment one envelope is enough: when the client has taken one from each, it has accepted a
-/// reply to its request. That they are posted and taken is no part of it; nor is what traitors do.
+/// Clients are answered, if at most f replicas are traitors and n is at least 2f+1. Let an eager loyal replica hold a client's request
+/// since it had closed t rounds, and look at a moment at which each loyal replica has closed t + n * turns(m) + f + 1 rounds. One
+/// envelope that each loyal replica posts to the client after that moment is enough: when the client has taken one from each, it has
+/// accepted a reply to its request. Nothing says that they are posted or taken, and what traitors do plays no part.
 pub fn clients_are_answered_in_time()
     ensures runs { (shape : Shape) (run moment : List Step) → HasFewTraitors shape → 2 * shape.f < shape.n → IsRun shape run → Extends run moment
         → (ask : SignedRequest) (t : ℕ) → IsHeldEagerly shape (log_of moment) ask t
@@ -58,8 +58,9 @@ pub fn clients_are_answered_in_time()
         → HasReplyTo ask.request.number (accepted_by shape logs ask.request.client) }
 {}
 
-/// The bound is tight in n, f and m: of one replica and nine clients, where it is 3 rounds, a request may not have acted after 2; of three
-/// replicas and one client, where one replica may be a traitor and it is 5 rounds, a request may not have acted after 4.
+/// For two shapes no smaller number of rounds is enough. With one replica and nine clients the number is 3, and in some run a request has
+/// not acted after 2 rounds. With three replicas, one of which may be a traitor, and one client it is 5, and in some run a request has
+/// not acted after 4.
 pub fn eager_replicas_answer_no_sooner()
     ensures one { (rounds_to_act (shape_of 1 0 9 0) ≡ 3) × ¬ ActsWithin (shape_of 1 0 9 0) 2 }
     ensures three { (rounds_to_act (shape_of 3 1 1 0) ≡ 5) × ¬ ActsWithin (shape_of 3 1 1 0) 4 }

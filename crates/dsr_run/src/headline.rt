@@ -31,12 +31,13 @@ pub fn clients_are_answered()
         → (c number : ℕ) → TookAllReplies shape (log_of run (Client c)) number → HasReplyTo number (accepted_by shape (log_of run) c) }
 {}
 
-/// Runs are strongly linearizable, in the order of their steps, where at most f replicas are traitors: each request seems to act at one
-/// instant between its client's first ask for it and the reply that the client accepts, and what seems to have happened stays so. Of
-/// logs one order linearizes every run with these logs, in whichever order the steps came about.
+/// Runs are strongly linearizable, in the order of their steps, if at most f replicas are traitors: each request that is answered seems to
+/// act at one instant between its client's first ask for it and the reply that the client accepts, and what seems to have happened
+/// stays so. For logs, one order linearizes every run with these logs, in whichever order the steps came about.
 ///
-/// By any clock: where the logs of all actors were those of a run both at an earlier and at a later moment, and by the earlier one a
-/// request had a response when another one was not yet invoked, whoever their clients are, the other one has the greater place.
+/// By any clock: let the logs of all actors be those of a run both at an earlier and at a later moment, the later ones being longer or
+/// the same. If one request had a response at the earlier moment and another one, of any client, was not yet invoked there but has a
+/// response at the later moment, then the other one has the greater place.
 pub fn runs_are_linearizable()
     ensures strongly { (shape : Shape) → HasFewTraitors shape → AreStronglyLinearizable shape }
     ensures logs { (shape : Shape) (logs : Logs) → HasFewTraitors shape → (order : List Request) × LinearizesLogs shape logs order }
@@ -45,23 +46,24 @@ pub fn runs_are_linearizable()
         → HasResponse shape earlier first reply → ¬ IsInvoked earlier second → HasResponse shape logs second later → reply.place < later.place }
 {}
 
-/// The order that linearizes a run, where at most f replicas are traitors, is the history, which is one of the logs alone.
+/// The history linearizes a run, if at most f replicas are traitors. It is a function of the logs alone.
 pub fn history_linearizes()
     ensures run { (shape : Shape) (run : List Step) → HasFewTraitors shape → IsRun shape run
         → IsLinearization shape run (history shape (log_of run)) }
     ensures logs { (shape : Shape) (logs : Logs) → HasFewTraitors shape → LinearizesLogs shape logs (history shape logs) }
 {}
 
-/// What the definition means, of any run and any order that linearizes it: of two answered requests of which the first had its response
-/// when the second was not yet invoked, the second has the greater place.
+/// What `real_time` means for answered requests, in any run and any order that linearizes it: if the first had its response when the
+/// second was not yet invoked, the second has the greater place.
 pub fn linearizations_keep_real_time()
     ensures { (shape : Shape) (run moment : List Step) (order : List Request) → IsLinearization shape run order → Extends run moment
         → (first second : Request) (reply later : AReply) → HasResponse shape (log_of moment) first reply → ¬ IsInvoked (log_of moment) second
         → HasResponse shape (log_of run) second later → reply.place < later.place }
 {}
 
-/// Each client invokes one request after another: what is invoked of a client precedes in real time what is invoked of it under a
-/// greater number. So runs are well-formed histories (Herlihy and Wing 1990), however many are traitors.
+/// Each client invokes one request after another: of two requests that a client has invoked, the one with the smaller number precedes the
+/// other in real time, however many replicas are traitors. As a number names one request (`numbers_name_one_request`) and has one
+/// accepted reply (`accepted_replies_are_numbered`), runs are well-formed histories (Herlihy and Wing 1990).
 pub fn clients_take_turns()
     ensures { (shape : Shape) (run : List Step) → IsRun shape run → (first second : Request) → IsInvoked (log_of run) first
         → IsInvoked (log_of run) second → first.client ≡ second.client → first.number < second.number → Precedes shape run first second }

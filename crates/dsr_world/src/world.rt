@@ -203,8 +203,8 @@ impl World {
         self.boxes.posts(poster, taker)
     }
 
-    /// The first signature of the draft for which a traitor's post of it is refused as forged, by now: it is no traitor's, and its signer
-    /// has not posted it. `None` exactly if there is none. It is meant where there is a traitor; elsewhere nothing is known of posts.
+    /// A signature of the draft for which a traitor's post of it is refused as forged, by now: it is no traitor's, and its signer has not
+    /// posted it. `None` exactly if there is none. In a shape without a traitor nothing is promised, as nothing is known there of posts.
     pub fn forged_in(&self, draft: &Draft) -> Option<Forged>
         ensures carried { IfSome result (λ forged. Carries draft.now (signed forged.signer forged.statement)) }
         ensures forged { (p : ℕ) → IsTraitor self.now.shape (ReplicaNumber p)
