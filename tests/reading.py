@@ -47,6 +47,8 @@ PROMISES = [
      "crates/dsr_run/src/headline.rt: runs_are_right, clients_are_answered"),
     ("Runs are strongly linearizable, in the order of their steps",
      "crates/dsr_run/src/headline.rt: runs_are_linearizable"),
+    ("A request that an eager loyal replica holds acts within a stated number of rounds, and its client is answered",
+     "crates/dsr_run/src/answered.rt: eager_replicas_answer, clients_are_answered_in_time"),
     ("In every run loyal replicas agree, and there is one history, which only grows",
      "crates/dsr_run/src/laws.rt: loyal_replicas_agree, loyal_senders_values_are_decided, no_signature_is_forged, "
      "history_only_grows"),
