@@ -1,21 +1,16 @@
-"""Proves and builds libraries of this repository side by side, in one of two ways.
+"""Proves and builds libraries of this repository side by side, for the scripts in tests/ that need them.
 
-`rt run` builds the libraries below a program one after the other, and no word of rt's builds them side by side: `rt all check`
-gives each crate one processor, and a second `rt lib` waits for the first, as both stand on the same libraries. So this loads
-the module in which rt keeps its commands, and makes the calls that those commands make.
+No command of rt's does that: `rt run` builds the libraries below a program one after the other, `rt all check` gives each crate
+one processor, and a second `rt lib` waits for the first, as both stand on the same libraries. So this loads the module in which
+rt keeps its commands, and makes the calls that those commands make. Each library is left as `rt run` leaves it: with its proofs, over
+the work that earlier checks kept, and with the stamp that tells what was proved. `rt must-fail` goes by that stamp, and builds a
+library again if it does not fit.
 
-- `build` leaves each library as `rt run` does: with its proofs, over the work that earlier checks kept, and with the stamp that tells
-  what was proved. Whoever uses it, `rt run` or `rt must-fail`, goes by its stamp, and builds it once more where that does not fit.
-- `build_program` proves each library from nothing, as `rt ci` does, and leaves only what those above it can cite: its statements
-  and its code. That takes less time, since the crates above load no proof of those below; but it keeps nothing for a next
-  check of the same library. These libraries lie in folders of their own, and no command of rt's takes them.
-
-Nothing here decides what is proved. A toolchain of another make may lack that module, or have other calls in it. Then there is
-OtherToolchain, and the caller goes by rt's own words.
+Nothing here decides what is proved. A toolchain of another make may lack that module, or have other calls in it. Then OtherToolchain
+is raised, and the caller uses rt's own commands.
 """
 
 import contextlib
-import hashlib
 import importlib.machinery
 import importlib.util
 import os
@@ -28,13 +23,10 @@ import threading
 from concurrent.futures import FIRST_COMPLETED, ThreadPoolExecutor, wait
 
 # What is called of the module, and of each of its crates.
-CALLS = ("KIT", "RATTLE", "crates_below", "files_of", "guarded", "lock", "stop_on_links", "sum_of", "text_of")
-CRATE_CALLS = ("below", "build_rlib", "call", "has_kept", "is_built", "makes_rlib", "stamp", "words")
-# Where build_program leaves a library, in its crate's folder.
-STATEMENTS = "out/statements"
-# A check takes at most 3 GB, and each further job of it less.
+CALLS = ("KIT", "RATTLE", "crates_below", "files_of", "guarded", "lock", "stop_on_links")
+CRATE_CALLS = ("below", "build_rlib", "call", "is_built", "makes_rlib", "stamp", "words")
+# A check takes at most 3 GB.
 MEMORY_OF_A_CHECK = 3_000_000_000
-MEMORY_OF_A_JOB = 1_800_000_000
 MOST_JOBS = 4
 
 
@@ -125,77 +117,6 @@ def waiting_for(module, crates):
     return behind
 
 
-class WithProofs:
-    """How `build` makes libraries: as `rt run` does."""
-
-    def is_built(self, crate):
-        return crate.is_built()
-
-    def make(self, crate, jobs):
-        return crate.build_rlib(["--jobs", str(jobs)], anew=False)
-
-
-class WithStatements:
-    """How `build_program` makes libraries: each from nothing, and without its proofs, for these crates."""
-
-    def __init__(self, module, crates):
-        self.module = module
-        for crate in crates:
-            crate.rlib = f"{crate.folder}/{STATEMENTS}/{crate.name}.rlib"
-
-    def own_sum(self, crate):
-        """A sum of the toolchain, of what crates.txt says of the crate, and of the crate's files."""
-        found = hashlib.sha256(repr(crate.said).encode())
-        for path in [f"{self.module.KIT}/WHAT", *self.module.files_of(crate.folder)]:
-            with open(path, "rb") as file:
-                found.update(repr((path.removeprefix(crate.folder), file.read())).encode())
-        return found.hexdigest()
-
-    def stamp(self, crate):
-        """Sums of all that the library is made from, and of the libraries below: statements fit only the very ones that they were built
-        over. (rt's own stamp goes through the crates below once for each way to them, which takes seconds.)"""
-        below = crate.below()
-        return "\n".join([*(self.own_sum(it) for it in [*below, crate]), *(self.module.sum_of(f"{it.rlib}/format") for it in below)])
-
-    def is_built(self, crate):
-        return os.path.isdir(crate.rlib) and self.module.text_of(f"{os.path.dirname(crate.rlib)}/stamp") == self.stamp(crate)
-
-    def make(self, crate, jobs):
-        folder, stamp = os.path.dirname(crate.rlib), self.stamp(crate)
-        shutil.rmtree(folder, ignore_errors=True)
-        os.makedirs(folder)
-        words = crate.words(["--jobs", str(jobs)], keeps=False)
-        status = crate.call(self.module.RATTLE, "build", *words, "--statements", "-o", crate.rlib)
-        # What changed while it was built is not what was built.
-        if status == 0 and stamp == self.stamp(crate):
-            with open(f"{folder}/stamp", "w", encoding="utf-8") as file:
-                file.write(stamp)
-        return status
-
-    def program_stamp(self, crate):
-        """A sum of all that the program is made from, and of the program itself, which other commands may replace."""
-        return f"{self.stamp(crate)}\n{self.module.sum_of(f'{crate.folder}/out/{crate.name}')}"
-
-    def make_program(self, crate, jobs):
-        """The program's own crate, over these libraries: proved, compiled and linked as `rt run` does it, where it is not."""
-        folder, stamp = f"{crate.folder}/{STATEMENTS}", self.stamp(crate)
-        if self.module.text_of(f"{folder}/stamp") == self.program_stamp(crate):
-            return 0
-        shutil.rmtree(folder, ignore_errors=True)
-        os.makedirs(folder)
-        program, kit = f"out/{crate.name}", self.module.KIT
-        native = ["--toolchain", f"{kit}/toolchain"]
-        words = [*crate.words(["--jobs", str(jobs)], keeps=False), *native, "--backend", "llvm"]
-        status = crate.call(self.module.RATTLE, "build", *words, "-o", f"{program}.o")
-        if status == 0:
-            words = ["--target", "x86_64-unknown-linux-gnu", *native, "-o", program, f"{program}.o"]
-            status = crate.call(f"{kit}/bin/rattle-link", *words, f"{kit}/c/libos_c.a", f"{kit}/c/liblibc_c.a")
-        if status == 0 and stamp == self.stamp(crate):
-            with open(f"{folder}/stamp", "w", encoding="utf-8") as file:
-                file.write(self.program_stamp(crate))
-        return status
-
-
 def made(make, crate, jobs):
     """Makes one crate with so many jobs, and gives its status and what the toolchain said."""
     with tempfile.TemporaryFile("w+", encoding="utf-8", errors="replace") as crate.out:
@@ -208,17 +129,21 @@ def made(make, crate, jobs):
         return status, crate.out.read()
 
 
+def build_library(crate, jobs):
+    """Proves and builds a library with so many jobs, as `rt run` does."""
+    return crate.build_rlib(["--jobs", str(jobs)], anew=False)
+
+
 class Lanes:
     """Libraries that are built side by side: each once those below it are, and first those for which most waits."""
 
-    def __init__(self, module, crates, way, progress):
-        self.left = [crate for crate in crates if not way.is_built(crate)]
-        self.way, self.progress, self.jobs = way, progress, {}
+    def __init__(self, module, crates, progress):
+        self.left = [crate for crate in crates if not crate.is_built()]
+        self.progress, self.jobs = progress, {}
         behind = waiting_for(module, crates)
         self.left.sort(key=lambda crate: -behind[crate.name])
         self.total = len(self.left)
-        # A check does not keep all its jobs busy all the time, and keeps the jobs that it begins with. So three times as many may run.
-        self.lanes = max(1, min(3 * processors(), free_memory() // MEMORY_OF_A_JOB))
+        self.lanes = processors()
         self.running = {}
 
     def ready(self):
@@ -234,7 +159,7 @@ class Lanes:
                 return
             self.jobs[crate.name] = max(1, min(MOST_JOBS, free - (len(ready) - at - 1)))
             self.left.remove(crate)
-            self.running[pool.submit(made, self.way.make, crate, self.jobs[crate.name])] = crate
+            self.running[pool.submit(made, build_library, crate, self.jobs[crate.name])] = crate
 
     def end_some(self):
         """Waits until a library is built or fails."""
@@ -294,13 +219,7 @@ def build(top, wanted, progress):
         module = toolchain()
         crates = needed_by(crates_of(module, top), wanted)
         with alone_with(module, crates):
-            return Lanes(module, crates, WithProofs(), progress).run()
-
-
-def has_kept_work(top, name):
-    """Whether a check kept work of a library below this crate."""
-    with other_toolchain():
-        return any(crate.has_kept() for crate in crates_of(toolchain(), top)[name].below())
+            return Lanes(module, crates, progress).run()
 
 
 def build_archive(top, name, to):
@@ -315,18 +234,3 @@ def build_archive(top, name, to):
                 return crate.call(module.RATTLE, "build", *words, "-o", to)
             status, said = made(make, crate, processors())
             return said if status else None
-
-
-def build_program(top, name, progress):
-    """Proves the program of this name and all libraries below it, as far as they are not, and leaves the program in its crate's out/."""
-    with other_toolchain():
-        module = toolchain()
-        program = crates_of(module, top)[name]
-        below = program.below()
-        with alone_with(module, [*below, program]):
-            way = WithStatements(module, below)
-            proved = Lanes(module, below, way, progress).run()
-            progress(proved, proved, [name])
-            status, said = made(way.make_program, program, processors())
-            if status:
-                raise NotBuilt(name, said)
