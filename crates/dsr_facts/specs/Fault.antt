@@ -24,7 +24,7 @@ abbrev pub choice_by : Option (List ℕ) → Pick
 choice_by None = Plain
 choice_by (Some clients) = From clients
 
--- the choice is the one that the envelope shows, where that is one that can be made
+-- the choice is the one that the envelope shows, if that is one that can be made
 abbrev pub IsRead : Shape → Actor → ℕ → Envelope → Pick → Type 0
 IsRead shape me q found pick = IsPick (shown_choice shape me q found) → pick ≡ shown_choice shape me q found
 
@@ -36,10 +36,11 @@ IsRoundFault shape me log q found pick (Refused (Exhausted Rounds)) = IsSome (en
 IsRoundFault shape me log q found pick (OtherPosted wanted how) = (envelope_to shape me log q pick ≡ Some wanted) × IsDifference wanted found how
 IsRoundFault shape me log q found pick fault = ⊥
 
--- the same, by the choice that the envelope shows
+-- the same, by the choice that the envelope shows; for nothing in particular if it shows none that can be made
 pub record HoldsRoundFault (shape : Shape) (me : Actor) (log : List Entry) (q : ℕ) (found : Envelope) (fault : Fault) : Type 0 where
   pub pick : Pick
   pub read : IsRead shape me q found pick
+  pub plain : (IsPick (shown_choice shape me q found) → ⊥) → pick ≡ Plain
   pub why : IsRoundFault shape me log q found pick fault
 
 -- a loyal replica with this log may post this envelope to this replica, as far as its own log shows

@@ -4,8 +4,11 @@ use Rattle.dsr_names.specs.Shape.{Shape}
 use Rattle.dsr_names.specs.declared.actor.Actor.TheVariants.{Replica}
 use Rattle.dsr_envelope.specs.declared.envelope.Envelope.{Envelope}
 use Rattle.dsr_envelope.specs.declared.pick.Pick.{Pick}
+use Rattle.dsr_envelope.specs.declared.pick.Pick.TheVariants.{Plain}
+use Rattle.dsr_envelope.specs.Pick.{IsPick}
 use Rattle.dsr_node.specs.Conduct.{post_of}
 use Rattle.dsr_play.specs.declared.event.Event.TheVariants.{Post}
+use Rattle.dsr_replica.specs.Shown.{shown_choice}
 use Rattle.dsr_run.specs.Step.{Logs}
 use Rattle.dsr_world.specs.Event.{refusal_of}
 use Rattle.dsr_facts.specs.Cause.{HoldsCause}
@@ -23,8 +26,9 @@ IsPostFault shape logs p q found pick (OtherPosted wanted how) =
     (refusal_of shape logs (Post (Replica p) (Replica q) pick) ≡ None)
     × (post_of shape (logs (Replica p)) (Replica p) (Replica q) pick ≡ Some wanted) × IsDifference wanted found how
 
--- the same, by the choice that the envelope shows
+-- the same, by the choice that the envelope shows; for nothing in particular if it shows none that can be made
 pub record HoldsPostFault (shape : Shape) (logs : Logs) (p q : ℕ) (found : Envelope) (fault : Fault) : Type 0 where
   pub pick : Pick
   pub read : IsRead shape (Replica p) q found pick
+  pub plain : (IsPick (shown_choice shape (Replica p) q found) → ⊥) → pick ≡ Plain
   pub why : IsPostFault shape logs p q found pick fault

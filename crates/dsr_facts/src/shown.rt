@@ -1,5 +1,6 @@
 ghost use Rattle.std.specs.Prelude.{◌≡◌, IfOk, IsOkUnless, map};
 ghost use Rattle.dsr_envelope.specs.Pick.{IsPick};
+ghost use Rattle.dsr_envelope.specs.declared.pick.Pick.TheVariants.{Plain};
 ghost use Rattle.dsr_replica.specs.Shown.{choice_of, last_value, shown_choice};
 ghost use Rattle.dsr_chain.specs.declared.slot_value.SlotValue.TheVariants.{Idle};
 ghost use Rattle.dsr_chain.specs.Content.{requests_in};
@@ -10,8 +11,8 @@ use dsr_envelope::{Clients, Envelope, Pick};
 use dsr_names::{Actor, Refusal, ReplicaId, Shape};
 use std::alloc::Global;
 
-/// The clients whose requests a loyal replica's post to this replica shows as chosen; `None` for nothing in particular. Whatever the
-/// replica's log is, no other choice gives this envelope. `NoMemory` where memory runs out.
+/// The clients whose requests a loyal replica's post to this replica shows as chosen; `None` for nothing in particular, and if it shows
+/// clients that cannot be a choice. Whatever the replica's log is, no other choice gives this envelope. `NoMemory` if memory runs out.
 pub(crate) fn shown_clients(
     alloc: Global,
     shape: &Shape,
@@ -21,6 +22,7 @@ pub(crate) fn shown_clients(
 ) -> Result<Option<Clients>, Refusal>
     ensures shown { IsPick (shown_choice shape.now me.now to envelope.now)
         → IfOk result (λ clients. choice_by clients ≡ shown_choice shape.now me.now to envelope.now) }
+    ensures plain { (IsPick (shown_choice shape.now me.now to envelope.now) → ⊥) → IfOk result (λ clients. choice_by clients ≡ Plain) }
     ensures refusal { IsOkUnless result Refusal.NoMemory }
 {
     if to.number() > 0 {
@@ -52,6 +54,8 @@ pub(crate) fn pick_of(clients: &Option<Clients>) -> Pick
 fn last_clients(alloc: Global, chains: &[Chain]) -> Result<Option<Clients>, Refusal>
     ensures shown { IsPick (choice_of (map (λ r. r.client) (requests_in (last_value Idle chains.now))))
         → IfOk result (λ clients. choice_by clients ≡ choice_of (map (λ r. r.client) (requests_in (last_value Idle chains.now)))) }
+    ensures plain { (IsPick (choice_of (map (λ r. r.client) (requests_in (last_value Idle chains.now)))) → ⊥)
+        → IfOk result (λ clients. choice_by clients ≡ Plain) }
     ensures refusal { IsOkUnless result Refusal.NoMemory }
 {
     match chains {
@@ -64,6 +68,8 @@ fn last_clients(alloc: Global, chains: &[Chain]) -> Result<Option<Clients>, Refu
 fn clients_in(alloc: Global, asks: &[SignedRequest]) -> Result<Option<Clients>, Refusal>
     ensures shown { IsPick (choice_of (map (λ r. r.client) (map (λ ask. ask.request) asks.now)))
         → IfOk result (λ clients. choice_by clients ≡ choice_of (map (λ r. r.client) (map (λ ask. ask.request) asks.now))) }
+    ensures plain { (IsPick (choice_of (map (λ r. r.client) (map (λ ask. ask.request) asks.now))) → ⊥)
+        → IfOk result (λ clients. choice_by clients ≡ Plain) }
     ensures refusal { IsOkUnless result Refusal.NoMemory }
 {
     let mut clients = Vec::with_capacity(alloc, asks.len())?;
