@@ -6,7 +6,7 @@ what `rt ci` built.
    allocation refused, until a run meets no refusal. Of some runs that is each allocation, of the others each of the first ones and then some, with wider
    and wider steps. A run that met a refusal must do all the same what it does with ample memory; or end with status 3, say so on standard error, and
    write nothing on standard output. The last one must do what it does with ample memory. A play may also be reported whole, where one of its events was
-   refused for that, with status 3. Then the report must be, to the byte, that of tests/slow_play.py where this event alone has no memory, so that
+   refused for that, with status 3. Then the report must be, to the byte, that of tests/models/slow_play.py where this event alone has no memory, so that
    nothing else was changed. The same holds of its transcript, and `dsr check` must report on that as this model says. Where each event of the play is made
    twice, the transcript must be that of ample memory: the event that was refused is done when it is made again.
 2. The same with all later allocations refused too.
@@ -30,7 +30,7 @@ import zlib
 from concurrent.futures import ThreadPoolExecutor
 
 import runs
-import slow_play
+from models import slow_play
 from sizes import one_replica
 
 TOP = os.path.dirname(os.path.dirname(os.path.realpath(__file__)))

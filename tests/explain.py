@@ -1,7 +1,7 @@
 #!/usr/bin/env python3
 """What `dsr explain` tells: tests/explain.py, or with `--write` it writes the explanations in examples/why/ anew. It runs the built program.
 
-1. Each play of examples/, and random plays: the lines of data are those of tests/explain_model.py, a slow model that was written anew, but for
+1. Each play of examples/, and random plays: the lines of data are those of tests/models/explain_model.py, a slow model that was written anew, but for
    the words in which a reason is put, and for what a replica keeps, holds, drops or does not propose, which the model does not tell. Where an
    event is refused as forged, a signature is named.
 2. Each attack of examples/attacks/: there are lines that name what stopped it: the fault of a chain or what became of it, the slot, and the replica.
@@ -23,7 +23,7 @@ import resource
 import subprocess
 import sys
 
-import explain_model
+from models import explain_model
 import runs
 
 TOP = os.path.dirname(os.path.dirname(os.path.realpath(__file__)))
@@ -157,7 +157,7 @@ def fault_of_data(play):
     for line, why in zip(lines, lines[1:]):
         if line.startswith("event ") and line.split(" ")[6] == "E8" and not why.startswith("why the signature of "):
             return f"no signature is named as forged after `{line[:80]}`"
-    found, wanted = shared(data), shared(explain_model.data_of(play).encode())
+    found, wanted = shared(data), shared(explain_model.explained(play)[1])
     if found == wanted:
         return None
     at = next((at for at, (one, other) in enumerate(zip(found, wanted)) if one != other), min(len(found), len(wanted)))

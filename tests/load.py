@@ -7,7 +7,7 @@
    ones take no more bytes each than the first ones, and a twentieth; and a round takes no more than is written here, which is a tenth more than
    it took when that was measured.
 2. Services of 16 replicas and 32 clients, each with 25 operations, with `soak` with 100: without traitors, and with seven that tell each other's stories, lie to
-   clients, and would forge. Each must serve all clients, and its report be right by definitions written anew (tests/slow_texts.py).
+   clients, and would forge. Each must serve all clients, and its report be right by definitions written anew (tests/models/slow_texts.py).
 
 Needs a C compiler, `cc`, for the few lines that count. The last line is `N passed, M failed`, a count for each kind of play, each check of its
 transcripts, and each service.
@@ -19,7 +19,7 @@ import sys
 import tempfile
 import time
 
-import slow_texts
+from models import slow_texts
 from sizes import Play
 
 TOP = os.path.dirname(os.path.dirname(os.path.realpath(__file__)))

@@ -8,8 +8,8 @@
 3. Texts at each limit and past it: bytes of input, events, chains of an envelope, signatures of a chain, signers of a statement, requests of a value,
    clients of a choice, numbers, values, and names.
 
-What the program gives must be what models give that were written anew, tests/slow_texts.py for `apply` and `serve`, tests/slow_play.py for `play`,
-tests/slow_check.py for `check`: status, standard output and standard error, to the byte. So nothing is written on standard output after a text is
+What the program gives must be what models give that were written anew, tests/models/slow_texts.py for `apply` and `serve`, tests/models/slow_play.py for `play`,
+tests/models/slow_check.py for `check`: status, standard output and standard error, to the byte. So nothing is written on standard output after a text is
 refused but the answers of `apply` to the lines before the bad one; and there is never want of memory. Of a service it is judged whether its report may be.
 Each run must end within a minute.
 
@@ -24,10 +24,10 @@ import random
 import subprocess
 import sys
 
-import slow_check
-import slow_play
-import slow_texts
-from transcript_mutants import by_byte, by_chance, with_a_byte_changed
+from models import slow_check
+from models import slow_play
+from models import slow_texts
+from kit.inputs import by_byte, by_chance, with_a_byte_changed
 from transcript_rows import TRAITOR
 
 TOP = os.path.dirname(os.path.dirname(os.path.realpath(__file__)))

@@ -8,8 +8,8 @@ Runs the built program with every word, on examples, over streams that do not do
    `reading failed`, write nothing on standard output, and not read again. With no failure, however few bytes a read moves, it gives what it should.
 2. The 1st, 2nd, 3rd .. write fails in the same ways, or takes nothing. The program must end with status 1 and `writing failed`, not write again, and what
    went out is what the writes before moved: the beginning of what it should give. With no failure all of it goes out.
-3. The reads end early: then the text is what was read, and the program gives what models give for that (tests/slow_texts.py, tests/slow_play.py,
-   tests/slow_check.py).
+3. The reads end early: then the text is what was read, and the program gives what models give for that (tests/models/slow_texts.py, tests/models/slow_play.py,
+   tests/models/slow_check.py).
 4. Writes on standard error fail: the status alone tells, and standard output is as it should be.
 5. The system's own: streams that are closed, folders, full files, pipes that nobody reads, or that are left in the middle, whether a signal for that
    would end the program or not; pipes that give nothing and may not be waited for, and such as are full; input that comes in pieces; a terminal without input,
@@ -31,9 +31,9 @@ import tempfile
 import time
 from concurrent.futures import ThreadPoolExecutor
 
-import slow_check
-import slow_play
-import slow_texts
+from models import slow_check
+from models import slow_play
+from models import slow_texts
 
 TOP = os.path.dirname(os.path.dirname(os.path.realpath(__file__)))
 PROGRAM = f"{TOP}/crates/dsr/out/dsr"

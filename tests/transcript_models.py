@@ -16,11 +16,11 @@ import os
 import random
 import sys
 
-import slow_check
-import slow_play
+from models import slow_check
+from models import slow_play
 import transcript_rows
-from transcript_mutants import by_chance, cut_after_a_line, exchanged, with_a_byte_changed, without_a_line
-from transcript_text import step_of, step_text
+from kit.inputs import by_chance, cut_after_a_line, exchanged, with_a_byte_changed, without_a_line
+from models.transcript_text import step_of, step_text
 from transcripts import TOP, bytes_of, expected_check, play_of, stems
 
 RANDOM_PLAYS = 400

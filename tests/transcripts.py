@@ -5,8 +5,8 @@
 2. Each play of examples/: its transcript is the file beside it, or it is refused as without `--transcript`; and the report of the checker has
    the accepted replies and the history of the play's own report.
 3. Each of these transcripts, and that of the honest service, with a small change: two neighbouring lines exchanged, a line left out, cut
-   after each line, a byte changed; and some cut at every byte. `dsr check` says what tests/slow_check.py does.
-4. 200 random plays, traitors in them: their transcripts are those of tests/slow_play.py, and they and some changes of them are
+   after each line, a byte changed; and some cut at every byte. `dsr check` says what tests/models/slow_check.py does.
+4. 200 random plays, traitors in them: their transcripts are those of tests/models/slow_play.py, and they and some changes of them are
    checked as before.
 5. examples/record/service.py prints the transcripts beside it, and the checker says of them what stands there.
 6. Texts of as many bytes as are allowed, and of more; standard input and output that fail.
@@ -22,12 +22,12 @@ import random
 import subprocess
 import sys
 
-import slow_check
-import slow_play
+from models import slow_check
+from models import slow_play
 import transcript_rows
 from runs import random_play
-from transcript_mutants import by_chance, cut_after_a_line, exchanged, with_a_byte_changed, without_a_line
-from transcript_walks import random_walk
+from kit.inputs import by_chance, cut_after_a_line, exchanged, with_a_byte_changed, without_a_line
+from kit.inputs import random_walk
 
 TOP = os.path.dirname(os.path.dirname(os.path.realpath(__file__)))
 PROGRAM = f"{TOP}/crates/dsr/out/dsr"

@@ -1,5 +1,4 @@
-#!/usr/bin/env python3
-"""A slow checker of transcripts, written anew from the definitions of docs/PROTOCOL.md: tests/slow_check.py < TRANSCRIPT.
+"""A slow checker of transcripts, written anew from the definitions of docs/PROTOCOL.md.
 
 It gives what `dsr check` must give: the refusal or the report, and the status. Logs are kept whole, the oldest entry first, and all that
 is asked of them is computed again from their first entry on. Nothing is shared with the program, and no idea of it: each step is
@@ -7,13 +6,12 @@ judged by the relation that says which steps may be next.
 """
 
 import functools
-import sys
 from typing import NamedTuple
 
-import runs
-from transcript_text import (
-    MOST_BYTES, MOST_REQUESTS, NUMBERS, Ask, Chain, Empty, Link, Reader, Reply, Request, Round, Seen, Shape, Signature, Signed,
-    actor_text, content_of, content_text, is_allowed, is_plain, step_of, whole,
+from models import histories
+from models.transcript_text import (
+    MOST_BYTES, MOST_REQUESTS, NUMBERS, Ask, Chain, Empty, Link, Reader, Reply, Request, Round, Seen, Signature, Signed, bad_line, content_of,
+    content_text, is_allowed, is_plain, refused, step_of, whole,
 )
 
 ROUNDS = 2**36
@@ -22,10 +20,6 @@ ROUNDS = 2**36
 class Kept(NamedTuple):
     round: int
     chain: Chain
-
-
-class NoRun(Exception):
-    """The step may not be next."""
 
 
 # ---- shapes
@@ -139,15 +133,15 @@ def decided(shape, log):
 
 def acted(contents):
     """The requests that act by these contents, each with its answer, as texts."""
-    return runs.acted([content_text(content) for content in contents])
+    return histories.acted([content_text(content) for content in contents])
 
 
 def reply_to(shape, log, client):
     """The reply to the client's last request that acted by this log; None where none did."""
     replies = [
-        Reply(runs.parts(request)[1], place, answer)
+        Reply(histories.parts(request)[1], place, answer)
         for place, (request, answer) in enumerate(acted(decided(shape, log)))
-        if runs.parts(request)[0] == f"c{client}"
+        if histories.parts(request)[0] == f"c{client}"
     ]
     return replies[-1] if replies else None
 
@@ -384,19 +378,10 @@ class Run:
             for reply in accepted(self.shape, self.logs.get(("c", c), [])):
                 lines.append(f"accepted c{c} {reply.number} {reply.place} {reply.answer}")
         acted_requests = history(self.shape, self.logs)
-        lines += [f"history {len(acted_requests)}", *(f"{place} {request}" for place, request in enumerate(acted_requests))]
-        return "".join(f"{line}\n" for line in lines)
+        return "".join(f"{line}\n" for line in [*lines, *histories.history_lines(acted_requests)])
 
 
 # ---- texts
-
-
-def refused(text):
-    return 1, b"", f"dsr: {text}\n".encode()
-
-
-def bad_line(number):
-    return refused(f"bad text in line {number}")
 
 
 def header_of(line):
@@ -453,14 +438,3 @@ class Judge:
 
 def verdict_of(text):
     return Judge().verdict_of(text)
-
-
-def main():
-    status, output, errors = verdict_of(sys.stdin.buffer.read())
-    sys.stdout.buffer.write(output)
-    sys.stderr.buffer.write(errors)
-    return status
-
-
-if __name__ == "__main__":
-    sys.exit(main())

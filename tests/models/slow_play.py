@@ -1,16 +1,14 @@
-#!/usr/bin/env python3
-"""A slow model of plays, written anew: tests/slow_play.py < PLAY, or tests/slow_play.py --transcript < PLAY.
+"""A slow model of plays, written anew.
 
 It gives what `dsr play` must give: the report, or the transcript of the steps that were done. Each actor is a small machine, as somebody
 would write it who reads docs/PROTOCOL.md, and envelopes are their texts: a chain is proper where its text is the one that proper chains
-have. So it has nothing in common with tests/slow_check.py but the reader of tokens, and each of the two is a check on the other.
+have. So it has nothing in common with slow_check.py but the reader of tokens and the directory, and each of the two is a check on the other.
 """
 
 import re
-import sys
 
-import runs
-from transcript_text import MOST_BYTES, Bad, Reader, actor_text, envelope_text, is_allowed, shape_text, whole
+from models import histories
+from models.transcript_text import Bad, Reader, actor_text, bad_line, begun, envelope_text, shape_text
 
 MOST_EVENTS = 1_000_000
 NAMES = {5: "NotDue", 6: "BoxFull", 7: "BoxEmpty", 8: "Forged", 12: "NoMemory", 15: "NoActor", 16: "WrongRole"}
@@ -158,8 +156,8 @@ class Replica:
         word, *rest = envelope.split(" ")
         if word != "ask" or not re.fullmatch(rf"{client}#[^~]*~{client}", rest[0]):
             return
-        number = runs.parts(rest[0])[1]
-        if client not in self.asks or number >= runs.parts(self.asks[client])[1]:
+        number = histories.parts(rest[0])[1]
+        if client not in self.asks or number >= histories.parts(self.asks[client])[1]:
             self.asks[client] = rest[0]
 
     def read(self, words):
@@ -186,10 +184,10 @@ class Replica:
                 self.act(request)
 
     def act(self, request):
-        client, number, operation = runs.parts(request)
+        client, number, operation = histories.parts(request)
         if number > self.numbers.get(client, 0):
             self.numbers[client] = number
-            self.replies[client] = f"reply {number} {len(self.acted)} {runs.answered(self.directory, operation)}"
+            self.replies[client] = f"reply {number} {len(self.acted)} {histories.answered(self.directory, operation)}"
             self.acted.append(request)
 
 
@@ -321,7 +319,7 @@ class World:
         """The accepted lines, and those of the history: what the reports of a play and of its transcript have in common."""
         acted = max((self.machines[p].acted for p in self.loyal), key=len)
         replies = [f"accepted {c} {reply}" for c in self.clients for reply in self.machines[c].accepted]
-        return replies, [f"history {len(acted)}", *(f"{place} {request}" for place, request in enumerate(acted))]
+        return replies, histories.history_lines(acted)
 
     def report(self):
         replies, history = self.outcome()
@@ -442,27 +440,18 @@ def events_of(line, shape):
     return events
 
 
-def refused(text):
-    return 1, b"", f"dsr: {text}\n".encode()
-
-
 def read_play(text):
-    """The shape and the events of a play; or what `dsr play` gives where it refuses the text."""
-    if len(text) > MOST_BYTES:
-        return None, refused("reading failed")
-    title, (*lines, rest) = b"dsr-play 1 ", text.split(b"\n")
-    shape = whole(lines[0][len(title):], Reader.shape) if lines and lines[0].startswith(title) else None
-    if shape is None:
-        return None, refused("bad text in line 1")
-    if not is_allowed(shape):
-        return None, refused("the shape is not allowed")
-    events = []
-    for number, line in enumerate(lines[1:], 2):
+    """The shape and the events of a play; or what `dsr play` gives if it refuses the text."""
+    header, fault = begun(text, b"dsr-play 1 ")
+    if fault:
+        return None, fault
+    (shape, lines, rest), events = header, []
+    for number, line in enumerate(lines, 2):
         more = events_of(line, shape)
         if more is None or len(events) + len(more) > MOST_EVENTS:
-            return None, refused(f"bad text in line {number}")
+            return None, bad_line(number)
         events += more
-    return (shape, events), refused(f"bad text in line {len(lines) + 1}") if rest else None
+    return (shape, events), bad_line(len(lines) + 2) if rest else None
 
 
 def world_of(text):
@@ -479,17 +468,3 @@ def played(text, as_transcript=False):
     """The status of `dsr play` on this text, and what it writes on standard output and standard error."""
     world, fault = world_of(text)
     return fault or (0, (world.transcript() if as_transcript else world.report()).encode(), b"")
-
-
-def main(words):
-    if words not in ([], ["--transcript"]):
-        print(__doc__, file=sys.stderr)
-        return 2
-    status, output, errors = played(sys.stdin.buffer.read(), bool(words))
-    sys.stdout.buffer.write(output)
-    sys.stderr.buffer.write(errors)
-    return status
-
-
-if __name__ == "__main__":
-    sys.exit(main(sys.argv[1:]))

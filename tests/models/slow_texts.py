@@ -4,14 +4,10 @@ gives. How a service goes depends on its threads, so of what it gives it is only
 
 import re
 
-import runs
-from transcript_text import MOST_BYTES, Reader, actor_text, is_allowed, whole
+from models import histories
+from models.transcript_text import MOST_BYTES, actor_text, bad_line, begun, refused, whole
 
 NO_ANSWER = b"dsr: no answer within the turns\n"
-
-
-def refused(text, output=b""):
-    return 1, output, f"dsr: {text}\n".encode()
 
 
 # ---- request lines
@@ -35,14 +31,14 @@ def applied(text):
     for line in lines:
         found = whole(line, request_line)
         if found is None:
-            return refused(f"bad text in line {len(answers) + 1}", b"".join(answers))
+            return bad_line(len(answers) + 1, b"".join(answers))
         client, number, operation = found
         before = replies.get(client, (0, b""))
         if number > before[0]:
-            replies[client] = number, f"{place} {runs.answered(directory, operation)}\n".encode()
+            replies[client] = number, f"{place} {histories.answered(directory, operation)}\n".encode()
             place += 1
         answers.append(b"old\n" if number < before[0] else replies[client][1])
-    return refused(f"bad text in line {len(answers) + 1}", b"".join(answers)) if rest else (0, b"".join(answers), b"")
+    return bad_line(len(answers) + 1, b"".join(answers)) if rest else (0, b"".join(answers), b"")
 
 
 # ---- serve scripts
@@ -79,25 +75,21 @@ def can_follow(shape, drafts, found):
 
 
 def read_script(text):
-    """The shape of a script, and the operations of each client; or what `dsr serve` gives where it refuses the text."""
-    if len(text) > MOST_BYTES:
-        return None, refused("reading failed")
-    title, (*lines, rest) = b"dsr-serve 1 ", text.split(b"\n")
-    shape = whole(lines[0][len(title):], Reader.shape) if lines and lines[0].startswith(title) else None
-    if shape is None:
-        return None, refused("bad text in line 1")
-    if not is_allowed(shape):
-        return None, refused("the shape is not allowed")
+    """The shape of a script, and the operations of each client; or what `dsr serve` gives if it refuses the text."""
+    header, fault = begun(text, b"dsr-serve 1 ")
+    if fault:
+        return None, fault
+    shape, lines, rest = header
     asked, drafts = [[] for _ in range(shape.m)], set()
-    for number, line in enumerate(lines[1:], 2):
+    for number, line in enumerate(lines, 2):
         found = whole(line, script_line)
         if found is None or not can_follow(shape, drafts, found):
-            return None, refused(f"bad text in line {number}")
+            return None, bad_line(number)
         if len(found) == 2:
             asked[found[0][1]].append(found[1])
         else:
             drafts.add(found)
-    return (shape, asked), refused(f"bad text in line {len(lines) + 1}") if rest else None
+    return (shape, asked), bad_line(len(lines) + 2) if rest else None
 
 
 def fault_of_report(asked, report):
@@ -111,11 +103,11 @@ def fault_of_report(asked, report):
         return f"its places are not counted: {found[3][:200]!r}"
     if sorted(history) != sorted(requests):
         return f"its history has {len(history)} requests, which are not the {len(requests)} that were asked for"
-    acted = runs.acted(history)
+    acted = histories.acted(history)
     if [request for request, _ in acted] != history:
         return "a request of its history does not act"
     places = {request: (place, answer) for place, (request, answer) in enumerate(acted)}
-    wanted = [f"accepted {request.split('#')[0]} {runs.parts(request)[1]} {' '.join(map(str, places[request]))}" for request in requests]
+    wanted = [f"accepted {request.split('#')[0]} {histories.parts(request)[1]} {' '.join(map(str, places[request]))}" for request in requests]
     return None if wanted == found[1].splitlines() else f"accepted was {found[1][:200]!r}, and not {wanted[:4]}"
 
 
@@ -127,14 +119,19 @@ def fault_of_served(asked, run):
     return fault_of_report(asked, output)
 
 
-def fault_of_service(text, serve):
-    """What is wrong with how `dsr serve` ends on this text, or None. `serve` runs it. Where a client came too late, and had no answer, it is run once
-    more."""
-    script, wanted = read_script(text)
+def answered_run(serve):
+    """What `serve` gives, the run of a service. If a client came too late, and had no answer, it is run once more."""
     for _ in range(10):
-        run = serve(text)
-        if wanted or run[2] != NO_ANSWER:
+        run = serve()
+        if run[2] != NO_ANSWER:
             break
-    if wanted:
-        return None if run == wanted else f"status {run[0]}, output {run[1][:200]!r}, errors {run[2][:120]!r}, and not {wanted}"
-    return fault_of_served(script[1], run)
+    return run
+
+
+def fault_of_service(text, serve):
+    """What is wrong with how `dsr serve` ends on this text, or None. `serve` runs it."""
+    script, wanted = read_script(text)
+    if not wanted:
+        return fault_of_served(script[1], answered_run(lambda: serve(text)))
+    run = serve(text)
+    return None if run == wanted else f"status {run[0]}, output {run[1][:200]!r}, errors {run[2][:120]!r}, and not {wanted}"

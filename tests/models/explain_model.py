@@ -1,8 +1,7 @@
-#!/usr/bin/env python3
-"""A slow model of explanations, over the one of plays: tests/explain_model.py < PLAY.
+"""A slow model of explanations, over the one of plays.
 
 It gives the data lines of a play, from which tools/picture draws: each event and what came of it. The header of tools/picture has what
-lines there are. What replicas and clients do is told by tests/slow_play.py; why, by what stands here:
+lines there are. What replicas and clients do is told by slow_play.py; why, by what stands here:
 
 - A chain is read as one of the slot that it says, so none is of another slot. Where that slot is not in flight it is `not-in-flight`, in the
   round 0. Else it has the first fault that holds, in the order of docs/PROTOCOL.md; where none holds, it is `not-new` if its content is
@@ -11,10 +10,8 @@ lines there are. What replicas and clients do is told by tests/slow_play.py; why
 - The envelope of an event that was refused stands there where the play says it, so of a `plant` alone.
 """
 
-import sys
-
-import slow_play
-from transcript_text import shape_text
+from models import histories, slow_play
+from models.transcript_text import shape_text
 
 TITLE = "dsr-explain 1"
 
@@ -89,7 +86,7 @@ def notes_of_closing(machine, slots, kept, numbers, acted):
         content = machine.decided[slot]
         notes.append(f"decide {me} {slot} {len(kept.get(slot, []))} {content}")
         for request in [] if content == "idle" else content.split(","):
-            client, number, _ = slow_play.runs.parts(request)
+            client, number, _ = histories.parts(request)
             if number > numbers.get(client, 0):
                 numbers[client] = number
                 notes.append(f"act {me} {acted} {request}")
@@ -218,26 +215,13 @@ def waiting(world):
         yield f"waits {replica} {' '.join(machine.due())} {machine.round}"
 
 
-def data_of(text):
-    """The data lines of a play that `dsr play` reads, as one text."""
+def explained(text):
+    """The status of `dsr explain --data` on a play, and what it writes on standard output and standard error; the refusal of any other text."""
     play, fault = slow_play.read_play(text)
     if fault:
-        raise ValueError(fault[2].decode())
+        return fault
     world = slow_play.World(play[0])
     lines = [f"{TITLE} {shape_text(play[0])}"]
     for index, (number, event) in enumerate(numbered_events(text, play[0])):
         lines += lines_of_event(world, index, number, event)
-    return "".join(f"{line}\n" for line in [*lines, *waiting(world)])
-
-
-def main():
-    try:
-        sys.stdout.write(data_of(sys.stdin.buffer.read()))
-    except ValueError as fault:
-        sys.stderr.write(str(fault))
-        return 1
-    return 0
-
-
-if __name__ == "__main__":
-    sys.exit(main())
+    return 0, "".join(f"{line}\n" for line in [*lines, *waiting(world)]).encode(), b""

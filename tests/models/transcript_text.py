@@ -319,6 +319,7 @@ def step_of(line):
 
 
 def is_allowed(shape):
+    """Whether the shape is within the limits."""
     return (
         1 <= shape.n <= MOST_REPLICAS
         and shape.n >= 2 * shape.f + 1
@@ -326,6 +327,29 @@ def is_allowed(shape):
         and all(traitor < shape.n for traitor in shape.traitors)
         and len(shape.traitors) <= shape.f
     )
+
+
+# ---- texts
+
+
+def refused(text, output=b""):
+    """What the program gives if it refuses a text, after this output."""
+    return 1, output, f"dsr: {text}\n".encode()
+
+
+def bad_line(number, output=b""):
+    return refused(f"bad text in line {number}", output)
+
+
+def begun(text, title):
+    """The shape of a text with this title, its other lines, and what is left after the last one; or None and the refusal if it begins otherwise."""
+    if len(text) > MOST_BYTES:
+        return None, refused("reading failed")
+    *lines, rest = text.split(b"\n")
+    shape = whole(lines[0][len(title):], Reader.shape) if lines and lines[0].startswith(title) else None
+    if shape is None:
+        return None, bad_line(1)
+    return ((shape, lines[1:], rest), None) if is_allowed(shape) else (None, refused("the shape is not allowed"))
 
 
 # ---- version 1: no list of requests, nothing removed, in what is signed neither

@@ -1,0 +1,95 @@
+"""Counting what passed and what failed. Each script of tests/ has one or more parts, which its command runs all, or those that its words
+name; and its last line is `N passed, M failed, K skipped`."""
+
+import multiprocessing
+import os
+import sys
+from concurrent.futures import ThreadPoolExecutor
+
+from kit.program import fault_of_building
+
+
+def say(text):
+    print(text, flush=True)
+
+
+class Report:
+    """What passed and failed so far, and what is gathered of checks that are of many texts."""
+
+    def __init__(self):
+        self.passed = self.failed = self.skipped = 0
+        self.gathered = {}
+
+    def judge(self, what, fault, said=""):
+        """Counts a check, which failed if there is a fault, and says so. One that passes is said only if `said` is not None."""
+        self.passed, self.failed = self.passed + (not fault), self.failed + bool(fault)
+        if fault or said is not None:
+            say(f"{what}: {f'FAILED: {fault}' if fault else f'ok{said}'}")
+        return not fault
+
+    def compare(self, what, found, wanted, said=""):
+        return self.judge(what, None if found == wanted else f"{found}, and not {wanted}", said)
+
+    def judge_all(self, rows):
+        """Counts each of these checks, which are what they check, the fault or None, and perhaps what is said of them."""
+        for row in rows:
+            self.judge(*row)
+
+    def judge_some(self, what, rows):
+        """The same, and that there are some."""
+        passed, failed = self.passed, self.failed
+        self.judge_all(rows)
+        if (passed, failed) == (self.passed, self.failed):
+            self.judge(what, "there are none")
+
+    def gather(self, what, count, faults):
+        """Takes the faults of so many texts. All that is gathered of one name is one check."""
+        texts, found = self.gathered.setdefault(what, [0, []])
+        self.gathered[what][0] = texts + count
+        found.extend(faults)
+
+    def judge_gathered(self):
+        """Counts the checks that were gathered, and says how many texts they are of."""
+        for what, (count, faults) in self.gathered.items():
+            fault = f"in {len(faults)} of {count}: " + "\n".join(faults[:3]) if faults else None
+            self.judge(what, fault, f", {count} texts" if count > 1 else None)
+        say(f"{sum(count for count, _ in self.gathered.values())} texts")
+        self.gathered = {}
+
+    def add(self, passed, failed, skipped=0):
+        self.passed, self.failed, self.skipped = self.passed + passed, self.failed + failed, self.skipped + skipped
+
+    def ended(self):
+        """Says the counts, and gives the exit status. A report of nothing failed."""
+        self.failed += not self.passed + self.failed + self.skipped
+        say(f"{self.passed} passed, {self.failed} failed, {self.skipped} skipped")
+        return 1 if self.failed else 0
+
+
+def in_processes(function, tasks, chunk=1):
+    """What the function gives for each task, in their order, in as many processes at once as there are processors."""
+    with multiprocessing.Pool(os.cpu_count()) as pool:
+        yield from pool.imap(function, tasks, chunk)
+
+
+def in_threads(function, tasks):
+    """The same in threads, for functions that mostly wait for programs."""
+    with ThreadPoolExecutor(os.cpu_count()) as pool:
+        yield from pool.map(function, tasks)
+
+
+def main(usage, parts, flag=None, is_built=fault_of_building):
+    """Runs the parts that the words of the command name, or all. A part is a function of a report and of whether the flag was given, and `parts`
+    has each by its name. The program is built first, unless `is_built` says otherwise. Gives the exit status."""
+    words = sys.argv[1:]
+    names = [word for word in words if word != flag]
+    if not set(names) <= set(parts):
+        print(f"{usage}\nThe parts are {', '.join(parts)}{f'; {flag} may be given too' if flag else ''}.", file=sys.stderr)
+        return 2
+    report, fault = Report(), is_built()
+    if fault:
+        report.judge("the program", fault)
+    else:
+        for name in names or parts:
+            parts[name](report, flag in words)
+    return report.ended()

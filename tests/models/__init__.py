@@ -1,0 +1,1 @@
+"""What the program must give, written anew from the documents. Nothing here runs the program or shares code with it."""
