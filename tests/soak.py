@@ -4,11 +4,11 @@
 Runs one after the other, each on all processors, and each with all of what it leaves out otherwise:
 
 - tests/allocations.py soak: each allocation of every word of the program on each example refused in turn;
-- tests/malicious.py soak: each text of the examples cut at every byte, with each byte changed, and with 10,000 changes by chance for each word;
+- tests/texts.py malicious soak: each text of the examples cut at every byte, with each byte changed, and with 10,000 changes by chance for each word;
 - tests/streams.py soak: each read and each write that fails, in each way;
 - tests/services.py soak: a thousand services in threads, with traitors, gates that stop them, and threads and allocations that are refused;
 - tests/load.py soak: memory of 20,000 rounds, and services of 16 replicas and 32 clients of 100 operations;
-- tests/large_transcripts.py and tests/plays.py: texts at the limits of sizes, which ./test runs as they are.
+- tests/large_transcripts.py and tests/texts.py plays: texts at the limits of sizes, which ./test runs as they are.
 
 An hour of random tries of the mail is another command, tests/mail_tries.py soak. Everything that runs is shown, and at the end how long each part took, and
 its counts. The last line is `N passed, M failed`.
@@ -21,15 +21,19 @@ import sys
 import time
 
 TOP = os.path.dirname(os.path.dirname(os.path.realpath(__file__)))
-PARTS = {"allocations": ["soak"], "malicious": ["soak"], "streams": ["soak"], "services": ["soak"], "load": ["soak"], "large_transcripts": [], "plays": []}
-COUNTS = re.compile(r"(\d+) passed, (\d+) failed")
+PARTS = {
+    "allocations": ["allocations.py", "soak"], "malicious": ["texts.py", "malicious", "soak"], "streams": ["streams.py", "soak"],
+    "services": ["services.py", "soak"], "load": ["load.py", "soak"], "large_transcripts": ["large_transcripts.py"], "plays": ["texts.py", "plays"],
+}
+COUNTS = re.compile(r"(\d+) passed, (\d+) failed(?:, (\d+) skipped)?")
 
 
 def run(part):
     """How many passed and failed of this part, and how many minutes it took. What it writes is shown as it comes."""
     begun, last = time.monotonic(), ""
-    print(f"== {part} {' '.join(PARTS[part])}", flush=True)
-    child = subprocess.Popen([sys.executable, "-B", "-u", f"{TOP}/tests/{part}.py", *PARTS[part]], stdin=subprocess.DEVNULL, stdout=subprocess.PIPE,
+    script, *words = PARTS[part]
+    print(f"== {script} {' '.join(words)}", flush=True)
+    child = subprocess.Popen([sys.executable, "-B", "-u", f"{TOP}/tests/{script}", *words], stdin=subprocess.DEVNULL, stdout=subprocess.PIPE,
                              stderr=subprocess.STDOUT, text=True, errors="replace")
     for line in child.stdout:
         print(line, end="", flush=True)

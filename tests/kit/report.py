@@ -78,15 +78,16 @@ def in_threads(function, tasks):
         yield from pool.map(function, tasks)
 
 
-def main(usage, parts, flag=None, is_built=fault_of_building):
-    """Runs the parts that the words of the command name, or all. A part is a function of a report and of whether the flag was given, and `parts`
-    has each by its name. The program is built first, unless `is_built` says otherwise. Gives the exit status."""
+def main(usage, parts, flag=None, without_program=()):
+    """Runs the parts that the words of the command name, or all, and gives the exit status. A part is a function of a report and of whether the flag was
+    given, and `parts` has each by its name. The program is built first, unless all of the parts are among those that do without."""
     words = sys.argv[1:]
     names = [word for word in words if word != flag]
     if not set(names) <= set(parts):
         print(f"{usage}\nThe parts are {', '.join(parts)}{f'; {flag} may be given too' if flag else ''}.", file=sys.stderr)
         return 2
-    report, fault = Report(), is_built()
+    report = Report()
+    fault = None if set(names or parts) <= set(without_program) else fault_of_building()
     if fault:
         report.judge("the program", fault)
     else:

@@ -1,0 +1,513 @@
+#!/usr/bin/env python3
+"""Texts for every word of the program: tests/texts.py, or with the names of some of its parts, and with the word `soak` many more texts.
+
+transcripts: `dsr play --transcript` and `dsr check`.
+
+1. The texts of tests/transcript_rows.py: `dsr check` says of each what is written there.
+2. Each play of examples/: its transcript is the file beside it, or it is refused as without `--transcript`; and the report of the checker has
+   the accepted replies and the history of the play's own report.
+3. Each of these transcripts, and that of the honest service, with a small change: two neighbouring lines exchanged, a line left out, cut
+   after each line, a byte changed; and some cut at every byte. `dsr check` says what tests/models/slow_check.py does.
+4. 200 random plays, traitors in them: their transcripts are those of tests/models/slow_play.py, and they and some changes of them are
+   checked as before.
+5. examples/record/service.py prints the transcripts beside it, and the checker says of them what is written there.
+6. Texts of as many bytes as are allowed, and of more; standard input and output that fail.
+
+malicious: texts that are cut, changed, drawn by chance, and at limits.
+
+1. Each text of examples/ that `apply`, `play`, `serve` or `check` reads, cut at every byte, and with each byte changed: a part of these, with `soak` all of
+   them, and each byte changed in several ways. Of the transcripts of plays the part before this one has some, and this with `soak` each byte, changed in one way.
+2. These texts with changes by chance: bytes left out, lines moved or made twice, words and headers exchanged; and texts of nothing but words and
+   bytes drawn by chance.
+3. Texts at each limit and past it: bytes of input, events, chains of an envelope, signatures of a chain, signers of a statement, requests of a value,
+   clients of a choice, numbers, values, and names.
+
+What the program gives must be what tests/models give: status, standard output and standard error, to the byte. So nothing is written on standard
+output after a text is refused but the answers of `apply` to the lines before the bad one; and memory never runs out. Of a service it is judged whether
+its report may be. Each run must end within a minute.
+
+plays: `dsr play` at its limits.
+
+1. Inputs of as many bytes as are allowed, and of one more; plays of as many events as are allowed, and of one more.
+2. Each play of examples/ cut at every byte. A cut after a line feed gives a play, and so a report in which as many events were done
+   or refused as its lines represent; any other cut gives a bad line, which is the one that was cut. If the header's shape is outside
+   the limits, that is told from the header's line feed on. Nothing is reported of a text that is refused.
+3. Standard input and output that fail.
+"""
+
+import itertools
+import os
+import random
+import sys
+
+import transcript_rows
+from kit import inputs
+from kit.inputs import by_byte, by_chance, cut_at_bytes, with_a_byte_changed
+from kit.program import MOST_BYTES, MOST_EVENTS, TOP, bytes_of, difference, fault_of, fault_of_building, name_of, program, run, shown
+from kit.report import in_processes, in_threads, main
+from models import slow_check, slow_play, slow_texts
+from models.histories import checked_report
+from models.transcript_text import bad_line, refused
+from models.words import MODELS
+
+UNREAD, UNWRITTEN = refused("reading failed"), (1, None, b"dsr: writing failed\n")
+SECONDS = 60
+TEXTS_A_TASK = 500
+RANDOM_PLAYS = 200
+CHANGES_EACH = 12
+# The most bytes of a transcript of which each byte is changed in several ways.
+SHORT_TRANSCRIPT = 450
+
+
+# ---- texts and models
+
+
+class Judge:
+    """What is wrong with what the program gives with these words."""
+
+    def __init__(self, words):
+        self.words, self.models = words, {**MODELS, "check": slow_check.Judge().verdict_of}
+
+    def fault_of(self, text):
+        if self.words == "serve":
+            return slow_texts.fault_of_service(text, lambda script: program("serve", script, SECONDS))
+        return difference(program(self.words, text, SECONDS), self.models[self.words](text))
+
+
+def faults_of(words, texts):
+    """How many texts there are, and what is wrong with what the program gives on them."""
+    judge, count, faults = Judge(words), 0, []
+    for text in texts:
+        fault = judge.fault_of(text)
+        faults += [f"{fault}, on {text[:2000]!r}"] if fault else []
+        count += 1
+    return count, faults
+
+
+def faults_of_part(task):
+    """The name of a family of texts, how many there are in this part of it, and what is wrong with what the program gives on them."""
+    name, family, words, *more, first = task
+    return name, *faults_of(words, itertools.islice(family(words, *more), first, first + TEXTS_A_TASK))
+
+
+def parts_of(name, family, words, *more):
+    """The tasks of a family of texts: a function of these words and what else there is."""
+    for first in range(0, sum(1 for _ in family(words, *more)), TEXTS_A_TASK):
+        yield name, family, words, *more, first
+
+
+def with_stream(words, text, stream, path, flags=os.O_RDONLY):
+    """The run of the program with this file opened as this stream."""
+    opened = os.open(path, flags)
+    try:
+        return program(words, text, **{stream: opened})
+    finally:
+        os.close(opened)
+
+
+# ---- transcripts
+
+
+def fault_of_transcript(stem):
+    """What is wrong with the transcript that the program makes of a play, or with what it says of it, or None."""
+    text, (status, transcript, errors) = bytes_of(f"{stem}.play"), inputs.wanted_of(stem, "transcript")
+    if status == 0 and not transcript:
+        return "there is no transcript beside it"
+    fault = fault_of("play --transcript", text, (status, transcript, errors))
+    if fault or status:
+        return fault
+    return fault_of("check", transcript, (0, checked_report(bytes_of(f"{stem}.out")), b""))
+
+
+def small_changes(_, text, is_row):
+    """All that is tried on a transcript: of a short one much, of an attack's or a service's a part."""
+    yield from inputs.exchanged(text)
+    yield from inputs.without_a_line(text)
+    yield from inputs.cut_after_a_line(text)
+    if len(text) <= SHORT_TRANSCRIPT:
+        yield from with_a_byte_changed(text, 6)
+    else:
+        yield from with_a_byte_changed(text, 1, 1 if is_row else max(2, len(text) // 1_500))
+    if len(text) <= 2 * SHORT_TRANSCRIPT:
+        yield from cut_at_bytes(text)
+
+
+def parts_of_transcripts():
+    for stem in [*inputs.plays(), f"{TOP}/examples/record/honest"]:
+        text, is_row = bytes_of(f"{stem}.transcript"), os.path.basename(os.path.dirname(stem)) == "examples"
+        if text:
+            yield from parts_of(f"{name_of(stem)}.transcript, changed", small_changes, "check", text, is_row)
+
+
+def faults_of_random_play(seed):
+    """What the program says of a random play and of its transcript, changed and not: how many texts, and the faults."""
+    chance = random.Random(seed)
+    play = inputs.any_play(chance, seed)
+    world, _ = slow_play.world_of(play)
+    transcript = world.transcript().encode()
+    count, faults = faults_of("check", (by_chance(chance, transcript) for _ in range(CHANGES_EACH)))
+    plain = [fault_of("play --transcript", play, (0, transcript, b"")), fault_of("check", transcript, (0, world.check_report().encode(), b""))]
+    return "random plays", count + len(plain), [fault for fault in [*plain, *faults] if fault]
+
+
+def fault_of_record(word, ending, status):
+    """What is wrong with a run of the service that records itself, or with what the program says of that, or None."""
+    stem = f"examples/record/{word}"
+    transcript, verdict = bytes_of(f"{stem}.transcript"), bytes_of(f"{stem}.{ending}")
+    command = [sys.executable, "-B", f"{TOP}/examples/record/service.py", *([word] if word == "lying" else [])]
+    if run(command, None, SECONDS, stdin=None) != (0, transcript, b"") or not transcript:
+        return "its transcript is another one"
+    return fault_of("check", transcript, (status, verdict, b"") if status == 0 else (status, b"", verdict))
+
+
+def fault_of_streams():
+    """What is wrong with runs in which standard input or output fails, or None."""
+    text, play = bytes_of("examples/three-loyal.transcript"), bytes_of("examples/three-loyal.play")
+    runs = [(with_stream("check", None, "stdin", TOP), UNREAD), (with_stream("check", text, "stdout", "/dev/full", os.O_WRONLY), UNWRITTEN),
+            (with_stream("play --transcript", play, "stdout", "/dev/full", os.O_WRONLY), UNWRITTEN)]
+    return "; ".join(filter(None, (difference(*pair) for pair in runs)))
+
+
+def faults_of_row(row):
+    name, text, wanted = row
+    return name, 1, [fault for fault in [fault_of("check", text, wanted)] if fault]
+
+
+def faults_of_play(stem):
+    fault = fault_of_transcript(stem)
+    return f"{name_of(stem)}.play", 1, [fault] if fault else []
+
+
+def transcripts(report, _):
+    report.judge("the program is built", fault_of_building(), None)
+    for function, tasks, chunk in [
+        (faults_of_row, transcript_rows.rows(), 8),
+        (faults_of_play, inputs.plays(), 8),
+        (faults_of_part, parts_of_transcripts(), 1),
+        (faults_of_random_play, range(RANDOM_PLAYS), 8),
+        (faults_of_row, transcript_rows.large_rows(), 1),
+    ]:
+        for result in in_processes(function, tasks, chunk):
+            report.gather(*result)
+    report.judge_gathered()
+    for word, ending, status in [("honest", "out", 0), ("lying", "err", 1)]:
+        report.judge(f"examples/record, {word}", fault_of_record(word, ending, status), None)
+    report.judge("streams that fail", fault_of_streams(), None)
+
+
+# ---- malicious texts
+
+# The texts of each word.
+TEXTS = [("apply", "*.apply"), ("play", "*.play"), ("play", "attacks/*.play"), ("serve", "services/*.serve"), ("serve", "malicious/*.serve"),
+         ("check", "*.check"), ("check", "malicious/*.check")]
+# Of how many bytes of a short text one is cut or changed without `soak`; a text of more bytes than this is treated so as if it had so many.
+STEPS = {"apply": 1, "play": 2, "play --transcript": 16, "serve": 1, "check": 1}
+SHORT = 400
+# In how many ways a byte is changed with `soak`, and how many texts of each word have changes by chance.
+TURNS = 4
+BY_CHANCE, BY_CHANCE_SOAK = 250, 10_000
+
+
+def cut_and_changed(words, text, is_soak):
+    """The text cut and changed, as often as is wanted."""
+    step = 1 if is_soak else STEPS[words] * max(1, len(text) // SHORT)
+    first, turns = len(text) % step, TURNS if is_soak and not text.startswith(b"dsr-transcript") else 1
+    return itertools.chain(cut_at_bytes(text, step, first), with_a_byte_changed(text, turns, step, first))
+
+
+def examples():
+    """The words, the path and the text of each example. Of apply texts with more than a thousand lines it is their beginning and their end."""
+    for words, pattern in TEXTS:
+        for path in inputs.found(pattern):
+            lines = bytes_of(path).splitlines(keepends=True)
+            yield words, path, b"".join(lines if len(lines) < 1000 else lines[:3] + lines[-5:])
+            if words == "play":
+                yield "play --transcript", path, b"".join(lines)
+
+
+def parts_of_examples(is_soak):
+    """The tasks of the examples, and with `soak` those of the transcripts of plays."""
+    paths = inputs.found("*.transcript", "attacks/*.transcript") if is_soak else []
+    for words, path, text in itertools.chain(examples(), (("check", path, bytes_of(path)) for path in paths)):
+        yield from parts_of(f"{words} on {name_of(path)}, cut and changed", cut_and_changed, words, text, is_soak)
+
+
+def changed(chance, text):
+    """The text with some changes by chance."""
+    for _ in range(chance.choice([1, 1, 2, 3])):
+        try:
+            text = by_chance(chance, text)
+        except ValueError:
+            # some changes want a text with a header
+            text = by_byte(chance, text) if text else text
+    return text
+
+
+def nonsense(chance, words):
+    """A text of words and bytes drawn by chance, often after a header."""
+    title = {"play": "dsr-play 1", "play --transcript": "dsr-play 1", "serve": "dsr-serve 1", "check": f"dsr-transcript {chance.choice('12')}"}
+    shape = chance.choice(["1 0 1 -", "3 1 1 r0", "3 1 2 -", "5 2 2 r0+r1", "2 1 1 -", "16 7 32 r9"])
+    header = f"{title[words]} {shape}\n" if words in title and chance.random() < 0.8 else ""
+    tokens = ["r0", "c0", "r16", "c31", "post", "posts", "plant", "plants", "take", "takes", "tell", "asks", "hears", "replies", "ask", "script", "begin", "from",
+              "*", "empty", "round", "0", "1", "1099511627775", "1099511627776", "18446744073709551616", "0/idle/r0", "0/idle/-", "0/c0#1:read:a~c0/r0",
+              "0/idle/r0(0/idle/-)", "seen", "reply", "written", "held", "none", "read", "write", "swap", "remove", "a", "-", "+", "(", ")", "/", "~", ":", ","]
+    lines = [" ".join(chance.choice(tokens) for _ in range(chance.randrange(9))) for _ in range(chance.randrange(6))]
+    text = (header + "".join(f"{line}\n" for line in lines)).encode()
+    return bytes(chance.randrange(256) for _ in range(chance.randrange(40))) if chance.random() < 0.1 else text
+
+
+def texts_by_chance(words, seed, count):
+    """So many texts: examples of these words with changes, and nonsense."""
+    chance, found = random.Random(f"{words} {seed}"), [text for other, _, text in examples() if other == words and 0 < len(text) < 2000]
+    for _ in range(count):
+        yield nonsense(chance, words) if chance.random() < 0.3 else changed(chance, chance.choice(found))
+
+
+def faults_by_chance(task):
+    """The name of a task, how many texts it has, and what is wrong with what the program gives on them."""
+    words, seed, count = task
+    return f"{words}, changes by chance", *faults_of(words, texts_by_chance(words, seed, count))
+
+
+def parts_by_chance(is_soak):
+    for words in STEPS:
+        for seed in range((BY_CHANCE_SOAK if is_soak else BY_CHANCE) // TEXTS_A_TASK or 1):
+            yield words, seed, TEXTS_A_TASK if is_soak else BY_CHANCE
+
+
+# ---- malicious texts at limits
+
+
+def envelopes():
+    """Envelopes with as many parts as are allowed, and with one more."""
+    for most in (32, 33):
+        yield f"{most} chains", f"round 0{' 0/idle/r0' * most}"
+    for most in (16, 17):
+        yield f"{most} signatures", f"round 0 0/idle/{'+'.join(['r0'] * most)}"
+        yield f"{most} signatures that are spelled out", f"round 0 0/idle/{'+'.join(['r0(1/idle/-)'] * most)}"
+        yield f"{most} signers before", f"round 0 0/idle/r0(0/idle/{'+'.join(['c9'] * most)})"
+    for most in (8, 9):
+        requests = [f"c0#{number}:read:a" for number in range(1, most + 1)]
+        yield f"{most} requests", f"round 0 0/{','.join(f'{request}~r0' for request in requests)}/r0"
+        yield f"{most} requests in a statement", f"round 0 0/idle/r0(0/{','.join(requests)}/-)"
+    for number in (2**40 - 1, 2**40):
+        yield f"round {number}", f"round {number}"
+        yield f"slot {number}", f"round 0 {number}/idle/r0"
+        yield f"slot {number} in a statement", f"round 0 0/idle/r0({number}/idle/-)"
+        yield f"request number {number}", f"ask c0#{number}:read:a~r0"
+        yield f"reply to number {number}", f"reply {number} 0 written"
+        yield f"place {number}", f"reply 1 {number} written"
+        yield f"front {number}", f"seen {number}"
+    for value in (2**64 - 1, 2**64):
+        yield f"value {value}", f"reply 1 0 held {value}"
+        yield f"value {value} that is written", f"ask c0#1:write:a:{value}~r0"
+    for length in (32, 33):
+        yield f"a name of {length} bytes", f"ask c0#1:read:{'a' * length}~r0"
+
+
+def lines_at_limits():
+    """Lines of plays and of apply texts at limits, and past them: what each is, its words, and its text."""
+    for most in (8, 9):
+        clients = "+".join(f"c{client}" for client in range(most))
+        yield f"{most} clients of a choice", "play", f"dsr-play 1 1 0 9 -\nposts r0 from {clients}\n"
+    for n, f, m, traitors in [(16, 7, 32, 7), (17, 7, 32, 7), (16, 8, 32, 7), (16, 7, 33, 7), (16, 7, 32, 8)]:
+        shape = f"{n} {f} {m} {'+'.join(f'r{p}' for p in range(traitors))}"
+        for words, title in [("play", "dsr-play 1"), ("serve", "dsr-serve 1"), ("check", "dsr-transcript 1")]:
+            yield f"shape {n} {f} {m} with {traitors} traitors", words, f"{title} {shape}\n"
+    for number in (2**40 - 1, 2**40):
+        yield f"request number {number}", "apply", f"c0 {number} read a\n"
+    for value in (2**64 - 1, 2**64):
+        yield f"value {value}", "apply", f"c0 1 write a {value}\nc0 2 read a\n"
+        yield f"value {value} to be held", "apply", f"c0 1 swap a {value} 1\n"
+    for length in (32, 33):
+        yield f"a name of {length} bytes", "apply", f"c0 1 read {'a' * length}\n"
+
+
+def small_limits():
+    """What is tried, its words, and its text: the traitor posts the envelope in each way in which a text can say so."""
+    for what, envelope in envelopes():
+        yield what, "play", f"dsr-play 1 3 1 1 r0\nplant r0 r1 {envelope}\n"
+        yield what, "play --transcript", f"dsr-play 1 3 1 1 r0\nplants r0 {envelope}\n"
+        yield what, "serve", f"dsr-serve 1 3 1 1 r0\nask c0 read a\nscript r0 0 r1 {envelope}\n"
+        yield what, "check", f"{transcript_rows.TRAITOR_TWO}\nr0 post r1 {envelope}\n"
+    yield from lines_at_limits()
+
+
+def filled(header, line, words, size):
+    """A text of so many bytes: the header, then lines, and a last line or two with longer names; and how many lines these are. `line` gives the line
+    of a number, each of the same length. `words` are those before the name in the last ones."""
+    length, least = len(line(0)), len(words) + 2
+    count, rest = divmod(size - len(header), length)
+    while rest < 2 * least:
+        count, rest = count - 1, rest + length
+    names = [rest // 2, rest - rest // 2]
+    return header + b"".join(map(line, range(count))), count, [b"a" * (size - least + 1) for size in names]
+
+
+def apply_of(size):
+    """Request lines of so many bytes, and what must be answered."""
+    text, count, names = filled(b"", lambda number: b"c0 %07d read a\n" % (number + 1_000_000), b"c0 9999999 read ", size)
+    text += b"".join(b"c0 %d read %s\n" % (9_999_998 + at, name) for at, name in enumerate(names))
+    assert len(text) == size
+    return text, b"".join(b"%d held none\n" % place for place in range(count + 2))
+
+
+def script_of(size):
+    """A script of so many bytes, and the operations that it has. The traitor posts nothing of it that anybody waits for."""
+    header = b"dsr-serve 1 3 1 1 r0\n"
+    text, _, names = filled(header, lambda number: b"script r0 %d r1 empty\n" % (number + 1_000_000), b"ask c0 read ", size)
+    text += b"".join(b"ask c0 read %s\n" % name for name in names)
+    assert len(text) == size
+    return text, [[("read", name.decode()) for name in names]]
+
+
+def fault_of_script(text, asked):
+    """What is wrong with the service of a large script, or None."""
+    return slow_texts.fault_of_served(asked, slow_texts.answered_run(lambda: program("serve", text, SECONDS)))
+
+
+def fault_in_time(words, text, wanted):
+    """How the program's run on a large text differs from the one that is wanted, or None."""
+    return difference(program(words, text, SECONDS), wanted)
+
+
+def large_limits():
+    """What is tried, and what is wrong with it."""
+    text, answers = apply_of(MOST_BYTES)
+    yield f"apply, {MOST_BYTES} bytes", fault_in_time("apply", text, (0, answers, b""))
+    yield "apply, one byte more", fault_in_time("apply", apply_of(MOST_BYTES + 1)[0], UNREAD)
+    text, asked = script_of(MOST_BYTES)
+    yield f"serve, {MOST_BYTES} bytes", fault_of_script(text, asked)
+    for words in ("serve", "serve --transcript"):
+        yield f"{words}, one byte more", fault_in_time(words, script_of(MOST_BYTES + 1)[0], UNREAD)
+    for words in ("apply", "play", "play --transcript", "serve", "serve --transcript", "check"):
+        yield f"{words}, one byte more, which is no text", fault_in_time(words, b"\n" * (MOST_BYTES + 1), UNREAD)
+    most = b"dsr-play 1 10 0 1 -\n" + b"takes *\n" * (MOST_EVENTS // 100)
+    yield f"play --transcript, {MOST_EVENTS} events", fault_in_time("play --transcript", most, (0, b"dsr-transcript 1 10 0 1 -\n", b""))
+    yield "play --transcript, one event more", fault_in_time("play --transcript", most + b"take r0 r0\n", bad_line(MOST_EVENTS // 100 + 2))
+
+
+def malicious(report, is_soak):
+    for function, tasks in [(faults_of_part, parts_of_examples(is_soak)), (faults_by_chance, parts_by_chance(is_soak))]:
+        for result in in_processes(function, tasks):
+            report.gather(*result)
+    for what, words, text in small_limits():
+        count, faults = faults_of(words, [text.encode()])
+        report.gather(f"{words}, limits", count, [f"{what}: {fault}" for fault in faults])
+    report.judge_gathered()
+    report.judge_all(large_limits())
+
+
+# ---- plays at their limits
+
+
+def refused_report(events, first, seen, decided):
+    """The report of a play in which each event was refused, the first one so."""
+    lines = ["done 0", f"refused {events}", f"first 0 {first}"]
+    lines += [f"seen c{client} 0" for client in range(seen)] + [f"decided r{replica} -" for replica in range(decided)]
+    return 0, "".join(f"{line}\n" for line in [*lines, "history 0"]).encode(), b""
+
+
+def text_of_bytes(count):
+    """A play of so many bytes, and how many events it has: posts from a client to a client, which are nobody's part."""
+    header = "dsr-play 1 1 0 2 -\n"
+    full, least = f"post c0 c1 begin read {'a' * 32}\n", "post c0 c1 begin read a\n"
+    lines, rest = divmod(count - len(header), len(full))
+    if rest < len(least):
+        lines, rest = lines - 1, rest + len(full)
+    # What is left is one line with a shorter name, or two lines.
+    last = [rest] if rest <= len(full) else [rest - len(least), len(least)]
+    text = header + full * lines + "".join(f"post c0 c1 begin read {'a' * (size - len(least) + 1)}\n" for size in last)
+    assert len(text) == count
+    return text.encode(), lines + len(last)
+
+
+def takes(shape, lines):
+    """A play of this shape, of so many lines which each let all replicas take from all."""
+    return f"dsr-play 1 {shape}\n".encode() + b"takes *\n" * lines
+
+
+def limits():
+    """What is tried, its text, and how it must end."""
+    text, events = text_of_bytes(MOST_BYTES)
+    yield f"{MOST_BYTES} bytes", text, refused_report(events, "E16 WrongRole", 2, 1)
+    yield "one byte more", text_of_bytes(MOST_BYTES + 1)[0], UNREAD
+    yield "one byte more, which is no play", b"\n" * (MOST_BYTES + 1), UNREAD
+    at_most = takes("10 0 1 -", MOST_EVENTS // 100)
+    yield f"{MOST_EVENTS} events", at_most, refused_report(MOST_EVENTS, "E5 NotDue", 1, 10)
+    yield "one event more", at_most + b"take r0 r0\n", bad_line(MOST_EVENTS // 100 + 2)
+    yield "a hundred events more", at_most + b"takes *\n", bad_line(MOST_EVENTS // 100 + 2)
+    yield "one event more, then a bad line", at_most + b"take r0 r0\n\n", bad_line(MOST_EVENTS // 100 + 2)
+    yield "999,936 events", takes("16 7 1 -", 3_906), refused_report(999_936, "E5 NotDue", 1, 16)
+    yield "256 events more", takes("16 7 1 -", 3_907), bad_line(3_908)
+
+
+def events_of(line, n, loyal):
+    """For how many events this line stands."""
+    word, *rest = line.split(b" ")
+    if rest == [b"*"]:
+        return n * (loyal if word == b"posts" else n)
+    if word in (b"posts", b"plants", b"takes", b"asks", b"hears"):
+        return n
+    return loyal if word == b"replies" else 1
+
+
+def events_in(text):
+    """For how many events the lines of this play stand."""
+    header, *lines = text.split(b"\n")[:-1]
+    n, traitors = int(header.split(b" ")[2]), header.split(b" ")[5]
+    loyal = n - (0 if traitors == b"-" else traitors.count(b"+") + 1)
+    return sum(events_of(line, n, loyal) for line in lines)
+
+
+def fault_of_cut(text, has_bad_shape):
+    """What is wrong with the run on this beginning of a play, or None."""
+    if has_bad_shape and b"\n" in text:
+        return fault_of("play", text, refused("the shape is not allowed"))
+    if not text.endswith(b"\n"):
+        return fault_of("play", text, bad_line(text.count(b"\n") + 1))
+    status, output, errors = ran = program("play", text)
+    lines = output.split(b"\n")
+    if status != 0 or errors or len(lines) < 4 or lines[-1]:
+        return shown(ran)
+    done, refused_events = (int(line.split(b" ")[1]) for line in lines[:2])
+    events = events_in(text)
+    return None if done + refused_events == events else f"{done} done and {refused_events} refused of {events} events"
+
+
+def row_of_cuts(stem):
+    """The name of a play, what is wrong with the runs on its beginnings, or None, and how many they are."""
+    text, has_bad_shape = bytes_of(f"{stem}.play"), bool(bytes_of(f"{stem}.err"))
+    for cut in cut_at_bytes(text):
+        fault = fault_of_cut(cut, has_bad_shape)
+        if fault:
+            return f"{name_of(stem)}.play", f"cut after {len(cut)} bytes: {fault}"
+    return f"{name_of(stem)}.play", None, f", cut in {len(text) + 1} ways"
+
+
+def plays_to_cut():
+    """The plays that are played, and those that are refused for their shape."""
+    return [stem for stem in inputs.plays("*.play") if b"shape" in bytes_of(f"{stem}.err", b"shape")]
+
+
+def failing_streams():
+    """Which stream fails, and how its run differs from what it must be."""
+    text = bytes_of("examples/three-loyal.play")
+    for what, given, stream, path, flags, wanted in [
+        ("standard input is a folder", None, "stdin", TOP, os.O_RDONLY, UNREAD),
+        ("standard input can only be written", None, "stdin", "/dev/null", os.O_WRONLY, UNREAD),
+        ("standard output is full", text, "stdout", "/dev/full", os.O_WRONLY, UNWRITTEN),
+        ("standard output can only be read", text, "stdout", "/dev/null", os.O_RDONLY, UNWRITTEN),
+        ("standard error is full", b"no play", "stderr", "/dev/full", os.O_WRONLY, (1, b"", None)),
+    ]:
+        yield what, difference(with_stream("play", given, stream, path, flags), wanted)
+
+
+def plays(report, _):
+    report.judge_all((what, fault_of("play", text, wanted)) for what, text, wanted in limits())
+    report.judge_some("plays to be cut", in_threads(row_of_cuts, plays_to_cut()))
+    report.judge_all(failing_streams())
+
+
+if __name__ == "__main__":
+    sys.exit(main(__doc__, {"transcripts": transcripts, "malicious": malicious, "plays": plays}, "soak"))
