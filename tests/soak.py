@@ -3,9 +3,9 @@
 
 Runs one after the other, each on all processors, and each with all of what it leaves out otherwise:
 
-- tests/allocations.py soak: each allocation of every word of the program on each example refused in turn;
+- tests/faults.py allocations soak: each allocation of every word of the program on each example refused in turn;
 - tests/texts.py malicious soak: each text of the examples cut at every byte, with each byte changed, and with 10,000 changes by chance for each word;
-- tests/streams.py soak: each read and each write that fails, in each way;
+- tests/faults.py streams soak: each read and each write that fails, in each way;
 - tests/services.py soak: a thousand services in threads, with traitors, gates that stop them, and threads and allocations that are refused;
 - tests/load.py soak: memory of 20,000 rounds, and services of 16 replicas and 32 clients of 100 operations;
 - tests/large_transcripts.py and tests/texts.py plays: texts at the limits of sizes, which ./test runs as they are.
@@ -22,7 +22,7 @@ import time
 
 TOP = os.path.dirname(os.path.dirname(os.path.realpath(__file__)))
 PARTS = {
-    "allocations": ["allocations.py", "soak"], "malicious": ["texts.py", "malicious", "soak"], "streams": ["streams.py", "soak"],
+    "allocations": ["faults.py", "allocations", "soak"], "malicious": ["texts.py", "malicious", "soak"], "streams": ["faults.py", "streams", "soak"],
     "services": ["services.py", "soak"], "load": ["load.py", "soak"], "large_transcripts": ["large_transcripts.py"], "plays": ["texts.py", "plays"],
 }
 COUNTS = re.compile(r"(\d+) passed, (\d+) failed(?:, (\d+) skipped)?")

@@ -1,7 +1,6 @@
 """The built program, how tests run it, and what they say of its runs. A run is a status, a standard output and a standard error."""
 
 import os
-import resource
 import subprocess
 import tempfile
 
@@ -34,6 +33,12 @@ def text_of(path):
         return file.read()
 
 
+def write_bytes(path, written):
+    """Makes these bytes the content of a file, whose path may begin at the top of the repository."""
+    with open(os.path.join(TOP, path), "wb") as file:
+        file.write(written)
+
+
 def name_of(path):
     """The path from the top of the repository."""
     return os.path.relpath(path, TOP)
@@ -51,9 +56,14 @@ def run(command, text=b"", seconds=SECONDS, **more):
     return ran.returncode, ran.stdout, ran.stderr
 
 
+def command_of(words):
+    """The command of the program with these words, which are a list, or one text if each is free of spaces."""
+    return [PROGRAM, *(words.split() if isinstance(words, str) else words)]
+
+
 def program(words, text=b"", seconds=SECONDS, **more):
-    """The run of the program with these words, which are a list, or one text if each is free of spaces."""
-    return run([PROGRAM, *(words.split() if isinstance(words, str) else words)], text, seconds, **more)
+    """The run of the program with these words on this text."""
+    return run(command_of(words), text, seconds, **more)
 
 
 def shown(ran):
@@ -72,9 +82,9 @@ def fault_of(words, text, wanted):
     return difference(program(words, text), wanted)
 
 
-def with_memory(limit):
-    """What gives a process at most so many bytes of memory, if it is called there before the program."""
-    return lambda: resource.setrlimit(resource.RLIMIT_AS, (limit, limit))
+def with_memory(limit, command):
+    """The command with at most so many bytes of memory."""
+    return ["sh", "-c", 'ulimit -v "$0"; exec "$@"', str(limit // 1024), *command]
 
 
 def least_time(words, text, runs, begins=b""):
@@ -85,7 +95,7 @@ def least_time(words, text, runs, begins=b""):
             given.write(text)
             given.seek(0)
             # The time of `timeout` is that of the program too.
-            child = subprocess.Popen(["timeout", str(SECONDS), PROGRAM, *words.split()], stdin=given, stdout=written, env=LARGE_PAGES)
+            child = subprocess.Popen(["timeout", str(SECONDS), *command_of(words)], stdin=given, stdout=written, env=LARGE_PAGES)
             _, status, used = os.wait4(child.pid, 0)
             child.returncode = os.waitstatus_to_exitcode(status)
             written.seek(0)
