@@ -7,8 +7,8 @@ Runs one after the other, each on all processors, and each with all of what it l
 - tests/texts.py malicious soak: each text of the examples cut at every byte, with each byte changed, and with 10,000 changes by chance for each word;
 - tests/faults.py streams soak: each read and each write that fails, in each way;
 - tests/threads.py services soak: a thousand services in threads, with traitors, gates that stop them, and threads and allocations that are refused;
-- tests/load.py soak: memory of 20,000 rounds, and services of 16 replicas and 32 clients of 100 operations;
-- tests/large_transcripts.py and tests/texts.py plays: texts at the limits of sizes, which ./test runs as they are.
+- tests/cost.py load soak: memory of 20,000 rounds, and services of 16 replicas and 32 clients of 100 operations;
+- tests/cost.py transcripts and tests/texts.py plays: texts at the limits of sizes, which ./test runs as they are.
 
 An hour of random tries of the mail is another command, tests/threads.py mail soak. Everything that runs is shown, and at the end how long each part took, and
 its counts. The last line is `N passed, M failed`.
@@ -23,7 +23,7 @@ import time
 TOP = os.path.dirname(os.path.dirname(os.path.realpath(__file__)))
 PARTS = {
     "allocations": ["faults.py", "allocations", "soak"], "malicious": ["texts.py", "malicious", "soak"], "streams": ["faults.py", "streams", "soak"],
-    "services": ["threads.py", "services", "soak"], "load": ["load.py", "soak"], "large_transcripts": ["large_transcripts.py"], "plays": ["texts.py", "plays"],
+    "services": ["threads.py", "services", "soak"], "load": ["cost.py", "load", "soak"], "large_transcripts": ["cost.py", "transcripts"], "plays": ["texts.py", "plays"],
 }
 COUNTS = re.compile(r"(\d+) passed, (\d+) failed(?:, (\d+) skipped)?")
 
