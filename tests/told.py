@@ -1,0 +1,713 @@
+#!/usr/bin/env python3
+"""What is told and shown of the program: tests/told.py, or with the names of some of its parts. With `explanations --write` it writes the explanations in
+examples/why/ anew, and with `pictures --write` the pictures of the attacks.
+
+explanations: what `dsr explain` tells.
+
+1. Each play of examples/, and random plays: the lines of data are those of tests/models/explain_model.py, but for
+   the words in which a reason is put, and for what a replica keeps, holds, drops or does not propose, which the model does not tell. If an
+   event is refused as forged, a signature is named.
+2. Each attack of examples/attacks/: there are lines that name what stopped it: the fault of a chain or what became of it, the slot, and the replica.
+3. Each play of examples/why/, which is wrong in one line: the first refused event is of the line that is named here, and the explanation beside it is
+   what the program writes.
+4. Texts that are no play: the line, the column, and what was expected there; and what is on standard error is what `dsr play` has there.
+5. What is told of requests that are not proposed, of posts that are refused, and at the end, on plays written by hand.
+6. What is told with options is told without them too.
+7. To tell what was refused takes at most three times the processor time of the play. What it takes to tell of all events is printed.
+
+pictures: the pictures of the attacks, and tools/picture.
+
+1. Each play of examples/attacks/: what its explanation says was decided, acted and accepted is what the .out beside it says; the .svg beside it is
+   what tools/picture makes of the explanation, is well formed, asks for nothing from elsewhere, and has less than 60,000 bytes. The page that
+   tools/picture makes has all of its events, and asks for nothing from elsewhere.
+2. Random plays, and a long one of 16 replicas: both pictures are made, and the page has all events.
+3. Texts that are no explanation: tools/picture says which line is none, writes nothing, and ends with status 1.
+
+words: the words of the command line.
+
+1. `dsr --version` prints the version and the toolchain that `rt version` prints, and README.md names that toolchain.
+2. Each list of at most two words of a vocabulary, and 2,000 others drawn by chance, most of them longer, on an empty input: each asks for what
+   a definition written anew says, and a usage fault says so on standard error alone.
+3. Each play of examples/ with `--strict`, alone and with `--transcript` in either order: the same is written as without it, and the status is
+   1 exactly if an event was refused, or that of the refusal.
+4. Each of these plays explained, with some options: the status is 0, or that of the refusal of the play.
+
+samples: the samples of the documents, run.
+
+1. Each `$ COMMAND` with the lines it prints, as README.md, examples/record/README.md and the helps show them, is run by a shell, and
+   must print just that. In the helps `dsr` stands for `./dsr`.
+2. Each block of docs/FORMATS.md whose lines are a request and, after two or more spaces, its answer: the program must answer
+   the requests so.
+3. Each text of code in the first column of docs/FORMATS.md's table of bad lines, if the row says no more about it: the
+   program must refuse it in line 1, as a line and between two good ones.
+4. Each transcript in a block of docs/FORMATS.md: the program must report on it as one of the later blocks that begin with `run` says, in
+   their order. The play there must be reported as the block after it says, and its transcript be the first. The serve script there must be
+   reported as the block says that begins with `accepted`.
+5. Each text of code in the first columns of docs/FORMATS.md's tables of lines that are no steps: right after the header that the table
+   names, the program must find no run, at line 2.
+"""
+
+import fnmatch
+import itertools
+import json
+import os
+import random
+import re
+import sys
+import xml.etree.ElementTree
+
+from kit import inputs
+from kit.inputs import lines_text
+from kit.program import TOP, bytes_of, fault_of, fault_of_building, least_time, name_of, program, run, shown, text_of, write_bytes
+from kit.report import main
+from models import explain_model, histories
+from models.transcript_text import bad_line
+
+
+# ---- explanations
+
+EXPLAINED_PLAYS = 200
+# How many times the processor time of a play it may take to tell what was refused.
+MOST_TIMES = 3
+# Lines that the model does not make.
+BESIDE = ("silence ", "kept ", "hold ", "drop ", "unproposed ")
+# What stops each attack, as patterns of lines of data.
+STOPS = {
+    "chain-of-another-slot": ["chain r1 3 0 * not-in-flight", "chain r1 0 2 * wrong-count", "decide r1 0 0 idle"],
+    "chain-to-one-replica": ["chain r4 0 * first", "chain r2 0 3 * first"],
+    "client-as-signer": ["chain r2 0 3 * no-replica", "decide r2 0 0 idle"],
+    "colluding-traitors": ["chain r2 0 3 * second", "decide r2 0 2 idle", "decide r3 0 2 idle"],
+    "duplicate-request": ["stale r1 c0#1:swap:a:none:1", "stale r2 c0#1:swap:a:none:1"],
+    "equal-lies": ["vote c0 r4 2 3", "accept c0 1 0 *"],
+    "false-front": ["event * take c0 r2 done seen 1099511627775", "no-vote c0 r2 *"],
+    "flood-of-junk": ["chain r0 0 1 * wrong-count", "chain r0 0 1 * wrong-sender", "chain r0 1 0 * not-in-flight"],
+    "forged-signatures": ["event 1 * E8 *", "event 2 * E8 *", "event 4 * E8 *", "chain r1 0 1 * bad-request"],
+    "framed-sender": ["chain r0 0 2 * misfit", "chain r2 0 2 * misfit"],
+    "kept-back-chain": ["event 103 * E8 *", "chain r2 0 3 * wrong-count"],
+    "late-second-value": ["chain r2 0 2 * wrong-count", "chain r2 0 2 * misfit", "chain r2 0 2 * signed-twice"],
+    "lent-keys": ["chain r2 0 1 * second", "decide r2 0 2 idle"],
+    "lying-replies": ["no-vote c0 r2 *"],
+    "made-up-requests": ["chain r1 0 1 * bad-request", "decide r1 0 0 idle"],
+    "misfitting-relay": ["chain r2 0 2 * misfit", "chain r3 0 2 * misfit"],
+    "replayed-request": ["stale r0 c0#1:write:a:5", "stale r2 c1#1:write:a:6"],
+    "signature-of-another-slot": ["chain r0 3 2 * misfit", "chain r2 3 2 * misfit"],
+    "signer-twice": ["chain r2 0 3 * signed-twice"],
+    "silent-traitor": ["event 12 * E7 -", "decide r1 0 0 idle"],
+    "stale-reply": ["no-vote c0 r2 *", "vote c0 r2 *"],
+    "swapped-requests": ["chain r1 0 2 * second", "decide r1 0 2 idle"],
+    "three-of-seven": ["event 296 * E8 *", "chain r3 0 4 * wrong-count", "chain r3 0 4 * signed-twice"],
+    "three-values": ["chain r1 0 2 * one-too-many", "decide r1 0 2 idle"],
+    "two-faced-sender": ["chain r1 0 2 * second", "decide r1 0 2 idle", "decide r2 0 2 idle"],
+    "usurped-slot": ["chain r1 0 1 * wrong-sender"],
+    "wrong-round": ["silence r1 0", "decide r1 0 0 idle"],
+}
+# The wrong line of each play of examples/why/, or the line in which what it lacks is missed first.
+WRONG_LINES = {"forgotten-post": 6, "wrong-senders-choice": 5, "request-not-asked": 3, "signature-of-another-slot": None, "reply-too-early": 8}
+# A text that is no play; the line and the column that are named; and a word of what was expected there.
+NO_PLAYS = [
+    (b"", 1, 1, b"a line feed"),
+    (b"dsr-play 1 3 1 1 -\nposts r0", 2, 9, b"a line feed"),
+    (b"dsr-script 1 3 1 1 -\n", 1, 1, b"dsr-play"),
+    (b"dsr-play 2 3 1 1 -\n", 1, 10, b"version"),
+    (b"dsr-play 1 3 01 1 -\n", 1, 14, b"traitors"),
+    (b"dsr-play 1 3 1 1 r1+r0\n", 1, 18, b"the traitors"),
+    (b"dsr-play 1 3 1 1 -\npst r0 r1\n", 2, 1, b"post, plant"),
+    (b"dsr-play 1 3 1 1 -\nposts *\npost r0 r16\n", 3, 9, b"an actor"),
+    (b"dsr-play 1 3 1 1 -\npost r0 r1 fron c0\n", 2, 12, b"from, begin"),
+    (b"dsr-play 1 3 1 1 -\npost c0 r1 begin wrte a 5\n", 2, 18, b"an operation"),
+    (b"dsr-play 1 3 1 1 -\npost c0 r1 begin write A 5\n", 2, 24, b"name"),
+    (b"dsr-play 1 3 1 1 -\npost c0 r1 begin write a 05\n", 2, 26, b"a value"),
+    (b"dsr-play 1 3 1 1 -\npost c0 r1 begin swap a none\n", 2, 29, b"a value"),
+    (b"dsr-play 1 3 1 1 -\ntake r0 r1 now\n", 2, 12, b"the end of the line"),
+    (b"dsr-play 1 3 1 1 -\ntakes  *\n", 2, 7, b"an actor"),
+    (b"dsr-play 1 3 1 1 -\nhears r0\n", 2, 7, b"a client"),
+    (b"dsr-play 1 3 1 1 r0\nplant r0 r1 emty\n", 2, 13, b"an envelope"),
+    (b"dsr-play 1 3 1 1 r0\nplants r0 round 0 0/idle/r0 0/idl/r0\n", 2, 29, b"a chain"),
+    (b"dsr-play 1 3 1 1 r0\nplants c0 empty\n", 2, 8, b"a replica"),
+]
+# What c0 asks, and each replica takes.
+HELD = ["asks c0 begin write a 5", "hears c0"]
+# All post and take, and so each closes a round; and r0 and r1 reply, which c0 accepts.
+ROUND = ["posts *", "takes *"]
+REPLIES = ["post r0 c0", "take c0 r0", "post r1 c0", "take c0 r1"]
+# Lines of a play of three loyal replicas and one client; ends of lines that are told of it; and what is nowhere.
+SAYINGS = [
+    # r0 keeps c0's ask back; r1 proposes it, so r2 has no reason to.
+    ([*HELD, "posts *", "takes *", "posts r0", "posts r1 from c0", "posts r2", "takes *", "posts *"],
+     ["    r0 proposes nothing in slot 0, though it holds c0#1:write:a:5"], ["r1 proposes nothing", "r2 proposes nothing"]),
+    # All propose nothing, so slot 0 is idle, and none of them has the request in a slot.
+    ([*HELD, "posts *", "takes *", "posts *", "takes *"],
+     ["    r1 proposes nothing in slot 1, though it holds c0#1:write:a:5",
+      "; r1 holds it, and no slot that it decided has it; r2 holds it, and no slot that it decided has it"], ["r2 proposes nothing", "undecided"]),
+    # What acted is no reason to propose.
+    ([*HELD, "posts r0 from c0", "posts r1", "posts r2", "takes *", "posts *", "takes *", "posts *", "takes *", "posts *"],
+     ["    c0#1:write:a:5 acts at r0, at place 0 of the history"], ["proposes nothing"]),
+    # The first refused event is in line 4, and another one follows.
+    ([*HELD, "post r1 r0 from c0", "take r0 r1"],
+     [": r1 posts to r0, to propose what it holds of c0", "refused: 2, the first in line 4; those after it may follow from it"], []),
+    ([*HELD, "post c0 r1 begin swap a none 6"],
+     [": c0 posts to r1, to begin the request swap a none 6", "refused: 1, the first in line 4; those after it may follow from it"], []),
+    (HELD, ["    r2 holds the request c0#1:write:a:5"], ["refused"]),
+    # r1 closes round 0, and posts in round 1, before r2 takes its envelope of round 0.
+    ([*HELD, "posts r0 from c0", "posts r1", "posts r2", "takes r0", "takes r1", "posts r1", "take r2 r0", "take r2 r1"],
+     [": r1 posts to r0: round 1 0/c0#1:write:a:5~c0/r0+r1 1/idle/r1", ": r2 takes from r1: empty"], ["r2 takes from r1: round 1"]),
+    # c0 asks twice more before r2 takes its first ask.
+    (["asks c0 begin write a 5", "take r0 c0", "posts r0 from c0", "posts r1", "posts r2", "takes *", *ROUND, *REPLIES,
+      "post c0 r0 begin write a 6", "take r0 c0", *ROUND, "posts r0 from c0", "posts r1", "posts r2", "takes *", *ROUND, *REPLIES,
+      "post c0 r0 begin write a 7", "take r2 c0"],
+     [": c0 posts to r0: ask c0#3:write:a:7~c0", ": r2 takes from c0: ask c0#1:write:a:5~c0", "    r2 holds the request c0#1:write:a:5"],
+     ["r2 takes from c0: ask c0#3"]),
+]
+
+
+def shared(data):
+    """The lines of data that program and model share, without the words of reasons."""
+    lines = []
+    for line in data.decode().splitlines():
+        if line.startswith("why "):
+            line = "why"
+        elif line.startswith("no-vote "):
+            line = " ".join(line.split(" ")[:3])
+        if not line.startswith(BESIDE):
+            lines.append(line)
+    return lines
+
+
+def fault_of_lines(play):
+    """What is wrong with the data of this play, or None."""
+    status, data, told = program("explain --data", play)
+    if status != 0 or told:
+        return f"status {status}, {told!r}"
+    lines = data.decode().splitlines()
+    for line, why in zip(lines, lines[1:]):
+        if line.startswith("event ") and line.split(" ")[6] == "E8" and not why.startswith("why the signature of "):
+            return f"no signature is named as forged after `{line[:80]}`"
+    found, wanted = shared(data), shared(explain_model.explained(play)[1])
+    if found == wanted:
+        return None
+    at = next((at for at, (one, other) in enumerate(zip(found, wanted)) if one != other), min(len(found), len(wanted)))
+    return f"line {at + 1} of those that are compared is {found[at:at + 1]}, and not {wanted[at:at + 1]}"
+
+
+def plays_of_examples():
+    """The name and the bytes of each play of examples/ that can be read."""
+    for path in inputs.found("**/*.play"):
+        play = bytes_of(path)
+        if program("play", play)[0] == 0:
+            yield inputs.name_in_examples(path), play
+
+
+def fault_of_stops(name, play):
+    """Which pattern of the attack matches no line, or None."""
+    lines = program("explain --data", play)[1].decode().splitlines()
+    for pattern in STOPS.get(name, ["an attack of which nothing is known here"]):
+        if not any(fnmatch.fnmatchcase(line, pattern) for line in lines):
+            return f"no line is `{pattern}`"
+    return None
+
+
+def fault_of_why(name, write):
+    """What is wrong with the explanation of a play of examples/why/, or None."""
+    path = f"examples/why/{name}"
+    play, explained = bytes_of(f"{path}.play"), bytes_of(f"{path}.explained")
+    status, written, told = program("explain", play)
+    if write:
+        write_bytes(f"{path}.explained", written)
+        explained = written
+    if status != 0 or told or written != explained:
+        return "the explanation is another one; tests/told.py explanations --write writes them anew"
+    refused = program("explain --refused", play)[1].split(b",")[0]
+    line = WRONG_LINES.get(name)
+    if line is None:
+        return None if b"not proper (misfit)" in written else "no misfit is named"
+    return None if refused == b"line %d" % line else f"the first refused event is of {refused!r}"
+
+
+def fault_of_no_play(text, line, column, expected):
+    """What is wrong with how a text that is no play is explained, or None."""
+    status, written, told = program("explain", text)
+    if (status, told) != (1, program("play", text)[2]):
+        return f"status {status}, {told!r}"
+    if not written.startswith(b"line %d, column %d: expected " % (line, column)) or expected not in written.split(b"\n")[0]:
+        return f"it says {written.splitlines()[:1]}"
+    return None if written.split(b"\n")[2].index(b"^") == 4 + column - 1 else "the column is not marked"
+
+
+def fault_of_sayings(lines, ends, nowhere):
+    """Which of these ends no line of the explanation has, or what is in it and should not be; or None."""
+    play = lines_text(["dsr-play 1 3 1 1 -", *lines])
+    status, written, told = program("explain", play)
+    if status != 0 or told:
+        return f"status {status}, {told!r}"
+    written = written.decode()
+    for end in ends:
+        if not any(line.endswith(end) for line in written.splitlines()):
+            return f"no line ends with `{end}`"
+    return next((f"it says `{text}`" for text in nowhere if text in written), None)
+
+
+def fault_of_options(play):
+    """Which option makes a line that is not there without it, or None."""
+    whole = set(program("explain", play)[1].splitlines())
+    for options in ("--slot 0", "--slot 1", "--actor r1", "--actor c0", "--refused", "--actor r2 --slot 0"):
+        status, some, told = program(f"explain {options}", play)
+        if status != 0 or told or not set(some.splitlines()) <= whole:
+            return options
+    return None
+
+
+def play_of_many_events():
+    """A play of some 300,000 events, in which each client asks once in a while."""
+    lines = ["dsr-play 1 4 1 2 -"]
+    for number in range(4_000):
+        sender = number % 4
+        if number % 8 == 0:
+            lines += ["asks c0 begin write a 1", "hears c0"]
+        lines += [f"posts r{replica}" + (" from c0" if replica == sender and number % 8 == 0 else "") for replica in range(4)] + ["takes *"]
+        if number % 8 == 7:
+            lines += ["replies c0", "takes c0"]
+    return lines_text(lines)
+
+
+def check_of_time():
+    """What is checked, whether it takes too long to tell what was refused, and what explanations take."""
+    play = play_of_many_events()
+    plain, refused, whole = (least_time(words, play, 3) for words in ("play", "explain --refused", "explain"))
+    if None in (plain, refused, whole):
+        return "the time of an explanation", "the play is not explained"
+    said = f"the play takes {plain:.2f} seconds, its refused events {refused / plain:.1f} times that, all of its events {whole / plain:.1f} times"
+    return "the time of an explanation", said if refused > MOST_TIMES * plain else None, f": {said}"
+
+
+def explanations(report, is_written):
+    chance = random.Random(11)
+    drawn = ((f"random play {number}", inputs.random_play(chance).text()) for number in range(EXPLAINED_PLAYS))
+    for name, play in itertools.chain(plays_of_examples(), drawn):
+        report.judge(f"the data of {name}", fault_of_lines(play), None)
+    for stem in inputs.plays("attacks/*.play"):
+        name, play = os.path.basename(stem), bytes_of(f"{stem}.play")
+        report.judge(f"what stops {name}", fault_of_stops(name, play), None)
+        report.judge(f"the options on {name}", fault_of_options(play), None)
+    for stem in inputs.plays("why/*.play"):
+        report.judge(inputs.name_in_examples(stem), fault_of_why(os.path.basename(stem), is_written), None)
+    for lines, *told in SAYINGS:
+        report.judge(f"what is told of {' | '.join(lines)}", fault_of_sayings(lines, *told), None)
+    for text, *expected in NO_PLAYS:
+        report.judge(f"no play: {text[:60]!r}", fault_of_no_play(text, *expected), None)
+    report.judge(*check_of_time())
+
+
+# ---- pictures
+
+MOST_BYTES_OF_A_PICTURE = 60_000
+PICTURED_PLAYS = 60
+# Where a picture could ask for something.
+ELSEWHERE = re.compile(r"""(?:src|href)\s*=|url\((?!["']?#)|@import|https?://(?!www\.w3\.org/2000/svg")""")
+
+
+def explanation_of(play):
+    """The data lines of this play, as the built program prints them."""
+    return program("explain --data", play)[1]
+
+
+def picture(data, *words):
+    """The run of tools/picture with these words on these data lines."""
+    return run([sys.executable, f"{TOP}/tools/picture", *words], data)
+
+
+def svg_of(data, title):
+    """The SVG of these data lines; a fault's text if there is none."""
+    status, output, errors = picture(data, "--svg", "--title", title)
+    return output if status == 0 and not errors else f"tools/picture --svg ends with status {status}: {errors[:300]!r}"
+
+
+def fault_of_data(data, report):
+    """What an explanation says otherwise than the report of the play, or None."""
+    notes = [line.split(" ") for line in data.decode().splitlines()]
+    events = [words for words in notes if words[0] == "event"]
+    if [sum(words[6] == "done" for words in events), sum(words[6] != "done" for words in events)] != [report["done"], report["refused"]]:
+        return "it has other numbers of events that were done and refused"
+    decided = {replica: [words[4] for words in notes if words[:2] == ["decide", replica]] for replica in report["decided"]}
+    if decided != report["decided"]:
+        return f"it says that {decided} were decided, and not {report['decided']}"
+    for replica in decided:
+        acted = [request for request, _ in histories.acted(decided[replica])]
+        told = [words[2:] for words in notes if words[:2] == ["act", replica]]
+        if told != [[str(place), request] for place, request in enumerate(acted)]:
+            return f"it says that {told} acted at {replica}"
+    accepted = [(words[1], int(words[2]), int(words[3]), " ".join(words[4:])) for words in notes if words[0] == "accept"]
+    return None if sorted(accepted) == sorted(report["accepted"]) else f"it says that {accepted} were accepted, and not {report['accepted']}"
+
+
+def fault_of_svg(svg):
+    """What is wrong with this SVG, or None. A text is a fault itself."""
+    if isinstance(svg, str):
+        return svg
+    try:
+        xml.etree.ElementTree.fromstring(svg)
+    except xml.etree.ElementTree.ParseError as error:
+        return f"the SVG is not well formed: {error}"
+    if len(svg) >= MOST_BYTES_OF_A_PICTURE:
+        return f"the SVG has {len(svg)} bytes"
+    found = ELSEWHERE.search(svg.decode())
+    return f"the SVG asks for {found[0]}" if found else None
+
+
+def fault_of_page(data):
+    """What is wrong with the page of these data lines, or None."""
+    status, output, errors = picture(data, "--title", "a <title>")
+    if status or errors:
+        return f"tools/picture ends with status {status}: {errors[:300]!r}"
+    page = output.decode()
+    code, _, rest = page.partition("const run = ")
+    drawn, _, code_after = rest.partition(";\n")
+    found = ELSEWHERE.search(code + code_after)
+    if found:
+        return f"the page asks for {found[0]}"
+    if "</" in drawn or "<title>a &lt;title&gt;</title>" not in code:
+        return "the page does not escape what stands in it"
+    held, events = json.loads(drawn.replace("<\\!--", "<!--")), data.count(b"\nevent ")
+    if len(held["events"]) != events or sum(last - first + 1 for _, first, last, *_ in held["bands"]) != events:
+        return f"the page has {len(held['events'])} events of {events}"
+    return None
+
+
+def fault_of_attack(stem, is_written):
+    """What is wrong with the explanation and the pictures of an attack, or None. Its picture is written first if it is to be."""
+    name = os.path.basename(stem)
+    data = explanation_of(bytes_of(f"{stem}.play"))
+    report = histories.read_report(bytes_of(f"{stem}.out").decode())
+    svg = svg_of(data, name)
+    fault = (report if isinstance(report, str) else fault_of_data(data, report)) or fault_of_svg(svg)
+    if fault:
+        return fault
+    if is_written:
+        write_bytes(f"{stem}.svg", svg)
+    if bytes_of(f"{stem}.svg") != svg:
+        return "its picture is another, or there is none: tests/told.py pictures --write"
+    return fault_of_page(data)
+
+
+def fault_of_random_plays():
+    """What is wrong with the pictures of random plays, or None."""
+    for seed in range(PICTURED_PLAYS):
+        data = explanation_of(inputs.random_play(random.Random(f"pictures {seed}")).text())
+        fault = fault_of_svg(svg_of(data, f"random {seed}")) or (fault_of_page(data) if seed % 6 == 0 else None)
+        if fault:
+            return f"random play {seed}: {fault}"
+    return None
+
+
+def play_of_sixteen(rounds):
+    """A play of 16 replicas, three of them traitors, which sign two values each in their slots."""
+    loyal, traitors = [r for r in range(16) if r not in (3, 8, 12)], (3, 8, 12)
+    lines = ["dsr-play 1 16 7 4 r3+r8+r12"]
+    lines += [line for c in range(4) for line in (f"asks c{c} begin write k{c} {c}", f"hears c{c}")]
+    for t in range(rounds):
+        lines += [f"posts r{r}" + (f" from c{t % 4}+c{(t + 1) % 4}" if t % 16 == r else "") for r in loyal]
+        for r in traitors:
+            drafts = [f"round {t} {t}/c{c}#1:write:k{c}:{c}~c{c}/r{r}" if t % 16 == r else f"round {t} {t}/idle/r{r}" for c in (t % 4, (t + 1) % 4)]
+            lines += [f"plant r{r} r{q} {drafts[q % 2] if t % 16 == r or q == (t + r) % 16 else 'empty'}" for q in range(16)]
+        lines.append("takes *")
+    return lines_text(lines)
+
+
+def fault_of_long_play():
+    """What is wrong with the pictures of a long play, or None."""
+    data = explanation_of(play_of_sixteen(20))
+    svg = svg_of(data, "sixteen replicas")
+    fault = fault_of_svg(svg) or fault_of_page(data)
+    return fault or (None if b"The run goes on" in svg else "the SVG does not say that the run goes on")
+
+
+HEADER = b"dsr-explain 1 3 1 1 r0\n"
+NO_EXPLANATIONS = [
+    ("an empty text", b""),
+    ("a play", b"dsr-play 1 3 1 1 r0\n"),
+    ("a header that is not ended", HEADER[:-1]),
+    ("a header without a shape", b"dsr-explain 1 3 1\n"),
+    ("a line that is not ended", HEADER + b"event 0 2 post c0 r0 done empty"),
+    ("an event out of its turn", HEADER + b"event 1 2 post c0 r0 done empty\n"),
+    ("a note before any event", HEADER + b"close r1 0\n"),
+    ("a note that is not known", HEADER + b"event 0 2 post c0 r0 done empty\nclosed r1 0\n"),
+    ("a chain with a fate that is not known", HEADER + b"event 0 2 take r1 r0 done round 0 0/idle/r0\nchain r1 0 1 r0 idle third\n"),
+    ("a note with a word too few", HEADER + b"event 0 2 post c0 r0 done empty\ndecide r1 0 1\n"),
+    ("no text", HEADER + b"\xff\n"),
+]
+
+
+def fault_of_none(text):
+    """What is wrong with how tools/picture ends on a text that is no explanation, or None."""
+    status, output, errors = ran = picture(text)
+    return None if (status, output) == (1, b"") and errors.startswith(b"tools/picture: ") else shown(ran)
+
+
+def pictures(report, is_written):
+    stems = inputs.plays("attacks/*.play")
+    for stem in stems:
+        report.judge(name_of(stem), fault_of_attack(stem, is_written))
+    alone = sorted(set(inputs.found("attacks/*.svg")) - {f"{stem}.svg" for stem in stems})
+    report.judge("pictures and attacks", None if stems and not alone else f"{len(stems)} attacks; pictures of none: {alone}")
+    report.judge(f"{PICTURED_PLAYS} random plays", fault_of_random_plays())
+    report.judge("a long play", fault_of_long_play())
+    report.judge_all((name, fault_of_none(text)) for name, text in NO_EXPLANATIONS)
+
+
+# ---- words
+
+VERSION = "1.0.0"
+TITLE = b"dsr keeps a directory of named registers, each free or holding a number.\n"
+TIP = b"\n  tip: to play the play in a file, run `dsr play < FILE`\n"
+VOCABULARY = ["apply", "play", "serve", "check", "explain", "--strict", "--transcript", "--slot", "--actor", "--refused", "--data", "0", "7", "07", "-1",
+              "1099511627775", "1099511627776", "r0", "r15", "r16", "c31", "c32", "r00", "R0", "--slot=7", "--strict=true", "--help", "--help=no", "-h", "-hx",
+              "-x", "-", "--", "--version", "-V", "help", "FILE.play", ""]
+PIECES = {"play": [["--strict"], ["--transcript"]], "serve": [["--transcript"]],
+          "explain": [["--slot", "7"], ["--actor", "r15"], ["--refused"], ["--data"]]}
+OPTIONS = [[], ["--slot", "0"], ["--actor", "r0"], ["--actor", "c31"], ["--refused"], ["--data"],
+           ["--data", "--refused", "--actor", "c0", "--slot", "1"]]
+
+
+def asked_by_other(word):
+    """What a word asks for that is none of those that may be there."""
+    return "help" if word == "--help" or word.startswith("-h") else "unknown"
+
+
+def asked_by_flags(words, flags):
+    """What is asked for after a task's name, where each of the flags may be given once."""
+    for at, word in enumerate(words):
+        if word not in flags or word in words[:at]:
+            return asked_by_other(word)
+    return "task"
+
+
+def is_slot(word):
+    return re.fullmatch(r"0|[1-9][0-9]*", word) is not None and int(word) < 2**40
+
+
+def is_actor(word):
+    return word in [f"r{number}" for number in range(16)] + [f"c{number}" for number in range(32)]
+
+
+def asked_by_options(words):
+    """What is asked for after `explain`."""
+    left, values = {"--slot", "--actor", "--refused", "--data"}, {"--slot": is_slot, "--actor": is_actor}
+    words = list(words)
+    while words:
+        word = words.pop(0)
+        if word not in left:
+            return asked_by_other(word)
+        left.remove(word)
+        if word in values and not (words and values[word](words.pop(0))):
+            return "unknown"
+    return "task"
+
+
+def asked(words):
+    """What is asked for: a task, the version, the help, or nothing that the program knows."""
+    if not words:
+        return "task"
+    first, *rest = words
+    if first in ("apply", "check"):
+        return asked_by_flags(rest, [])
+    if first in ("play", "serve"):
+        return asked_by_flags(rest, ["--strict", "--transcript"] if first == "play" else ["--transcript"])
+    if first == "explain":
+        return asked_by_options(rest)
+    if first == "--version":
+        return "unknown" if rest else "version"
+    return asked_by_other(first)
+
+
+def does(words, ran):
+    """Whether the program's run on an empty input is that of what the words ask for."""
+    status, output, errors = ran
+    kind = asked(words)
+    if kind == "version":
+        return (status, output, errors) == (0, program(["--version"])[1], b"")
+    if kind == "help":
+        return status == 0 and output.startswith(TITLE) and not errors
+    if kind == "unknown":
+        return status == 2 and not output and errors.startswith(b"error: ") and TIP in errors and len(errors) <= 4096
+    if words in ([], ["apply"]):
+        return ran == (0, b"", b"")
+    return status == 1 and errors == bad_line(1)[2] and (not output or words[0] == "explain")
+
+
+def longer_words(count):
+    """A task with some of its flags and options, and often one word more somewhere among them."""
+    chance = random.Random(2026)
+    for _ in range(count):
+        task = chance.choice(["play", "serve", "explain", "explain"])
+        pieces = chance.sample(PIECES[task], chance.randint(0, len(PIECES[task])))
+        words = [task, *itertools.chain.from_iterable(pieces)]
+        if chance.random() < 0.6:
+            words.insert(chance.randint(0, len(words)), chance.choice(VOCABULARY))
+        yield words
+
+
+def fault_of_words(lists):
+    """The first list of words that the program does not do as it asks, or None; and how many there are."""
+    count = 0
+    for words in lists:
+        count += 1
+        ran = program(words)
+        if not does(words, ran):
+            return f"{words} asks for {asked(words)}: {shown(ran)}", count
+    return None, count
+
+
+def fault_of_play(play):
+    """What is wrong with this play, if it is strict or explained, or None."""
+    report, transcript = program("play", play), program("play --transcript", play)
+    refused = report[0] == 0 and int(re.search(rb"^refused (\d+)$", report[1], re.M)[1])
+    for words, plain in [("--strict", report), ("--strict --transcript", transcript), ("--transcript --strict", transcript)]:
+        status, *written = plain
+        fault = fault_of(f"play {words}", play, (1 if status == 0 and refused else status, *written))
+        if fault:
+            return f"play {words}: {fault}"
+    for options in OPTIONS:
+        ran = program(["explain", *options], play)
+        if ran[::2] != report[::2]:
+            return f"explain {' '.join(options)}: {shown(ran)}, and not {shown(report)}"
+    return None
+
+
+def fault_of_version():
+    """What is wrong with the version, or None."""
+    toolchain = run(["rt", "version"])[1].decode().strip()
+    fault = fault_of("--version", b"", (0, f"dsr {VERSION} ({toolchain})\n".encode(), b""))
+    is_named = f"`{toolchain}`" in " ".join(text_of("README.md").split())
+    return fault or (None if is_named else f"README.md does not name {toolchain}")
+
+
+def words(report, _):
+    report.judge("--version", fault_of_version())
+    lists = [(f"{number} words", itertools.product(VOCABULARY, repeat=number)) for number in range(3)]
+    for what, some in [*lists, ("words drawn by chance", longer_words(2_000))]:
+        fault, count = fault_of_words(map(list, some))
+        report.judge(what, fault, f", {count} lists")
+    report.judge_some("plays", ((f"{name_of(stem)}.play", fault_of_play(bytes_of(f"{stem}.play"))) for stem in inputs.plays()))
+
+
+# ---- samples
+
+HELPS = ["--help", "apply --help", "play --help", "serve --help", "check --help"]
+
+
+def output_of(words, text):
+    """The run of the program with these words on a text, whose output is a text too."""
+    status, output, errors = program(words, text.encode())
+    return status, output.decode(), errors.decode()
+
+
+def commands(lines):
+    """Each line `$ COMMAND` with the lines that follow it at the same depth, up to an empty one or the next command."""
+    for at, line in enumerate(lines):
+        shown = re.match(r"( *)\$ (.*)", line)
+        if not shown:
+            continue
+        depth, printed = shown[1], []
+        for after in lines[at + 1:]:
+            if not after.startswith(depth) or not after.strip() or after.startswith(f"{depth}$ ") or after.startswith("```"):
+                break
+            printed.append(after[len(depth):])
+        yield shown[2], "".join(f"{line}\n" for line in printed)
+
+
+def faults_of_commands(text):
+    """The faults of the commands that are shown with what they print, and how many there are. One that is shown with
+    nothing printed is not run."""
+    faults = []
+    shown = [(command, printed) for command, printed in commands(text.split("\n")) if printed]
+    for command, printed in shown:
+        _, output, errors = run(["sh", "-c", re.sub(r"\| dsr\b", "| ./dsr", command)], b"", cwd=TOP)
+        if output + errors != printed.encode():
+            faults.append(f"{command} prints {output + errors!r}, and not {printed!r}")
+    return faults, len(shown)
+
+
+def faults_of_answers(text):
+    blocks = re.findall(r"^```\n(c\d+ \d+ .*?)^```", text, re.M | re.S)
+    faults = []
+    for block in blocks:
+        pairs = [re.split(r" {2,}", line) for line in block.splitlines()]
+        ran = output_of("apply", "".join(f"{request}\n" for request, _ in pairs))
+        wanted = 0, "".join(f"{answer}\n" for _, answer in pairs), ""
+        if ran != wanted:
+            faults.append(f"{pairs[0][0]} ..: {ran}, and not {wanted}")
+    return faults, len(blocks)
+
+
+def bad_lines(text):
+    table = text.split("Bad are, for example:", 1)[1].split("\n## ", 1)[0]
+    for row in re.findall(r"^\| (`.*) \| [^|]* \|$", table, re.M):
+        if re.fullmatch(r"`[^`]*`(, `[^`]*`)*", row):
+            yield from re.findall(r"`([^`]*)`", row)
+
+
+def faults_of_bad_lines(text):
+    faults = []
+    lines = list(bad_lines(text))
+    for line in lines:
+        for before, answered in [("", ""), ("c7 1 read z\n", "0 held none\n")]:
+            ran = output_of("apply", f"{before}{line}\nc7 2 read z\n")
+            wanted = 1, answered, f"dsr: bad text in line {1 + before.count(chr(10))}\n"
+            if ran != wanted:
+                faults.append(f"{line!r}: {ran}, and not {wanted}")
+    return faults, len(lines)
+
+
+def blocks_that_begin(text, begin):
+    """The blocks of the text whose first line begins so."""
+    return re.findall(rf"^```\n({begin}.*?)^```", text, re.M | re.S)
+
+
+def faults_of_transcripts(text):
+    transcripts, reports = blocks_that_begin(text, "dsr-transcript "), blocks_that_begin(text, "run ")
+    plays, outcomes = blocks_that_begin(text, "dsr-play "), blocks_that_begin(text, "done ")
+    scripts, served = blocks_that_begin(text, "dsr-serve "), blocks_that_begin(text, "accepted ")
+    wanted = [("check", transcripts, reports), ("play", plays, outcomes), ("play --transcript", plays, transcripts[:len(plays)]), ("serve", scripts, served)]
+    faults = []
+    for words, inputs, outputs in wanted:
+        if len(inputs) != len(outputs):
+            faults.append(f"there are {len(inputs)} texts for {words}, and {len(outputs)} outputs")
+        for given, written in zip(inputs, outputs):
+            ran = output_of(words, given)
+            if ran != (0, written, ""):
+                faults.append(f"{words} on {given!r}: {ran}, and not {written!r}")
+    return faults, sum(len(inputs) for _, inputs, _ in wanted)
+
+
+def faults_of_steps(text):
+    faults, count = [], 0
+    for header, table in re.findall(r"^\| Line, right after `(dsr-transcript [^`]*)` \|[^\n]*\n(.*?)^$", text, re.M | re.S):
+        for row in re.findall(r"^\| (`[^`]*`(?:, `[^`]*`)*) \| [^|]* \|$", table, re.M):
+            for line in re.findall(r"`([^`]*)`", row):
+                count += 1
+                ran = output_of("check", f"{header}\n{line}\n")
+                if ran != (1, "", "dsr: not a run at line 2\n"):
+                    faults.append(f"{line!r}: {ran}")
+    return faults, count
+
+
+def check_of_samples(name, *parts):
+    """A document, what is wrong with its samples, or None, and what is said of them. Of each kind there must be some."""
+    faults, counts = [fault for part, _ in parts for fault in part], [count for _, count in parts]
+    if 0 in counts:
+        faults.append(f"there are no samples in it ({counts})")
+    return name, "; ".join(faults), f", {sum(counts)} samples"
+
+
+def samples(report, _):
+    report.judge("the program is built", fault_of_building(), None)
+    for path in ("README.md", "examples/record/README.md"):
+        report.judge(*check_of_samples(path, faults_of_commands(text_of(path))))
+    formats = text_of("docs/FORMATS.md")
+    kinds = [faults_of_answers, faults_of_bad_lines, faults_of_transcripts, faults_of_steps]
+    report.judge(*check_of_samples("docs/FORMATS.md", *(faults_of(formats) for faults_of in kinds)))
+    for help_words in HELPS:
+        report.judge(*check_of_samples(f"dsr {help_words}", faults_of_commands(output_of(help_words, "")[1])))
+
+
+if __name__ == "__main__":
+    sys.exit(main(__doc__, {"explanations": explanations, "pictures": pictures, "words": words, "samples": samples}, "--write"))
