@@ -1,8 +1,7 @@
-#!/usr/bin/env python3
-"""Tests of what decides which wrong bodies are tried again, and what counts as refused: tests/edits_test.py, with no arguments.
+"""Tests of what decides which wrong bodies are tried again, and what counts as refused.
 
 A wrong rule there would pass over an edit in silence. The repositories are made up, the toolchain's lines are as it printed them, and no
-prover runs. The last line is `N passed, M failed`.
+prover runs.
 """
 
 import contextlib
@@ -13,12 +12,9 @@ import sys
 import tempfile
 import unittest
 
-sys.dont_write_bytecode = True
-
-import bundles
-import edits
-import refused
-from refused import Outcome, Record, Repository
+from edits import bundles, command
+from edits.record import Edit, Outcome, Record, Repository, key_of, outcomes, read_record, write_record
+from kit.program import text_of
 
 VERSION = "toolchain-1 logic 0123"
 SAID = """\
@@ -63,7 +59,7 @@ class Made(unittest.TestCase):
 
     def sums(self, version=VERSION):
         repository = Repository(self.top, version)
-        return {refused.key_of(edit): repository.sum_of(edit) for edit in repository.edits()[0]}
+        return {key_of(edit): repository.sum_of(edit) for edit in repository.edits()[0]}
 
     def changed_by(self, path, text):
         """The crates whose edits have another sum once this file has this text, or is gone."""
@@ -133,7 +129,7 @@ class Folders(Made):
     def test_all_is_well(self):
         self.write("crates/low/wrong-bodies/notes.md", "only to be read\n")
         found, faults = self.edits()
-        self.assertEqual([refused.key_of(edit) for edit in found], ["high/one.edit", "low/one.edit", "side/one.edit"])
+        self.assertEqual([key_of(edit) for edit in found], ["high/one.edit", "low/one.edit", "side/one.edit"])
         self.assertEqual(faults, [])
 
     def test_an_edit_in_the_other_folder_is_a_fault(self):
@@ -154,8 +150,8 @@ class Folders(Made):
 class Choice(Made):
     def chosen(self, record, *words):
         found = self.edits()[0]
-        sums = {edit: self.sums()[refused.key_of(edit)] for edit in found}
-        return [refused.key_of(edit) for edit in edits.chosen(found, edits.asked_by([*words]), sums, record)]
+        sums = {edit: self.sums()[key_of(edit)] for edit in found}
+        return [key_of(edit) for edit in command.chosen(found, command.asked_by([*words]), sums, record)]
 
     def record(self):
         return {key: Record(value, "src/lib.rt:1:1: it is not proved") for key, value in self.sums().items()}
@@ -191,20 +187,20 @@ class Choice(Made):
 class TheRecord(Made):
     def test_it_is_read_as_it_was_written(self):
         record = {key: Record(value, "src/lib.rt:1:1: it is not proved") for key, value in self.sums().items()}
-        refused.write_record(f"{self.top}/refused.txt", record)
-        self.assertEqual(refused.read_record(f"{self.top}/refused.txt"), record)
+        write_record(f"{self.top}/refused.txt", record)
+        self.assertEqual(read_record(f"{self.top}/refused.txt"), record)
 
     def test_other_lines_are_no_verdict(self):
         self.write("refused.txt", "# low/one.edit\nlow/one.edit\nlow/one.edit refused here\nlow/one.edit " + "0" * 63 + " here\n\n")
-        self.assertEqual(refused.read_record(f"{self.top}/refused.txt"), {})
-        self.assertEqual(refused.read_record(f"{self.top}/none.txt"), {})
+        self.assertEqual(read_record(f"{self.top}/refused.txt"), {})
+        self.assertEqual(read_record(f"{self.top}/none.txt"), {})
 
     def test_only_what_is_refused_is_recorded(self):
         found = self.edits()[0]
         high, low, side = found
-        sums = {edit: refused.key_of(edit) for edit in found}
+        sums = {edit: key_of(edit) for edit in found}
         record = {"low/one.edit": Record("low/one.edit", "here"), "side/one.edit": Record("side/one.edit", "here")}
-        report = edits.Report(sums, record, edits.asked_by([]))
+        report = command.Report(sums, record, command.asked_by([]))
         with contextlib.redirect_stdout(io.StringIO()) as printed:
             report.ended("high", {high: Outcome("here", None)}, 1, True)
             report.ended("low", {low: Outcome(None, "NOT REFUSED")}, 1, True)
@@ -214,19 +210,19 @@ class TheRecord(Made):
         self.assertIn("low/one.edit: FAILED: NOT REFUSED", printed.getvalue())
 
     def test_the_record_loses_what_is_not_refused_or_gone(self):
-        self.addCleanup(setattr, edits, "RECORD", edits.RECORD)
-        edits.RECORD = f"{self.top}/refused.txt"
+        self.addCleanup(setattr, command, "RECORD", command.RECORD)
+        command.RECORD = f"{self.top}/refused.txt"
         sum_of_all = "0" * 64
-        refused.write_record(edits.RECORD, {f"low/{name}.edit": Record(sum_of_all, "here") for name in ("kept", "proved", "gone")})
-        report = edits.Report({}, {}, edits.asked_by(["--record"]))
+        write_record(command.RECORD, {f"low/{name}.edit": Record(sum_of_all, "here") for name in ("kept", "proved", "gone")})
+        report = command.Report({}, {}, command.asked_by(["--record"]))
         report.found = {"low/proved.edit": None, "low/new.edit": Record(sum_of_all, "there")}
         report.write({"low/gone.edit"})
-        self.assertEqual(refused.read_record(edits.RECORD), {"low/kept.edit": Record(sum_of_all, "here"), "low/new.edit": Record(sum_of_all, "there")})
+        self.assertEqual(read_record(command.RECORD), {"low/kept.edit": Record(sum_of_all, "here"), "low/new.edit": Record(sum_of_all, "there")})
 
 
 class WhatTheToolchainSays(unittest.TestCase):
     def setUp(self):
-        self.found = refused.outcomes(SAID)
+        self.found = outcomes(SAID)
 
     def test_all_edits_are_read(self):
         self.assertEqual(len(self.found), 9)
@@ -306,7 +302,7 @@ class Bundles(unittest.TestCase):
     def edit(self, *pairs, file="src/lib.rt"):
         path = f"{self.top}/{len(os.listdir(self.top))}.edit"
         write(path, f"file: {file}\n" + "".join(f"old: {old}\nnew: {new}\n" for old, new in pairs))
-        return refused.Edit("low", os.path.basename(path), path)
+        return Edit("low", os.path.basename(path), path)
 
     def function_of(self, *pairs, **more):
         changes = bundles.changed_lines(self.edit(*pairs, **more), self.top)
@@ -356,10 +352,10 @@ class Bundles(unittest.TestCase):
         os.link(f"{self.top}/src/lib.rt", f"{self.top}/another")
         changes = bundles.changed_lines(self.edit(("self.first + self.second", "1")), self.top)
         self.crate.write(changes)
-        self.assertIn("        1\n", refused.bytes_of(f"{self.top}/src/lib.rt").decode())
-        self.assertEqual(refused.bytes_of(f"{self.top}/another").decode(), SOURCE)
+        self.assertIn("        1\n", text_of(f"{self.top}/src/lib.rt"))
+        self.assertEqual(text_of(f"{self.top}/another"), SOURCE)
         self.crate.restore(changes)
-        self.assertEqual(refused.bytes_of(f"{self.top}/src/lib.rt").decode(), SOURCE)
+        self.assertEqual(text_of(f"{self.top}/src/lib.rt"), SOURCE)
 
     def test_the_recorded_place_is_the_one_that_is_kept(self):
         edit = self.edit(("self.first + self.second", "1"))
@@ -369,7 +365,7 @@ class Bundles(unittest.TestCase):
         bundles_checked, bundles.checked = bundles.checked, lambda crate: ("refused", said)
         self.addCleanup(setattr, bundles, "checked", bundles_checked)
         for recorded, place in ((None, "(`a`)"), ("src/lib.rt:15:9: it is not proved (`b`)", "(`b`)"), ("src/lib.rt:9:9: elsewhere", "(`a`)")):
-            record = {refused.key_of(edit): Record("sum", recorded)} if recorded else {}
+            record = {key_of(edit): Record("sum", recorded)} if recorded else {}
             found = bundles.tried_as_one(self.crate, [edit], changes, functions, record)
             self.assertTrue(found[edit].place.endswith(place), recorded)
 
@@ -386,15 +382,15 @@ class Bundles(unittest.TestCase):
 
 class Batches(unittest.TestCase):
     def batches(self, numbers, lines, processors):
-        made = [refused.Edit(crate, f"{at}.edit", "") for crate, number in numbers.items() for at in range(number)]
-        found = edits.batches_of(made, lines, processors)
+        made = [Edit(crate, f"{at}.edit", "") for crate, number in numbers.items() for at in range(number)]
+        found = command.batches_of(made, lines, processors)
         self.assertEqual(sorted(edit for batch in found for edit in batch.edits), sorted(made))
         self.assertTrue(all(batch.edits and {edit.crate for edit in batch.edits} == {batch.crate} for batch in found))
         self.assertEqual([batch.seconds for batch in found], sorted((batch.seconds for batch in found), reverse=True))
         return {crate: sum(batch.crate == crate for batch in found) for crate in numbers}
 
     def test_none(self):
-        self.assertEqual(edits.batches_of([], {}, 4), [])
+        self.assertEqual(command.batches_of([], {}, 4), [])
 
     def test_one_processor_needs_no_second_copy(self):
         self.assertEqual(self.batches({"low": 40, "high": 40}, {"low": 500, "high": 9000}, 1), {"low": 1, "high": 1})
@@ -412,13 +408,9 @@ class Batches(unittest.TestCase):
         self.assertEqual(self.batches({"high": 90}, {"high": 10000}, 16), {"high": 3})
 
 
-def main():
+def tested():
+    """How many tests passed, and how many failed."""
     tests = unittest.defaultTestLoader.loadTestsFromModule(sys.modules[__name__])
     ran = unittest.TextTestRunner(stream=sys.stdout).run(tests)
     failed = len(ran.failures) + len(ran.errors)
-    print(f"{ran.testsRun - failed} passed, {max(failed, not ran.testsRun)} failed")
-    return 1 if failed or not ran.testsRun else 0
-
-
-if __name__ == "__main__":
-    sys.exit(main())
+    return ran.testsRun - failed, failed

@@ -1,19 +1,17 @@
-"""Copies of the repository in which tests/edits.py tries its edits, and the libraries below them, proved and built."""
+"""Copies of the repository in which edits are tried, and the libraries below them, proved and built."""
 
 import os
 import shutil
 import subprocess
 import sys
 
-TOP = os.path.dirname(os.path.dirname(os.path.realpath(__file__)))
+from edits.record import FOLDER_OF_RT, PARTS
+from kit.program import TOP
+from kit.report import say
+
 sys.path.insert(0, f"{TOP}/tools")
 
 import libraries
-from refused import FOLDER_OF_RT, PARTS
-
-
-def say(text):
-    print(text, flush=True)
 
 
 def link_or_copy(path, to):

@@ -1,5 +1,5 @@
-"""Wrong bodies and the record of their refusals, for tests/edits.py: which edits there are, what the refusal of each rests on, what
-the toolchain says of them, and tests/refused.txt. Nothing here runs a prover.
+"""Wrong bodies and the record of their refusals: which edits there are, what the refusal of each rests on, what the toolchain says of
+them, and tests/refused.txt. Nothing here runs a prover.
 
 The record has a line for each edit that was refused: CRATE/EDIT, a sum, and the place at which it was refused. The sum is a SHA-256
 over all that the refusal rests on: the toolchain's line (`rt version`), HANDLES, of the edit's crate and of each below
@@ -11,6 +11,8 @@ import hashlib
 import os
 import re
 from collections import namedtuple
+
+from kit.program import bytes_of
 
 FOLDER = "wrong-bodies"
 # Where rt itself looks for edits. `rt ci` would try them all, each time, and no record would be kept of them.
@@ -32,11 +34,6 @@ Outcome = namedtuple("Outcome", "place fault")
 
 def key_of(edit):
     return f"{edit.crate}/{edit.name}"
-
-
-def bytes_of(path):
-    with open(path, "rb") as file:
-        return file.read()
 
 
 def digest(parts):
@@ -100,8 +97,7 @@ class Repository:
 
     def sum_of(self, edit):
         """The sum over all that the refusal of this edit rests on."""
-        handles = f"{self.top}/HANDLES"
-        parts = [self.version.encode(), bytes_of(handles) if os.path.exists(handles) else b"none"]
+        parts = [self.version.encode(), bytes_of(f"{self.top}/HANDLES", b"none")]
         for crate in sorted([*self.below(edit.crate), edit.crate]):
             parts += [crate.encode(), self.sum_of_crate(crate).encode()]
         return digest([*parts, bytes_of(edit.path)])
@@ -127,11 +123,10 @@ class Repository:
 def read_record(path):
     """The record, by CRATE/EDIT. What is no line of a record is passed over, so that its edit is tried."""
     found = {}
-    if os.path.exists(path):
-        for line in bytes_of(path).decode(errors="replace").split("\n"):
-            words = line.split(" ", 2)
-            if len(words) == 3 and re.fullmatch(r"[0-9a-f]{64}", words[1]):
-                found[words[0]] = Record(words[1], words[2])
+    for line in bytes_of(path).decode(errors="replace").split("\n"):
+        words = line.split(" ", 2)
+        if len(words) == 3 and re.fullmatch(r"[0-9a-f]{64}", words[1]):
+            found[words[0]] = Record(words[1], words[2])
     return found
 
 

@@ -1,4 +1,4 @@
-"""Several wrong bodies tried by one check, for tests/edits.py.
+"""Several wrong bodies tried by one check.
 
 A function is proved from its own body and from what others promise: the contracts of what it calls, types, definitions and lemmas. So where
 one edit changes the body of one function and another edit that of another, the goals of each function are those that it has with its own edit
@@ -9,7 +9,7 @@ What is not seen in this way says nothing: a function that calls another one of 
 refused in its first bundle gets one more, and then it is tried alone. Alone is tried too what changes anything but the body of one
 function: a contract, a type, a definition, a constant, two functions.
 
-Nothing here decides what an edit is or what is recorded of it; that is tests/refused.py.
+Nothing here decides what an edit is or what is recorded of it; that is record.py.
 """
 
 import os
@@ -17,7 +17,8 @@ import re
 import subprocess
 from collections import namedtuple
 
-from refused import Outcome, key_of, place_of
+from edits.record import Outcome, key_of, place_of
+from kit.program import text_of
 
 MOST_OF_A_BUNDLE = 12
 FUNCTION = re.compile(r"( *)(?:pub(?:\(crate\))? )?(?:const )?(?:unsafe )?(?:extern \"C\" )?fn (\w+)")
@@ -56,9 +57,7 @@ def changed_lines(edit, folder):
     """The lines that an edit changes, by their file and number, with what each becomes; None where it cannot be applied or changes how
     many lines there are."""
     texts, path, old = {}, None, None
-    with open(edit.path, encoding="utf-8") as file:
-        said = file.read().split("\n")
-    for line in said:
+    for line in text_of(edit.path).split("\n"):
         if line.startswith("file: "):
             path = line.removeprefix("file: ").strip()
         elif line.startswith("old: "):
@@ -68,8 +67,7 @@ def changed_lines(edit, folder):
             if path not in texts:
                 if not os.path.isfile(f"{folder}/{path}"):
                     return None
-                with open(f"{folder}/{path}", encoding="utf-8") as file:
-                    texts[path] = [file.read()] * 2
+                texts[path] = [text_of(f"{folder}/{path}")] * 2
             if texts[path][1].count(old) != 1:
                 return None
             texts[path][1] = texts[path][1].replace(old, new)
@@ -98,8 +96,7 @@ class Crate:
         for at, _, names in os.walk(f"{folder}/src"):
             for name in sorted(names):
                 file = os.path.relpath(f"{at}/{name}", folder)
-                with open(f"{folder}/{file}", encoding="utf-8") as source:
-                    self.texts[file] = source.read()
+                self.texts[file] = text_of(f"{folder}/{file}")
                 self.functions += functions_of(file, self.texts[file])
 
     def function_at(self, file, line):

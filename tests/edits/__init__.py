@@ -1,0 +1,1 @@
+"""Wrong bodies that the prover must refuse: what tests/edits.py does."""
