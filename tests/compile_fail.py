@@ -7,8 +7,6 @@ it depends on what is built of the crates below which one is found. The file is 
 `refused_case` in a temporary copy of the crates of its own, and `rt check --only=` looks at it there. That
 compiles it and proves nothing. It must find exactly the errors that are marked. As many are looked at at once as
 there are processors.
-
-The last line is `N passed, M failed`.
 """
 
 import glob
@@ -18,17 +16,14 @@ import shutil
 import subprocess
 import sys
 import tempfile
-from concurrent.futures import ThreadPoolExecutor
 
-TOP = os.path.dirname(os.path.dirname(os.path.realpath(__file__)))
+from kit.program import TOP, name_of, text_of
+from kit.report import in_threads, main
+
 CASES = f"{TOP}/tests/compile-fail"
 USES = re.compile(r"// uses:(.*)\n")
 MARK = re.compile(r"//~ ([\w-]+)(?: or ([\w-]+))?$")
 ERROR = re.compile(r"^src/lib\.rt:(\d+):\d+: error\[([\w-]+)\]", re.M)
-
-
-def say(text):
-    print(text, flush=True)
 
 
 def listed(errors):
@@ -52,18 +47,15 @@ def make_room(room, text, uses):
     if os.path.exists(f"{TOP}/HANDLES"):
         shutil.copy(f"{TOP}/HANDLES", room)
     os.makedirs(f"{room}/crates/refused_case/src")
-    with open(f"{TOP}/crates.txt") as file:
-        crates = file.read()
     with open(f"{room}/crates.txt", "w") as file:
-        file.write(f"{crates}\nrefused_case:{uses}\n")
+        file.write(f"{text_of('crates.txt')}\nrefused_case:{uses}\n")
     with open(f"{room}/crates/refused_case/src/lib.rt", "w") as file:
         file.write(text)
 
 
 def fault_of(path):
     """Why the case fails, or None where it is refused as it must be."""
-    with open(path) as file:
-        text = file.read()
+    text = text_of(path)
     uses = USES.match(text)
     if not uses:
         return "its first line is not '// uses: CRATES'"
@@ -81,20 +73,10 @@ def fault_of(path):
     return f"wanted: {listed(wanted)}; found: {listed(found)}; the check ended with status {run.returncode}:\n{run.stdout}"
 
 
-def main():
+def cases(report, _):
     paths = sorted(glob.glob(f"{CASES}/*.rs"))
-    if not paths:
-        say("there are no programs that must not compile: tests/compile-fail has no case")
-        say("0 passed, 1 failed")
-        return 1
-    passed = failed = 0
-    with ThreadPoolExecutor(os.cpu_count()) as pool:
-        for path, fault in zip(paths, pool.map(fault_of, paths)):
-            passed, failed = passed + (fault is None), failed + (fault is not None)
-            say(f"{os.path.relpath(path, TOP)}: {'refused, as it must be' if fault is None else 'FAILED: ' + fault}")
-    say(f"{passed} passed, {failed} failed")
-    return 1 if failed else 0
+    report.judge_some("programs that must not compile", ((name_of(path), fault, ", refused") for path, fault in zip(paths, in_threads(fault_of, paths))))
 
 
 if __name__ == "__main__":
-    sys.exit(main())
+    sys.exit(main(__doc__, {"cases": cases}, without_program=["cases"]))

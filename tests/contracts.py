@@ -9,7 +9,8 @@ import os
 import re
 from dataclasses import dataclass, field
 
-TOP = os.path.dirname(os.path.dirname(os.path.realpath(__file__)))
+from kit.program import TOP, text_of
+
 IMPORT = re.compile(r"use (Rattle\.[\w.+]+)\.\{(.*?)\}", re.S)
 WORD = re.compile(r"[A-Za-z_][\w-]*")
 SCOPE = re.compile(r"^(?:(impl)|pub trait) ?(.*?) ?\{(\})?$")
@@ -20,8 +21,7 @@ GHOST = re.compile(r"ghost (\w+)\s*=\s*\{")
 
 @functools.cache
 def lines_of(path):
-    with open(path, encoding="utf-8") as file:
-        return file.read().split("\n")
+    return text_of(path).split("\n")
 
 
 def imports_of(text):

@@ -1,8 +1,8 @@
 #!/usr/bin/env python3
 """The tables of docs/tables/, which are generated from the sources: what is promised call by call, law by law, and what must be believed.
 
-tests/reading.py            Compares each table with the sources; the last line is `N passed, M failed`.
-tests/reading.py --write    Writes the tables anew.
+tests/reading.py            Compares each table with the sources.
+tests/reading.py --write    Writes the tables anew first.
 
 crates.md           What each crate is, what it stands on and what it offers.
 calls.md            The contract of each public call: what the line above it says, and the names of its clauses.
@@ -20,7 +20,9 @@ import os
 import re
 import sys
 
-from contracts import TOP, WORD, crates, imports_of, lines_of
+from contracts import WORD, crates, imports_of, lines_of
+from kit.program import TOP, bytes_of, name_of, write_bytes
+from kit.report import main
 
 TABLES = f"{TOP}/docs/tables"
 DEFINITION = re.compile(r"(?:(?:abbrev|unfoldable|data|record|pub) )+([\w-]+)")
@@ -203,49 +205,58 @@ def is_shown(crate):
     return not crate.name.endswith("_tests") and crate.name not in BESIDE_THE_CODE
 
 
-def heading_of(crate):
-    return f"## `{crate.name}`\n\n{crate.says}\n"
+def sections(all_crates, heads, rows_of):
+    """A table of each crate that is shown and has rows, and what `rows_of` gives beside them: first what comes above the table, and at last what comes
+    below it."""
+    for crate in filter(is_shown, all_crates):
+        above, rows, *below = rows_of(crate)
+        if rows:
+            yield f"## `{crate.name}`\n\n{above}{table(heads, rows)}"
+            yield from below
+
+
+def rows_of_calls(crate):
+    """The calls of a crate, and what it has of traits and constants."""
+    calls = [call for call in crate.calls if not call.is_law]
+    yield f"{crate.says}\n\n"
+    yield [f"| `{call.name}` *{os.path.basename(call.path)}* | {cell(call.says)} | {clauses(call.requires, 120)} | {clauses(call.ensures)} |" for call in calls]
+    for trait, (types, members) in sorted(crate.traits.items()):
+        said = f" ({', '.join(f'`{member}`' for member in members)})" if members else ""
+        yield f"`{trait}`{said} of {', '.join(f'`{name}`' for name in dict.fromkeys(types))}.\n"
+    if crate.constants:
+        yield f"Constants: {', '.join(f'`{name}`' for name in crate.constants)}.\n"
 
 
 def calls_table(all_crates):
-    parts = [f"# Public calls and their contracts\n\n{MADE}\nThe second column is what stands above the call. A clause stands with the definitions "
-             "that it names. Beside these clauses each call is proved to be free of overflow and of reads out of range, and to return, unless it "
-             "takes a bound `Wait`. The laws stand in [laws.md](laws.md), how a clause is read in [READING.md](../READING.md).\n"]
-    for crate in filter(is_shown, all_crates):
-        calls = [call for call in crate.calls if not call.is_law]
-        if not calls:
-            continue
-        rows = [f"| `{call.name}` *{os.path.basename(call.path)}* | {cell(call.says)} | {clauses(call.requires, 120)} | {clauses(call.ensures)} |" for call in calls]
-        parts.append(heading_of(crate) + "\n" + table(["Call", "What it does", "Requires", "Ensures"], rows))
-        for trait, (types, members) in sorted(crate.traits.items()):
-            said = f" ({', '.join(f'`{member}`' for member in members)})" if members else ""
-            parts.append(f"`{trait}`{said} of {', '.join(f'`{name}`' for name in dict.fromkeys(types))}.\n")
-        if crate.constants:
-            parts.append(f"Constants: {', '.join(f'`{name}`' for name in crate.constants)}.\n")
-    return "\n".join(parts)
+    head = f"# Public calls and their contracts\n\n{MADE}\nThe second column is what stands above the call. A clause stands with the definitions " \
+        "that it names. Beside these clauses each call is proved to be free of overflow and of reads out of range, and to return, unless it " \
+        "takes a bound `Wait`. The laws stand in [laws.md](laws.md), how a clause is read in [READING.md](../READING.md).\n"
+    texts = sections(all_crates, ["Call", "What it does", "Requires", "Ensures"], rows_of_calls)
+    return "\n".join([head, *texts])
+
+
+def rows_of_laws(crate):
+    yield ""
+    yield [f"| `{law.name}` *{os.path.basename(law.path)}* | {cell(law.says)} | {clauses(law.ensures)} |" for law in crate.calls if law.is_law]
 
 
 def laws_table(all_crates):
-    parts = [f"# Laws\n\n{MADE}\nA law is a public function whose contract is all that matters. The second column is what stands above it. A clause "
-             "stands with the definitions that it names. Laws require nothing but what they say.\n"]
-    for crate in filter(is_shown, all_crates):
-        laws = [call for call in crate.calls if call.is_law]
-        rows = [f"| `{law.name}` *{os.path.basename(law.path)}* | {cell(law.says)} | {clauses(law.ensures)} |" for law in laws]
-        if rows:
-            parts.append(f"## `{crate.name}`\n\n" + table(["Law", "What it says", "Clauses"], rows))
-    return "\n".join(parts)
+    head = f"# Laws\n\n{MADE}\nA law is a public function whose contract is all that matters. The second column is what stands above it. A clause " \
+        "stands with the definitions that it names. Laws require nothing but what they say.\n"
+    return "\n".join([head, *sections(all_crates, ["Law", "What it says", "Clauses"], rows_of_laws)])
+
+
+def rows_of_models(crate):
+    yield ""
+    yield [f"| `{name}` *{os.path.basename(path)}* | " + " | ".join(f"`{cell(text)}`" if text else "" for text in said) + " |"
+           for name, path, *said in crate.models]
 
 
 def models_table(all_crates):
-    parts = [f"# What contracts see of a type\n\n{MADE}\nA value is seen as the second column says, read off its fields by the third. The fourth is the "
-             "invariant that each value keeps, which the prover checks. A public type that stands in no table is seen as it is "
-             "declared, each part by its own model.\n"]
-    for crate in filter(is_shown, all_crates):
-        rows = [f"| `{name}` *{os.path.basename(path)}* | " + " | ".join(f"`{cell(text)}`" if text else "" for text in said) + " |"
-                for name, path, *said in crate.models]
-        if rows:
-            parts.append(f"## `{crate.name}`\n\n" + table(["Type", "Seen as", "View", "Invariant"], rows))
-    return "\n".join(parts)
+    head = f"# What contracts see of a type\n\n{MADE}\nA value is seen as the second column says, read off its fields by the third. The fourth is the " \
+        "invariant that each value keeps, which the prover checks. A public type that stands in no table is seen as it is " \
+        "declared, each part by its own model.\n"
+    return "\n".join([head, *sections(all_crates, ["Type", "Seen as", "View", "Invariant"], rows_of_models)])
 
 
 def crates_table(all_crates):
@@ -309,29 +320,17 @@ def tables():
             "definitions": definitions_table(all_crates), "meanings": meanings_table(all_crates), "wrong-bodies": wrong_bodies_table(all_crates)}
 
 
-def text_in(path):
-    return "\n".join(lines_of(path)) if os.path.exists(path) else ""
-
-
-def main():
+def judged_tables(report, is_written):
     made = tables()
-    if sys.argv[1:] == ["--write"]:
-        os.makedirs(TABLES, exist_ok=True)
-        for name, text in made.items():
-            with open(f"{TABLES}/{name}.md", "w", encoding="utf-8") as file:
-                file.write(text)
-        return 0
-    passed = failed = 0
     for name, text in made.items():
-        right = text_in(f"{TABLES}/{name}.md") == text
-        passed, failed = passed + right, failed + (not right)
-        print(f"docs/tables/{name}.md: {'ok' if right else 'FAILED: it is stale; tests/reading.py --write writes it anew'}")
+        path = f"{TABLES}/{name}.md"
+        if is_written:
+            os.makedirs(TABLES, exist_ok=True)
+            write_bytes(path, text.encode())
+        report.judge(name_of(path), None if bytes_of(path) == text.encode() else "it is stale; tests/reading.py --write writes it anew")
     for path in sorted(set(os.listdir(TABLES)) - {f"{name}.md" for name in made}):
-        failed += 1
-        print(f"docs/tables/{path}: FAILED: nothing makes it")
-    print(f"{passed} passed, {failed} failed")
-    return 1 if failed else 0
+        report.judge(f"docs/tables/{path}", "nothing makes it")
 
 
 if __name__ == "__main__":
-    sys.exit(main())
+    sys.exit(main(__doc__, {"tables": judged_tables}, "--write", without_program=["tables"]))

@@ -3,60 +3,40 @@
 
 Runs one after the other, each on all processors, and each with all of what it leaves out otherwise:
 
-- tests/faults.py allocations soak: each allocation of every word of the program on each example refused in turn;
-- tests/texts.py malicious soak: each text of the examples cut at every byte, with each byte changed, and with 10,000 changes by chance for each word;
-- tests/faults.py streams soak: each read and each write that fails, in each way;
-- tests/threads.py services soak: a thousand services in threads, with traitors, gates that stop them, and threads and allocations that are refused;
-- tests/cost.py load soak: memory of 20,000 rounds, and services of 16 replicas and 32 clients of 100 operations;
-- tests/cost.py transcripts and tests/texts.py plays: texts at the limits of sizes, which ./test runs as they are.
+- allocations of tests/faults.py: each allocation of every word of the program on each example refused in turn;
+- malicious of tests/texts.py: each text of the examples cut at every byte, with each byte changed, and with 10,000 changes by chance for each word;
+- streams of tests/faults.py: each read and each write that fails, in each way;
+- services of tests/threads.py: a thousand services in threads, with traitors, gates that stop them, and threads and allocations that are refused;
+- load of tests/cost.py: memory of 20,000 rounds, and services of 16 replicas and 32 clients of 100 operations;
+- large_transcripts, which is transcripts of tests/cost.py, and plays of tests/texts.py: texts at the limits of sizes, which ./test runs as they are.
 
-An hour of random tries of the mail is another command, tests/threads.py mail soak. Everything that runs is shown, and at the end how long each part took, and
-its counts. The last line is `N passed, M failed`.
+An hour of random tries of the mail is another command, tests/threads.py mail soak. Everything that runs is shown, and after each part how long it took, and
+its counts.
 """
 
-import os
-import re
-import subprocess
 import sys
 import time
 
-TOP = os.path.dirname(os.path.dirname(os.path.realpath(__file__)))
-PARTS = {
-    "allocations": ["faults.py", "allocations", "soak"], "malicious": ["texts.py", "malicious", "soak"], "streams": ["faults.py", "streams", "soak"],
-    "services": ["threads.py", "services", "soak"], "load": ["cost.py", "load", "soak"], "large_transcripts": ["cost.py", "transcripts"], "plays": ["texts.py", "plays"],
-}
-COUNTS = re.compile(r"(\d+) passed, (\d+) failed(?:, (\d+) skipped)?")
+import cost
+import faults
+import texts
+import threads
+from kit.report import main, say
+
+PARTS = {"allocations": faults.allocations, "malicious": texts.malicious, "streams": faults.streams, "services": threads.services, "load": cost.load,
+         "large_transcripts": cost.transcripts, "plays": texts.plays}
 
 
-def run(part):
-    """How many passed and failed of this part, and how many minutes it took. What it writes is shown as it comes."""
-    begun, last = time.monotonic(), ""
-    script, *words = PARTS[part]
-    print(f"== {script} {' '.join(words)}", flush=True)
-    child = subprocess.Popen([sys.executable, "-B", "-u", f"{TOP}/tests/{script}", *words], stdin=subprocess.DEVNULL, stdout=subprocess.PIPE,
-                             stderr=subprocess.STDOUT, text=True, errors="replace")
-    for line in child.stdout:
-        print(line, end="", flush=True)
-        last = line.strip() or last
-    status, counts = child.wait(), COUNTS.fullmatch(last)
-    passed, failed = (int(counts[1]), int(counts[2])) if counts else (0, 1)
-    if status != 0 and failed == 0:
-        failed = 1
-    return passed, failed, (time.monotonic() - begun) / 60
+def timed(name, part):
+    """The part with all of what it leaves out otherwise, and with what it tells of itself at its end."""
+    def run(report, _):
+        begun, passed, failed = time.monotonic(), report.passed, report.failed
+        say(f"== {name}")
+        part(report, True)
+        say(f"-- {name}: {(time.monotonic() - begun) / 60:.1f} minutes, {report.passed - passed} passed, {report.failed - failed} failed")
 
-
-def main(words):
-    if not set(words) <= set(PARTS):
-        print(f"tests/soak.py takes no words but {', '.join(PARTS)}\n0 passed, 1 failed")
-        return 2
-    found = {part: run(part) for part in words or PARTS}
-    print("== minutes of each part, and what passed and failed")
-    for part, (passed, failed, minutes) in found.items():
-        print(f"{part:<20}{minutes:>8.1f}{passed:>8}{failed:>8}")
-    passed, failed = (sum(counts[at] for counts in found.values()) for at in (0, 1))
-    print(f"{passed} passed, {failed} failed")
-    return 1 if failed else 0
+    return run
 
 
 if __name__ == "__main__":
-    sys.exit(main(sys.argv[1:]))
+    sys.exit(main(__doc__, {name: timed(name, part) for name, part in PARTS.items()}))

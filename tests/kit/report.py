@@ -14,7 +14,7 @@ def say(text):
 
 
 class Report:
-    """What passed and failed so far, and what is gathered of checks that are of many texts."""
+    """What passed and failed so far, and what is gathered of checks that are of many runs."""
 
     def __init__(self):
         self.passed = self.failed = self.skipped = 0
@@ -43,17 +43,17 @@ class Report:
             self.judge(what, "there are none")
 
     def gather(self, what, count, faults):
-        """Takes the faults of so many texts. All that is gathered of one name is one check."""
-        texts, found = self.gathered.setdefault(what, [0, []])
-        self.gathered[what][0] = texts + count
-        found.extend(faults)
+        """Takes the faults of so many runs. All that is gathered of one name is one check."""
+        gathered = self.gathered.setdefault(what, [0, []])
+        gathered[0] += count
+        gathered[1] += faults
 
     def judge_gathered(self):
-        """Counts the checks that were gathered, and says how many texts they are of."""
+        """Counts the checks that were gathered, and says how many runs they are of."""
         for what, (count, faults) in self.gathered.items():
             fault = f"in {len(faults)} of {count}: " + "\n".join(faults[:3]) if faults else None
-            self.judge(what, fault, f", {count} texts" if count > 1 else None)
-        say(f"{sum(count for count, _ in self.gathered.values())} texts")
+            self.judge(what, fault, f", {count} runs" if count > 1 else None)
+        say(f"{sum(count for count, _ in self.gathered.values())} runs")
         self.gathered = {}
 
     def add(self, passed, failed, skipped=0):
