@@ -6,7 +6,7 @@ judged by the relation that says which steps may be next.
 """
 
 import functools
-from typing import NamedTuple
+from collections import namedtuple
 
 from models import histories
 from models.transcript_text import (
@@ -17,9 +17,10 @@ from models.transcript_text import (
 ROUNDS = 2**36
 
 
-class Kept(NamedTuple):
-    round: int
-    chain: Chain
+# A chain that is kept, and the round of its slot in which it came.
+Kept = namedtuple("Kept", "round chain")
+# What a client has outstanding, the replies that it notes, and those that it accepted.
+State = namedtuple("State", "outstanding notes accepted")
 
 
 # ---- shapes
@@ -215,12 +216,6 @@ def keeps_replica(shape, me, log, step):
 
 
 # ---- the conduct of a client
-
-
-class State(NamedTuple):
-    outstanding: Signed
-    notes: tuple
-    accepted: tuple
 
 
 def winner(shape, notes):

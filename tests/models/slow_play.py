@@ -381,50 +381,42 @@ class PlayReader(Reader):
         return [("post", a, b, None if at else pick) for at, b in enumerate(self.replicas)]
 
     def events(self):
+        """The events of the whole line."""
         word = self.text.split(" ", 1)[0]
         self.at = len(word)
-        if word in ("posts", "takes") and self.has(" *"):
-            return self.all_of(word)
-        if not hasattr(self, f"line_{word}"):
-            raise Bad
-        return getattr(self, f"line_{word}")()
-
-    def all_of(self, word):
-        if word == "posts":
+        if word == "posts" and self.has(" *"):
             return [event for a in self.loyal for event in self.posts_to_all(a, None)]
-        return [("take", a, b) for a in self.replicas for b in self.replicas]
+        if word == "takes" and self.has(" *"):
+            return [("take", a, b) for a in self.replicas for b in self.replicas]
+        readers = {"posts": self.posts, "asks": self.posts, "plants": self.plants, "takes": self.takes, "hears": self.hears, "replies": self.replies,
+                   **dict.fromkeys(["post", "plant", "take", "tell"], self.one_event)}
+        if word not in readers:
+            raise Bad
+        return readers[word](word)
 
-    def line_post(self):
-        return [("post", self.who(), self.who(), self.pick(("from", "begin")))]
+    def one_event(self, word):
+        a, b = self.who(), self.who()
+        if word == "post":
+            return [(word, a, b, self.pick(("from", "begin")))]
+        return [(word, a, b, self.draft())] if word == "plant" else [(word, a, b)]
 
-    def line_plant(self):
-        return [("plant", self.who(), self.who(), self.draft())]
+    def posts(self, word):
+        kind, words = ("r", ("from",)) if word == "posts" else ("c", ("begin",))
+        return self.posts_to_all(self.who(kind), self.pick(words))
 
-    def line_take(self):
-        return [("take", self.who(), self.who())]
-
-    def line_tell(self):
-        return [("tell", self.who(), self.who())]
-
-    def line_posts(self):
-        return self.posts_to_all(self.who("r"), self.pick(("from",)))
-
-    def line_plants(self):
+    def plants(self, _):
         a, envelope = self.who("r"), self.draft()
         return [("plant", a, b, envelope) for b in self.replicas]
 
-    def line_takes(self):
+    def takes(self, _):
         a = self.who()
         return [("take", a, b) for b in self.replicas]
 
-    def line_asks(self):
-        return self.posts_to_all(self.who("c"), self.pick(("begin",)))
-
-    def line_hears(self):
+    def hears(self, _):
         client = self.who("c")
         return [("take", a, client) for a in self.replicas]
 
-    def line_replies(self):
+    def replies(self, _):
         client = self.who("c")
         return [("post", a, client, None) for a in self.loyal]
 

@@ -7,7 +7,7 @@ is a tuple of signed requests, and a content one of requests; both are empty whe
 
 import functools
 import re
-from typing import NamedTuple
+from collections import namedtuple
 
 MOST_BYTES = 16_777_216
 NUMBERS = 2**40
@@ -25,71 +25,20 @@ OPERANDS = {"read": "n", "write": "nv", "swap": "nov", "remove": "n"}
 ANSWERS = {"held": True, "written": False, "swapped": False, "kept": True, "full": False, "removed": True}
 
 
-class Shape(NamedTuple):
-    n: int
-    f: int
-    m: int
-    traitors: tuple
-
-
-class Request(NamedTuple):
-    client: int
-    number: int
-    op: tuple
-
-
-class Link(NamedTuple):
-    slot: int
-    content: tuple
-    before: tuple
-
-
-class Signature(NamedTuple):
-    signer: tuple
-    statement: tuple
-
-
-class Signed(NamedTuple):
-    request: Request
-    signature: Signature
-
-
-class Chain(NamedTuple):
-    slot: int
-    value: tuple
-    signatures: tuple
-
-
-class Empty(NamedTuple):
-    word: str = "empty"
-
-
-class Round(NamedTuple):
-    round: int
-    chains: tuple
-
-
-class Ask(NamedTuple):
-    ask: Signed
-    word: str = "ask"
-
-
-class Reply(NamedTuple):
-    number: int
-    place: int
-    answer: str
-
-
-class Seen(NamedTuple):
-    front: int
-    word: str = "seen"
-
-
-class Step(NamedTuple):
-    actor: tuple
-    word: str
-    other: tuple
-    envelope: tuple
+# An actor is a kind and a number, and traitors are numbers.
+Shape = namedtuple("Shape", "n f m traitors")
+Request = namedtuple("Request", "client number op")
+Link = namedtuple("Link", "slot content before")
+Signature = namedtuple("Signature", "signer statement")
+Signed = namedtuple("Signed", "request signature")
+Chain = namedtuple("Chain", "slot value signatures")
+# The envelopes: those whose fields could be taken for those of another kind have their word too.
+Empty = namedtuple("Empty", "word", defaults=["empty"])
+Round = namedtuple("Round", "round chains")
+Ask = namedtuple("Ask", "ask word", defaults=["ask"])
+Reply = namedtuple("Reply", "number place answer")
+Seen = namedtuple("Seen", "front word", defaults=["seen"])
+Step = namedtuple("Step", "actor word other envelope")
 
 
 class Bad(Exception):
