@@ -1,30 +1,18 @@
 #!/usr/bin/env python3
 """What long and large texts cost: tests/cost.py, or with the names of some of its parts, and with the word `soak` more load. It needs what `rt ci` built,
-and a C compiler, `cc`.
-
-A call may refuse for want of memory whatever its contract says, and no contract speaks of cost. So here texts are as large as they
+and a C compiler, `cc`. A call may refuse for want of memory whatever its contract says, and no contract speaks of cost. So here texts are as large as they
 can be, and each event is to be done.
 
-sizes: what `dsr play` does with long plays and large values.
+sizes: plays of a million events, and of few, whose whole report is reckoned by tests/kit/long_plays.py. The program has twice the memory that it needed when
+that was measured, so many bytes an event: a program fails that takes room for much before it has use for it. How often a play asks for memory grows
+with its events and no faster, and what grows in one piece is given room by doubling. Ten times as many events cost not much more than ten times the time.
 
-1. Plays of a million events, and of few. One replica serves 32 clients, each of which gets thousands of replies. Sixteen replicas,
-   seven of them traitors, close more than a thousand slots; the traitors give two contents, chains with up to as many signatures as
-   can be, in envelopes with as many chains as can be; and clients tell each other what they have seen. The whole report is
-   reckoned in tests/kit/long_plays.py, by how the play is made and by the definitions of tests/models. The program has twice the memory that it needed
-   when that was measured, so many bytes an event: a program fails that takes room for much before it has use for it.
-2. Allocations, counted: how often a play asks for memory grows with its events and no faster, and what grows in one piece is given
-   room by doubling.
-3. Processor time: ten times as many events cost not much more than ten times the time.
-
-load: memory of many rounds, and large services.
-
-1. Plays of 2,500, 5,000 and 10,000 rounds, with `soak` most of 20,000 too, and the checks of their transcripts: one replica, three, and four of which one is a
-   traitor; rounds in which nothing is asked, and such in which a request is asked for, decided and answered. All events must be done, all transcripts
-   be runs. The most that is on the heap at once, counted, must be flat but for what is kept, which is the same of each round: of twice the rounds the later
-   ones take no more bytes each than the first ones, and a twentieth; and a round takes no more than is written here, which is a tenth more than
-   it took when that was measured.
-2. Services of 16 replicas and 32 clients, each with 25 operations, with `soak` with 100: without traitors, and with seven that tell each other's stories, lie to
-   clients, and would forge. Each must serve all clients, and its report be right by tests/models/slow_texts.py.
+load: plays of 2,500, 5,000 and 10,000 rounds, with `soak` most of 20,000 too, and the checks of their transcripts: one replica, three, and four of which one
+is a traitor; rounds in which nothing is asked, and such in which a request is asked for, decided and answered. The most that is on the heap at once,
+counted, must be flat but for what is kept, which is the same of each round: of twice the rounds the later ones take no more bytes each than the first
+ones, and a twentieth; and a round takes no more than is written here, a tenth more than when that was measured. Then services of 16 replicas and
+32 clients: without traitors, and with seven that tell each other's stories, lie to clients, and would forge. Each must serve all clients, and its
+report be right by tests/models/slow_texts.py.
 
 transcripts: what `dsr check` does with transcripts of 16 MiB of the worst kinds.
 

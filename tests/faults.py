@@ -1,26 +1,18 @@
 #!/usr/bin/env python3
 """Allocations, reads and writes that are refused, each in turn: tests/faults.py, or with the names of some of its parts, and with the word `soak` all of
-them, of which some are left out otherwise. It needs what `rt ci` built, and a C compiler, `cc`.
+them, of which some are left out otherwise. It needs what `rt ci` built, and a C compiler, `cc`. tests/threads.py refuses allocations of services.
 
-allocations: each allocation refused in turn.
+allocations: the built program runs with most of its words on the examples, with its 1st, 2nd, 3rd .. allocation refused, until a run meets no refusal; and
+with all later ones refused too. A run that met a refusal must do all the same what it does with ample memory; or end with status 3, say so on
+standard error, and write nothing on standard output. A play may also be reported whole, with status 3, if one of its events was refused for that. Then the
+report must be, to the byte, that of tests/models/slow_play.py in which this event alone has no memory, so that nothing else was changed; and its
+transcript likewise, on which `dsr check` must report as this model says. If each event of a play is made twice, the transcript must be that of ample memory:
+the event that was refused is done when it is made again. Then the same with so little memory that the system refuses it, on long texts, with more and more
+until all is done. Then the tests of the crates below the command line, one by one: a test that meets a refusal must pass, or end with that error, or with an
+assertion that got that error (`WriteFailed` if what is written goes to memory). One that ends otherwise got a wrong answer in its place. A
+test of a module whose name ends in `_memory` makes each refused call again, and must pass whichever allocation is refused.
 
-1. Runs the built program, with the words `apply`, `play`, `play --transcript`, `check` and some others, on the examples, with its 1st, 2nd, 3rd ..
-   allocation refused, until a run meets no refusal. Of some runs that is each allocation, of the others each of the first ones and then some, with wider
-   and wider steps. A run that met a refusal must do all the same what it does with ample memory; or end with status 3, say so on standard error, and
-   write nothing on standard output. The last one must do what it does with ample memory. A play may also be reported whole, with status 3, if one of its
-   events was refused for that. Then the report must be, to the byte, that of tests/models/slow_play.py in which this event alone has no memory, so that
-   nothing else was changed. The same holds of its transcript, and `dsr check` must report on that as this model says. If each event of the play is made
-   twice, the transcript must be that of ample memory: the event that was refused is done when it is made again.
-2. The same with all later allocations refused too.
-3. The same with so little memory that the system refuses it, on long texts, with more and more until all is done.
-4. The tests of the crates below the command line whose calls can return that memory was refused, one by one, and each allocation in turn. A test that
-   meets a refusal must pass, or end with that error, or with an assertion that got that error (`WriteFailed` if what is written goes to
-   memory). One that ends otherwise got a wrong answer in its place. A test of a module whose name ends in `_memory` makes each refused call again, and
-   must pass whichever allocation is refused.
-
-There is a count for each run of the program, for each of those crates, and for each word of the program. tests/threads.py refuses allocations of services.
-
-streams: reads and writes that fail, with every word of the program, on examples.
+streams: the program runs with every word on examples.
 
 1. The 1st, 2nd, 3rd .. read fails, until a run meets no failure, over reads that move few bytes each, so that there are many: with an input or output
    error, with one for a call that was interrupted, or that would have to wait; all later reads fail too, or none. The program must end with status 1 and
@@ -29,15 +21,11 @@ streams: reads and writes that fail, with every word of the program, on examples
    went out is what the writes before moved: the beginning of what it should give. With no failure all of it goes out.
 3. The reads end early: then the text is what was read, and the program gives what tests/models give for that.
 4. Writes on standard error fail: the status alone tells, and standard output is as it should be.
-5. The system's own: streams that are closed, folders, full files, pipes that nobody reads, or that are left in the middle, whether a signal for that
-   would end the program or not; pipes that give nothing and may not be waited for, and such as are full; input that comes in pieces; a terminal without input,
-   with an end of input, and one that hangs up.
-
-Each run must end within 20 seconds. There is a count for each word and kind of failure.
+5. The system's own: closed streams, folders, full files, pipes that nobody reads, that are left, empty or full, and input in pieces; and terminals.
 
 library: the library for programs in C, and examples/record/check.c, which uses it, are built, and run on texts: transcripts of runs, texts that are
 none, and one with each of its allocations refused in turn. Of each the output and the status must be what is written here. On each text
-tests/c_library.c then sees that calls leave nothing on the heap. There are two counts for each text, and one for the refused allocations.
+tests/c_library.c then sees that calls leave nothing on the heap.
 """
 
 import errno
@@ -706,7 +694,7 @@ def streams(report, is_soak):
     for what, run_it in system_streams():
         fault, count = run_it()
         report.gather(what, count, [fault] if fault else [])
-    report.judge_gathered()
+    report.judge_gathered("streams that fail")
 
 
 # ---- the library for programs in C

@@ -1,15 +1,11 @@
 #!/usr/bin/env python3
 """Random plays, and models that judge what comes of them: tests/random_plays.py, or with the name of one of its parts.
 
-reports: what `dsr play` reports, judged by definitions written anew (tests/models/histories.py).
-
-1. For each n from 1 to 16, with the greatest f and that many silent traitors, and with f = 0: a client's first request is accepted.
-2. 1,000 random plays. Replicas, clients and traitors take their steps in a random order, by random choices; traitors post chains with
-   signatures of their own, with ones that they saw, and with ones that they would have to forge; and some events in between are refused.
-3. The plays of examples/, rows and attacks.
-
-That the steps which were done are a run is what the contract of `World::run` says of them. A definition of runs which nothing meets would be of no
-use: so the accepted replies, the decided requests and the traitors' posts are counted, and none of the counts may be 0.
+reports: what `dsr play` reports, judged by tests/models/histories.py. For each n from 1 to 16, with the greatest f and that many silent traitors, and with
+f = 0: a client's first request is accepted. Then 1,000 random plays, in which traitors post chains with signatures of their own, with ones that they saw,
+and with ones that they would have to forge; and the plays of examples/. That the steps which were done are a run is what the contract of `World::run`
+says of them. A definition of runs which nothing meets would be of no use: so the accepted replies, the decided requests and the traitors' posts are
+counted, and none of the counts may be 0.
 
 models: the two models of transcripts that tests/texts.py goes by, each judged by the other. No program runs.
 

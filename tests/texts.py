@@ -1,38 +1,21 @@
 #!/usr/bin/env python3
-"""Texts for every word of the program: tests/texts.py, or with the names of some of its parts, and with the word `soak` many more texts.
+"""Texts for every word of the program: tests/texts.py, or with the names of some of its parts, and with the word `soak` many more texts. What the
+program gives on a text must be what tests/models give: status, standard output and standard error, to the byte.
 
-transcripts: `dsr play --transcript` and `dsr check`.
+transcripts: what `dsr play --transcript` writes of the plays of examples/, and of 200 random plays with traitors in them; and what `dsr check` says of these
+transcripts, of the texts of tests/transcript_rows.py, and of what examples/record/service.py records of itself. Each transcript is tried with small
+changes too: two neighbouring lines exchanged, a line left out, cut after each line, a byte changed, some cut at every byte; those of random plays with
+changes by chance. Then texts of as many bytes as are allowed, and of more; standard input and output that fail.
 
-1. The texts of tests/transcript_rows.py: `dsr check` says of each what is written there.
-2. Each play of examples/: its transcript is the file beside it, or it is refused as without `--transcript`; and the report of the checker has
-   the accepted replies and the history of the play's own report.
-3. Each of these transcripts, and that of the honest service, with a small change: two neighbouring lines exchanged, a line left out, cut
-   after each line, a byte changed; and some cut at every byte. `dsr check` says what tests/models/slow_check.py does.
-4. 200 random plays, traitors in them: their transcripts are those of tests/models/slow_play.py, and they and some changes of them are
-   checked as before.
-5. examples/record/service.py prints the transcripts beside it, and the checker says of them what is written there.
-6. Texts of as many bytes as are allowed, and of more; standard input and output that fail.
+malicious: each text of examples/ that `apply`, `play`, `serve` or `check` reads, cut at every byte, and with each byte changed: a part of these, with `soak`
+all of them, in several ways, and the transcripts of plays too. Then these texts with changes by chance: bytes left out, lines moved or made twice, words and
+headers exchanged; and texts of nothing but words and bytes drawn by chance. Then texts at each limit and past it: bytes of input, events, chains of an
+envelope, signatures of a chain, signers of a statement, requests of a value, clients of a choice, numbers, values, and names. So nothing is written on
+standard output after a text is refused but the answers of `apply` to the lines before the bad one; and memory never runs out. Of a service it is
+judged whether its report may be. Each run must end within a minute.
 
-malicious: texts that are cut, changed, drawn by chance, and at limits.
-
-1. Each text of examples/ that `apply`, `play`, `serve` or `check` reads, cut at every byte, and with each byte changed: a part of these, with `soak` all of
-   them, and each byte changed in several ways. Of the transcripts of plays the part before this one has some, and this with `soak` each byte, changed in one way.
-2. These texts with changes by chance: bytes left out, lines moved or made twice, words and headers exchanged; and texts of nothing but words and
-   bytes drawn by chance.
-3. Texts at each limit and past it: bytes of input, events, chains of an envelope, signatures of a chain, signers of a statement, requests of a value,
-   clients of a choice, numbers, values, and names.
-
-What the program gives must be what tests/models give: status, standard output and standard error, to the byte. So nothing is written on standard
-output after a text is refused but the answers of `apply` to the lines before the bad one; and memory never runs out. Of a service it is judged whether
-its report may be. Each run must end within a minute.
-
-plays: `dsr play` at its limits.
-
-1. Inputs of as many bytes as are allowed, and of one more; plays of as many events as are allowed, and of one more.
-2. Each play of examples/ cut at every byte. A cut after a line feed gives a play, and so a report in which as many events were done
-   or refused as its lines represent; any other cut gives a bad line, which is the one that was cut. If the header's shape is outside
-   the limits, that is told from the header's line feed on. Nothing is reported of a text that is refused.
-3. Standard input and output that fail.
+plays: inputs of as many bytes as `dsr play` allows, and of one more; plays of as many events as are allowed, and of one more; each play of examples/ cut at
+every byte; standard input and output that fail.
 """
 
 import itertools
@@ -43,8 +26,8 @@ import sys
 import transcript_rows
 from kit import inputs
 from kit.inputs import by_byte, by_chance, cut_at_bytes, with_a_byte_changed
-from kit.program import MOST_BYTES, MOST_EVENTS, TOP, bytes_of, difference, fault_of, fault_of_building, name_of, program, run, shown
-from kit.report import in_processes, in_threads, main
+from kit.program import MOST_BYTES, MOST_EVENTS, TOP, bytes_of, difference, fault_of, fault_of_building, name_of, program, run
+from kit.report import in_processes, main
 from models import slow_check, slow_play, slow_texts
 from models.histories import checked_report
 from models.transcript_text import bad_line, refused
@@ -189,7 +172,7 @@ def transcripts(report, _):
     ]:
         for result in in_processes(function, tasks, chunk):
             report.gather(*result)
-    report.judge_gathered()
+    report.judge_gathered("transcripts")
     for word, ending, status in [("honest", "out", 0), ("lying", "err", 1)]:
         report.judge(f"examples/record, {word}", fault_of_record(word, ending, status), None)
     report.judge("streams that fail", fault_of_streams(), None)
@@ -394,7 +377,7 @@ def malicious(report, is_soak):
     for what, words, text in small_limits():
         count, faults = faults_of(words, [text.encode()])
         report.gather(f"{words}, limits", count, [f"{what}: {fault}" for fault in faults])
-    report.judge_gathered()
+    report.judge_gathered("malicious texts")
     report.judge_all(large_limits())
 
 
@@ -408,18 +391,13 @@ def refused_report(events, first, seen, decided):
     return 0, "".join(f"{line}\n" for line in [*lines, "history 0"]).encode(), b""
 
 
-def text_of_bytes(count):
+def play_of(size):
     """A play of so many bytes, and how many events it has: posts from a client to a client, which are nobody's part."""
-    header = "dsr-play 1 1 0 2 -\n"
-    full, least = f"post c0 c1 begin read {'a' * 32}\n", "post c0 c1 begin read a\n"
-    lines, rest = divmod(count - len(header), len(full))
-    if rest < len(least):
-        lines, rest = lines - 1, rest + len(full)
-    # What is left is one line with a shorter name, or two lines.
-    last = [rest] if rest <= len(full) else [rest - len(least), len(least)]
-    text = header + full * lines + "".join(f"post c0 c1 begin read {'a' * (size - len(least) + 1)}\n" for size in last)
-    assert len(text) == count
-    return text.encode(), lines + len(last)
+    begun = b"post c0 c1 begin read "
+    text, count, names = filled(b"dsr-play 1 1 0 2 -\n", lambda _: begun + b"a" * 32 + b"\n", begun, size)
+    text += b"".join(b"%s%s\n" % (begun, name) for name in names)
+    assert len(text) == size
+    return text, count + len(names)
 
 
 def takes(shape, lines):
@@ -429,9 +407,9 @@ def takes(shape, lines):
 
 def limits():
     """What is tried, its text, and how it must end."""
-    text, events = text_of_bytes(MOST_BYTES)
+    text, events = play_of(MOST_BYTES)
     yield f"{MOST_BYTES} bytes", text, refused_report(events, "E16 WrongRole", 2, 1)
-    yield "one byte more", text_of_bytes(MOST_BYTES + 1)[0], UNREAD
+    yield "one byte more", play_of(MOST_BYTES + 1)[0], UNREAD
     yield "one byte more, which is no play", b"\n" * (MOST_BYTES + 1), UNREAD
     at_most = takes("10 0 1 -", MOST_EVENTS // 100)
     yield f"{MOST_EVENTS} events", at_most, refused_report(MOST_EVENTS, "E5 NotDue", 1, 10)
@@ -442,52 +420,15 @@ def limits():
     yield "256 events more", takes("16 7 1 -", 3_907), bad_line(3_908)
 
 
-def events_of(line, n, loyal):
-    """For how many events this line stands."""
-    word, *rest = line.split(b" ")
-    if rest == [b"*"]:
-        return n * (loyal if word == b"posts" else n)
-    if word in (b"posts", b"plants", b"takes", b"asks", b"hears"):
-        return n
-    return loyal if word == b"replies" else 1
+def all_cuts(_, text):
+    return cut_at_bytes(text)
 
 
-def events_in(text):
-    """For how many events the lines of this play stand."""
-    header, *lines = text.split(b"\n")[:-1]
-    n, traitors = int(header.split(b" ")[2]), header.split(b" ")[5]
-    loyal = n - (0 if traitors == b"-" else traitors.count(b"+") + 1)
-    return sum(events_of(line, n, loyal) for line in lines)
-
-
-def fault_of_cut(text, has_bad_shape):
-    """What is wrong with the run on this beginning of a play, or None."""
-    if has_bad_shape and b"\n" in text:
-        return fault_of("play", text, refused("the shape is not allowed"))
-    if not text.endswith(b"\n"):
-        return fault_of("play", text, bad_line(text.count(b"\n") + 1))
-    status, output, errors = ran = program("play", text)
-    lines = output.split(b"\n")
-    if status != 0 or errors or len(lines) < 4 or lines[-1]:
-        return shown(ran)
-    done, refused_events = (int(line.split(b" ")[1]) for line in lines[:2])
-    events = events_in(text)
-    return None if done + refused_events == events else f"{done} done and {refused_events} refused of {events} events"
-
-
-def row_of_cuts(stem):
-    """The name of a play, what is wrong with the runs on its beginnings, or None, and how many they are."""
-    text, has_bad_shape = bytes_of(f"{stem}.play"), bool(bytes_of(f"{stem}.err"))
-    for cut in cut_at_bytes(text):
-        fault = fault_of_cut(cut, has_bad_shape)
-        if fault:
-            return f"{name_of(stem)}.play", f"cut after {len(cut)} bytes: {fault}"
-    return f"{name_of(stem)}.play", None, f", cut in {len(text) + 1} ways"
-
-
-def plays_to_cut():
-    """The plays that are played, and those that are refused for their shape."""
-    return [stem for stem in inputs.plays("*.play") if b"shape" in bytes_of(f"{stem}.err", b"shape")]
+def parts_of_cuts():
+    """The tasks of the plays that are played, and of those that are refused for their shape, each cut at every byte."""
+    for stem in inputs.plays("*.play"):
+        if b"shape" in bytes_of(f"{stem}.err", b"shape"):
+            yield from parts_of(f"{name_of(stem)}.play, cut", all_cuts, "play", bytes_of(f"{stem}.play"))
 
 
 def failing_streams():
@@ -505,7 +446,9 @@ def failing_streams():
 
 def plays(report, _):
     report.judge_all((what, fault_of("play", text, wanted)) for what, text, wanted in limits())
-    report.judge_some("plays to be cut", in_threads(row_of_cuts, plays_to_cut()))
+    for result in in_processes(faults_of_part, parts_of_cuts()):
+        report.gather(*result)
+    report.judge_gathered("plays to be cut")
     report.judge_all(failing_streams())
 
 

@@ -1,16 +1,11 @@
 #!/usr/bin/env python3
 """Services and mail in threads: tests/threads.py, or with the name of one of its parts, and with the word `soak` much more of it. It needs what `rt ci`
-built. How threads take turns is up to them, so no two runs are alike.
+built, and a C compiler, `cc`. How threads take turns is up to them, so no two runs are alike.
 
 services: 200 services, with `soak` a thousand, by `dsr_own_service`, on scripts with traitors that are silent, that send one replica what they don't send
-another, that lie to clients, and that would forge. Of each is asked:
-
-1. that it ends in time, with status 0, or with 1 if its gate stopped it or a client had no reply before the rounds were used up;
-2. that `dsr check` takes its transcript for a run;
-3. that with status 0 each client accepted as many replies as the script has operations of it, to its requests 1, 2, and so on.
-
-Of all runs together that are not to be stopped at least nine of ten must serve all clients, and of those that are to be, half must be stopped. Some have
-one processor alone.
+another, that lie to clients, and that would forge. Each must end in time, with status 0, or with 1 if its gate stopped it or a client had no reply before the
+rounds were used up; its transcript must be a run; and with status 0 each client accepted replies to its requests 1, 2, and so on, as many as the script has.
+Of those that are not to be stopped at least nine of ten must serve all clients, and of those that are to be, half must be stopped.
 
 Then services of which something is refused, each of which must end within 20 seconds:
 
@@ -20,15 +15,12 @@ Then services of which something is refused, each of which must end within 20 se
    `no memory`, or as `no thread` if the memory was that of a thread, and its transcript is a run, if it has the memory to write one.
 
 The first and the last of these are asked of `dsr serve` and of `dsr serve --transcript` too. Their status is 3 if they say `no memory`, and 1 if they say
-anything else; and the report says of each accepted reply that the client's request is at its place of the history. These need a C compiler, `cc`.
+anything else; and the report says of each accepted reply that the client's request is at its place of the history.
 
 mail: random tries of the mail, by `dsr_mail_tries`, over shapes of all sizes, with `soak` for an hour. Each thread makes random calls at its seats, and
-what came of it is a transcript. Which call succeeds is up to the threads. Of each transcript is asked:
-
-1. that `dsr check` takes it for a run;
-2. what is counted here from its lines alone: what an actor took from another is the first so many envelopes that were posted to it there,
-   so none was lost, none came twice, and none overtook another. And there is no post at a box that is full, or take at one that is empty;
-3. that much was done: in all runs together each actor that there can be posted and took, and each kind of envelope was posted and taken.
+what came of it is a transcript, which must be a run. By its lines alone what an actor took from another is the first so many envelopes that were posted to
+it there, so none was lost, none came twice, and none overtook another; and there is no post at a full box, or take at an empty one. In all runs together
+each actor that there can be posted and took, and each kind of envelope was posted and taken.
 """
 
 import os

@@ -2,49 +2,26 @@
 """What is told and shown of the program: tests/told.py, or with the names of some of its parts. With `explanations --write` it writes the explanations in
 examples/why/ anew, and with `pictures --write` the pictures of the attacks.
 
-explanations: what `dsr explain` tells.
+explanations: what `dsr explain` tells. Of each play of examples/, and of random plays, the lines of data are those of tests/models/explain_model.py, but for
+the words in which a reason is put, and for what a replica keeps, holds, drops or does not propose, which the model does not tell. If an event is refused
+as forged, a signature is named. Of each attack there are lines that name what stopped it. Of each play of examples/why/, which is wrong in one line, the first
+refused event is of that line, and the explanation beside it is what the program writes. Of texts that are no play the line, the column, and what was
+expected there are named. Plays written by hand show what is told of requests that are not proposed, of posts that are refused, and at the end. What is
+told with options is told without them too. To tell what was refused takes at most three times the processor time of the play.
 
-1. Each play of examples/, and random plays: the lines of data are those of tests/models/explain_model.py, but for
-   the words in which a reason is put, and for what a replica keeps, holds, drops or does not propose, which the model does not tell. If an
-   event is refused as forged, a signature is named.
-2. Each attack of examples/attacks/: there are lines that name what stopped it: the fault of a chain or what became of it, the slot, and the replica.
-3. Each play of examples/why/, which is wrong in one line: the first refused event is of the line that is named here, and the explanation beside it is
-   what the program writes.
-4. Texts that are no play: the line, the column, and what was expected there; and what is on standard error is what `dsr play` has there.
-5. What is told of requests that are not proposed, of posts that are refused, and at the end, on plays written by hand.
-6. What is told with options is told without them too.
-7. To tell what was refused takes at most three times the processor time of the play. What it takes to tell of all events is printed.
+pictures: of each attack what its explanation says was decided, acted and accepted is what the .out beside it says; the .svg beside it is what tools/picture
+makes of the explanation, is well formed, asks for nothing from elsewhere, and has less than 60,000 bytes. The page that tools/picture makes has all of its
+events, and asks for nothing from elsewhere. Both are made of random plays too, and of a long one of 16 replicas. Of texts that are no explanation
+tools/picture says which line is none, writes nothing, and ends with status 1.
 
-pictures: the pictures of the attacks, and tools/picture.
+words: `dsr --version` prints the version and the toolchain that `rt version` prints, and README.md names that toolchain. Each list of at most two words of a
+vocabulary, and 2,000 others drawn by chance, most of them longer, ask for what a definition written anew says, and a usage fault says so on standard error
+alone. A strict play writes what it writes otherwise, and its status is 1 exactly if an event was refused, or that of the refusal.
 
-1. Each play of examples/attacks/: what its explanation says was decided, acted and accepted is what the .out beside it says; the .svg beside it is
-   what tools/picture makes of the explanation, is well formed, asks for nothing from elsewhere, and has less than 60,000 bytes. The page that
-   tools/picture makes has all of its events, and asks for nothing from elsewhere.
-2. Random plays, and a long one of 16 replicas: both pictures are made, and the page has all events.
-3. Texts that are no explanation: tools/picture says which line is none, writes nothing, and ends with status 1.
-
-words: the words of the command line.
-
-1. `dsr --version` prints the version and the toolchain that `rt version` prints, and README.md names that toolchain.
-2. Each list of at most two words of a vocabulary, and 2,000 others drawn by chance, most of them longer, on an empty input: each asks for what
-   a definition written anew says, and a usage fault says so on standard error alone.
-3. Each play of examples/ with `--strict`, alone and with `--transcript` in either order: the same is written as without it, and the status is
-   1 exactly if an event was refused, or that of the refusal.
-4. Each of these plays explained, with some options: the status is 0, or that of the refusal of the play.
-
-samples: the samples of the documents, run.
-
-1. Each `$ COMMAND` with the lines it prints, as README.md, examples/record/README.md and the helps show them, is run by a shell, and
-   must print just that. In the helps `dsr` stands for `./dsr`.
-2. Each block of docs/FORMATS.md whose lines are a request and, after two or more spaces, its answer: the program must answer
-   the requests so.
-3. Each text of code in the first column of docs/FORMATS.md's table of bad lines, if the row says no more about it: the
-   program must refuse it in line 1, as a line and between two good ones.
-4. Each transcript in a block of docs/FORMATS.md: the program must report on it as one of the later blocks that begin with `run` says, in
-   their order. The play there must be reported as the block after it says, and its transcript be the first. The serve script there must be
-   reported as the block says that begins with `accepted`.
-5. Each text of code in the first columns of docs/FORMATS.md's tables of lines that are no steps: right after the header that the table
-   names, the program must find no run, at line 2.
+samples: each `$ COMMAND` with the lines it prints, in README.md, examples/record/README.md and the helps, in which `dsr` is `./dsr`, prints just that. Of
+docs/FORMATS.md the requests with their answers, two or more spaces after them; each text of code in the table of bad lines, if the row says no more about it;
+each transcript, play and script with the report that one of the later blocks has, in their order; and each text of code in the first columns of
+the tables of lines that are no steps, right after the header that the table names.
 """
 
 import fnmatch

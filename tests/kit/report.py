@@ -48,12 +48,14 @@ class Report:
         gathered[0] += count
         gathered[1] += faults
 
-    def judge_gathered(self):
-        """Counts the checks that were gathered, and says how many runs they are of."""
+    def judge_gathered(self, whole):
+        """Counts the checks that were gathered, of which there must be some, and says how many runs they are of."""
+        if not self.gathered:
+            self.judge(whole, "there are none")
         for what, (count, faults) in self.gathered.items():
             fault = f"in {len(faults)} of {count}: " + "\n".join(faults[:3]) if faults else None
             self.judge(what, fault, f", {count} runs" if count > 1 else None)
-        say(f"{sum(count for count, _ in self.gathered.values())} runs")
+        say(f"{whole}: {sum(count for count, _ in self.gathered.values())} runs")
         self.gathered = {}
 
     def add(self, passed, failed, skipped=0):
