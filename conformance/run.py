@@ -1,0 +1,272 @@
+#!/usr/bin/env python3
+"""Runs an adapter against the rows: run.py [--group G ..] [--without TAG ..] [--known FILE] [--rows FOLDER] [--seconds N] ADAPTER ..
+
+ADAPTER is a command with its words; it follows `--` if a word of it begins with a dash. It reads lines `row NAME` and `> CALL` on standard
+input, and writes one line `< ANSWER` for each call, or `< skip` if it has no such call; other lines that it writes are ignored. It forgets
+everything at a `row`. It never reads what the rows want.
+
+All rows of a file go to one start of the adapter. If that start ends early, takes longer than N seconds, or writes too little or too much,
+each row of the file goes to a start of its own, so that only the rows at fault fail.
+
+The last line is `N passed, M failed, K skipped`. The status is 0 if no row failed and some row passed. FILE names rows that are known to fail,
+one a line: each of them passes if it fails, and fails if it does not.
+"""
+
+import argparse
+import collections
+import os
+import re
+import selectors
+import shlex
+import signal
+import subprocess
+import sys
+import tempfile
+import time
+
+HERE = os.path.dirname(os.path.realpath(__file__))
+MOST_BYTES = 16 * 2**20
+NAME = re.compile("[a-z0-9]+(-[a-z0-9]+)*")
+
+
+# ---- rows
+
+
+class Row:
+    """A row: its name, its tags, and its calls, each with the answer that is wanted."""
+
+    def __init__(self, name, tags):
+        self.name, self.tags, self.calls = name, tags, []
+
+    def text(self):
+        return "".join([f"row {self.name}\n", *(f"> {call}\n" for call, _ in self.calls)])
+
+
+class BadRows(Exception):
+    """A file of rows is not in the grammar."""
+
+
+def read_line(group, rows, asked, line):
+    """Adds a line to the rows. Returns the call that waits for its answer, or None; `asked` is what it returned for the line before."""
+    kind, _, rest = line.partition(" ")
+    if kind == "<" and asked is not None:
+        rows[-1].calls.append((asked, rest))
+        return None
+    if asked is not None or not rest:
+        raise BadRows
+    if kind == "row":
+        name, *tags = rest.split(" ")
+        if not name.startswith(f"{group}/") or not all(map(NAME.fullmatch, [name.removeprefix(f"{group}/"), *tags])):
+            raise BadRows
+        rows.append(Row(name, tags))
+    elif not rows or kind != ">" and (kind != "note" or rows[-1].calls):
+        raise BadRows
+    return rest if kind == ">" else None
+
+
+def read_rows(path):
+    """Returns the group and the rows of a file."""
+    with open(path, encoding="latin-1", newline="\n") as file:
+        text = file.read()
+    header, *lines = text.removesuffix("\n").split("\n")
+    title, _, group = header.rpartition(" ")
+    if title != "dsr-rows 1" or not NAME.fullmatch(group):
+        raise SystemExit(f"{path}: line 1 is no header of rows")
+    rows, asked = [], None
+    for number, line in enumerate(lines, 2):
+        try:
+            asked = read_line(group, rows, asked, line)
+        except BadRows:
+            raise SystemExit(f"{path}: line {number} is not in the grammar of rows") from None
+    if asked is not None or not all(row.calls for row in rows) or not text.endswith("\n"):
+        raise SystemExit(f"{path}: a call has no answer, a row has no call, or the last line is not ended")
+    return group, rows
+
+
+def all_rows(folder):
+    """Returns the files of the folder, each as its group and its rows; no two rows have one name."""
+    files = [read_rows(os.path.join(folder, name)) for name in sorted(os.listdir(folder)) if name.endswith(".rows")]
+    counts = collections.Counter(row.name for _, rows in files for row in rows)
+    twice = [name for name, count in counts.items() if count > 1]
+    if twice:
+        raise SystemExit(f"{folder}: two rows have one name: {', '.join(twice)}")
+    return files
+
+
+# ---- one start of an adapter
+
+
+def read_to_end(pipe, seconds):
+    """Returns what is written to the pipe, and why reading it was given up, or None."""
+    written, end = bytearray(), time.monotonic() + seconds
+    with selectors.DefaultSelector() as selector:
+        selector.register(pipe, selectors.EVENT_READ)
+        while selector.select(max(0, end - time.monotonic())):
+            found = os.read(pipe.fileno(), 65_536)
+            if not found:
+                return written, None
+            written += found
+            if len(written) > MOST_BYTES:
+                return written, f"it wrote more than {MOST_BYTES} bytes"
+    return written, f"it did not end within {seconds:g} seconds"
+
+
+def ended(adapter, seconds):
+    """Waits for the end of an adapter that writes no more. Returns what is wrong with it, or None."""
+    try:
+        status = adapter.wait(seconds)
+    except subprocess.TimeoutExpired:
+        return f"it wrote no more, and did not end within {seconds:g} seconds"
+    return f"it ended with status {status}" if status else None
+
+
+def stop(adapter):
+    """Stops an adapter that was not waited for, and what it started itself. Until then no other process can have its number."""
+    if adapter.returncode is None:
+        os.killpg(adapter.pid, signal.SIGKILL)
+        adapter.wait()
+
+
+def start(command, rows, errors):
+    """Starts the adapter, with the calls of these rows as its standard input. What it writes on standard error goes to `errors`."""
+    with tempfile.TemporaryFile() as calls:
+        calls.write("".join(row.text() for row in rows).encode("latin-1"))
+        calls.seek(0)
+        try:
+            return subprocess.Popen(command, stdin=calls, stdout=subprocess.PIPE, stderr=errors, start_new_session=True)
+        except OSError as fault:
+            raise SystemExit(f"{shlex.join(command)} does not start: {fault.strerror}") from None
+
+
+def answers_of(command, rows, seconds, errors=None):
+    """Returns the answers of one start of the adapter on these rows, and what is wrong with how it ended, or None."""
+    adapter = start(command, rows, errors)
+    try:
+        with adapter.stdout as pipe:
+            written, fault = read_to_end(pipe, seconds)
+        fault = fault or ended(adapter, seconds)
+    finally:
+        stop(adapter)
+    lines = written.decode("latin-1").split("\n")[:-1]
+    return [line[2:] for line in lines if line.startswith("< ")], fault
+
+
+# ---- what comes of rows
+
+
+class Outcome:
+    """What came of a row: `passed`, `failed` or `skipped`, and in words why it failed."""
+
+    def __init__(self, kind, why=""):
+        self.kind, self.why = kind, why
+
+
+def failed_at(row, place, answered):
+    """Returns the outcome of a row that failed at this call: the calls so far, and what was wanted."""
+    before = [f"    > {call}" for call, _ in row.calls[:place + 1]]
+    return Outcome("failed", "\n".join([*before, f"      wanted    {row.calls[place][1]}", f"      {answered}"]))
+
+
+def judged(row, answers):
+    """Returns the outcome of a row with all its answers: the first that is not as wanted decides."""
+    for place, ((_, wanted), answer) in enumerate(zip(row.calls, answers)):
+        if answer == "skip":
+            return Outcome("skipped")
+        if answer != wanted:
+            return failed_at(row, place, f"answered  {answer}")
+    return Outcome("passed")
+
+
+def alone(command, row, seconds):
+    """Returns the outcome of a row that has a start of the adapter for itself."""
+    answers, fault = answers_of(command, [row], seconds)
+    outcome = judged(row, answers)
+    if outcome.kind == "failed" or fault is None and len(answers) == len(row.calls):
+        return outcome
+    if len(answers) < len(row.calls):
+        return failed_at(row, len(answers), f"no answer: {fault or 'it ended'}")
+    return Outcome("failed", f"      {fault or f'{len(answers)} answers to {len(row.calls)} calls'}")
+
+
+def outcomes(command, rows, seconds):
+    """Yields each row with its outcome."""
+    answers, fault = answers_of(command, rows, seconds, subprocess.DEVNULL) if rows else ([], None)
+    together = fault is None and len(answers) == sum(len(row.calls) for row in rows)
+    for row in rows:
+        count = len(row.calls)
+        yield row, judged(row, answers[:count]) if together else alone(command, row, seconds)
+        answers = answers[count:]
+
+
+def with_known(outcome):
+    """Returns what comes of a row that is known to fail."""
+    if outcome.kind == "failed":
+        return Outcome("passed")
+    return Outcome("failed", "      it is known to fail, and passes") if outcome.kind == "passed" else outcome
+
+
+# ---- the report
+
+
+class Report:
+    """Counts outcomes by their groups, and tells of each row that failed."""
+
+    def __init__(self):
+        self.counts = {}
+
+    def note(self, group, row, outcome):
+        self.counts.setdefault(group, collections.Counter())[outcome.kind] += 1
+        if outcome.kind == "failed":
+            print(f"{row.name}: FAILED\n{outcome.why}", flush=True)
+
+    def summary(self):
+        """Prints a line for each group and one for all. Returns the count of all."""
+        total = sum(self.counts.values(), collections.Counter())
+        width = max(map(len, self.counts), default=0)
+        for group, count in self.counts.items():
+            parts = [f"{count[kind]} {kind}" for kind in ("passed", "failed", "skipped") if count[kind]]
+            print(f"{group:{width}}  {', '.join(parts)}")
+        print(f"{total['passed']} passed, {total['failed']} failed, {total['skipped']} skipped")
+        return total
+
+
+def words():
+    parser = argparse.ArgumentParser(description=__doc__, formatter_class=argparse.RawDescriptionHelpFormatter)
+    parser.add_argument("--group", action="append", metavar="G", help="only rows of this group")
+    parser.add_argument("--without", action="append", metavar="TAG", default=[], help="no rows with this tag")
+    parser.add_argument("--known", type=argparse.FileType(), metavar="FILE", help="rows that are known to fail")
+    parser.add_argument("--rows", metavar="FOLDER", default=os.path.join(HERE, "rows"), help="where the files of rows are")
+    parser.add_argument("--seconds", type=float, metavar="N", default=20, help="how long a start of the adapter may take")
+    parser.add_argument("adapter", nargs="+", metavar="ADAPTER")
+    return parser.parse_args()
+
+
+def chosen(asked):
+    """Yields the group and the rows of each file that is asked for."""
+    for group, rows in asked.files:
+        if not asked.group or group in asked.group:
+            yield group, [row for row in rows if not set(row.tags) & set(asked.without)]
+
+
+def run(asked, known):
+    """Returns the report on all rows that are asked for."""
+    report = Report()
+    for group, rows in chosen(asked):
+        for row, outcome in outcomes(asked.adapter, rows, asked.seconds):
+            report.note(group, row, with_known(outcome) if row.name in known else outcome)
+    return report
+
+
+def main():
+    asked = words()
+    asked.files = all_rows(asked.rows)
+    known = set(asked.known.read().split()) if asked.known else set()
+    unheard = known - {row.name for _, rows in asked.files for row in rows} | set(asked.group or []) - {group for group, _ in asked.files}
+    if unheard:
+        raise SystemExit(f"no row and no group has the name {', '.join(sorted(unheard))}")
+    total = run(asked, known).summary()
+    return 1 if total["failed"] or not total["passed"] else 0
+
+
+if __name__ == "__main__":
+    sys.exit(main())
