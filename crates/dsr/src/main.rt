@@ -1,9 +1,6 @@
 //! The program `dsr`: a directory of named registers, kept by replicas of which some may be traitors.
 #![tactic(auto)]
 
-#[cfg(test)]
-mod tests;
-
 use dsr_cli::{NO_MEMORY, USAGE_FAULT};
 use dsr_names::Outside;
 use std::alloc::AllocError;

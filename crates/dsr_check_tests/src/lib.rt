@@ -1,7 +1,5 @@
-//! The tests of the checker. They stand apart from the code, since a crate with tests is proved twice.
+//! The tests of the judge. They stand apart from the code, since a crate with tests is proved twice.
 #![tactic(auto)]
 
-#[cfg(test)]
-mod checking;
 #[cfg(test)]
 mod judging;
