@@ -26,7 +26,7 @@ import sys
 import transcript_rows
 from kit import inputs
 from kit.inputs import by_byte, by_chance, cut_at_bytes, with_a_byte_changed
-from kit.program import MOST_BYTES, MOST_EVENTS, TOP, bytes_of, difference, fault_of, fault_of_building, name_of, program, run
+from kit.program import MOST_BYTES, MOST_EVENTS, TOP, bytes_of, difference, fault_of, name_of, program, run
 from kit.report import in_processes, main
 from models import slow_check, slow_play, slow_texts
 from models.histories import checked_report
@@ -162,7 +162,6 @@ def faults_of_play(stem):
 
 
 def transcripts(report, _):
-    report.judge("the program is built", fault_of_building(), None)
     for function, tasks, chunk in [
         (faults_of_row, transcript_rows.rows(), 8),
         (faults_of_play, inputs.plays(), 8),

@@ -7,16 +7,13 @@ the words in which a reason is put, and for what a replica keeps, holds, drops o
 as forged, a signature is named. Of each attack there are lines that name what stopped it. Of each play of examples/why/, which is wrong in one line, the first
 refused event is of that line, and the explanation beside it is what the program writes. Of texts that are no play the line, the column, and what was
 expected there are named. Plays written by hand show what is told of requests that are not proposed, of posts that are refused, and at the end. What is
-told with options is told without them too. To tell what was refused takes at most three times the processor time of the play.
+told with options is told without them too; as data, each option leaves just what it is to leave. To tell what was refused takes at most three times the
+processor time of the play.
 
 pictures: of each attack what its explanation says was decided, acted and accepted is what the .out beside it says; the .svg beside it is what tools/picture
 makes of the explanation, is well formed, asks for nothing from elsewhere, and has less than 60,000 bytes. The page that tools/picture makes has all of its
 events, and asks for nothing from elsewhere. Both are made of random plays too, and of a long one of 16 replicas. Of texts that are no explanation
 tools/picture says which line is none, writes nothing, and ends with status 1.
-
-words: `dsr --version` prints the version and the toolchain that `rt version` prints, and README.md names that toolchain. Each list of at most two words of a
-vocabulary, and 2,000 others drawn by chance, most of them longer, ask for what a definition written anew says, and a usage fault says so on standard error
-alone. A strict play writes what it writes otherwise, and its status is 1 exactly if an event was refused, or that of the refusal.
 
 samples: each `$ COMMAND` with the lines it prints, in README.md, examples/record/README.md and the helps, in which `dsr` is `./dsr`, prints just that. Of
 docs/FORMATS.md the requests with their answers, two or more spaces after them; each text of code in the table of bad lines, if the row says no more about it;
@@ -35,10 +32,9 @@ import xml.etree.ElementTree
 
 from kit import inputs
 from kit.inputs import lines_text
-from kit.program import TOP, bytes_of, fault_of, fault_of_building, least_time, name_of, program, run, shown, text_of, write_bytes
+from kit.program import TOP, bytes_of, least_time, name_of, program, run, shown, text_of, write_bytes
 from kit.report import main
 from models import explain_model, histories
-from models.transcript_text import bad_line
 
 
 # ---- explanations
@@ -101,6 +97,11 @@ NO_PLAYS = [
     (b"dsr-play 1 3 1 1 r0\nplant r0 r1 emty\n", 2, 13, b"an envelope"),
     (b"dsr-play 1 3 1 1 r0\nplants r0 round 0 0/idle/r0 0/idl/r0\n", 2, 29, b"a chain"),
     (b"dsr-play 1 3 1 1 r0\nplants c0 empty\n", 2, 8, b"a replica"),
+]
+# Options of which each leaves a part of what is told.
+NARROWING = [
+    {"slot": "0"}, {"slot": "1"}, {"slot": "1099511627775"}, {"actor": "r1"}, {"actor": "c0"}, {"actor": "c31"}, {"refused": True},
+    {"actor": "r2", "slot": "0"}, {"actor": "r1", "refused": True}, {"slot": "0", "actor": "c0", "refused": True},
 ]
 # What c0 asks, and each replica takes.
 HELD = ["asks c0 begin write a 5", "hears c0"]
@@ -223,13 +224,41 @@ def fault_of_sayings(lines, ends, nowhere):
     return next((f"it says `{text}`" for text in nowhere if text in written), None)
 
 
+def with_slots(notes):
+    """Each note of an event, with the slot that it is of, or None. What acts, and what does not, is of the slot that was decided before it."""
+    decided = None
+    for note in notes:
+        word, *rest = note.split(" ")
+        if word == "decide":
+            decided = rest[1]
+        yield note, rest[1] if word in ("chain", "unproposed", "kept", "decide") else decided if word in ("act", "stale") else None
+
+
+def narrowed(lines, slot=None, actor=None, refused=False):
+    """The lines of data that these options leave of all of them."""
+    ends = [line for line in lines if line.startswith("waits ")]
+    starts = [at for at, line in enumerate(lines) if line.startswith("event ")] + [len(lines) - len(ends)]
+    left = lines[:starts[0]]
+    for first, after in zip(starts, starts[1:]):
+        event, notes = lines[first], list(with_slots(lines[first + 1:after]))
+        words = event.split(" ")
+        if (not refused or words[6] != "done") and actor in (None, words[4]) and (slot is None or slot in [of for _, of in notes]):
+            left += [event, *(note for note, of in notes if slot is None or of in (None, slot))]
+    if actor is not None:
+        return left + [end for end in ends if end.split(" ")[1] == actor]
+    return left + (ends if slot is None and not refused else [])
+
+
 def fault_of_options(play):
-    """Which option makes a line that is not there without it, or None."""
-    whole = set(program("explain", play)[1].splitlines())
-    for options in ("--slot 0", "--slot 1", "--actor r1", "--actor c0", "--refused", "--actor r2 --slot 0"):
-        status, some, told = program(f"explain {options}", play)
-        if status != 0 or told or not set(some.splitlines()) <= whole:
-            return options
+    """Which options make a line that is not there without them, or leave other lines of data than they are to leave, or None."""
+    whole, data = (program(words, play)[1].decode().splitlines() for words in ("explain", "explain --data"))
+    for options in NARROWING:
+        words = [word for name, value in options.items() for word in ([f"--{name}"] if value is True else [f"--{name}", value])]
+        for order in (words, ["--data", *words], [*words, "--data"]):
+            status, some, told = program(["explain", *order], play)
+            some = some.decode().splitlines()
+            if status != 0 or told or (some != narrowed(data, **options) if "--data" in order else not set(some) <= set(whole)):
+                return " ".join(order)
     return None
 
 
@@ -430,142 +459,6 @@ def pictures(report, is_written):
     report.judge_all((name, fault_of_none(text)) for name, text in NO_EXPLANATIONS)
 
 
-# ---- words
-
-VERSION = "1.0.0"
-TITLE = b"dsr keeps a directory of named registers, each free or holding a number.\n"
-TIP = b"\n  tip: to play the play in a file, run `dsr play < FILE`\n"
-VOCABULARY = ["apply", "play", "serve", "check", "explain", "--strict", "--transcript", "--slot", "--actor", "--refused", "--data", "0", "7", "07", "-1",
-              "1099511627775", "1099511627776", "r0", "r15", "r16", "c31", "c32", "r00", "R0", "--slot=7", "--strict=true", "--help", "--help=no", "-h", "-hx",
-              "-x", "-", "--", "--version", "-V", "help", "FILE.play", ""]
-PIECES = {"play": [["--strict"], ["--transcript"]], "serve": [["--transcript"]],
-          "explain": [["--slot", "7"], ["--actor", "r15"], ["--refused"], ["--data"]]}
-OPTIONS = [[], ["--slot", "0"], ["--actor", "r0"], ["--actor", "c31"], ["--refused"], ["--data"],
-           ["--data", "--refused", "--actor", "c0", "--slot", "1"]]
-
-
-def asked_by_other(word):
-    """What a word asks for that is none of those that may be there."""
-    return "help" if word == "--help" or word.startswith("-h") else "unknown"
-
-
-def asked_by_flags(words, flags):
-    """What is asked for after a task's name, where each of the flags may be given once."""
-    for at, word in enumerate(words):
-        if word not in flags or word in words[:at]:
-            return asked_by_other(word)
-    return "task"
-
-
-def is_slot(word):
-    return re.fullmatch(r"0|[1-9][0-9]*", word) is not None and int(word) < 2**40
-
-
-def is_actor(word):
-    return word in [f"r{number}" for number in range(16)] + [f"c{number}" for number in range(32)]
-
-
-def asked_by_options(words):
-    """What is asked for after `explain`."""
-    left, values = {"--slot", "--actor", "--refused", "--data"}, {"--slot": is_slot, "--actor": is_actor}
-    words = list(words)
-    while words:
-        word = words.pop(0)
-        if word not in left:
-            return asked_by_other(word)
-        left.remove(word)
-        if word in values and not (words and values[word](words.pop(0))):
-            return "unknown"
-    return "task"
-
-
-def asked(words):
-    """What is asked for: a task, the version, the help, or nothing that the program knows."""
-    if not words:
-        return "task"
-    first, *rest = words
-    if first in ("apply", "check"):
-        return asked_by_flags(rest, [])
-    if first in ("play", "serve"):
-        return asked_by_flags(rest, ["--strict", "--transcript"] if first == "play" else ["--transcript"])
-    if first == "explain":
-        return asked_by_options(rest)
-    if first == "--version":
-        return "unknown" if rest else "version"
-    return asked_by_other(first)
-
-
-def does(words, ran):
-    """Whether the program's run on an empty input is that of what the words ask for."""
-    status, output, errors = ran
-    kind = asked(words)
-    if kind == "version":
-        return (status, output, errors) == (0, program(["--version"])[1], b"")
-    if kind == "help":
-        return status == 0 and output.startswith(TITLE) and not errors
-    if kind == "unknown":
-        return status == 2 and not output and errors.startswith(b"error: ") and TIP in errors and len(errors) <= 4096
-    if words in ([], ["apply"]):
-        return ran == (0, b"", b"")
-    return status == 1 and errors == bad_line(1)[2] and (not output or words[0] == "explain")
-
-
-def longer_words(count):
-    """A task with some of its flags and options, and often one word more somewhere among them."""
-    chance = random.Random(2026)
-    for _ in range(count):
-        task = chance.choice(["play", "serve", "explain", "explain"])
-        pieces = chance.sample(PIECES[task], chance.randint(0, len(PIECES[task])))
-        words = [task, *itertools.chain.from_iterable(pieces)]
-        if chance.random() < 0.6:
-            words.insert(chance.randint(0, len(words)), chance.choice(VOCABULARY))
-        yield words
-
-
-def fault_of_words(lists):
-    """The first list of words that the program does not do as it asks, or None; and how many there are."""
-    count = 0
-    for words in lists:
-        count += 1
-        ran = program(words)
-        if not does(words, ran):
-            return f"{words} asks for {asked(words)}: {shown(ran)}", count
-    return None, count
-
-
-def fault_of_play(play):
-    """What is wrong with this play, if it is strict or explained, or None."""
-    report, transcript = program("play", play), program("play --transcript", play)
-    refused = report[0] == 0 and int(re.search(rb"^refused (\d+)$", report[1], re.M)[1])
-    for words, plain in [("--strict", report), ("--strict --transcript", transcript), ("--transcript --strict", transcript)]:
-        status, *written = plain
-        fault = fault_of(f"play {words}", play, (1 if status == 0 and refused else status, *written))
-        if fault:
-            return f"play {words}: {fault}"
-    for options in OPTIONS:
-        ran = program(["explain", *options], play)
-        if ran[::2] != report[::2]:
-            return f"explain {' '.join(options)}: {shown(ran)}, and not {shown(report)}"
-    return None
-
-
-def fault_of_version():
-    """What is wrong with the version, or None."""
-    toolchain = run(["rt", "version"])[1].decode().strip()
-    fault = fault_of("--version", b"", (0, f"dsr {VERSION} ({toolchain})\n".encode(), b""))
-    is_named = f"`{toolchain}`" in " ".join(text_of("README.md").split())
-    return fault or (None if is_named else f"README.md does not name {toolchain}")
-
-
-def words(report, _):
-    report.judge("--version", fault_of_version())
-    lists = [(f"{number} words", itertools.product(VOCABULARY, repeat=number)) for number in range(3)]
-    for what, some in [*lists, ("words drawn by chance", longer_words(2_000))]:
-        fault, count = fault_of_words(map(list, some))
-        report.judge(what, fault, f", {count} lists")
-    report.judge_some("plays", ((f"{name_of(stem)}.play", fault_of_play(bytes_of(f"{stem}.play"))) for stem in inputs.plays()))
-
-
 # ---- samples
 
 HELPS = ["--help", "apply --help", "play --help", "serve --help", "check --help"]
@@ -676,7 +569,6 @@ def check_of_samples(name, *parts):
 
 
 def samples(report, _):
-    report.judge("the program is built", fault_of_building(), None)
     for path in ("README.md", "examples/record/README.md"):
         report.judge(*check_of_samples(path, faults_of_commands(text_of(path))))
     formats = text_of("docs/FORMATS.md")
@@ -687,4 +579,4 @@ def samples(report, _):
 
 
 if __name__ == "__main__":
-    sys.exit(main(__doc__, {"explanations": explanations, "pictures": pictures, "words": words, "samples": samples}, "--write"))
+    sys.exit(main(__doc__, {"explanations": explanations, "pictures": pictures, "samples": samples}, "--write"))

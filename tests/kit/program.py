@@ -1,11 +1,15 @@
 """The built program, how tests run it, and what they say of its runs. A run is a status, a standard output and a standard error."""
 
+import glob
 import os
 import subprocess
 import tempfile
 
 TOP = os.path.dirname(os.path.dirname(os.path.dirname(os.path.realpath(__file__))))
 PROGRAM = f"{TOP}/crates/dsr/out/dsr"
+BUILDING = "./test proves and builds it, and if it is the program dsr, so does tools/build"
+# What a script runs as ./dsr is the built program, and never the sources without proofs.
+os.environ["DSR_UNPROVED"] = "no"
 # ./dsr runs the program in this environment too: with large pages of memory, if the system has them.
 LARGE_PAGES = {"GLIBC_TUNABLES": "glibc.malloc.hugetlb=1", **os.environ}
 MOST_BYTES = 16_777_216
@@ -13,10 +17,23 @@ MOST_EVENTS = 1_000_000
 SECONDS = 120
 
 
-def fault_of_building():
-    """Builds the program if it is missing or older than its sources, and says what is wrong with that, or None."""
-    ran = subprocess.run([f"{TOP}/dsr", "--help"], stdin=subprocess.DEVNULL, stdout=subprocess.DEVNULL)
-    return f"./dsr --help ends with status {ran.returncode}" if ran.returncode else None
+def sources():
+    """What ./dsr looks at to see if the program is older: the crates' sources, and the folders that these are in, whose times change if one comes or goes."""
+    yield f"{TOP}/crates.txt"
+    for kind in ("src", "specs", "proofs"):
+        for top in glob.iglob(f"{TOP}/crates/*/{kind}"):
+            for folder, _, names in os.walk(top):
+                yield folder
+                yield from (f"{folder}/{name}" for name in names)
+
+
+def fault_of_building(name="dsr"):
+    """Says that the program of this crate is not built, or is older than a source; or None. Nothing is built here."""
+    built = f"{TOP}/crates/{name}/out/{name}"
+    if not os.path.exists(built):
+        return f"{name_of(built)} is not built: {BUILDING}"
+    newer = next((path for path in sources() if os.path.getmtime(path) > os.path.getmtime(built)), None)
+    return f"{name_of(built)} is older than {name_of(newer)}: {BUILDING}" if newer else None
 
 
 def bytes_of(path, otherwise=b""):

@@ -82,7 +82,7 @@ def in_threads(function, tasks):
 
 def main(usage, parts, flag=None, without_program=()):
     """Runs the parts that the words of the command name, or all, and gives the exit status. A part is a function of a report and of whether the flag was
-    given, and `parts` has each by its name. The program is built first, unless all of the parts are among those that do without."""
+    given, and `parts` has each by its name. The program must be built, unless all of the parts are among those that do without."""
     words = sys.argv[1:]
     names = [word for word in words if word != flag]
     if not set(names) <= set(parts):
