@@ -17,7 +17,7 @@ import re
 import subprocess
 from collections import namedtuple
 
-from edits.record import Outcome, key_of, place_of
+from edits.record import Outcome, applied, key_of, place_of
 from kit.program import text_of
 
 MOST_OF_A_BUNDLE = 12
@@ -56,25 +56,9 @@ def functions_of(file, text):
 def changed_lines(edit, folder):
     """The lines that an edit changes, by their file and number, with what each becomes; None where it cannot be applied or changes how
     many lines there are."""
-    texts, path, old = {}, None, None
-    for line in text_of(edit.path).split("\n"):
-        if line.startswith("file: "):
-            path = line.removeprefix("file: ").strip()
-        elif line.startswith("old: "):
-            old = line.removeprefix("old: ")
-        elif line.startswith("new:") and path and old:
-            new = line.removeprefix("new:").removeprefix(" ")
-            if path not in texts:
-                if not os.path.isfile(f"{folder}/{path}"):
-                    return None
-                texts[path] = [text_of(f"{folder}/{path}")] * 2
-            if texts[path][1].count(old) != 1:
-                return None
-            texts[path][1] = texts[path][1].replace(old, new)
-            old = None
     found = {}
-    for path, (before, after) in texts.items():
-        was, now = before.split("\n"), after.split("\n")
+    for path, text in (applied(edit.path, folder)[0] or {}).items():
+        was, now = text_of(f"{folder}/{path}").split("\n"), text.split("\n")
         if len(was) != len(now):
             return None
         found.update({(path, at): now[at] for at in range(len(was)) if was[at] != now[at]})

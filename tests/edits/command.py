@@ -1,11 +1,12 @@
 """Wrong bodies that the prover must refuse: the edits crates/NAME/wrong-bodies/*.edit, each tried by `rt must-fail`.
 
-tests/edits.py                   Tries the edits that tests/refused.txt does not have over these sources.
+tests/edits.py                   Tries the edits that tests/refused.txt does not have over these sources, but for comments.
 tests/edits.py anew              Tries all, and compares with the record.
 tests/edits.py CRATE/EDIT ..     Tries these, or all of a CRATE, whatever the record has, and prints where each is refused.
 tests/edits.py --record ..       Does the same, and writes the record: a line for each edit that was refused now or before.
 tests/edits.py --bundled ..      Does the same, and tries edits that change the bodies of different functions by one check (bundles.py).
-tests/edits.py --rules           Tests what decides which edits are tried again, and what counts as refused (rules.py). No prover runs.
+tests/edits.py --rules           Tests what decides which edits are tried again, and what counts as refused (rules.py), and that each edit's old
+                                 texts are found in the sources. No prover runs.
 
 An edit passes where it is refused since some contract is not proved; what the record rests on is told in record.py.
 The crate itself and the libraries below it are proved first, in this repository, over the work that `rt check` kept: of a crate that is not
@@ -30,7 +31,7 @@ from collections import namedtuple
 from concurrent.futures import ThreadPoolExecutor, as_completed
 
 from edits.bundles import refused_in_bundles
-from edits.record import FOLDER_OF_RT, Outcome, Record, Repository, key_of, outcomes, read_record, write_record
+from edits.record import FOLDER_OF_RT, Outcome, Record, Repository, applied, key_of, outcomes, read_record, write_record
 from edits.room import Room, libraries
 from kit import report
 from kit.program import TOP
@@ -266,8 +267,15 @@ def judge(room, asked):
     tell_of_record(report, edits, asked)
     skipped = 0 if asked.names else len(edits) - len(its)
     if not asked.names:
-        say(f"{skipped} edits were refused before over exactly these sources, as tests/refused.txt records, and were not tried again")
+        say(f"{skipped} edits were refused before over exactly these sources, but for comments, as tests/refused.txt records, and were not tried again")
     return report.passed, report.failed, skipped
+
+
+def judge_old_texts(counts):
+    """Judges that each edit can still be applied to the sources, which a changed comment may prevent too."""
+    edits, faults = Repository(TOP, "").edits()
+    faults += [f"{key_of(edit)}: {fault}" for edit in edits if (fault := applied(edit.path, f"{TOP}/crates/{edit.crate}")[1])]
+    counts.judge(f"each of {len(edits)} edits can be applied to the sources", "\n    ".join(faults) if edits else "there are none")
 
 
 def main(words):
@@ -275,6 +283,7 @@ def main(words):
     if words == ["--rules"]:
         from edits import rules
         counts.add(*rules.tested())
+        judge_old_texts(counts)
     else:
         asked = asked_by(words)
         with tempfile.TemporaryDirectory(prefix="edits-") as folder:

@@ -2,9 +2,10 @@
 them, and tests/refused.txt. Nothing here runs a prover.
 
 The record has a line for each edit that was refused: CRATE/EDIT, a sum, and the place at which it was refused. The sum is a SHA-256
-over all that the refusal rests on: the toolchain's line (`rt version`), HANDLES, of the edit's crate and of each below
-it the row in crates.txt and every file of src/, specs/ and proofs/, and the text of the edit. So an edit whose sum stands
-in the record was refused over exactly these sources. A line with any other sum says nothing.
+over all that the refusal rests on: the toolchain's line (`rt version`), HANDLES, of the edit's crate and of each below it the row in
+crates.txt and every file of src/, specs/ and proofs/, the text of the edit, and what it makes of the files that it changes. Of a source
+counts what a prover reads of it (lexing.py). So an edit whose sum stands in the record was refused over exactly these sources, but for
+comments. A line with any other sum says nothing.
 """
 
 import hashlib
@@ -12,7 +13,8 @@ import os
 import re
 from collections import namedtuple
 
-from kit.program import bytes_of
+from edits.lexing import read_of
+from kit.program import bytes_of, text_of
 
 FOLDER = "wrong-bodies"
 # Where rt itself looks for edits. `rt ci` would try them all, each time, and no record would be kept of them.
@@ -64,6 +66,27 @@ def rows_of(path):
     return rows
 
 
+def applied(edit, folder):
+    """What an edit makes of the files of its crate in this folder, or why it cannot be applied, as rt takes it."""
+    texts, path, old = {}, None, None
+    for line in text_of(edit).split("\n"):
+        if line.startswith("file: "):
+            path = line.removeprefix("file: ").strip()
+        elif line.startswith("old: "):
+            old = line.removeprefix("old: ")
+        elif line.startswith("new:"):
+            if not path or not old:
+                return None, "a 'new:' line is before any 'file:' or 'old:' line"
+            if path.split("/")[0] not in PARTS or not os.path.isfile(f"{folder}/{path}"):
+                return None, f"there is no source {path}"
+            text = texts[path] if path in texts else text_of(f"{folder}/{path}")
+            if text.count(old) != 1:
+                return None, f"an 'old:' text is in {path} {text.count(old)} times, and not once: {old}"
+            texts[path], old = text.replace(old, line.removeprefix("new:").removeprefix(" ")), None
+    is_any = any(text != text_of(f"{folder}/{path}") for path, text in texts.items())
+    return (texts, None) if is_any else (None, "it changes nothing")
+
+
 class Repository:
     """The sources of a repository, as far as refusals rest on them."""
 
@@ -91,7 +114,7 @@ class Repository:
         if crate not in self.sums:
             parts = [self.rows[crate][0].encode()]
             for path in self.files_of(crate):
-                parts += [os.path.relpath(path, f"{self.top}/crates/{crate}").encode(), bytes_of(path)]
+                parts += [os.path.relpath(path, f"{self.top}/crates/{crate}").encode(), *read_of(path, bytes_of(path))]
             self.sums[crate] = digest(parts)
         return self.sums[crate]
 
@@ -100,7 +123,10 @@ class Repository:
         parts = [self.version.encode(), bytes_of(f"{self.top}/HANDLES", b"none")]
         for crate in sorted([*self.below(edit.crate), edit.crate]):
             parts += [crate.encode(), self.sum_of_crate(crate).encode()]
-        return digest([*parts, bytes_of(edit.path)])
+        texts, fault = applied(edit.path, f"{self.top}/crates/{edit.crate}")
+        for path, text in sorted((texts or {}).items()):
+            parts += [path.encode(), *read_of(path, text.encode())]
+        return digest([*parts, (fault or "").encode(), bytes_of(edit.path)])
 
     def edits(self):
         """The edits of all crates, and what is wrong with where files lie."""

@@ -13,6 +13,7 @@ import tempfile
 import unittest
 
 from edits import bundles, command
+from edits.lexing import read_of
 from edits.record import Edit, Outcome, Record, Repository, key_of, outcomes, read_record, write_record
 from kit.program import text_of
 
@@ -92,12 +93,27 @@ class Sums(Made):
         self.assertNotEqual(before["low/one.edit"], self.sums()["low/one.edit"])
 
     def test_a_text_that_moves_to_the_next_file_counts(self):
-        self.write("crates/low/proofs/A.antt", "-- a\n-- b\n")
-        self.write("crates/low/proofs/B.antt", "-- c\n")
+        self.write("crates/low/proofs/A.antt", "a\nb\n")
+        self.write("crates/low/proofs/B.antt", "c\n")
         before = self.sums()
-        self.write("crates/low/proofs/A.antt", "-- a\n")
-        self.write("crates/low/proofs/B.antt", "-- b\n-- c\n")
+        self.write("crates/low/proofs/A.antt", "a\n")
+        self.write("crates/low/proofs/B.antt", "b\nc\n")
         self.assertNotEqual(before["low/one.edit"], self.sums()["low/one.edit"])
+
+    def test_a_comment_does_not_count(self):
+        for path, text in (("src/lib.rt", "//! Low.\n\n/// The low.\npub fn low() {} // {{{\n"), ("proofs/A.antt", "-- b\n")):
+            self.write("crates/low/proofs/A.antt", "-- a\n")
+            self.assertEqual(self.changed_by(f"crates/low/{path}", text), set(), path)
+
+    def test_a_comment_in_what_an_edit_replaces_counts(self):
+        self.write("crates/low/src/lib.rt", "/// The low.\npub fn low() {}\n")
+        self.write("crates/low/wrong-bodies/one.edit", "file: src/lib.rt\nold: /// The low.\nnew: #[must_use] /// The low.\n")
+        self.assertEqual(self.changed_by("crates/low/src/lib.rt", "/// Low.\npub fn low() {}\n"), {"low"})
+
+    def test_what_an_edit_makes_of_a_source_counts(self):
+        self.write("crates/low/src/lib.rt", "pub fn low() {} // a\n/* b */\n")
+        self.write("crates/low/wrong-bodies/one.edit", "file: src/lib.rt\nold: {}\nnew: {} /*\n")
+        self.assertEqual(self.changed_by("crates/low/src/lib.rt", "pub fn low() {} // a */\n/* b */\n"), {"low"})
 
     def test_rows_count_and_comments_do_not(self):
         self.assertEqual(self.changed_by("crates.txt", "low:   memchr # still\nhigh: low itoa\nside:\n"), set())
@@ -120,6 +136,72 @@ class Sums(Made):
     def test_below_is_whole_and_lowest_first(self):
         self.write("crates.txt", "top: high\nhigh: low\nlow:\nside: top low\n")
         self.assertEqual(Repository(self.top, VERSION).below("side"), ["low", "high", "top"])
+
+
+class Comments(unittest.TestCase):
+    """What counts of sources. `left` has what a text in Rust or in antt comes to without comments, with a NUL for each text in it."""
+
+    def left(self, text, path="a.rt"):
+        kind, *parts = read_of(path, text.encode())
+        return [part.decode() for part in parts] if kind == b"read" else None
+
+    def same(self, path, *texts):
+        for text in texts:
+            self.assertIsNotNone(self.left(text, path), text)
+            self.assertEqual(read_of(path, text.encode()), read_of(path, texts[0].encode()), text)
+
+    def other(self, path, *texts):
+        self.assertEqual(len({tuple(read_of(path, text.encode())) for text in texts}), len(texts), texts)
+
+    def test_comments_of_rust(self):
+        self.same("a.rt", "let a = b / c;\n", "let a = b / c; // d \"\n", "//! e\n\n/// f '\nlet a = b / c;   \n\n", "/* g\n*/\nlet a = b / c;\n")
+
+    def test_nested_comments(self):
+        self.same("a.rt", "a\n", "/* b /* c */ d */\na\n", "a\n/** /* */ /* /* \" */ */ ' */\n")
+        self.same("a.antt", "a\n", "{- b {- c -} d -}\na\n", "a -- {-\n", "{- -- -}\na\n")
+        self.assertEqual(self.left("a /* /* */ b */ c"), ["a" + 15 * " " + "c"])
+
+    def test_words_that_a_comment_parts_stay_apart(self):
+        self.assertEqual(self.left("a/**/b//c\nd"), ["a    b\nd"])
+        self.other("a.rt", "ab", "a/**/b")
+        self.other("a.antt", "ab", "a{--}b")
+
+    def test_texts_and_characters_of_rust(self):
+        self.assertEqual(self.left(r'''f("a // b", b"\\", '"', b'\'', '\u{2f}', "\"/*") // c'''),
+                         ["f(\0, \0, \0, \0, \0, \0)", '"a // b"', r'b"\\"', "'\"'", r"b'\''", r"'\u{2f}'", r'"\"/*"'])
+        self.assertEqual(self.left('r"\\" r#"a" // b"# br##""#"## // c'), ["\0 \0 \0", 'r"\\"', 'r#"a" // b"#', 'br##""#"##'])
+        self.other("a.rt", '"a // b"', '"a // c"', '"a"', "'a'", '"a\n\nb"', '"a\nb"', '"a \nb"', 'r"a"', '"\0"')
+
+    def test_lifetimes(self):
+        self.same("a.rt", "fn f<'a, 'b>(c: &'a str, d: &'_ T) where 'b: 'static {}\n", "fn f<'a, 'b>(c: &'a str, d: &'_ T) where 'b: 'static {} // '\n")
+        self.assertEqual(self.left("f::<'a>('a') // b"), ["f::<'a>(\0)", "'a'"])
+
+    def test_comments_of_antt(self):
+        self.same("a.antt", "a' : b → \"-- {- \\\" c\"\n", "a' : b → \"-- {- \\\" c\" -- \" d\n", "---\n-- '\na' : b → \"-- {- \\\" c\"\n\n")
+        self.other("a.antt", '"-- a"', '"-- b"')
+
+    def test_columns_count_in_antt_and_not_in_what_a_comment_was(self):
+        self.other("a.antt", "a\n  b", "a\n b", "a b")
+        self.same("a.antt", "{- a -} b\n", "{- c -} b\n")
+        self.other("a.antt", "{- a -} b\n", "{- -} b\n")
+        self.same("a.antt", "a\n    {- c\n -} b\n", "a\n{- d\ne-} b\n")
+
+    def test_clauses_are_antt(self):
+        self.same("a.rt", "fn f()\n    ensures some { e'' ≡ { x } \"}\" }\n{\n}", "fn f()\n    ensures some { e'' ≡ { x } \"}\" } // ' {\n{\n}")
+        self.same("a.rt", "ghost use A.b.{c', ◌≡◌}; 'd'", "ghost use A.b.{c', ◌≡◌}; 'd' // e\n")
+        self.same("a.rt", "ghost a: { T' } = { c' }; '}'", "ghost a: { T' } = { c' }; '}' // '")
+        for text in ("ensures { a -- b\n}", "ensures { a // b\n}", "requires * { a {- b -} }", "ensures { ⟦ 'a' ⟧ }", "ensures { a", "ensures {- a -} { b }",
+                     "ghost use A.{b, -- c\nd};", "ghost use A", "ghost a: { T } = {- b -} { c };"):
+            self.assertIsNone(self.left(text), text)
+
+    def test_what_is_unclear_counts_as_a_whole(self):
+        for text in ('a"b"', '"a"b', "a'b'", "'ab'", "'\\q'", "''", '"a', "/* a", "/* /* */", 'r#"a"', "a\tb", "a\r\n", "#!a", "a\0", "macro_rules! a {}",
+                     "#[derive(Parser)] a"):
+            self.assertIsNone(self.left(text), text)
+        for text in ('"a', "a--b", "{- a", "a\tb", "[--a]"):
+            self.assertIsNone(self.left(text, "a.antt"), text)
+        self.assertEqual(read_of("a.rt", b"\xff"), [b"whole", b"\xff"])
+        self.assertEqual(read_of("a.txt", b"a // b"), [b"whole", b"a // b"])
 
 
 class Folders(Made):
