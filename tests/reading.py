@@ -70,7 +70,7 @@ PROMISES = [
      "crates/dsr_record/src/recording.rt: of_world; crates/dsr_record/src/files.rt: write; crates/dsr_record/src/laws.rt: "
      "transcripts_spell_their_records; crates/dsr_record/src/record.rt: of_text"),
 ]
-BESIDE_THE_CODE = ("dsr_mail_tries", "dsr_mail_office", "dsr_own_service")
+BESIDE_THE_CODE = ("dsr_mail_tries", "dsr_mail_office", "dsr_own_service", "dsr_rows")
 
 
 class Source:

@@ -1,0 +1,116 @@
+//! The calls that judge replies by a history.
+
+ghost use Rattle.std.specs.Prelude.{◌↔◌, IsTrue};
+ghost use Rattle.dsr_check.specs.Judged.{IsJudgedRight};
+
+use crate::directories::range;
+use crate::said::{Answered, Failure, Said};
+use crate::words::{Words, find};
+use dsr_base::split_once;
+use dsr_check::judge;
+use dsr_ledger::Reply;
+use dsr_names::ClientId;
+use dsr_request::{Name, Op, Request, Requests};
+use std::alloc::Global;
+
+/// A history by which replies are judged.
+#[derive(Drop)]
+pub(crate) struct History {
+    requests: Vec<Request>,
+}
+
+/// A call at a history.
+#[derive(Clone, Copy)]
+enum Call {
+    /// `acts REQUESTS`: how many requests the history has with these at its end.
+    Acts,
+    /// `write-each CLIENT FIRST END VALUE`: the same, with writes of the value to the registers kFIRST to kEND, without the last.
+    WriteEach,
+    /// `right REPLIES`: whether these replies, each after its client, are right by the history.
+    Right,
+}
+
+/// The calls by their verbs.
+const CALLS: [(&str, Call); 3] = [
+    ("acts", Call::Acts),
+    ("write-each", Call::WriteEach),
+    ("right", Call::Right),
+];
+
+impl History {
+    /// `judge`: the history of no request.
+    pub(crate) fn open(alloc: Global) -> History {
+        History {
+            requests: Vec::new(alloc),
+        }
+    }
+
+    /// Makes the call of this verb.
+    pub(crate) fn answer(&mut self, alloc: Global, verb: &[u8], words: &mut Words) -> Answered {
+        match find(&CALLS, verb)? {
+            Call::Acts => self.acts(words),
+            Call::WriteEach => self.write_each(alloc, words),
+            Call::Right => {
+                let replies = replies(alloc, words.rest())?;
+                Ok(Said::Whether(self.is_right(replies.as_slice())))
+            }
+        }
+    }
+
+    /// Whether these replies, each beside its client, are right by the history.
+    fn is_right(&self, replies: &[(ClientId, Reply)]) -> bool
+        ensures { IsTrue result ↔ IsJudgedRight self.now.requests.items replies.now }
+    {
+        judge(self.requests.as_slice(), replies)
+    }
+
+    /// `acts REQUESTS`.
+    fn acts(&mut self, words: &Words) -> Answered {
+        let requests = Requests::read(words.rest()).ok_or(Failure::BadRow)?;
+        self.requests.extend_from_slice(requests.as_slice())?;
+        Ok(Said::Number(self.requests.len() as u64))
+    }
+
+    /// `write-each CLIENT FIRST END VALUE`: the requests are numbered from 1 on.
+    fn write_each(&mut self, alloc: Global, words: &mut Words) -> Answered {
+        let client = words.client()?;
+        let (first, end) = range(words)?;
+        let value = words.number()?;
+        let mut writes = Vec::new(alloc);
+        let mut number = 0u64;
+        for register in first..end {
+            number = number.saturating_add(1);
+            let text = format!(in alloc; "k{register}")?;
+            let name = Name::read(text.as_bytes())?;
+            writes.push(Request::new(client, number, Op::Write { name, value })?)?;
+        }
+        self.requests.extend_from_slice(writes.as_slice())?;
+        Ok(Said::Number(self.requests.len() as u64))
+    }
+}
+
+/// Reads replies, each after its client, with a spaced bar between them; a dash if there are none.
+fn replies(alloc: Global, words: &[u8]) -> Result<Vec<(ClientId, Reply)>, Failure> {
+    let mut replies = Vec::new(alloc);
+    if words == b"-".as_slice() {
+        return Ok(replies);
+    }
+    let mut rest = words;
+    for _ in 0..words.len() {
+        let Some((front, back)) = split_once(rest, b'|') else {
+            break;
+        };
+        let front = front.strip_suffix(b" ".as_slice()).ok_or(Failure::BadRow)?;
+        replies.push(reply(front)?)?;
+        rest = back.strip_prefix(b" ".as_slice()).ok_or(Failure::BadRow)?;
+    }
+    replies.push(reply(rest)?)?;
+    Ok(replies)
+}
+
+/// Reads a reply after its client.
+fn reply(bytes: &[u8]) -> Result<(ClientId, Reply), Failure> {
+    let mut words = Words::of(bytes);
+    let client = words.client()?;
+    Ok((client, words.reply()?))
+}

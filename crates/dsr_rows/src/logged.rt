@@ -1,0 +1,131 @@
+//! A replica, and how long the log is that it stands for.
+
+ghost use Rattle.std.specs.Prelude.{◌≡◌, suc, IfOk};
+
+use crate::said::Failure;
+use dsr_desk::Key;
+use dsr_names::{ClientId, ReplicaId, Shape};
+use dsr_replica::{Due, Envelope, Pick, Replica};
+use std::alloc::Global;
+use std::marker::Model;
+
+/// A replica, and the number of entries of its log. That the replica stands for a loyal log of so many entries is an
+/// invariant, which each step is proved to keep.
+#[derive(Drop)]
+pub(crate) struct Logged {
+    replica: Replica,
+    entries: u64,
+}
+
+impl Model for Logged {
+    ghost use Rattle.std.specs.Prelude.{ℕ};
+    ghost use Rattle.dsr_rows.specs.LoyalLogs.{HasLog};
+
+    ghost Value = { ℕ };
+
+    ghost view = { λ l. l.entries };
+
+    ghost invariant = { λ l. HasLog l.replica l.entries };
+}
+
+impl Logged {
+    /// The replica that holds this key, with an empty log.
+    pub(crate) fn new(alloc: Global, key: Key, shape: &Shape) -> Result<Logged, Failure> {
+        if !shape.has(key.signer()) {
+            return Err(Failure::NoCall);
+        }
+        let replica = Replica::new(alloc, key, shape)?;
+        Ok(Logged {
+            replica,
+            entries: 0,
+        })
+    }
+
+    /// The replica.
+    pub(crate) fn replica(&self) -> &Replica {
+        &self.replica
+    }
+
+    /// The number of entries of its log.
+    pub(crate) fn entries(&self) -> u64 {
+        self.entries
+    }
+
+    /// Posts to this replica by this choice, and returns the envelope.
+    pub(crate) fn post(
+        &mut self,
+        alloc: Global,
+        to: ReplicaId,
+        pick: &Pick,
+    ) -> Result<Envelope, Failure> {
+        let entries = one_more(self.entries)?;
+        let envelope = self.replica.envelope_for(alloc, to, *pick)?;
+        if !self.replica.allows(to, *pick) {
+            return Err(Failure::NoCall);
+        }
+        self.replica.posted(to, *pick);
+        self.entries = entries;
+        Ok(envelope)
+    }
+
+    /// Takes the envelope from this replica, with room made for what it decides.
+    pub(crate) fn take(&mut self, from: ReplicaId, envelope: Envelope) -> Result<(), Failure> {
+        let entries = one_more(self.entries)?;
+        self.replica.room()?;
+        if !self.replica.has_room() || self.replica.due() != Due::Take(from) {
+            return Err(Failure::NoCall);
+        }
+        self.replica.taken(from, envelope);
+        self.entries = entries;
+        Ok(())
+    }
+
+    /// Takes the envelope from this replica if it would keep none of its chains, and returns whether it did.
+    pub(crate) fn pass_over(
+        &mut self,
+        from: ReplicaId,
+        envelope: &Envelope,
+    ) -> Result<bool, Failure> {
+        let entries = one_more(self.entries)?;
+        self.replica.room()?;
+        if !self.replica.has_room() || self.replica.due() != Due::Take(from) {
+            return Err(Failure::NoCall);
+        }
+        let passed = self.replica.passed_over(from, envelope);
+        if passed {
+            self.entries = entries;
+        }
+        Ok(passed)
+    }
+
+    /// Takes the envelope from this client.
+    pub(crate) fn take_ask(&mut self, client: ClientId, envelope: Envelope) -> Result<(), Failure> {
+        let entries = one_more(self.entries)?;
+        if client.number() >= self.replica.shape().m() {
+            return Err(Failure::NoCall);
+        }
+        self.replica.ask_taken(client, envelope);
+        self.entries = entries;
+        Ok(())
+    }
+
+    /// Posts its reply to this client, if there is one, and returns it.
+    pub(crate) fn reply(&mut self, client: ClientId) -> Result<Option<Envelope>, Failure> {
+        let entries = one_more(self.entries)?;
+        if client.number() >= self.replica.shape().m() {
+            return Err(Failure::NoCall);
+        }
+        let Some(envelope) = self.replica.reply_for(client) else {
+            return Ok(None);
+        };
+        self.entries = entries;
+        Ok(Some(envelope))
+    }
+}
+
+/// The number of entries of a log with one entry more.
+fn one_more(entries: u64) -> Result<u64, Failure>
+    ensures { IfOk result (λ more. more ≡ suc entries) }
+{
+    entries.checked_add(1).ok_or(Failure::NoCall)
+}
