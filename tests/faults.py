@@ -70,8 +70,7 @@ WHOLE = {("apply", "first-lines.apply"), ("apply", "swaps.apply"), ("apply", "re
 # Of the others so many first ones are, and then steps grow by one for so many; and where all later ones are refused too.
 SOME, FEW = (24, 16), (8, 4)
 # The crates of tests that end with an error where memory was refused. Those of dsr_hosts_tests run threads: tests/threads.py refuses allocations of services.
-CRATES = ["dsr_request_tests", "dsr_envelope_tests", "dsr_replica_tests", "dsr_script_tests", "dsr_world_tests",
-          "dsr_mail_tests", "dsr_mail_record_tests", "dsr_record_tests", "dsr_rounds_tests"]
+CRATES = ["dsr_request_tests", "dsr_envelope_tests", "dsr_mail_tests", "dsr_mail_record_tests", "dsr_record_tests", "dsr_rounds_tests"]
 # Tests that end otherwise: those of dsr_command, whose calls say it by what they answer (these calls are in the runs of the program); and those of
 # dsr_mail_tests and dsr_mail_record_tests that run threads, of which one waits for ever if the other one ended for want of memory. What these call is called
 # by other tests too.

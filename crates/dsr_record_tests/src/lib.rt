@@ -1,5 +1,9 @@
-//! The tests of records. They stand apart from the code, since a crate with tests is proved twice.
+//! The tests of what may go into threads, of worlds, and of records. They stand apart from the code, since a crate with tests is proved twice.
 #![tactic(auto)]
 
 #[cfg(test)]
 mod record;
+#[cfg(test)]
+mod sent;
+#[cfg(test)]
+mod world;

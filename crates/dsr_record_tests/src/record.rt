@@ -1,4 +1,5 @@
-//! Transcripts that are read and written as data. What `dsr check` reads and `dsr play --transcript` writes is shown by tests/transcripts.py.
+//! Records that no transcript gives: of empty logs, and made by hand. What is read of transcripts and written back is shown by rows in
+//! conformance/rows/transcript.rows, what `dsr check` reads and `dsr play --transcript` writes by `tests/texts.py transcripts`.
 
 use dsr_base::Exact;
 use dsr_mail::Logs;
@@ -8,15 +9,6 @@ use dsr_script::Draft;
 use std::alloc::Global;
 use std::test::Fail;
 
-/// What one replica and one client did, who wrote 7 to `a`.
-const ONE_REPLICA: &str = "dsr-transcript 1 1 0 1 -\n\
-c0 post r0 ask c0#1:write:a:7~c0\n\
-r0 take c0 ask c0#1:write:a:7~c0\n\
-r0 post r0 round 0 0/c0#1:write:a:7~c0/r0\n\
-r0 take r0 round 0 0/c0#1:write:a:7~c0/r0\n\
-r0 post c0 reply 1 0 written\n\
-c0 take r0 reply 1 0 written\n";
-
 /// The transcript of the record.
 fn written(alloc: Global, recorded: &Record) -> Result<Vec<u8>, Fail> {
     let mut text = Outside(Vec::new(alloc));
@@ -25,42 +17,6 @@ fn written(alloc: Global, recorded: &Record) -> Result<Vec<u8>, Fail> {
     }
     write(alloc, recorded, &mut text)?;
     Ok(text.0)
-}
-
-#[test]
-fn a_transcript_is_read_entry_by_entry(rt: HostRuntime) -> Result<(), Fail> {
-    let recorded = Record::of_text(rt.alloc(), ONE_REPLICA.as_bytes())?;
-    assert_eq!(rt; recorded.version(), Version::One);
-    assert_eq!(rt; recorded.shape(), Shape::new(1, 0, 1, 0)?);
-    assert_eq!(rt; recorded.entries().len(), 6);
-    let third = recorded.entries().get(2).ok_or("no third entry")?;
-    assert_eq!(rt; third.actor(), Actor::Replica(ReplicaId::FIRST));
-    let NotedEntry::Post { to, envelope } = third.entry() else {
-        return Err("the third entry is no post")?;
-    };
-    assert_eq!(rt; *to, Actor::Replica(ReplicaId::FIRST));
-    assert!(rt; envelope.same(third.envelope()));
-    let last = recorded.entries().get(5).ok_or("no last entry")?;
-    assert_eq!(rt; last.actor(), Actor::Client(ClientId::FIRST));
-    let NotedEntry::Take { from, .. } = last.entry() else {
-        return Err("the last entry is no take")?;
-    };
-    assert_eq!(rt; *from, Actor::Replica(ReplicaId::FIRST));
-    Ok(())
-}
-
-#[test]
-fn what_was_read_is_written_back(rt: HostRuntime) -> Result<(), Fail> {
-    let empty = "dsr-transcript 1 3 1 1 r0\n";
-    let two =
-        "dsr-transcript 2 1 0 2 -\nc0 post r0 ask c0#1:remove:a~c0\nr0 post c0 reply 1 0 removed none\n\
-        r0 post r0 round 0 0/c0#1:read:a~c0,c1#1:read:b~c1/r0 1/idle/-\nr0 take c1 empty\nc1 take c0 seen 3\n";
-    for text in [ONE_REPLICA, empty, two] {
-        let recorded = Record::of_text(rt.alloc(), text.as_bytes())?;
-        let again = written(rt.alloc(), &recorded)?;
-        assert_eq!(rt; again.as_slice(), text.as_bytes());
-    }
-    Ok(())
 }
 
 #[test]

@@ -1,0 +1,55 @@
+//! What may be handed to another thread. These tests run none.
+
+use dsr_client::Client;
+use dsr_desk::Keys;
+use dsr_envelope::Envelope;
+use dsr_names::{Actor, ClientId, ReplicaId, Shape};
+use dsr_replica::Replica;
+use dsr_script::{Draft, Known};
+use std::alloc::Global;
+use std::test::Fail;
+
+/// What goes into a thread of its own.
+fn may_be_sent<T: Send>(_: &T) {}
+
+/// Client 0 of this shape.
+fn client_of(alloc: Global, shape: &Shape) -> Result<Client, Fail> {
+    // that there is a client 0 is known from here on
+    let _m = shape.m();
+    let mut keys = Keys::new(alloc, *shape)?;
+    let key = keys.take(Actor::Client(ClientId::FIRST)).ok_or("no key")?;
+    Ok(Client::new(key, shape))
+}
+
+#[test]
+fn a_client_may_go_into_a_thread(rt: HostRuntime) -> Result<(), Fail> {
+    let shape = Shape::new(3, 1, 2, 0)?;
+    may_be_sent(&client_of(rt.alloc(), &shape)?);
+    Ok(())
+}
+
+/// The replica of shape (1,0,1,0).
+fn replica_alone(alloc: Global) -> Result<Replica, Fail> {
+    let shape = Shape::new(1, 0, 1, 0)?;
+    let mut keys = Keys::new(alloc, shape)?;
+    let key = keys
+        .take(Actor::Replica(ReplicaId::FIRST))
+        .ok_or("no key")?;
+    if !shape.has(key.signer()) {
+        return Err("no replica of the shape")?;
+    }
+    Ok(Replica::new(alloc, key, &shape)?)
+}
+
+#[test]
+fn a_replica_may_go_into_a_thread(rt: HostRuntime) -> Result<(), Fail> {
+    may_be_sent(&replica_alone(rt.alloc())?);
+    Ok(())
+}
+
+#[test]
+fn drafts_and_what_is_known_go_into_threads(rt: HostRuntime) -> Result<(), Fail> {
+    may_be_sent(&Draft::of(rt.alloc(), &Envelope::Seen(1))?);
+    may_be_sent(&Known::new(rt.alloc()));
+    Ok(())
+}

@@ -1,5 +1,0 @@
-//! The tests of worlds. They stand apart from the code, since a crate with tests is proved twice.
-#![tactic(auto)]
-
-#[cfg(test)]
-mod world;
