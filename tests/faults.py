@@ -1,6 +1,7 @@
 #!/usr/bin/env python3
 """Allocations, reads and writes that are refused, each in turn: tests/faults.py, or with the names of some of its parts, and with the word `soak` all of
-them, of which some are left out otherwise. It needs what `rt ci` built, and a C compiler, `cc`. tests/threads.py refuses allocations of services.
+them, of which some are left out otherwise. It needs what `rt ci` built, and a C compiler, `cc`. tests/threads.py refuses allocations of services, and
+tests/rows.py those of the calls that rows make.
 
 allocations: the built program runs with most of its words on the examples, with its 1st, 2nd, 3rd .. allocation refused, until a run meets no refusal; and
 with all later ones refused too. A run that met a refusal must do all the same what it does with ample memory; or end with status 3, say so on
@@ -70,11 +71,10 @@ WHOLE = {("apply", "first-lines.apply"), ("apply", "swaps.apply"), ("apply", "re
 # Of the others so many first ones are, and then steps grow by one for so many; and where all later ones are refused too.
 SOME, FEW = (24, 16), (8, 4)
 # The crates of tests that end with an error where memory was refused. Those of dsr_hosts_tests run threads: tests/threads.py refuses allocations of services.
-CRATES = ["dsr_request_tests", "dsr_envelope_tests", "dsr_mail_tests", "dsr_mail_record_tests", "dsr_record_tests", "dsr_rounds_tests"]
-# Tests that end otherwise: those of dsr_command, whose calls say it by what they answer (these calls are in the runs of the program); and those of
-# dsr_mail_tests and dsr_mail_record_tests that run threads, of which one waits for ever if the other one ended for want of memory. What these call is called
-# by other tests too.
-ANSWERED = ("command::", "threads::")
+CRATES = ["dsr_envelope_tests", "dsr_mail_tests", "dsr_mail_record_tests", "dsr_record_tests", "dsr_rounds_tests"]
+# Tests of these crates that are left out: those of dsr_mail_tests and dsr_mail_record_tests that run threads, of which one waits for ever if the other one
+# ended for want of memory. What they call is called by other tests too.
+IN_THREADS = "threads::"
 WANT_OF_MEMORY = re.compile(rb"^(?:[Ee]rror:|  left:) .*(NoMemory|AllocError|AllocFailed|WriteFailed)", re.M)
 # Within which a run with a refused allocation must end.
 SECONDS_OF_A_RUN = 60
@@ -266,7 +266,7 @@ def fault_of_crate(crate, shim):
     if not os.path.exists(built):
         return "its tests are not built", 0, 0
     listed = run([built, "--list"], b"", SECONDS_OF_A_RUN)[1].decode()
-    tests = [test for test in re.findall(r"^(\S+): test$", listed, re.M) if not test.startswith(ANSWERED)]
+    tests = [test for test in re.findall(r"^(\S+): test$", listed, re.M) if not test.startswith(IN_THREADS)]
     count = 0
     for test in tests:
         fault, more = fault_of_test(shim, built, test)

@@ -5,11 +5,10 @@ use dsr_ledger::Reply;
 use dsr_names::{Actor, ClientId, ReplicaId, Shape};
 use dsr_request::{Answer, Name, Op, Request};
 use std::alloc::Global;
-use std::process::Abort;
 use std::test::Fail;
 
 /// The key of this actor of shape (3,1,2,0).
-fn key_of(alloc: Global, actor: Actor) -> Result<Key, Fail> {
+pub(crate) fn key_of(alloc: Global, actor: Actor) -> Result<Key, Fail> {
     let mut keys = Keys::new(alloc, Shape::new(3, 1, 2, 0)?)?;
     Ok(keys.take(actor).ok_or("no key")?)
 }
@@ -23,7 +22,7 @@ fn ask_of(alloc: Global, number: u64) -> Result<SignedRequest, Fail> {
 }
 
 /// The chain that replica 0 starts for this slot, on idle.
-fn chain_of(alloc: Global, slot: u64) -> Result<Chain, Fail> {
+pub(crate) fn chain_of(alloc: Global, slot: u64) -> Result<Chain, Fail> {
     let key = key_of(alloc, Actor::Replica(ReplicaId::FIRST))?;
     Ok(Chain::start(alloc, slot, SlotValue::Idle, &key)?)
 }
@@ -69,18 +68,6 @@ fn samples(alloc: Global) -> Result<Vec<Envelope>, Fail> {
 }
 
 #[test]
-fn an_envelope_is_the_same_as_its_copy_alone(rt: HostRuntime) -> Result<(), Fail> {
-    let all = samples(rt.alloc())?;
-    for (place, envelope) in all.iter().enumerate() {
-        let copy = envelope.try_copy(rt.alloc())?;
-        for (other, sample) in all.iter().enumerate() {
-            assert_eq!(rt; copy.same(sample), place == other, "at {place}, {other}");
-        }
-    }
-    Ok(())
-}
-
-#[test]
 fn a_letter_lends_its_envelope_to_every_copy(rt: HostRuntime) -> Result<(), Fail> {
     for envelope in &samples(rt.alloc())? {
         let letter = Letter::of(rt.alloc(), envelope.try_copy(rt.alloc())?)?;
@@ -118,43 +105,6 @@ fn chains_come_out_as_they_went_in(rt: HostRuntime) -> Result<(), Fail> {
     Ok(())
 }
 
-/// The greatest number that texts may have: 2^40 - 1.
-const MOST: u64 = 1_099_511_627_775;
-
-/// Whether the envelope of this round fits that has a chain of each of these slots.
-fn round_fits(alloc: Global, round: u64, slots: &[u64]) -> Result<bool, Fail> {
-    Ok(round_of(alloc, round, slots)?.fits())
-}
-
-/// Whether envelopes of rounds fit up to the greatest round, the greatest slot, and 32 chains.
-fn rounds_fit(rt: &impl Abort, alloc: Global) -> Result<(), Fail> {
-    assert!(rt; round_fits(alloc, MOST, &[MOST])?);
-    assert!(rt; !round_fits(alloc, MOST + 1, &[MOST])?);
-    assert!(rt; !round_fits(alloc, MOST, &[MOST + 1])?);
-    assert!(rt; round_fits(alloc, 0, &[0u64; 32])?);
-    assert!(rt; !round_fits(alloc, 0, &[0u64; 33])?);
-    Ok(())
-}
-
-/// Whether replies and seen numbers fit up to the greatest number, and a reply to no request does not.
-fn numbers_fit(rt: &impl Abort) {
-    assert!(rt; reply_of(MOST, MOST).fits());
-    assert!(rt; !reply_of(0, 0).fits());
-    assert!(rt; !reply_of(MOST + 1, 0).fits());
-    assert!(rt; !reply_of(1, MOST + 1).fits());
-    assert!(rt; Envelope::Seen(MOST).fits());
-    assert!(rt; !Envelope::Seen(MOST + 1).fits());
-}
-
-#[test]
-fn an_envelope_fits_up_to_each_limit(rt: HostRuntime) -> Result<(), Fail> {
-    assert!(rt; Envelope::Empty.fits());
-    rounds_fit(&rt, rt.alloc())?;
-    numbers_fit(&rt);
-    assert!(rt; Envelope::ask(rt.alloc(), ask_of(rt.alloc(), MOST)?)?.fits());
-    Ok(())
-}
-
 /// The clients 0 to 8.
 fn nine_clients() -> Result<[ClientId; 9], Fail> {
     let mut nine = [ClientId::FIRST; 9];
@@ -171,15 +121,6 @@ fn eight_clients_are_a_list_and_nine_are_not(rt: HostRuntime) -> Result<(), Fail
     assert_eq!(rt; eight.as_slice(), &nine[..8]);
     assert!(rt; Clients::of(&nine).is_none());
     assert!(rt; Clients::of(&nine[..0]).is_none());
-    Ok(())
-}
-
-#[test]
-fn no_client_stands_twice(rt: HostRuntime) -> Result<(), Fail> {
-    let one = ClientId::new(1)?;
-    let two = ClientId::new(2)?;
-    assert!(rt; Clients::of(&[one, two, one]).is_none());
-    assert!(rt; Clients::of(&[one, two]).is_some());
     Ok(())
 }
 

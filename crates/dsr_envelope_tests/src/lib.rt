@@ -1,4 +1,5 @@
-//! The tests of rotation, signatures, chains, envelopes and votes. They stand apart from the code, since a crate with tests is proved twice.
+//! The tests of lists, texts, streams, keys, chains and envelopes that rows and the program cannot show. They stand apart from the code, since a crate with
+//! tests is proved twice.
 #![tactic(auto)]
 
 #[cfg(test)]
@@ -10,6 +11,10 @@ mod envelope;
 #[cfg(test)]
 mod exact;
 #[cfg(test)]
-mod quorum;
+mod lists;
 #[cfg(test)]
-mod rotation;
+mod requests;
+#[cfg(test)]
+mod streams;
+#[cfg(test)]
+mod texts;

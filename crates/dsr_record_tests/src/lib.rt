@@ -1,4 +1,5 @@
-//! The tests of what may go into threads, of worlds, and of records. They stand apart from the code, since a crate with tests is proved twice.
+//! The tests of what may go into threads, of worlds, and of records, that rows and the program cannot show. They stand apart from the code, since a crate
+//! with tests is proved twice.
 #![tactic(auto)]
 
 #[cfg(test)]

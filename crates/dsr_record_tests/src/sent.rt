@@ -32,9 +32,8 @@ fn a_client_may_go_into_a_thread(rt: HostRuntime) -> Result<(), Fail> {
 fn replica_alone(alloc: Global) -> Result<Replica, Fail> {
     let shape = Shape::new(1, 0, 1, 0)?;
     let mut keys = Keys::new(alloc, shape)?;
-    let key = keys
-        .take(Actor::Replica(ReplicaId::FIRST))
-        .ok_or("no key")?;
+    let actor = Actor::Replica(ReplicaId::FIRST);
+    let key = keys.take(actor).ok_or("no key")?;
     if !shape.has(key.signer()) {
         return Err("no replica of the shape")?;
     }

@@ -1,4 +1,4 @@
-use dsr_base::{Few, Token, UpTo, read_decimal, split_once, split_outside};
+use dsr_base::{Few, Token, UpTo, split_once, split_outside};
 use std::fmt;
 use std::marker::Model;
 use std::process::Abort;
@@ -98,16 +98,6 @@ fn a_text_is_split_outside_parentheses(rt: HostRuntime) {
     splits_outside(&rt, "r(a+b)+c", "r(a+b)", "c");
     assert!(rt; split_outside(b"r(a+b)", b'+').is_none());
     assert!(rt; split_outside(b"", b'+').is_none());
-}
-
-#[test]
-fn decimals_are_read(rt: HostRuntime) {
-    assert!(rt; read_decimal(b"0") == Some(0));
-    assert!(rt; read_decimal(b"18446744073709551615") == Some(18_446_744_073_709_551_615));
-    assert!(rt; read_decimal(b"18446744073709551616").is_none());
-    assert!(rt; read_decimal(b"007").is_none());
-    assert!(rt; read_decimal(b"+7").is_none());
-    assert!(rt; read_decimal(b"").is_none());
 }
 
 #[test]
