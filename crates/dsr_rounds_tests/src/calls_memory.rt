@@ -1,4 +1,4 @@
-//! The calls of a client, made again where memory was refused. `tests/allocations.py` refuses each allocation of these tests in
+//! The calls of a client, made again where memory was refused. `tests/faults.py allocations` refuses each allocation of these tests in
 //! turn, one in each run, and every run must pass: a refused turn left the client as it was, and what is made again gives the
 //! row's reply.
 
