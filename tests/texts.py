@@ -3,7 +3,7 @@
 program gives on a text must be what tests/models give: status, standard output and standard error, to the byte.
 
 transcripts: what `dsr play --transcript` writes of the plays of examples/, and of 200 random plays with traitors in them; and what `dsr check` says of these
-transcripts, of the texts of tests/transcript_rows.py, and of what examples/record/service.py records of itself. Each transcript is tried with small
+transcripts, of the texts of tests/written/transcripts.txt, and of what examples/record/service.py records of itself. Each transcript is tried with small
 changes too: two neighbouring lines exchanged, a line left out, cut after each line, a byte changed, some cut at every byte; those of random plays with
 changes by chance. Then texts of as many bytes as are allowed, and of more; standard input and output that fail.
 
