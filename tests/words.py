@@ -4,7 +4,7 @@
 1. `dsr --version` prints the version and the toolchain that `rt version` prints, and README.md names that toolchain.
 2. Each help is the text in tests/helps/, to the byte, and short enough to be shown. So is what is said of an unknown word; a word too long to be shown
    is not.
-3. Lists of words written by hand; each list of at most two words of a vocabulary; and 2,000 others drawn by chance, most of them longer. On an empty input
+3. The lists of words of tests/written/words.txt; each list of at most two words of a vocabulary; and 2,000 others drawn by chance, most of them longer. On an empty input
    each asks for what a definition written anew says, and what is written by hand beside it. A help is the one that was asked for, and a usage fault says so on
    standard error alone.
 4. Each play of examples/ with `--strict`, alone and with `--transcript` in either order: the same is written as without it, and the status is
@@ -21,6 +21,7 @@ import sys
 from kit import inputs
 from kit.program import bytes_of, difference, fault_of, name_of, program, run, shown, text_of
 from kit.report import main
+from kit.written import tables
 from models.transcript_text import bad_line
 
 VERSION = "1.0.0"
@@ -36,124 +37,6 @@ VOCABULARY = ["apply", "play", "serve", "check", "explain", "--strict", "--trans
               "-x", "-", "--", "--version", "-V", "help", "FILE.play", ""]
 PIECES = {"play": [["--strict"], ["--transcript"]], "serve": [["--transcript"]],
           "explain": [["--slot", "7"], ["--actor", "r15"], ["--refused"], ["--data"]]}
-# Lists of words written by hand, a line each, and what they ask for.
-WRITTEN = {
-    "task": """
-        apply
-        play
-        play --strict
-        play --transcript
-        play --strict --transcript
-        play --transcript --strict
-        serve
-        serve --transcript
-        check
-        explain
-        explain --slot 3
-        explain --slot 1099511627775
-        explain --actor r15
-        explain --refused
-        explain --data
-        explain --slot 3 --actor c31 --refused
-        explain --slot 0 --actor c31 --refused --data
-        explain --data --refused --actor c31 --slot 0
-    """,
-    "help": """
-        --help
-        -h
-        apply --help
-        --help apply
-        play -h
-        -h play --transcript
-        play --transcript --help
-        play -h --transcript
-        serve --help
-        -h serve --transcript
-        serve --transcript -h
-        serve -h --transcript
-        check -h
-        check --help --transcript
-        play --strict --help
-        play --strict --transcript -h --strict
-        explain --help
-        explain -h --slot
-        explain --slot 0 -h
-        explain --refused --data --actor r0 --help fly
-    """,
-    "unknown": """
-        fly
-        --help=now
-        apply --help=now
-        help
-        --version --version
-        --version --help
-        --version apply
-        -V
-        apply --version
-        --
-        ''
-        apply --transcript
-        apply apply
-        apply --
-        play apply
-        play --
-        plays
-        --transcript
-        --transcript play
-        check --transcript
-        check check
-        check --
-        play --transcript --transcript
-        play --transcript=true
-        play --transcript=
-        play --transcript true
-        play --transcript --
-        play -- --transcript
-        play --transcripts
-        play --trans
-        play -t
-        serve serve
-        serve play
-        serve --
-        serves
-        --transcript serve
-        play serve
-        serve --transcript --transcript
-        serve --transcript=x
-        serve --transcript=
-        serve --transcript true
-        serve --transcript --
-        serve --transcripts
-        play --strict --strict
-        play --strict --transcript --strict
-        play --transcript --strict --transcript
-        play --strict=true
-        play --strict --
-        --strict play
-        serve --strict
-        explains
-        explain play
-        explain --
-        explain --slot
-        explain --slot=3
-        explain --slot ''
-        explain --slot 03
-        explain --slot -1
-        explain --slot +1
-        explain --slot 1099511627776
-        explain --slot --help
-        explain --slot x --help
-        explain --slot 3 --slot 3
-        explain --actor
-        explain --actor r16
-        explain --actor c32
-        explain --actor r01
-        explain --actor r0+r1
-        explain --actor --refused
-        explain --refused --refused
-        explain --data true
-    """,
-}
 OPTIONS = [[], ["--slot", "0"], ["--actor", "r0"], ["--actor", "c31"], ["--refused"], ["--data"],
            ["--data", "--refused", "--actor", "c0", "--slot", "1"]]
 
@@ -263,7 +146,7 @@ def fault_of_words(lists):
 
 def fault_of_written(kind, lines):
     """The first of these lists, written by hand, that asks for something else, or that the program does not do as it asks, or None; and how many there are."""
-    lists = [shlex.split(line) for line in lines.strip().splitlines()]
+    lists = [shlex.split(line) for line in lines]
     for words in lists:
         if asked(words) != kind:
             return f"{words} asks for {asked(words)}, and not {kind}", len(lists)
@@ -320,7 +203,7 @@ def words(report, _):
     report.judge_all((f"the help of {name}", fault_of_help(name)) for name in ["dsr", *TASKS])
     report.judge("an unknown word", difference(program(["help"]), (2, b"", help_text("unknown-word"))))
     report.judge("a long word", fault_of_long_word())
-    for kind, lines in WRITTEN.items():
+    for kind, lines in tables("words").items():
         fault, count = fault_of_written(kind, lines)
         report.judge(f"words that ask for {kind}, written by hand", fault, f", {count} lists")
     lists = [(f"{number} words", itertools.product(VOCABULARY, repeat=number)) for number in range(3)]
