@@ -34,6 +34,7 @@ from kit import inputs
 from kit.inputs import lines_text
 from kit.program import TOP, bytes_of, least_time, name_of, program, run, shown, text_of, write_bytes
 from kit.report import main
+from kit.written import tables
 from models import explain_model, histories
 
 
@@ -44,97 +45,13 @@ EXPLAINED_PLAYS = 200
 MOST_TIMES = 3
 # Lines that the model does not make.
 BESIDE = ("silence ", "kept ", "hold ", "drop ", "unproposed ")
-# What stops each attack, as patterns of lines of data.
-STOPS = {
-    "chain-of-another-slot": ["chain r1 3 0 * not-in-flight", "chain r1 0 2 * wrong-count", "decide r1 0 0 idle"],
-    "chain-to-one-replica": ["chain r4 0 * first", "chain r2 0 3 * first"],
-    "client-as-signer": ["chain r2 0 3 * no-replica", "decide r2 0 0 idle"],
-    "colluding-traitors": ["chain r2 0 3 * second", "decide r2 0 2 idle", "decide r3 0 2 idle"],
-    "duplicate-request": ["stale r1 c0#1:swap:a:none:1", "stale r2 c0#1:swap:a:none:1"],
-    "equal-lies": ["vote c0 r4 2 3", "accept c0 1 0 *"],
-    "false-front": ["event * take c0 r2 done seen 1099511627775", "no-vote c0 r2 *"],
-    "flood-of-junk": ["chain r0 0 1 * wrong-count", "chain r0 0 1 * wrong-sender", "chain r0 1 0 * not-in-flight"],
-    "forged-signatures": ["event 1 * E8 *", "event 2 * E8 *", "event 4 * E8 *", "chain r1 0 1 * bad-request"],
-    "framed-sender": ["chain r0 0 2 * misfit", "chain r2 0 2 * misfit"],
-    "kept-back-chain": ["event 103 * E8 *", "chain r2 0 3 * wrong-count"],
-    "late-second-value": ["chain r2 0 2 * wrong-count", "chain r2 0 2 * misfit", "chain r2 0 2 * signed-twice"],
-    "lent-keys": ["chain r2 0 1 * second", "decide r2 0 2 idle"],
-    "lying-replies": ["no-vote c0 r2 *"],
-    "made-up-requests": ["chain r1 0 1 * bad-request", "decide r1 0 0 idle"],
-    "misfitting-relay": ["chain r2 0 2 * misfit", "chain r3 0 2 * misfit"],
-    "replayed-request": ["stale r0 c0#1:write:a:5", "stale r2 c1#1:write:a:6"],
-    "signature-of-another-slot": ["chain r0 3 2 * misfit", "chain r2 3 2 * misfit"],
-    "signer-twice": ["chain r2 0 3 * signed-twice"],
-    "silent-traitor": ["event 12 * E7 -", "decide r1 0 0 idle"],
-    "stale-reply": ["no-vote c0 r2 *", "vote c0 r2 *"],
-    "swapped-requests": ["chain r1 0 2 * second", "decide r1 0 2 idle"],
-    "three-of-seven": ["event 296 * E8 *", "chain r3 0 4 * wrong-count", "chain r3 0 4 * signed-twice"],
-    "three-values": ["chain r1 0 2 * one-too-many", "decide r1 0 2 idle"],
-    "two-faced-sender": ["chain r1 0 2 * second", "decide r1 0 2 idle", "decide r2 0 2 idle"],
-    "usurped-slot": ["chain r1 0 1 * wrong-sender"],
-    "wrong-round": ["silence r1 0", "decide r1 0 0 idle"],
-}
+TABLES = tables("explanations")
 # The wrong line of each play of examples/why/, or the line in which what it lacks is missed first.
 WRONG_LINES = {"forgotten-post": 6, "wrong-senders-choice": 5, "request-not-asked": 3, "signature-of-another-slot": None, "reply-too-early": 8}
-# A text that is no play; the line and the column that are named; and a word of what was expected there.
-NO_PLAYS = [
-    (b"", 1, 1, b"a line feed"),
-    (b"dsr-play 1 3 1 1 -\nposts r0", 2, 9, b"a line feed"),
-    (b"dsr-script 1 3 1 1 -\n", 1, 1, b"dsr-play"),
-    (b"dsr-play 2 3 1 1 -\n", 1, 10, b"version"),
-    (b"dsr-play 1 3 01 1 -\n", 1, 14, b"traitors"),
-    (b"dsr-play 1 3 1 1 r1+r0\n", 1, 18, b"the traitors"),
-    (b"dsr-play 1 3 1 1 -\npst r0 r1\n", 2, 1, b"post, plant"),
-    (b"dsr-play 1 3 1 1 -\nposts *\npost r0 r16\n", 3, 9, b"an actor"),
-    (b"dsr-play 1 3 1 1 -\npost r0 r1 fron c0\n", 2, 12, b"from, begin"),
-    (b"dsr-play 1 3 1 1 -\npost c0 r1 begin wrte a 5\n", 2, 18, b"an operation"),
-    (b"dsr-play 1 3 1 1 -\npost c0 r1 begin write A 5\n", 2, 24, b"name"),
-    (b"dsr-play 1 3 1 1 -\npost c0 r1 begin write a 05\n", 2, 26, b"a value"),
-    (b"dsr-play 1 3 1 1 -\npost c0 r1 begin swap a none\n", 2, 29, b"a value"),
-    (b"dsr-play 1 3 1 1 -\ntake r0 r1 now\n", 2, 12, b"the end of the line"),
-    (b"dsr-play 1 3 1 1 -\ntakes  *\n", 2, 7, b"an actor"),
-    (b"dsr-play 1 3 1 1 -\nhears r0\n", 2, 7, b"a client"),
-    (b"dsr-play 1 3 1 1 r0\nplant r0 r1 emty\n", 2, 13, b"an envelope"),
-    (b"dsr-play 1 3 1 1 r0\nplants r0 round 0 0/idle/r0 0/idl/r0\n", 2, 29, b"a chain"),
-    (b"dsr-play 1 3 1 1 r0\nplants c0 empty\n", 2, 8, b"a replica"),
-]
 # Options of which each leaves a part of what is told.
 NARROWING = [
     {"slot": "0"}, {"slot": "1"}, {"slot": "1099511627775"}, {"actor": "r1"}, {"actor": "c0"}, {"actor": "c31"}, {"refused": True},
     {"actor": "r2", "slot": "0"}, {"actor": "r1", "refused": True}, {"slot": "0", "actor": "c0", "refused": True},
-]
-# What c0 asks, and each replica takes.
-HELD = ["asks c0 begin write a 5", "hears c0"]
-# All post and take, and so each closes a round; and r0 and r1 reply, which c0 accepts.
-ROUND = ["posts *", "takes *"]
-REPLIES = ["post r0 c0", "take c0 r0", "post r1 c0", "take c0 r1"]
-# Lines of a play of three loyal replicas and one client; ends of lines that are told of it; and what is nowhere.
-SAYINGS = [
-    # r0 keeps c0's ask back; r1 proposes it, so r2 has no reason to.
-    ([*HELD, "posts *", "takes *", "posts r0", "posts r1 from c0", "posts r2", "takes *", "posts *"],
-     ["    r0 proposes nothing in slot 0, though it holds c0#1:write:a:5"], ["r1 proposes nothing", "r2 proposes nothing"]),
-    # All propose nothing, so slot 0 is idle, and none of them has the request in a slot.
-    ([*HELD, "posts *", "takes *", "posts *", "takes *"],
-     ["    r1 proposes nothing in slot 1, though it holds c0#1:write:a:5",
-      "; r1 holds it, and no slot that it decided has it; r2 holds it, and no slot that it decided has it"], ["r2 proposes nothing", "undecided"]),
-    # What acted is no reason to propose.
-    ([*HELD, "posts r0 from c0", "posts r1", "posts r2", "takes *", "posts *", "takes *", "posts *", "takes *", "posts *"],
-     ["    c0#1:write:a:5 acts at r0, at place 0 of the history"], ["proposes nothing"]),
-    # The first refused event is in line 4, and another one follows.
-    ([*HELD, "post r1 r0 from c0", "take r0 r1"],
-     [": r1 posts to r0, to propose what it holds of c0", "refused: 2, the first in line 4; those after it may follow from it"], []),
-    ([*HELD, "post c0 r1 begin swap a none 6"],
-     [": c0 posts to r1, to begin the request swap a none 6", "refused: 1, the first in line 4; those after it may follow from it"], []),
-    (HELD, ["    r2 holds the request c0#1:write:a:5"], ["refused"]),
-    # r1 closes round 0, and posts in round 1, before r2 takes its envelope of round 0.
-    ([*HELD, "posts r0 from c0", "posts r1", "posts r2", "takes r0", "takes r1", "posts r1", "take r2 r0", "take r2 r1"],
-     [": r1 posts to r0: round 1 0/c0#1:write:a:5~c0/r0+r1 1/idle/r1", ": r2 takes from r1: empty"], ["r2 takes from r1: round 1"]),
-    # c0 asks twice more before r2 takes its first ask.
-    (["asks c0 begin write a 5", "take r0 c0", "posts r0 from c0", "posts r1", "posts r2", "takes *", *ROUND, *REPLIES,
-      "post c0 r0 begin write a 6", "take r0 c0", *ROUND, "posts r0 from c0", "posts r1", "posts r2", "takes *", *ROUND, *REPLIES,
-      "post c0 r0 begin write a 7", "take r2 c0"],
-     [": c0 posts to r0: ask c0#3:write:a:7~c0", ": r2 takes from c0: ask c0#1:write:a:5~c0", "    r2 holds the request c0#1:write:a:5"],
-     ["r2 takes from c0: ask c0#3"]),
 ]
 
 
@@ -178,7 +95,7 @@ def plays_of_examples():
 def fault_of_stops(name, play):
     """Which pattern of the attack matches no line, or None."""
     lines = program("explain --data", play)[1].decode().splitlines()
-    for pattern in STOPS.get(name, ["an attack of which nothing is known here"]):
+    for pattern in dict(TABLES["attacks"]).get(name, "an attack of which nothing is known here").split("\n"):
         if not any(fnmatch.fnmatchcase(line, pattern) for line in lines):
             return f"no line is `{pattern}`"
     return None
@@ -213,15 +130,15 @@ def fault_of_no_play(text, line, column, expected):
 
 def fault_of_sayings(lines, ends, nowhere):
     """Which of these ends no line of the explanation has, or what is in it and should not be; or None."""
-    play = lines_text(["dsr-play 1 3 1 1 -", *lines])
+    play = lines_text(["dsr-play 1 3 1 1 -", *lines.split("\n")])
     status, written, told = program("explain", play)
     if status != 0 or told:
         return f"status {status}, {told!r}"
     written = written.decode()
-    for end in ends:
+    for end in ends.split("\n"):
         if not any(line.endswith(end) for line in written.splitlines()):
             return f"no line ends with `{end}`"
-    return next((f"it says `{text}`" for text in nowhere if text in written), None)
+    return next((f"it says `{text}`" for text in nowhere.split("\n") if text and text in written), None)
 
 
 def with_slots(notes):
@@ -296,10 +213,10 @@ def explanations(report, is_written):
         report.judge(f"the options on {name}", fault_of_options(play), None)
     for stem in inputs.plays("why/*.play"):
         report.judge(inputs.name_in_examples(stem), fault_of_why(os.path.basename(stem), is_written), None)
-    for lines, *told in SAYINGS:
-        report.judge(f"what is told of {' | '.join(lines)}", fault_of_sayings(lines, *told), None)
-    for text, *expected in NO_PLAYS:
-        report.judge(f"no play: {text[:60]!r}", fault_of_no_play(text, *expected), None)
+    for lines, *told in TABLES["sayings"]:
+        report.judge(f"what is told of {lines!r}", fault_of_sayings(lines, *told), None)
+    for text, line, column, expected in TABLES["no plays"]:
+        report.judge(f"no play: {text[:60]!r}", fault_of_no_play(text.encode(), int(line), int(column), expected.encode()), None)
     report.judge(*check_of_time())
 
 
