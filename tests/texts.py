@@ -54,7 +54,7 @@ class Judge:
     def fault_of(self, text):
         if self.words == "serve":
             return slow_texts.fault_of_service(text, lambda script: program("serve", script, SECONDS))
-        return difference(program(self.words, text, SECONDS), self.models[self.words](text))
+        return fault_of(self.words, text, self.models[self.words](text), SECONDS)
 
 
 def faults_of(words, texts):
@@ -348,25 +348,21 @@ def fault_of_script(text, asked):
     return slow_texts.fault_of_served(asked, slow_texts.answered_run(lambda: program("serve", text, SECONDS)))
 
 
-def fault_in_time(words, text, wanted):
-    """How the program's run on a large text differs from the one that is wanted, or None."""
-    return difference(program(words, text, SECONDS), wanted)
-
-
 def large_limits():
     """What is tried, and what is wrong with it."""
     text, answers = apply_of(MOST_BYTES)
-    yield f"apply, {MOST_BYTES} bytes", fault_in_time("apply", text, (0, answers, b""))
-    yield "apply, one byte more", fault_in_time("apply", apply_of(MOST_BYTES + 1)[0], UNREAD)
+    yield f"apply, {MOST_BYTES} bytes", fault_of("apply", text, (0, answers, b""), SECONDS)
+    yield "apply, one byte more", fault_of("apply", apply_of(MOST_BYTES + 1)[0], UNREAD, SECONDS)
     text, asked = script_of(MOST_BYTES)
     yield f"serve, {MOST_BYTES} bytes", fault_of_script(text, asked)
     for words in ("serve", "serve --transcript"):
-        yield f"{words}, one byte more", fault_in_time(words, script_of(MOST_BYTES + 1)[0], UNREAD)
+        yield f"{words}, one byte more", fault_of(words, script_of(MOST_BYTES + 1)[0], UNREAD, SECONDS)
     for words in ("apply", "play", "play --transcript", "serve", "serve --transcript", "check"):
-        yield f"{words}, one byte more, which is no text", fault_in_time(words, b"\n" * (MOST_BYTES + 1), UNREAD)
+        yield f"{words}, one byte more, which is no text", fault_of(words, b"\n" * (MOST_BYTES + 1), UNREAD, SECONDS)
     most = b"dsr-play 1 10 0 1 -\n" + b"takes *\n" * (MOST_EVENTS // 100)
-    yield f"play --transcript, {MOST_EVENTS} events", fault_in_time("play --transcript", most, (0, b"dsr-transcript 1 10 0 1 -\n", b""))
-    yield "play --transcript, one event more", fault_in_time("play --transcript", most + b"take r0 r0\n", bad_line(MOST_EVENTS // 100 + 2))
+    yield f"play --transcript, {MOST_EVENTS} events", fault_of("play --transcript", most, (0, b"dsr-transcript 1 10 0 1 -\n", b""), SECONDS)
+    more = most + b"take r0 r0\n"
+    yield "play --transcript, one event more", fault_of("play --transcript", more, bad_line(MOST_EVENTS // 100 + 2), SECONDS)
 
 
 def malicious(report, is_soak):

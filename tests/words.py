@@ -4,9 +4,9 @@
 1. `dsr --version` prints the version and the toolchain that `rt version` prints, and README.md names that toolchain.
 2. Each help is the text in tests/helps/, to the byte, and short enough to be shown. So is what is said of an unknown word; a word too long to be shown
    is not.
-3. The lists of words of tests/written/words.txt; each list of at most two words of a vocabulary; and 2,000 others drawn by chance, most of them longer. On an empty input
-   each asks for what a definition written anew says, and what is written by hand beside it. A help is the one that was asked for, and a usage fault says so on
-   standard error alone.
+3. The lists of words of tests/written/words.txt; each list of at most two words of a vocabulary; and 2,000 others drawn by chance, most of them longer.
+   On an empty input each asks for what a definition written anew says, and what is written by hand beside it. A help is the one that was asked for, and a
+   usage fault says so on standard error alone.
 4. Each play of examples/ with `--strict`, alone and with `--transcript` in either order: the same is written as without it, and the status is
    1 exactly if an event was refused, or that of the refusal.
 5. Each of these plays explained, with some options: the status is 0, or that of the refusal of the play.

@@ -17,6 +17,7 @@ import sys
 from kit.program import TOP, program
 from kit.report import main
 from kit.written import tables
+from models.slow_texts import answered_run
 
 TABLES = tables("worked")
 NAMES = dict(TABLES["names"])
@@ -27,7 +28,7 @@ def refusal(reason):
     return f"dsr: {reason}\n" if reason else ""
 
 
-UNREAD, UNWRITTEN, NO_ANSWER = map(refusal, ["reading failed", "writing failed", "no answer within the turns"])
+UNREAD, UNWRITTEN = map(refusal, ["reading failed", "writing failed"])
 HEADERS = {traitor: f"dsr-play 1 3 1 1 {traitor}\n" for traitor in ("r0", "r1")}
 NARROWINGS = ["explain", "explain --refused --slot 0", "explain --data --actor r0"]
 # The words of each task, and of what else is written on standard output, and a text of which it is.
@@ -39,14 +40,10 @@ SHOWN = [("--help", ""), ("explain --help", ""), ("--version", "")]
 
 
 def ran(words, text="", **streams):
-    """The status of the program with these words on this text, and what it wrote on standard output and standard error. None stands for a stream that is not
-    seen. How the threads of a service take turns is up to the system: where a client's thread came too late, and it had no answer, the service is run again."""
-    for _ in range(10):
-        status, *written = program(words, text.encode(), **streams)
-        output, errors = (None if stream is None else stream.decode() for stream in written)
-        if errors != NO_ANSWER:
-            break
-    return status, output, errors
+    """The status of the program with these words on this text, and what it wrote on standard output and standard error; None for a stream that is not seen. A
+    service is run again if a client came too late, and had no answer."""
+    status, *written = answered_run(lambda: program(words, text.encode(), **streams))
+    return status, *(None if stream is None else stream.decode() for stream in written)
 
 
 def fault_of(words, text, wanted, **streams):

@@ -1,8 +1,8 @@
 """What a prover reads of a source: its text without comments, and without what an empty line or a space at a line's end adds.
 
-In a .rt file comments are Rust's: `//` to the line's end, nested `/* */`, doc comments among them. What follows `requires`, `ensures` and `ghost`, which are no
-names, in braces or as `ghost use`, is antt's text. In an .antt file comments are `--` to the line's end, and nested `{- -}`. antt's layout goes by columns: so what
-is left keeps its column, and a comment within a line leaves as many spaces as it had characters.
+In a .rt file comments are Rust's: `//` to the line's end, nested `/* */`, doc comments among them. What follows `requires`, `ensures` and `ghost`, which are
+no names, in braces or as `ghost use`, is antt's text. In an .antt file comments are `--` to the line's end, and nested `{- -}`. antt's layout goes by columns:
+so what is left keeps its column, and a comment within a line leaves as many spaces as it had characters.
 
 If it is not certain what is a comment, all of the text counts: so does that of a file with a comment in a clause. No doc comment reaches a prover but
 through a macro: the text of a file with a macro's rules, or with a derive that may read doc comments, counts too.

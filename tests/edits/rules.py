@@ -190,8 +190,8 @@ class Comments(unittest.TestCase):
         self.same("a.rt", "fn f()\n    ensures some { e'' ≡ { x } \"}\" }\n{\n}", "fn f()\n    ensures some { e'' ≡ { x } \"}\" } // ' {\n{\n}")
         self.same("a.rt", "ghost use A.b.{c', ◌≡◌}; 'd'", "ghost use A.b.{c', ◌≡◌}; 'd' // e\n")
         self.same("a.rt", "ghost a: { T' } = { c' }; '}'", "ghost a: { T' } = { c' }; '}' // '")
-        for text in ("ensures { a -- b\n}", "ensures { a // b\n}", "requires * { a {- b -} }", "ensures { ⟦ 'a' ⟧ }", "ensures { a", "ensures {- a -} { b }",
-                     "ghost use A.{b, -- c\nd};", "ghost use A", "ghost a: { T } = {- b -} { c };"):
+        for text in ("ensures { a -- b\n}", "ensures { a // b\n}", "requires * { a {- b -} }", "ensures { ⟦ 'a' ⟧ }", "ensures { a",
+                     "ensures {- a -} { b }", "ghost use A.{b, -- c\nd};", "ghost use A", "ghost a: { T } = {- b -} { c };"):
             self.assertIsNone(self.left(text), text)
 
     def test_what_is_unclear_counts_as_a_whole(self):

@@ -94,9 +94,9 @@ def difference(ran, wanted):
     return None if ran == wanted else f"{shown(ran)}, and not {shown(wanted)}"
 
 
-def fault_of(words, text, wanted):
+def fault_of(words, text, wanted, seconds=SECONDS):
     """How the program's run on this text differs from the one that is wanted, or None."""
-    return difference(program(words, text), wanted)
+    return difference(program(words, text, seconds), wanted)
 
 
 def with_memory(limit, command):

@@ -1,8 +1,8 @@
 """Tables that were written by hand: the files tests/written/NAME.txt.
 
-A line `== TITLE` begins a table. Each other line is a row of it, of cells with ` => ` between them; empty lines, and those that begin with `# `, are none. A cell
-is a text, in which ` | `, and ` |` at its end, represents a line feed, and {NAME} the text of that name in the table `== names` above; or it is a text in
-double quotes, spelled as in Python.
+A line `== TITLE` begins a table. Each other line is a row of it, of cells with ` => ` between them; empty lines, and those that begin with `# `, are none.
+A cell is a text, in which ` | `, and ` |` at its end, represents a line feed, and {NAME} the text of that name in the table `== names` above; or it is a
+text in double quotes, spelled as in Python.
 """
 
 import ast

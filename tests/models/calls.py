@@ -2,7 +2,7 @@
 
 import functools
 
-from models.transcript_text import MOST_SIGNATURES, VALUES, Reader, is_allowed
+from models.transcript_text import MOST_SIGNATURES, VALUES, Reader, Step, is_actor, is_allowed
 
 REFUSALS = {
     1: "BadShape", 2: "BadName", 3: "BadNumber", 4: "Busy", 5: "NotDue", 6: "BoxFull", 7: "BoxEmpty", 8: "Forged", 9: "Exhausted",
@@ -31,6 +31,17 @@ def need(is_so):
     """Raises `NoCall` unless what the contract requires is so."""
     if not is_so:
         raise NoCall
+
+
+class Logged:
+    """A loyal actor of a shape, and its log."""
+
+    def __init__(self, shape, me):
+        need(is_actor(shape, me))
+        self.shape, self.me, self.log = shape, me, []
+
+    def add(self, word, other, envelope):
+        self.log.append(Step(self.me, word, other, envelope))
 
 
 def allowed_shape(reader):

@@ -2,23 +2,16 @@
 
 from models import slow_check
 from models.slow_check import state_after
-from models.transcript_text import NUMBERS, Ask, Reader, Request, Seen, Signature, Signed, Step, envelope_text
+from models.transcript_text import NUMBERS, Ask, Reader, Request, Seen, Signature, Signed, envelope_text
 
-from models.calls import Refused, allowed_shape, client, need, replica, spaced_operation, val, verb
+from models.calls import Logged, Refused, allowed_shape, client, need, replica, spaced_operation, val, verb
 from models.votes import reply, reply_text
 
 
-class Client:
+class Client(Logged):
     """The log of a client."""
 
     OPERANDS = (allowed_shape, client)
-
-    def __init__(self, shape, me):
-        need(slow_check.is_actor(shape, me))
-        self.shape, self.me, self.log = shape, me, []
-
-    def add(self, word, other, envelope):
-        self.log.append(Step(self.me, word, other, envelope))
 
     def outstanding_ask(self):
         return state_after(self.shape, self.log).outstanding

@@ -1,9 +1,9 @@
 """A loyal replica: its log, and what that says of its next post or take."""
 
 from models import slow_check
-from models.transcript_text import Ask, Reader, Step, content_text, envelope_text, request_text
+from models.transcript_text import Ask, Reader, content_text, envelope_text, request_text
 
-from models.calls import Refused, allowed_shape, client, need, optional, replica, verb
+from models.calls import Logged, Refused, allowed_shape, client, need, optional, replica, verb
 
 
 def chosen(reader):
@@ -11,17 +11,10 @@ def chosen(reader):
     return reader.items("+", lambda: reader.actor_of("c"), 8)
 
 
-class Replica:
+class Replica(Logged):
     """The log of a replica."""
 
     OPERANDS = (allowed_shape, replica)
-
-    def __init__(self, shape, me):
-        need(slow_check.is_actor(shape, me))
-        self.shape, self.me, self.log = shape, me, []
-
-    def add(self, word, other, envelope):
-        self.log.append(Step(self.me, word, other, envelope))
 
     def round(self):
         return slow_check.rounds(self.shape, self.log)

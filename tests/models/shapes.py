@@ -1,11 +1,12 @@
 """Shapes and their actors, requests and refusals."""
 
 from models import slow_texts
-from models.slow_check import is_actor, is_traitor, sender_of
-from models.transcript_text import MOST_CLIENTS, MOST_REPLICAS, NUMBERS, Reader, Request, Shape, actor_text, is_allowed, request_text, shape_text
+from models.slow_check import is_traitor, sender_of
+from models.transcript_text import (
+    MOST_CLIENTS, MOST_REPLICAS, NUMBERS, Reader, Request, Shape, actor_text, all_of, is_actor, is_allowed, request_text, shape_text,
+)
 
 from models.calls import REFUSALS, NotSaid, Refused, allowed_shape, client, need, rest, spaced_operation, val, verb, word
-from models.tokens import read_token
 
 TEXTS = {
     "BadShape": "the shape is not allowed",
@@ -112,7 +113,7 @@ def request_parts(found):
 
 @verb(rest)
 def request_line(text):
-    found = read_token(slow_texts.request_line, text)
+    found = all_of(Reader(text), slow_texts.request_line)
     return found and f"{found[0]}#{found[1]}:{':'.join(found[2])}"
 
 

@@ -10,8 +10,8 @@ from collections import namedtuple
 
 from models import histories
 from models.transcript_text import (
-    MOST_BYTES, MOST_REQUESTS, NUMBERS, Ask, Chain, Empty, Link, Reader, Reply, Request, Round, Seen, Signature, Signed, bad_line, content_of,
-    content_text, is_allowed, is_plain, refused, step_of, whole,
+    MOST_REQUESTS, NUMBERS, Ask, Chain, Empty, Link, Reply, Request, Round, Seen, Signature, Signed, bad_line, begun, content_of, content_text, is_actor,
+    is_plain, refused, step_of,
 )
 
 ROUNDS = 2**36
@@ -24,11 +24,6 @@ State = namedtuple("State", "outstanding notes accepted")
 
 
 # ---- shapes
-
-
-def is_actor(shape, actor):
-    kind, number = actor
-    return number < (shape.n if kind == "r" else shape.m)
 
 
 def is_traitor(shape, actor):
@@ -379,25 +374,19 @@ class Run:
 # ---- texts
 
 
-def header_of(line):
-    """The version and the shape of a header; None where it is none."""
-    for version in (1, 2):
-        title = f"dsr-transcript {version} ".encode()
-        if line.startswith(title):
-            shape = whole(line[len(title):], Reader.shape)
-            return shape and (version, shape)
-    return None
-
-
-def read_steps(lines, version):
-    """The steps of these lines, and the number of the first bad line or None. The header is line 1."""
-    steps = []
+def read_transcript(text):
+    """The version, the shape and the steps of a transcript; or what `dsr check` gives if it refuses the text."""
+    version = 2 if text.startswith(b"dsr-transcript 2 ") else 1
+    header, fault = begun(text, b"dsr-transcript %d " % version)
+    if fault:
+        return None, fault
+    (shape, lines, rest), steps = header, []
     for number, line in enumerate(lines, 2):
         step = step_of(line)
         if step is None or version == 1 and not is_plain(step.envelope):
-            return steps, number
+            return None, bad_line(number)
         steps.append(step)
-    return steps, None
+    return (version, shape, steps), bad_line(len(lines) + 2) if rest else None
 
 
 class Judge:
@@ -408,19 +397,8 @@ class Judge:
 
     def verdict_of(self, text):
         """The status of `dsr check` on this text, and what it writes on standard output and standard error."""
-        if len(text) > MOST_BYTES:
-            return refused("reading failed")
-        *lines, rest = text.split(b"\n")
-        header = header_of(lines[0]) if lines else None
-        if header is None:
-            return bad_line(1)
-        version, shape = header
-        if not is_allowed(shape):
-            return refused("the shape is not allowed")
-        steps, bad = read_steps(lines[1:], version)
-        if bad is None and rest:
-            bad = len(lines) + 1
-        return bad_line(bad) if bad else self.verdict_on(shape, steps)
+        found, fault = read_transcript(text)
+        return fault or self.verdict_on(*found[1:])
 
     def verdict_on(self, shape, steps):
         if self.run is None or self.run.shape != shape:

@@ -8,7 +8,7 @@ have. So it has nothing in common with slow_check.py but the reader of tokens an
 import re
 
 from models import histories
-from models.transcript_text import Bad, Reader, actor_text, bad_line, begun, envelope_text, shape_text
+from models.transcript_text import Bad, Reader, actor_text, all_of, bad_line, begun, envelope_text, shape_text
 
 MOST_EVENTS = 1_000_000
 NAMES = {5: "NotDue", 6: "BoxFull", 7: "BoxEmpty", 8: "Forged", 12: "NoMemory", 15: "NoActor", 16: "WrongRole"}
@@ -423,13 +423,18 @@ class PlayReader(Reader):
 
 def events_of(line, shape):
     """The events of a line; None where it is none."""
-    reader = PlayReader(line.decode("latin-1"), shape)
-    try:
-        events = reader.events()
-        reader.end()
-    except Bad:
-        return None
-    return events
+    return all_of(PlayReader(line.decode("latin-1"), shape), PlayReader.events)
+
+
+def event_line(event):
+    """The line of a play that represents this event alone."""
+    word, actor, other, *more = event
+    if word == "plant":
+        return f"plant {actor} {other} {more[0]}"
+    choice = more[0] if more else None
+    if choice is None:
+        return f"{word} {actor} {other}"
+    return f"{word} {actor} {other} {choice[0]} {('+' if choice[0] == 'from' else ' ').join(choice[1])}"
 
 
 def read_play(text):

@@ -5,7 +5,7 @@ gives. How a service goes depends on its threads, so of what it gives it is only
 import re
 
 from models import histories
-from models.transcript_text import MOST_BYTES, actor_text, bad_line, begun, refused, whole
+from models.transcript_text import MOST_BYTES, actor_text, bad_line, begun, is_actor, refused, whole
 
 NO_ANSWER = b"dsr: no answer within the turns\n"
 
@@ -61,17 +61,12 @@ def script_line(reader):
     return traitor, number, to
 
 
-def has(shape, actor):
-    kind, number = actor
-    return number < (shape.n if kind == "r" else shape.m)
-
-
 def can_follow(shape, drafts, found):
     """Whether this line may stand after those that have these drafts."""
     if len(found) == 2:
-        return has(shape, found[0])
+        return is_actor(shape, found[0])
     traitor, _, to = found
-    return traitor[1] in shape.traitors and has(shape, to) and found not in drafts
+    return traitor[1] in shape.traitors and is_actor(shape, to) and found not in drafts
 
 
 def read_script(text):

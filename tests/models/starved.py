@@ -5,21 +5,10 @@ import re
 from models import slow_play
 
 
-def event_line(event):
-    """The line of a play that represents this event alone."""
-    word, actor, other, *more = event
-    if word == "plant":
-        return f"plant {actor} {other} {more[0]}"
-    choice = more[0] if more else None
-    if choice is None:
-        return f"{word} {actor} {other}"
-    return f"{word} {actor} {other} {choice[0]} {('+' if choice[0] == 'from' else ' ').join(choice[1])}"
-
-
 def each_event_twice(text):
     """The play with each of its events twice, one right after the other. Where the first is done, the second is refused."""
     (_, events), _ = slow_play.read_play(text)
-    return text[:text.index(b"\n") + 1] + b"".join(2 * f"{event_line(event)}\n".encode() for event in events)
+    return text[:text.index(b"\n") + 1] + b"".join(2 * f"{slow_play.event_line(event)}\n".encode() for event in events)
 
 
 class Starved:

@@ -3,7 +3,7 @@
 from models import slow_check
 from models import slow_play
 from models import slow_texts
-from models.transcript_text import Bad, Reader, actor_text, envelope_text, is_allowed, shape_text, whole
+from models.transcript_text import Bad, Reader, actor_text, envelope_text, is_allowed, shape_text, step_text, whole
 
 from models.calls import Refused, client, replica, rest, verb
 
@@ -38,29 +38,25 @@ class Transcript:
     OPERANDS = (text_of,)
 
     def __init__(self, text):
-        self.whole, self.found = text, slow_check.verdict_of(text)
-        if self.found[2].startswith(b"dsr: not a run"):
-            return
-        unless_refused(self.found)
-
-    def lines(self):
-        return self.whole.decode().splitlines()
+        found, fault = slow_check.read_transcript(text)
+        unless_refused(fault)
+        self.whole, (self.its_version, self.its_shape, self.steps) = text, found
 
     @verb()
     def version(self):
-        return slow_check.header_of(self.lines()[0].encode())[0]
+        return self.its_version
 
     @verb()
     def shape(self):
-        return shape_text(slow_check.header_of(self.lines()[0].encode())[1])
+        return shape_text(self.its_shape)
 
     @verb()
     def count(self):
-        return len(self.lines()) - 1
+        return len(self.steps)
 
     @verb(Reader.number)
     def step(self, place):
-        return self.lines()[place + 1] if place + 1 < len(self.lines()) else None
+        return step_text(self.steps[place]) if place < len(self.steps) else None
 
     @verb()
     def text(self):
@@ -68,19 +64,9 @@ class Transcript:
 
     @verb()
     def verdict(self):
-        unless_refused(self.found)
-        return " | ".join(self.found[1].decode().splitlines())
-
-
-def event_text(event):
-    """Writes an event as the line of a play that stands for it alone."""
-    word, a, b, *more = event
-    told = [] if more in ([], [None]) else more if word == "plant" else pick_words(*more[0])
-    return " ".join([word, a, b, *told])
-
-
-def pick_words(kind, chosen):
-    return [kind, "+".join(chosen)] if kind == "from" else [kind, *chosen]
+        found = slow_check.verdict_of(self.whole)
+        unless_refused(found)
+        return " | ".join(found[1].decode().splitlines())
 
 
 class Play:
@@ -103,7 +89,7 @@ class Play:
 
     @verb()
     def events(self):
-        return " | ".join(map(event_text, self.play[1])) or None
+        return " | ".join(map(slow_play.event_line, self.play[1])) or None
 
 
 def drafted(line):

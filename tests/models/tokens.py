@@ -1,7 +1,7 @@
 """Which texts are tokens, and of which kind; whether two tokens are of the same value."""
 
 from models.slow_texts import request_line
-from models.transcript_text import MOST_REQUESTS, Bad, Reader, Signature, content_of, is_allowed, is_plain
+from models.transcript_text import MOST_REQUESTS, Bad, Reader, Signature, all_of, content_of, is_allowed, is_plain
 
 from models.calls import Refused, client, joined_operation, replica, rest, signers, spaced_operation, val, verb, word
 
@@ -45,20 +45,9 @@ def kind_of(kinds):
     return read
 
 
-def read_token(read, text):
-    """Returns what the text spells, all of it, or None if it spells nothing."""
-    reader = Reader(text)
-    try:
-        found = read(reader)
-        reader.end()
-    except Bad:
-        return None
-    return found
-
-
 @verb(kind_of(KINDS), rest)
 def token(read, text):
-    found = read_token(read, text)
+    found = all_of(Reader(text), read)
     if found is None and read is Reader.name:
         raise Refused(2)
     if found is not None and read is Reader.shape and not is_allowed(found):
@@ -93,7 +82,7 @@ COMPARED = {
 @verb(kind_of(COMPARED), rest)
 def same(read, text):
     one, bar, other = text.partition(" | ")
-    found = [read_token(read, side) for side in (one, other)]
+    found = [all_of(Reader(side), read) for side in (one, other)]
     if not bar or None in found:
         raise Bad
     return found[0] == found[1]
@@ -109,7 +98,7 @@ def is_limited(kind, parts):
     if kind == "round":
         number, slot, count = parts.split(" ")
         parts = " ".join([number, *[f"{slot}/idle/r0"] * int(count)])
-    return read_token(Reader.envelope, f"{kind} {parts}") is not None
+    return all_of(Reader(f"{kind} {parts}"), Reader.envelope) is not None
 
 
 @verb(word, rest)

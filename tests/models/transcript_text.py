@@ -250,15 +250,19 @@ class Reader:
         return Step(actor, word, other, self.envelope())
 
 
-def whole(text, read):
-    """What these bytes spell, all of them; None where they do not."""
-    reader = Reader(text.decode("latin-1"))
+def all_of(reader, read):
+    """What all that is left of a line spells; None if it spells nothing."""
     try:
         found = read(reader)
         reader.end()
     except Bad:
         return None
     return found
+
+
+def whole(text, read):
+    """What these bytes spell, all of them; None where they do not."""
+    return all_of(Reader(text.decode("latin-1")), read)
 
 
 @functools.lru_cache(maxsize=100_000)
@@ -276,6 +280,11 @@ def is_allowed(shape):
         and all(traitor < shape.n for traitor in shape.traitors)
         and len(shape.traitors) <= shape.f
     )
+
+
+def is_actor(shape, actor):
+    kind, number = actor
+    return number < (shape.n if kind == "r" else shape.m)
 
 
 # ---- texts
