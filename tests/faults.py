@@ -320,13 +320,18 @@ EXAMPLES = [("apply", "swaps.apply", "swaps.out"), ("apply", "bad-lines.apply", 
             ("serve", "services/nothing-asked.serve", "services/nothing-asked.out")]
 
 
+# The same of runs whose streams fail as the system lets them alone.
+MORE_EXAMPLES = [("", "swaps.apply", "swaps.out"), ("play --strict", "one-replica.play", "one-replica.out"),
+                 ("explain", "why/reply-too-early.play", "why/reply-too-early.explained")]
+
+
 def given(name):
     return bytes_of(f"examples/{name}")
 
 
-def stream_rows():
+def stream_rows(*examples):
     """The words of each run, its input, and its status, output and errors if nothing fails."""
-    for words, text, written in EXAMPLES:
+    for words, text, written in examples:
         status, _, errors = inputs.wanted_of(f"examples/{text.rsplit('.', 1)[0]}")
         yield words, given(text), (status, given(written), errors)
 
@@ -349,33 +354,21 @@ def failures(errors, all_kinds):
             yield nth, error, times
 
 
-def fault_of_reads(shim, row, most, all_kinds):
-    """What is wrong with the runs on this row in which a read of at most so many bytes fails, or None; and how many they are."""
+def fault_of_calls(shim, row, stream, most, all_kinds):
+    """What is wrong with the runs on this row in which a read or a write of at most so many bytes fails, or None; and how many they are."""
     words, text, wanted = row
-    # the last of the reads tells that there is no more
-    whole = -(-len(text) // most) + 1
-    for count, (nth, error, times) in enumerate(failures(READ_ERRORS, all_kinds), 1):
-        ran, calls = failing_run(shim, words, text, 0, nth, error, times, most)
+    call, errors = ("write", WRITE_ERRORS) if stream else ("read", READ_ERRORS)
+    for count, (nth, error, times) in enumerate(failures(errors, all_kinds), 1):
+        ran, calls = failing_run(shim, words, text, stream, nth, error, times, most)
         if not calls:
+            # the last of the reads tells that there is no more
+            whole = nth - 1 if stream else -(-len(text) // most) + 1
             return difference(ran, wanted) or (f"it read {nth - 1} times, and not {whole}" if nth - 1 != whole else None), count
-        fault = difference(ran, UNREAD) or (f"it read {calls - 1} times after the failure" if calls > 1 else None)
+        ended = (UNWRITTEN[0], wanted[1][:(nth - 1) * most], UNWRITTEN[1]) if stream else UNREAD
+        fault = difference(ran, ended) or (f"there are {calls - 1} calls after the failure" if calls > 1 else None)
         if fault:
-            return f"read {nth} of at most {most} bytes fails with error {error}, times {times}: {fault}", count
-    return f"there is still a read after {MOST_CALLS}", MOST_CALLS
-
-
-def fault_of_writes(shim, row, most, all_kinds):
-    """What is wrong with the runs on this row in which a write of at most so many bytes fails, or None; and how many they are."""
-    words, text, wanted = row
-    for count, (nth, error, times) in enumerate(failures(WRITE_ERRORS, all_kinds), 1):
-        ran, calls = failing_run(shim, words, text, 1, nth, error, times, most)
-        if not calls:
-            return difference(ran, wanted), count
-        begun = UNWRITTEN[0], wanted[1][:(nth - 1) * most], UNWRITTEN[1]
-        fault = difference(ran, begun) or (f"it wrote {calls - 1} times after the failure" if calls > 1 else None)
-        if fault:
-            return f"write {nth} of at most {most} bytes fails with error {error}, times {times}: {fault}", count
-    return f"there is still a write after {MOST_CALLS}", MOST_CALLS
+            return f"{call} {nth} of at most {most} bytes fails with error {error}, times {times}: {fault}", count
+    return f"there is still a {call} after {MOST_CALLS}", MOST_CALLS
 
 
 def fault_of_early_end(shim, row, most):
@@ -464,18 +457,18 @@ def fault_of_worked(shim, words, text, most, errors, wanted):
 
 def failing_calls(shim, is_soak):
     """What fails, and how it is found out what is wrong with that, and how many runs it took."""
-    for row in stream_rows():
+    for row in stream_rows(*EXAMPLES):
         words, text, wanted = row
         # a large row has as many reads and writes as a small one
         for most in (1, 2, 7, 4096) if is_soak else (1, 7):
-            yield f"{words}, reads that fail", functools.partial(fault_of_reads, shim, row, most, is_soak or most > 1)
+            yield f"{words}, reads that fail", functools.partial(fault_of_calls, shim, row, 0, most, is_soak or most > 1)
             yield f"{words}, reads that end early", functools.partial(fault_of_early_end, shim, row, most)
             if wanted[0] == 0:
-                yield f"{words}, writes that fail", functools.partial(fault_of_writes, shim, row, most, is_soak or most > 1)
+                yield f"{words}, writes that fail", functools.partial(fault_of_calls, shim, row, 1, most, is_soak or most > 1)
         yield f"{words}, short reads and writes", functools.partial(short_calls, shim, row)
     yield "serve --transcript, reads and writes that fail", functools.partial(fault_of_transcribed, shim)
     shown_help = program("--help", b"", SECONDS)
-    yield "--help, writes that fail", functools.partial(fault_of_writes, shim, ("--help", b"", shown_help), 37, True)
+    yield "--help, writes that fail", functools.partial(fault_of_calls, shim, ("--help", b"", shown_help), 1, 37, True)
     for words, text, wanted in refusals():
         yield f"{words}, writes on standard error that fail", functools.partial(fault_of_errors, shim, words, text, wanted)
     for what, *row in worked_rows():
@@ -515,6 +508,14 @@ def transcribed_streams():
     yield by_shell(words, text, ">&-"), (1, b"", UNWRITTEN[1])
     yield by_shell(words, text, "> /dev/full"), (1, b"", UNWRITTEN[1])
     yield unread_pipe(words, text, signal.SIG_DFL), (1, b"", UNWRITTEN[1])
+
+
+def unread_streams():
+    """Runs that need no input, or refuse it."""
+    for words in ("--help", "explain --help", "--version"):
+        yield by_shell(words, b"", "> /dev/full"), (1, b"", UNWRITTEN[1])
+    for words, status in [("", 1), ("play", 1), ("fly", 2)]:
+        yield by_shell(words, b"c0 1 read a", "2> /dev/full"), (status, b"", b"")
 
 
 def unread_pipe(words, text, handled):
@@ -670,14 +671,15 @@ def fault_of_pairs(pairs):
 
 def system_streams():
     """What is done, and how it is found out what is wrong with it, and how many runs it took. These runs are made one by one, as a signal is set for them."""
-    for row in stream_rows():
-        words, text, wanted = row
-        yield f"{words}, closed streams", lambda row=row: fault_of_pairs(closed_streams(row))
-        if wanted[0] == 0:
-            yield f"{words}, pipes that nobody reads", lambda row=row: fault_of_pairs(unread_pipes(row))
-        yield f"{words}, input that is not there yet", lambda words=words: fault_of_pairs([(idle_pipe(words), UNREAD)])
-        yield f"{words}, input in pieces", lambda row=row: fault_of_pairs([(in_pieces(row[0], row[1], 5), row[2])])
+    for row in stream_rows(*EXAMPLES, *MORE_EXAMPLES):
+        what = row[0] or "no words"
+        yield f"{what}, closed streams", lambda row=row: fault_of_pairs(closed_streams(row))
+        if row[2][0] == 0:
+            yield f"{what}, pipes that nobody reads", lambda row=row: fault_of_pairs(unread_pipes(row))
+        yield f"{what}, input that is not there yet", lambda row=row: fault_of_pairs([(idle_pipe(row[0]), UNREAD)])
+        yield f"{what}, input in pieces", lambda row=row: fault_of_pairs([(in_pieces(row[0], row[1], 5), row[2])])
     yield "serve --transcript, streams that fail", lambda: fault_of_pairs(transcribed_streams())
+    yield "full streams of helps, the version and refused texts", lambda: fault_of_pairs(unread_streams())
     yield "apply, a pipe that is left", lambda: fault_of_pairs([(left_pipe(count), (1, many_lines()[1][:count], UNWRITTEN[1])) for count in (1, 1000, 70_000)])
     yield "apply, a pipe that is full", lambda: fault_of_pairs([full_pipe()])
     for what, words, act, allowed in terminals():

@@ -5,7 +5,7 @@ program gives on a text must be what tests/models give: status, standard output 
 transcripts: what `dsr play --transcript` writes of the plays of examples/, and of 200 random plays with traitors in them; and what `dsr check` says of these
 transcripts, of the texts of tests/written/transcripts.txt, and of what examples/record/service.py records of itself. Each transcript is tried with small
 changes too: two neighbouring lines exchanged, a line left out, cut after each line, a byte changed, some cut at every byte; those of random plays with
-changes by chance. Then texts of as many bytes as are allowed, and of more; standard input and output that fail.
+changes by chance. Then texts of as many bytes as are allowed, and of more.
 
 malicious: each text of examples/ that `apply`, `play`, `serve` or `check` reads, cut at every byte, and with each byte changed: a part of these, with `soak`
 all of them, in several ways, and the transcripts of plays too. Then these texts with changes by chance: bytes left out, lines moved or made twice, words and
@@ -15,7 +15,7 @@ standard output after a text is refused but the answers of `apply` to the lines 
 judged whether its report may be. Each run must end within a minute.
 
 plays: inputs of as many bytes as `dsr play` allows, and of one more; plays of as many events as are allowed, and of one more; each play of examples/ cut at
-every byte; standard input and output that fail.
+every byte.
 """
 
 import itertools
@@ -26,14 +26,14 @@ import sys
 import transcript_rows
 from kit import inputs
 from kit.inputs import by_byte, by_chance, cut_at_bytes, with_a_byte_changed
-from kit.program import MOST_BYTES, MOST_EVENTS, TOP, bytes_of, difference, fault_of, name_of, program, run
+from kit.program import MOST_BYTES, MOST_EVENTS, TOP, bytes_of, fault_of, name_of, program, run
 from kit.report import in_processes, main
 from models import slow_check, slow_play, slow_texts
 from models.histories import checked_report
 from models.transcript_text import bad_line, refused
 from models.words import MODELS
 
-UNREAD, UNWRITTEN = refused("reading failed"), (1, None, b"dsr: writing failed\n")
+UNREAD = refused("reading failed")
 SECONDS = 60
 TEXTS_A_TASK = 500
 RANDOM_PLAYS = 200
@@ -77,15 +77,6 @@ def parts_of(name, family, words, *more):
     """The tasks of a family of texts: a function of these words and what else there is."""
     for first in range(0, sum(1 for _ in family(words, *more)), TEXTS_A_TASK):
         yield name, family, words, *more, first
-
-
-def with_stream(words, text, stream, path, flags=os.O_RDONLY):
-    """The run of the program with this file opened as this stream."""
-    opened = os.open(path, flags)
-    try:
-        return program(words, text, **{stream: opened})
-    finally:
-        os.close(opened)
 
 
 # ---- transcripts
@@ -143,14 +134,6 @@ def fault_of_record(word, ending, status):
     return fault_of("check", transcript, (status, verdict, b"") if status == 0 else (status, b"", verdict))
 
 
-def fault_of_streams():
-    """What is wrong with runs in which standard input or output fails, or None."""
-    text, play = bytes_of("examples/three-loyal.transcript"), bytes_of("examples/three-loyal.play")
-    runs = [(with_stream("check", None, "stdin", TOP), UNREAD), (with_stream("check", text, "stdout", "/dev/full", os.O_WRONLY), UNWRITTEN),
-            (with_stream("play --transcript", play, "stdout", "/dev/full", os.O_WRONLY), UNWRITTEN)]
-    return "; ".join(filter(None, (difference(*pair) for pair in runs)))
-
-
 def faults_of_row(row):
     name, text, wanted = row
     return name, 1, [fault for fault in [fault_of("check", text, wanted)] if fault]
@@ -174,7 +157,6 @@ def transcripts(report, _):
     report.judge_gathered("transcripts")
     for word, ending, status in [("honest", "out", 0), ("lying", "err", 1)]:
         report.judge(f"examples/record, {word}", fault_of_record(word, ending, status), None)
-    report.judge("streams that fail", fault_of_streams(), None)
 
 
 # ---- malicious texts
@@ -405,7 +387,6 @@ def limits():
     text, events = play_of(MOST_BYTES)
     yield f"{MOST_BYTES} bytes", text, refused_report(events, "E16 WrongRole", 2, 1)
     yield "one byte more", play_of(MOST_BYTES + 1)[0], UNREAD
-    yield "one byte more, which is no play", b"\n" * (MOST_BYTES + 1), UNREAD
     at_most = takes("10 0 1 -", MOST_EVENTS // 100)
     yield f"{MOST_EVENTS} events", at_most, refused_report(MOST_EVENTS, "E5 NotDue", 1, 10)
     yield "one event more", at_most + b"take r0 r0\n", bad_line(MOST_EVENTS // 100 + 2)
@@ -426,25 +407,11 @@ def parts_of_cuts():
             yield from parts_of(f"{name_of(stem)}.play, cut", all_cuts, "play", bytes_of(f"{stem}.play"))
 
 
-def failing_streams():
-    """Which stream fails, and how its run differs from what it must be."""
-    text = bytes_of("examples/three-loyal.play")
-    for what, given, stream, path, flags, wanted in [
-        ("standard input is a folder", None, "stdin", TOP, os.O_RDONLY, UNREAD),
-        ("standard input can only be written", None, "stdin", "/dev/null", os.O_WRONLY, UNREAD),
-        ("standard output is full", text, "stdout", "/dev/full", os.O_WRONLY, UNWRITTEN),
-        ("standard output can only be read", text, "stdout", "/dev/null", os.O_RDONLY, UNWRITTEN),
-        ("standard error is full", b"no play", "stderr", "/dev/full", os.O_WRONLY, (1, b"", None)),
-    ]:
-        yield what, difference(with_stream("play", given, stream, path, flags), wanted)
-
-
 def plays(report, _):
     report.judge_all((what, fault_of("play", text, wanted)) for what, text, wanted in limits())
     for result in in_processes(faults_of_part, parts_of_cuts()):
         report.gather(*result)
     report.judge_gathered("plays to be cut")
-    report.judge_all(failing_streams())
 
 
 if __name__ == "__main__":

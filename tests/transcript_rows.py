@@ -147,4 +147,3 @@ def large_rows():
     assert len(text) == MOST_BYTES
     yield f"{MOST_BYTES} bytes", text, verdict(stops(3))
     yield "one byte more", text + b"\n", verdict(UNREAD)
-    yield "one byte more, which is no transcript", b"\n" * (MOST_BYTES + 1), verdict(UNREAD)

@@ -7,14 +7,12 @@
 4. Each event of a play: what it is, in its order; what it is refused with, if it is; what was to be proposed, begun or planted; and of which signature it
    is said that it is forged.
 5. A service of one replica and one client: its transcript is a run, in which the client is answered.
-6. With the words of each task, standard input that cannot be read and standard output that cannot be written.
 """
 
-import os
 import re
 import sys
 
-from kit.program import TOP, program
+from kit.program import program
 from kit.report import main
 from kit.written import tables
 from models.slow_texts import answered_run
@@ -28,27 +26,20 @@ def refusal(reason):
     return f"dsr: {reason}\n" if reason else ""
 
 
-UNREAD, UNWRITTEN = map(refusal, ["reading failed", "writing failed"])
 HEADERS = {traitor: f"dsr-play 1 3 1 1 {traitor}\n" for traitor in ("r0", "r1")}
 NARROWINGS = ["explain", "explain --refused --slot 0", "explain --data --actor r0"]
-# The words of each task, and of what else is written on standard output, and a text of which it is.
-TASKS = [(words, NAMES[name]) for name, words in [
-    ("REQUEST_LINES", ""), ("REQUEST_LINES", "apply"), ("PLAY", "play"), ("PLAY", "play --transcript"), ("PLAY", "play --strict"), ("PLAY", "explain"),
-    ("TRANSCRIPT", "check"), ("SCRIPT", "serve"), ("SCRIPT", "serve --transcript"),
-]]
-SHOWN = [("--help", ""), ("explain --help", ""), ("--version", "")]
 
 
-def ran(words, text="", **streams):
-    """The status of the program with these words on this text, and what it wrote on standard output and standard error; None for a stream that is not seen. A
-    service is run again if a client came too late, and had no answer."""
-    status, *written = answered_run(lambda: program(words, text.encode(), **streams))
-    return status, *(None if stream is None else stream.decode() for stream in written)
+def ran(words, text):
+    """The status of the program with these words on this text, and what it wrote on standard output and standard error. A service is run again if a client came
+    too late, and had no answer."""
+    status, output, errors = answered_run(lambda: program(words, text.encode()))
+    return status, output.decode(), errors.decode()
 
 
-def fault_of(words, text, wanted, **streams):
+def fault_of(words, text, wanted):
     """How the program's run on this text differs from the one that is wanted, or None."""
-    found = ran(words, text, **streams)
+    found = ran(words, text)
     return None if found == wanted else f"{found}, and not {wanted}"
 
 
@@ -111,20 +102,6 @@ def fault_of_third_value():
     return None if (status, posts, errors) == (0, wanted, "") else f"status {status}, {posts}, {errors!r}"
 
 
-def faults_of_streams():
-    """With which words what is tried, and what is wrong with it."""
-    for words, text in TASKS:
-        folder = os.open(TOP, os.O_RDONLY)
-        yield f"dsr {words}, a folder as standard input", fault_of(words, text, (1, "", UNREAD), stdin=folder)
-        os.close(folder)
-    for words, text in TASKS + SHOWN:
-        with open("/dev/full", "wb") as full:
-            yield f"dsr {words}, a full standard output", fault_of(words, text, (1, None, UNWRITTEN), stdout=full)
-    for words, status in [("", 1), ("fly", 2)]:
-        with open("/dev/full", "wb") as full:
-            yield f"dsr {words}, a full standard error", fault_of(words, "c0 1 read a", (status, "", None), stderr=full)
-
-
 def rows_of_lines():
     """What each row shows of a line of a play or of its beginning, and what is wrong with it."""
     for traitor, header in HEADERS.items():
@@ -166,7 +143,6 @@ def rows():
     yield from rows_of_explanations()
     yield "a third value", fault_of_third_value()
     yield "a service of one replica", fault_of_service()
-    yield from faults_of_streams()
 
 
 def worked(report, _):
