@@ -23,6 +23,8 @@ def tables(name):
     found, names = {}, {}
     for line in text_of(f"tests/written/{name}.txt").split("\n"):
         if line.startswith("== "):
+            if line[3:] in found:
+                raise ValueError(f"tests/written/{name}.txt has two tables {line[3:]}")
             found[line[3:]] = rows = []
         elif line and not line.startswith("# "):
             cells = [cell_of(cell, names) for cell in line.split(" => ")]
