@@ -401,98 +401,66 @@ def commands(lines):
         yield shown[2], "".join(f"{line}\n" for line in printed)
 
 
-def faults_of_commands(text):
-    """The faults of the commands that are shown with what they print, and how many there are. One that is shown with
-    nothing printed is not run."""
-    faults = []
-    shown = [(command, printed) for command, printed in commands(text.split("\n")) if printed]
-    for command, printed in shown:
-        _, output, errors = run(["sh", "-c", re.sub(r"\| dsr\b", "| ./dsr", command)], b"", cwd=TOP)
-        if output + errors != printed.encode():
-            faults.append(f"{command} prints {output + errors!r}, and not {printed!r}")
-    return faults, len(shown)
+def shown_commands(text):
+    """The commands that are shown with what they print: each, what it printed, and what is shown. One that is shown with nothing printed is not run."""
+    for command, printed in commands(text.split("\n")):
+        if printed:
+            _, output, errors = run(["sh", "-c", re.sub(r"\| dsr\b", "| ./dsr", command)], b"", cwd=TOP)
+            yield command, output + errors, printed.encode()
 
 
-def faults_of_answers(text):
-    blocks = re.findall(r"^```\n(c\d+ \d+ .*?)^```", text, re.M | re.S)
-    faults = []
-    for block in blocks:
-        pairs = [re.split(r" {2,}", line) for line in block.splitlines()]
-        ran = output_of("apply", "".join(f"{request}\n" for request, _ in pairs))
-        wanted = 0, "".join(f"{answer}\n" for _, answer in pairs), ""
-        if ran != wanted:
-            faults.append(f"{pairs[0][0]} ..: {ran}, and not {wanted}")
-    return faults, len(blocks)
+def answers(text):
+    """The requests that are shown with their answers: words of the program, a text, and what it must give. So have the next ones."""
+    for block in re.findall(r"^```\n(c\d+ \d+ .*?)^```", text, re.M | re.S):
+        requests, answered = zip(*(re.split(r" {2,}", line) for line in block.splitlines()))
+        yield "apply", "".join(f"{request}\n" for request in requests), (0, "".join(f"{answer}\n" for answer in answered), "")
 
 
 def bad_lines(text):
-    table = text.split("Bad are, for example:", 1)[1].split("\n## ", 1)[0]
-    for row in re.findall(r"^\| (`.*) \| [^|]* \|$", table, re.M):
-        if re.fullmatch(r"`[^`]*`(, `[^`]*`)*", row):
-            yield from re.findall(r"`([^`]*)`", row)
+    """The lines that are shown as bad, each alone and after another one."""
+    shown = text.split("Bad are, for example:", 1)[1].split("\n## ", 1)[0]
+    for row in re.findall(r"^\| (`.*) \| [^|]* \|$", shown, re.M):
+        for line in re.findall(r"`([^`]*)`", row) if re.fullmatch(r"`[^`]*`(, `[^`]*`)*", row) else []:
+            for before, answered in [("", ""), ("c7 1 read z\n", "0 held none\n")]:
+                yield "apply", f"{before}{line}\nc7 2 read z\n", (1, answered, f"dsr: bad text in line {1 + before.count(chr(10))}\n")
 
 
-def faults_of_bad_lines(text):
-    faults = []
-    lines = list(bad_lines(text))
-    for line in lines:
-        for before, answered in [("", ""), ("c7 1 read z\n", "0 held none\n")]:
-            ran = output_of("apply", f"{before}{line}\nc7 2 read z\n")
-            wanted = 1, answered, f"dsr: bad text in line {1 + before.count(chr(10))}\n"
-            if ran != wanted:
-                faults.append(f"{line!r}: {ran}, and not {wanted}")
-    return faults, len(lines)
+def reported(text):
+    """The transcripts, plays and scripts, each with the block that shows what is written of it."""
+    transcripts, reports, plays, outcomes, scripts, served = (
+        re.findall(rf"^```\n({begin} .*?)^```", text, re.M | re.S) for begin in ("dsr-transcript", "run", "dsr-play", "done", "dsr-serve", "accepted"))
+    for words, texts, written in [("check", transcripts, reports), ("play", plays, outcomes), ("play --transcript", plays, transcripts[:len(plays)]),
+                                  ("serve", scripts, served)]:
+        for given, output in itertools.zip_longest(texts, written, fillvalue=""):
+            yield words, given, (0, output, "")
 
 
-def blocks_that_begin(text, begin):
-    """The blocks of the text whose first line begins so."""
-    return re.findall(rf"^```\n({begin}.*?)^```", text, re.M | re.S)
-
-
-def faults_of_transcripts(text):
-    transcripts, reports = blocks_that_begin(text, "dsr-transcript "), blocks_that_begin(text, "run ")
-    plays, outcomes = blocks_that_begin(text, "dsr-play "), blocks_that_begin(text, "done ")
-    scripts, served = blocks_that_begin(text, "dsr-serve "), blocks_that_begin(text, "accepted ")
-    wanted = [("check", transcripts, reports), ("play", plays, outcomes), ("play --transcript", plays, transcripts[:len(plays)]), ("serve", scripts, served)]
-    faults = []
-    for words, inputs, outputs in wanted:
-        if len(inputs) != len(outputs):
-            faults.append(f"there are {len(inputs)} texts for {words}, and {len(outputs)} outputs")
-        for given, written in zip(inputs, outputs):
-            ran = output_of(words, given)
-            if ran != (0, written, ""):
-                faults.append(f"{words} on {given!r}: {ran}, and not {written!r}")
-    return faults, sum(len(inputs) for _, inputs, _ in wanted)
-
-
-def faults_of_steps(text):
-    faults, count = [], 0
-    for header, table in re.findall(r"^\| Line, right after `(dsr-transcript [^`]*)` \|[^\n]*\n(.*?)^$", text, re.M | re.S):
-        for row in re.findall(r"^\| (`[^`]*`(?:, `[^`]*`)*) \| [^|]* \|$", table, re.M):
+def no_steps(text):
+    """The lines that are shown as no steps, right after the header that their table names."""
+    for header, shown in re.findall(r"^\| Line, right after `(dsr-transcript [^`]*)` \|[^\n]*\n(.*?)^$", text, re.M | re.S):
+        for row in re.findall(r"^\| (`[^`]*`(?:, `[^`]*`)*) \| [^|]* \|$", shown, re.M):
             for line in re.findall(r"`([^`]*)`", row):
-                count += 1
-                ran = output_of("check", f"{header}\n{line}\n")
-                if ran != (1, "", "dsr: not a run at line 2\n"):
-                    faults.append(f"{line!r}: {ran}")
-    return faults, count
+                yield "check", f"{header}\n{line}\n", (1, "", "dsr: not a run at line 2\n")
 
 
-def check_of_samples(name, *parts):
+def check_of_samples(name, *kinds):
     """A document, what is wrong with its samples, or None, and what is said of them. Of each kind there must be some."""
-    faults, counts = [fault for part, _ in parts for fault in part], [count for _, count in parts]
-    if 0 in counts:
-        faults.append(f"there are no samples in it ({counts})")
-    return name, "; ".join(faults), f", {sum(counts)} samples"
+    kinds = list(map(list, kinds))
+    faults = [f"{what} gives {found!r}, and not {wanted!r}" for kind in kinds for what, found, wanted in kind if found != wanted]
+    if not all(kinds):
+        faults.append(f"there are no samples in it ({list(map(len, kinds))})")
+    return name, "; ".join(faults), f", {sum(map(len, kinds))} samples"
 
 
 def samples(report, _):
     for path in ("README.md", "examples/record/README.md"):
-        report.judge(*check_of_samples(path, faults_of_commands(text_of(path))))
+        report.judge(*check_of_samples(path, shown_commands(text_of(path))))
     formats = text_of("docs/FORMATS.md")
-    kinds = [faults_of_answers, faults_of_bad_lines, faults_of_transcripts, faults_of_steps]
-    report.judge(*check_of_samples("docs/FORMATS.md", *(faults_of(formats) for faults_of in kinds)))
+    kinds = [[(f"{words} on {given!r}", output_of(words, given), wanted) for words, given, wanted in kind(formats)]
+             for kind in (answers, bad_lines, reported, no_steps)]
+    report.judge(*check_of_samples("docs/FORMATS.md", *kinds))
     for help_words in HELPS:
-        report.judge(*check_of_samples(f"dsr {help_words}", faults_of_commands(output_of(help_words, "")[1])))
+        report.judge(*check_of_samples(f"dsr {help_words}", shown_commands(output_of(help_words, "")[1])))
 
 
 if __name__ == "__main__":
