@@ -25,7 +25,7 @@ streams: the program runs with every word on examples.
 5. The system's own: closed streams, folders, full files, pipes that nobody reads, that are left, empty or full, and input in pieces; and terminals.
 
 library: the library for programs in C, and examples/record/check.c, which uses it, are built, and run on texts: transcripts of runs, texts that are
-none, and one with each of its allocations refused in turn. Of each the output and the status must be what is written here. On each text
+none, and one with each of its allocations refused in turn. Of each the output and the status must be those of tests/written/library.txt. On each text
 tests/c_library.c then sees that calls leave nothing on the heap.
 """
 
@@ -48,6 +48,7 @@ from kit.long_plays import one_replica
 from kit.program import PROGRAM, TOP, bytes_of, command_of, difference, program, run, shown, with_memory
 from kit.refusals import MOST_RUNS, failing, numbers, refusing
 from kit.report import in_threads, main, say
+from kit.written import tables
 from models import histories, slow_texts, starved
 from models.transcript_text import refused
 from models.words import MODELS
@@ -700,42 +701,18 @@ def streams(report, is_soak):
 # ---- the library for programs in C
 
 LIBRARY = "dsr_check_c"
-# What one replica and one client did, who wrote 7 to `a`.
-ONE_WRITE = ["dsr-transcript 1 1 0 1 -", "c0 post r0 ask c0#1:write:a:7~c0", "r0 take c0 ask c0#1:write:a:7~c0",
-         "r0 post r0 round 0 0/c0#1:write:a:7~c0/r0", "r0 take r0 round 0 0/c0#1:write:a:7~c0/r0", "r0 post c0 reply 1 0 written",
-         "c0 take r0 reply 1 0 written"]
 # What may come of a refused allocation.
 REFUSALS = [(12, b"no memory\n"), (17, b"")]
 # The C library then keeps no freed blocks at hand, and what it says of its heap is exact.
 EXACT = {"GLIBC_TUNABLES": "glibc.malloc.tcache_count=0", **os.environ}
 
 
-def counts(entries, history, accepted):
-    return 0, f"entries {entries}\nhistory {history}\naccepted {accepted}\n".encode()
-
-
 def library_rows():
     """Each text, and the status and the output that it must give."""
-    lines = ONE_WRITE
-    for some, wanted in [
-        (lines, counts(6, 1, 1)),
-        (lines[:6], counts(5, 1, 0)),
-        (lines[:4], counts(3, 0, 0)),
-        (lines[:1], counts(0, 0, 0)),
-        # a reply that was not posted, a request that the client asked otherwise, a round that is posted before anything was asked
-        ([*lines[:6], "c0 take r0 reply 1 0 full"], (14, b"not a run at line 7\n")),
-        ([*lines[:2], "r0 take c0 ask c0#1:write:a:8~c0"], (14, b"not a run at line 3\n")),
-        ([lines[0], lines[3]], (14, b"not a run at line 2\n")),
-        # a bad line comes before a step that may not be next
-        ([lines[0], lines[3], "no line"], (13, b"bad text in line 3\n")),
-        (["dsr-transcript 1 1 1 1 -", "no line"], (1, b"the shape is not allowed\n")),
-    ]:
-        yield inputs.lines_text(some), wanted
-    yield inputs.lines_text(lines)[:-1], (13, b"bad text in line 7\n")
-    yield b"", (13, b"bad text in line 1\n")
-    yield b"\0\xff\n", (13, b"bad text in line 1\n")
+    for text, status, output in tables("library")["texts"]:
+        yield text.encode("latin-1"), (int(status), output.encode())
     # what a service in another language recorded of itself, honest and lying
-    yield bytes_of("examples/record/honest.transcript"), counts(273, 5, 5)
+    yield bytes_of("examples/record/honest.transcript"), (0, b"entries 273\nhistory 5\naccepted 5\n")
     yield bytes_of("examples/record/lying.transcript"), (14, b"not a run at line 47\n")
 
 
