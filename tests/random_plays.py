@@ -7,6 +7,16 @@ and with ones that they would have to forge; and the plays of examples/. That th
 says of them. A definition of runs which nothing meets would be of no use: so the accepted replies, the decided requests and the traitors' posts are
 counted, and none of the counts may be 0.
 
+answers: that clients are answered in real time, and in time, by two judges that tests/models/real_time.py and tests/models/eager.py write anew. First of
+histories, orders, transcripts and plays written by hand, good and bad. Then of 1,000 random plays, and of 500 whose loyal replicas are eager, with traitors,
+as `dsr play` makes them:
+
+1. A search finds an order of the requests in which one directory gives these answers, and which keeps real time; and the history that is reported is one.
+   How many histories were small enough for the search is said.
+2. Each such history that is spoiled, by a wrong answer, or by two requests exchanged, in real time or in the order, is seen to be wrong.
+3. What an eager replica holds has acted at each loyal replica within the bound of rounds. The slowest plays reach it, and a bound one less is seen to fail.
+4. Of 100 plays that go on in three ways, one order of what came first suits all three, and the reported histories go on from one.
+
 models: the two models of transcripts that tests/texts.py goes by, each judged by the other. No program runs.
 
 1. Each play of examples/: the model of plays gives the report beside it, or its refusal; the model of the checker accepts the transcript,
@@ -22,16 +32,20 @@ import re
 import sys
 from collections import Counter
 
+import eager_rows
+import history_rows
 import transcript_rows
-from kit import inputs
+from kit import eager_plays, inputs
 from kit.inputs import by_chance, cut_after_a_line, exchanged, with_a_byte_changed, without_a_line
 from kit.program import bytes_of, name_of, program, shown
 from kit.report import in_processes, main, say
-from models import slow_check, slow_play
+from models import eager, real_time, slow_check, slow_play
 from models.histories import acted, checked_report, faults_of, read_report
-from models.transcript_text import refused, step_of, step_text
+from models.transcript_text import Reader, refused, step_of, step_text, whole
 
 PLAYS = 1_000
+EAGER_PLAYS = 500
+BRANCHING_PLAYS, BRANCHES = 100, 3
 MODELLED_PLAYS = 400
 RANDOM_CHANGES = 40
 
@@ -101,6 +115,137 @@ def reports(report, _):
     report.judge("examples", None if ended else "there are none", None)
     say(f"accepted replies {sums['accepted']}, decided requests {sums['decided']}, traitors' posts {sums['posts']}, refused events {sums['refused']}")
     for what in ("accepted", "decided", "posts"):
+        report.judge(f"the count of {what}", None if sums[what] else "it is 0", None)
+
+
+# ---- answers in real time, and in time
+
+
+def transcript_text(shape, lines):
+    return inputs.lines_text([f"dsr-transcript 2 {shape}", *lines])
+
+
+def judge_histories_by_hand(report):
+    for what, lines, by_answers, by_places in history_rows.HISTORIES:
+        calls = history_rows.history_of(lines)
+        report.compare(f"the history: {what}", [real_time.is_linearizable(calls, with_places) for with_places in (False, True)], [by_answers, by_places], None)
+    for what, lines, more, each, together in history_rows.BRANCHES:
+        calls, branches = history_rows.history_of(lines), [history_rows.history_of(lines + branch) for branch in more]
+        found = [real_time.is_linearizable(branch) for branch in branches], real_time.is_strongly_linearizable(calls, branches)
+        report.compare(f"the branches: {what}", found, (each, together), None)
+    for what, lines, order, word in history_rows.ORDERS:
+        fault = real_time.fault_of_order(history_rows.history_of(lines), order)
+        report.judge(f"the order: {what}", None if (word in fault if fault and word else fault == word) else f"it says {fault}", None)
+    for what, lines, calls in history_rows.TRANSCRIPTS:
+        report.compare(f"the transcript: {what}", real_time.calls_of(transcript_text(history_rows.SHAPE, lines)), calls, None)
+    for what, lines, wanted in history_rows.LATE_ASKS:
+        found = real_time.with_late_asks(transcript_text(history_rows.SHAPE, lines))
+        report.compare(f"late asks: {what}", found, transcript_text(history_rows.SHAPE, wanted), None)
+    for what, lines, is_wrong in history_rows.TURNS:
+        report.compare(f"turns: {what}", real_time.fault_of_turns(history_rows.history_of(lines)) is not None, is_wrong, None)
+
+
+def judge_rounds_by_hand(report):
+    for what, shape, lines, greatest, is_eager in eager_rows.PLAYS:
+        world, _ = slow_play.world_of(inputs.lines_text([f"dsr-play 1 {shape}", *lines]))
+        rounds = eager.counted(world.transcript().encode())
+        found = world.refused, rounds.fault(), rounds.greatest, rounds.fault_of_eagerness() is None
+        report.compare(f"rounds: {what}", found, ([], None, greatest, is_eager), None)
+    for shape, bound in eager_rows.BOUNDS:
+        report.compare(f"the bound of {shape}", eager.rounds_to_act(whole(shape.encode(), Reader.shape)), bound, None)
+    rounds = eager.counted(transcript_text("1 0 1 -", eager_rows.NEVER_DECIDED))
+    report.judge("rounds: what is never decided", None if rounds.fault() and not rounds.fault_of_eagerness() else "it is not seen", None)
+
+
+def spoiled(calls, order):
+    """How this history and its order are spoiled, each way that there is, and whether the judges see it; None if the search is too large."""
+    wrong, exchanged = real_time.with_wrong_answer(calls), real_time.exchanged_in_real_time(calls)
+    places = real_time.exchanged_places(calls, order)
+    if wrong:
+        yield "a wrong answer", real_time.is_linearizable(wrong)
+    if exchanged:
+        yield "two exchanged in real time", real_time.is_linearizable(exchanged, with_places=True)
+    if places:
+        yield "two exchanged in the order", real_time.fault_of_order(calls, places) is None
+
+
+def history_reported(play):
+    """The transcript of a play, its history, and the requests of the history that is reported; or None and why there is none."""
+    status, transcript, errors = ran = program("play --transcript", play)
+    report = report_of(play)
+    if status != 0 or errors or not isinstance(report, dict):
+        return None, f"{shown(ran)}, {report}"
+    return (transcript, real_time.calls_of(transcript), [request for _, request in report["history"]]), None
+
+
+def judged_answers(what, play, must_be_eager):
+    """The name of a play, what is wrong with how its clients are answered, or None, and what is counted of it."""
+    found, fault = history_reported(play)
+    if fault:
+        return what, fault, Counter()
+    transcript, calls, order = found
+    rounds = eager.counted(transcript)
+    fault, is_small = real_time.judged(calls, order)
+    fault = fault or rounds.fault() or (rounds.fault_of_eagerness() if must_be_eager else None)
+    counts = Counter(plays=1, small=is_small, answered=sum(call.answered is not None for call in calls), pairs=len(real_time.pairs_in_real_time(calls)))
+    for way, is_good in spoiled(calls, order):
+        counts[way] += is_good is False
+        fault = fault or (f"{way} is not seen" if is_good else None)
+    counts["at the bound"] += rounds.greatest == rounds.bound
+    return what, fault, counts
+
+
+def judged_in_real_time(seed):
+    return judged_answers(f"answers, random play {seed}", inputs.any_play(random.Random(f"answers {seed}"), seed), False)
+
+
+def judged_eager_play(seed):
+    """The same of a play of eager replicas, whose transcript must be the one that its writer's model of the world has."""
+    play = eager_plays.random_eager_play(random.Random(f"eager {seed}"))
+    what, fault, counts = judged_answers(f"answers, eager play {seed}", play.text(), True)
+    fault = fault or (None if program("play --transcript", play.text())[1] == play.world.transcript().encode() else "its transcript is another one")
+    return what, fault, counts
+
+
+def judged_slowest(task):
+    """The slowest play of this shape must reach the bound, and with a bound one less it must be seen to fail."""
+    play = eager_plays.slowest_play(*task)
+    what, fault, counts = judged_answers(f"answers, slowest play {task}", play.text(), True)
+    _, transcript, _ = program("play --transcript", play.text())
+    if not fault and not eager.counted(transcript, 1).fault():
+        fault = "a bound one less is not seen to fail"
+    return what, fault or (None if counts["at the bound"] else "it does not reach the bound"), counts
+
+
+def judged_branches(seed):
+    """A play that goes on in some ways: one order of what came first must suit them all, and the reported histories must go on from one."""
+    stem, branches = inputs.branching_play(random.Random(f"branches {seed}"), BRANCHES)
+    found = [history_reported(play.text()) for play in (stem, *branches)]
+    fault = next((fault for _, fault in found if fault), None)
+    if fault:
+        return f"branching play {seed}", fault, Counter()
+    (_, first, before), *others = [history for history, _ in found]
+    histories = [calls for _, calls, _ in others]
+    fault = None if all(order[:len(before)] == before for _, _, order in others) else "a reported history does not go on from the earlier one"
+    if False in [real_time.is_strongly_linearizable(first, histories, with_places) for with_places in (False, True)]:
+        fault = fault or f"no order of {first} suits all of {histories}"
+    pending = sum(call.answered is None for call in first)
+    return f"branching play {seed}", fault, Counter({"branching plays": 1, "pending where the ways part": pending})
+
+
+def answers(report, _):
+    judge_histories_by_hand(report)
+    judge_rounds_by_hand(report)
+    sums = Counter()
+    for function, tasks in [(judged_in_real_time, range(PLAYS)), (judged_eager_play, range(EAGER_PLAYS)), (judged_slowest, eager_rows.SLOWEST),
+                            (judged_branches, range(BRANCHING_PLAYS))]:
+        for what, fault, counts in in_processes(function, tasks, 8):
+            report.judge(what, fault, None)
+            sums += counts
+    say(f"{sums['small']} of {sums['plays']} histories were small enough for the search; the others were judged by their places alone")
+    say(", ".join(f"{what} {count}" for what, count in sums.items()))
+    for what in ("answered", "pairs", "small", "a wrong answer", "two exchanged in real time", "two exchanged in the order", "at the bound",
+                 "pending where the ways part"):
         report.judge(f"the count of {what}", None if sums[what] else "it is 0", None)
 
 
@@ -246,4 +391,4 @@ def models(report, _):
 
 
 if __name__ == "__main__":
-    sys.exit(main(__doc__, {"reports": reports, "models": models}, without_program=["models"]))
+    sys.exit(main(__doc__, {"reports": reports, "answers": answers, "models": models}, without_program=["models"]))

@@ -4,8 +4,10 @@ A change of a byte puts one there that may mean something else: another digit, t
 a byte that no token has.
 """
 
+import copy
 import glob
 import os
+import random
 import re
 
 from kit.program import TOP, bytes_of
@@ -271,6 +273,19 @@ class RandomPlay(Play):
         for p in self.chance.sample(range(self.n), self.n):
             self.add(f"takes r{p}", self.n)
 
+    def turn(self, t):
+        """Round t, and what clients ask before it and are told after it."""
+        for client in range(self.m):
+            if self.chance.random() < 0.5:
+                self.ask(client)
+        self.round(t)
+        for client in range(self.m):
+            if self.chance.random() < 0.5:
+                self.reply(client)
+        if self.m > 1 and self.chance.random() < 0.2:
+            self.add("tell c0 c1")
+            self.add("take c1 c0")
+
     def reply(self, client):
         if self.traitors and self.chance.random() < 0.5:
             lie = self.chance.choice(["written", "held 3", "held none", "kept 1", "full"])
@@ -280,23 +295,33 @@ class RandomPlay(Play):
         self.add(f"takes c{client}", self.n)
 
 
-def random_play(chance):
-    """A random play in rounds. Replicas, clients and traitors take their steps in a random order, by random choices."""
+def begun_play(chance):
+    """A random play that has no events yet."""
     n = chance.choice([1, 2, 3, 3, 3, 4, 5])
     f = chance.randint(0, (n - 1) // 2)
-    play = RandomPlay(chance, n, f, chance.randint(1, 3), sorted(chance.sample(range(n), chance.randint(0, f))))
+    return RandomPlay(chance, n, f, chance.randint(1, 3), sorted(chance.sample(range(n), chance.randint(0, f))))
+
+
+def random_play(chance):
+    """A random play in rounds. Replicas, clients and traitors take their steps in a random order, by random choices."""
+    play = begun_play(chance)
     for t in range(chance.randint(2, 10)):
-        for client in range(play.m):
-            if chance.random() < 0.5:
-                play.ask(client)
-        play.round(t)
-        for client in range(play.m):
-            if chance.random() < 0.5:
-                play.reply(client)
-        if play.m > 1 and chance.random() < 0.2:
-            play.add("tell c0 c1")
-            play.add("take c1 c0")
+        play.turn(t)
     return play
+
+
+def branching_play(chance, count):
+    """A random play in rounds, and some that go on from it, each in its own way."""
+    stem = begun_play(chance)
+    rounds = chance.randint(2, 6)
+    for t in range(rounds):
+        stem.turn(t)
+    branches = [copy.deepcopy(stem) for _ in range(count)]
+    for branch in branches:
+        branch.chance = random.Random(chance.random())
+        for t in range(rounds, rounds + chance.randint(2, 5)):
+            branch.turn(t)
+    return stem, branches
 
 
 # ---- plays in which anybody may act at any time

@@ -48,6 +48,13 @@ def history_lines(requests):
 # ---- reports
 
 
+def requests_of(report):
+    """The requests of the history with which a report ends, in their order."""
+    lines = report.decode().splitlines()
+    title = next(at for at, line in enumerate(lines) if line.startswith("history "))
+    return [line.split(" ")[1] for line in lines[title + 1:]]
+
+
 def read_report(text):
     """The report of a play, as a dictionary; a text if it is no report."""
     report = {"accepted": [], "seen": {}, "decided": {}, "history": []}

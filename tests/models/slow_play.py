@@ -5,6 +5,7 @@ would write it who reads docs/PROTOCOL.md, and envelopes are their texts: a chai
 have. So it has nothing in common with slow_check.py but the reader of tokens and the directory, and each of the two is a check on the other.
 """
 
+import functools
 import re
 
 from models import histories
@@ -72,6 +73,7 @@ def signatures_on(chain):
     return found
 
 
+@functools.lru_cache(maxsize=100_000)
 def is_proper(shape, chain, slot, round_of_slot):
     """Whether the chain is proper for this round of the slot: then each signature has its short form, and each request its client's."""
     if "(" in chain:
