@@ -12,7 +12,7 @@ histories, orders, transcripts and plays written by hand, good and bad. Then of 
 as `dsr play` makes them:
 
 1. A search finds an order of the requests in which one directory gives these answers, and which keeps real time; and the history that is reported is one.
-   How many histories were small enough for the search is said.
+   How many histories were small enough for the search is said. Without traitors it is so too if each ask comes as late as the boxes allow.
 2. Each such history that is spoiled, by a wrong answer, or by two requests exchanged, in real time or in the order, is seen to be wrong.
 3. What an eager replica holds has acted at each loyal replica within the bound of rounds. The slowest plays reach it, and a bound one less is seen to fail.
 4. Of 100 plays that go on in three ways, one order of what came first suits all three, and the reported histories go on from one.
@@ -187,6 +187,9 @@ def judged_answers(what, play, must_be_eager):
     rounds = eager.counted(transcript)
     fault, is_small = real_time.judged(calls, order)
     fault = fault or rounds.fault() or (rounds.fault_of_eagerness() if must_be_eager else None)
+    if not slow_check.header_of(transcript.split(b"\n")[0])[1].traitors:
+        # In any order of the steps that the boxes allow they are a run, with the same history.
+        fault = fault or real_time.judged(real_time.calls_of(real_time.with_late_asks(transcript)), order)[0]
     counts = Counter(plays=1, small=is_small, answered=sum(call.answered is not None for call in calls), pairs=len(real_time.pairs_in_real_time(calls)))
     for way, is_good in spoiled(calls, order):
         counts[way] += is_good is False

@@ -17,6 +17,11 @@ Then services of which something is refused, each of which must end within 20 se
 The first and the last of these are asked of `dsr serve` and of `dsr serve --transcript` too. Their status is 3 if they say `no memory`, and 1 if they say
 anything else; and the report says of each accepted reply that the client's request is at its place of the history.
 
+answers: 200 services by `dsr serve --transcript`, with `soak` a thousand, and one of 16 replicas, with traitors, judged by tests/models/real_time.py and
+tests/models/eager.py. A search finds an order of the requests that keeps real time, and the history that `dsr check` reports is one: in the transcript, and in the
+same logs with each ask as late as it can come. All loyal replicas are eager, and what they hold acts within the bound of rounds: the greatest count of each shape
+is said, beside the bound. At least nine of ten services must serve all clients.
+
 mail: random tries of the mail, by `dsr_mail_tries`, over shapes of all sizes, with `soak` for an hour. Each thread makes random calls at its seats, and
 what came of it is a transcript, which must be a run. By its lines alone what an actor took from another is the first so many envelopes that were posted to
 it there, so none was lost, none came twice, and none overtook another; and there is no post at a full box, or take at an empty one. In all runs together
@@ -28,12 +33,15 @@ import random
 import re
 import sys
 import time
-from collections import namedtuple
+from collections import Counter, namedtuple
 
 from kit.inputs import lines_text
 from kit.program import MOST_BYTES, TOP, command_of, program, run, shown
 from kit.refusals import numbers, refusing
 from kit.report import main, say
+from models import eager, real_time
+from models.histories import requests_of
+from models.transcript_text import Reader, whole
 
 SERVICE = f"{TOP}/crates/dsr_own_service/out/dsr_own_service"
 TRIES = f"{TOP}/crates/dsr_mail_tries/out/dsr_mail_tries"
@@ -276,6 +284,58 @@ def services(report, is_soak):
         judge_without_memory(report, chance, shim)
 
 
+# ---- answers
+
+# The shapes that are served so often, each, and with `soak` five times as often.
+ANSWERED = 20
+ANSWERED_SHAPES = [
+    "1 0 1 -", "1 0 9 -", "3 1 1 r0", "3 1 2 r2", "4 1 3 -", "4 1 8 r3", "4 1 9 r1", "5 2 3 r1+r4", "7 3 4 r0+r2+r6", "7 3 16 r1+r3+r5",
+]
+
+
+def fault_of_history(transcript, counts, sums):
+    """What is wrong with the answers in a run, in which each client is to have as many as `counts` says, or None. What is counted is added to the sums."""
+    fault, report = checked(transcript)
+    if fault:
+        return fault
+    calls = real_time.calls_of(transcript)
+    answered = sum(call.answered is not None for call in calls)
+    fault, is_small = real_time.judged(calls, requests_of(report))
+    sums.update(histories=1, small=is_small, answered=answered, pairs=len(real_time.pairs_in_real_time(calls)))
+    return fault or (f"{answered} requests were answered, and not {sum(counts)}" if answered != sum(counts) else None)
+
+
+def fault_of_answers(script, is_alone, sums, greatest):
+    """What is wrong with how a service on this script answers its clients, perhaps on one processor alone, or None. The greatest count of rounds goes to its
+    shape. A service that has used up its rounds, as a client's thread came too late, is not judged."""
+    ran = run([*(["taskset", "-c", "0"] if is_alone else []), *command_of("serve --transcript")], script.text, SECONDS)
+    status, transcript, said = ran
+    if (status, said) != (0, b""):
+        return None if (status, said) == (1, NO_ANSWER) else shown(ran)
+    rounds = eager.counted(transcript)
+    greatest[script.shape] = max(rounds.greatest, greatest.get(script.shape, 0))
+    sums["served"] += 1
+    return (rounds.fault() or rounds.fault_of_eagerness() or fault_of_history(transcript, script.counts, sums)
+            or fault_of_history(real_time.with_late_asks(transcript), script.counts, sums))
+
+
+def answers(report, is_soak):
+    chance, sums, greatest = random.Random(1990), Counter(), {}
+    shapes = [*ANSWERED_SHAPES * ANSWERED * (5 if is_soak else 1), LARGE]
+    count = len(shapes)
+    for number, shape in enumerate(shapes):
+        script = script_of(chance, shape)
+        fault = fault_of_answers(script, number % 7 == 2, sums, greatest)
+        report.judge(f"service {number} of shape {shape}", fault and f"{fault}\n{script.text.decode()}", None)
+    for shape, rounds in greatest.items():
+        bound = eager.rounds_to_act(whole(shape.encode(), Reader.shape))
+        say(f"shape {shape}: at most {rounds} rounds from held to acted, of {bound}")
+    say(f"{sums['served']} of {count} services have served all clients; {sums['answered']} answers, {sums['pairs']} pairs in real time")
+    say(f"{sums['small']} of {sums['histories']} histories were small enough for the search; the others were judged by their places alone")
+    report.judge("services that have served all clients", None if 10 * sums["served"] >= 9 * count else f"only {sums['served']} of {count}", None)
+    report.judge("pairs in real time", None if sums["pairs"] else "there are none", None)
+
+
 # ---- mail
 
 # For how many seconds the mail is tried with `soak`.
@@ -407,4 +467,4 @@ def mail(report, is_soak):
 
 
 if __name__ == "__main__":
-    sys.exit(main(__doc__, {"services": services, "mail": mail}, "soak"))
+    sys.exit(main(__doc__, {"services": services, "answers": answers, "mail": mail}, "soak"))
