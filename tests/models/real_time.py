@@ -22,7 +22,7 @@ Call = namedtuple("Call", "client number operation invoked answered place answer
 # Which calls have come, what the registers hold after them, and what those of them were answered that are pending.
 Met = namedtuple("Met", "come registers given")
 START = Met(frozenset(), frozenset(), frozenset())
-MOST_STATES = 20_000
+MOST_STATES = 5_000
 NEVER = float("inf")
 
 
