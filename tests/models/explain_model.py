@@ -1,7 +1,7 @@
 """A slow model of explanations, over the one of plays.
 
 It gives the data lines of a play, from which tools/picture draws: each event and what came of it. The header of tools/picture has what
-lines there are. What replicas and clients do is told by slow_play.py; why, by what stands here:
+lines there are. What replicas and clients do is told by slow_play.py, the fault of a chain by chains.py; why, by what stands here:
 
 - A chain is read as one of the slot that it says, so none is of another slot. Where that slot is not in flight it is `not-in-flight`, in the
   round 0. Else it has the first fault that holds, in the order of docs/PROTOCOL.md; where none holds, it is `not-new` if its content is
@@ -10,39 +10,13 @@ lines there are. What replicas and clients do is told by slow_play.py; why, by w
 - The envelope of an event that was refused stands there where the play says it, so of a `plant` alone.
 """
 
-from models import histories, slow_play
-from models.transcript_text import shape_text
+from models import chains, histories, slow_play
+from models.transcript_text import Reader, content_of, content_text, shape_text, signers_text, whole
 
 TITLE = "dsr-explain 1"
 
 
 # ---- chains
-
-
-def signer_of(signature):
-    return signature.split("(")[0]
-
-
-def is_asked(shape, signed):
-    """Whether beside the request of a client of the shape stands that client's signature on it."""
-    request, beside = signed.split("~", 1)
-    client = request.split("#")[0]
-    return int(client[1:]) < shape.m and beside == client
-
-
-def fault_of(shape, chain, slot, round_of_slot):
-    """The first fault of the chain in this round of the slot that it says, or None."""
-    _, value, signatures = slow_play.parts_of(chain)
-    signers = [signer_of(signature) for signature in signatures]
-    faults = [
-        ("wrong-count", len(signers) != round_of_slot),
-        ("wrong-sender", signers[:1] != [f"r{slot % shape.n}"]),
-        ("no-replica", any(signer[0] != "r" or int(signer[1:]) >= shape.n for signer in signers)),
-        ("signed-twice", len(set(signers)) < len(signers)),
-        ("misfit", any("(" in signature for signature in signatures)),
-        ("bad-request", not all(is_asked(shape, signed) for signed in value)),
-    ]
-    return next((fault for fault, holds in faults if holds), None)
 
 
 class Reading:
@@ -52,20 +26,19 @@ class Reading:
         self.machine = machine
         self.kept = {slot: [slow_play.content_of(slow_play.parts_of(chain)[1]) for _, chain in kept] for slot, kept in machine.kept.items()}
 
-    def note(self, chain):
-        slot, value, signatures = slow_play.parts_of(chain)
-        content, shape = slow_play.content_of(value), self.machine.shape
-        round_of_slot = self.machine.round - slot + 1
-        is_in_flight = 1 <= round_of_slot <= shape.f + 1
-        fate = self.fate(chain, slot, round_of_slot, content) if is_in_flight else "not-in-flight"
-        signers = "+".join(map(signer_of, signatures)) or "-"
-        return f"chain {self.machine.me} {slot} {round_of_slot if is_in_flight else 0} {signers} {content} {fate}"
+    def note(self, text):
+        chain = whole(text.encode(), Reader.chain)
+        content, signers = content_text(content_of(chain.value)), signers_text(chains.signers_of(chain))
+        round_of_slot = self.machine.round - chain.slot + 1
+        is_in_flight = 1 <= round_of_slot <= self.machine.shape.f + 1
+        fate = self.fate(chain, round_of_slot, content) if is_in_flight else "not-in-flight"
+        return f"chain {self.machine.me} {chain.slot} {round_of_slot if is_in_flight else 0} {signers} {content} {fate}"
 
-    def fate(self, chain, slot, round_of_slot, content):
-        fault = fault_of(self.machine.shape, chain, slot, round_of_slot)
+    def fate(self, chain, round_of_slot, content):
+        fault = chains.fault_of(self.machine.shape, chain.slot, round_of_slot, chain)
         if fault:
             return fault
-        kept = self.kept.setdefault(slot, [])
+        kept = self.kept.setdefault(chain.slot, [])
         if content in kept:
             return "not-new"
         if len(kept) == 2:
