@@ -8,9 +8,10 @@ crates.md           What each crate is, what it stands on and what it offers.
 calls.md            The contract of each public call: what the line above it says, and the names of its clauses.
 laws.md             The laws, likewise.
 models.md           What contracts see of each type.
-definitions.md      For each headline promise the definitions that the contracts of its functions name, those that these name, and so on, as far as they
-                    stand in a `specs/` of this repository; and the types of the code that they name. The tests of equality in
-                    `specs/Support/` are left out, as docs/READING.md says. Beside each promise stands how many lines these have, without comments.
+definitions.md      For each headline promise of tests/written/promises.txt the definitions that the contracts of its functions name, those that these
+                    name, and so on, as far as they stand in a `specs/` of this repository; and the types of the code that they name. The tests of
+                    equality in `specs/Support/` are left out, as docs/READING.md says. Beside each promise stands how many lines these have,
+                    without comments.
 meanings.md         Each definition with the line of plain meaning above it.
 wrong-bodies.md     The edits that the prover must refuse.
 """
@@ -23,53 +24,11 @@ import sys
 from contracts import WORD, crates, imports_of, lines_of
 from kit.program import TOP, bytes_of, name_of, write_bytes
 from kit.report import main
+from kit.written import tables as tables_by_hand
 
 TABLES = f"{TOP}/docs/tables"
 DEFINITION = re.compile(r"(?:(?:abbrev|unfoldable|data|record|pub) )+([\w-]+)")
 MADE = "Generated from the sources by `tests/reading.py --write`; `./test` checks that it is current.\n"
-# The headline promises, each with the functions of whose contracts it is made.
-PROMISES = [
-    ("Each input line is answered as one directory answers that processes the lines in turn",
-     "crates/dsr_history/src/apply.rt: run_apply"),
-    ("A history only grows, no number of a client stands in it twice, and what stands at a place stays there",
-     "crates/dsr_history/src/laws.rt: history_only_grows, history_is_legal, requests_keep_their_places"),
-    ("A chain passes its check exactly where it is proper",
-     "crates/dsr_chain/src/check.rt: check"),
-    ("Agreement and validity of one slot",
-     "crates/dsr_slot/src/laws.rt: agreement_and_validity"),
-    ("A loyal replica keeps to its conduct",
-     "crates/dsr_replica/src/replica.rt: new, posted, taken, ask_taken, reply_for; crates/dsr_replica/src/laws.rt: "
-     "calls_keep_a_log_loyal, posts_and_takes_keep_step, posts_follow_the_log, signatures_are_own_or_taken, "
-     "closed_rounds_stay, limits_are_kept, conduct_is_blind"),
-    ("A client accepts a reply only from more than f replicas, one of them loyal",
-     "crates/dsr_client/src/laws.rt: accepted_replies_have_enough_votes"),
-    ("What `build` makes has nothing forged in it",
-     "crates/dsr_script/src/building.rt: build; crates/dsr_script/src/laws.rt: nobody_forges"),
-    ("The headline: each reply that a client accepts is the sequential directory's answer to its request at one place of one history that only grows",
-     "crates/dsr_run/src/headline.rt: runs_are_right, clients_are_answered"),
-    ("Runs are strongly linearizable, in the order of their steps",
-     "crates/dsr_run/src/headline.rt: runs_are_linearizable"),
-    ("A request that an eager loyal replica holds acts within a stated number of rounds, and its client is answered",
-     "crates/dsr_run/src/answered.rt: eager_replicas_answer, clients_are_answered_in_time"),
-    ("In every run loyal replicas agree, and there is one history, which only grows",
-     "crates/dsr_run/src/laws.rt: loyal_replicas_agree, loyal_senders_values_are_decided, no_signature_is_forged, "
-     "history_only_grows"),
-    ("What `dsr play` writes is the report of a run that the play's events made, and that run is right",
-     "crates/dsr_cli/src/play.rt: run_play"),
-    ("A record is found to be a run exactly where it is one, and a history and replies are judged right exactly where they are",
-     "crates/dsr_check/src/checking.rt: check; crates/dsr_check/src/judging.rt: judge"),
-    ("What `dsr serve` writes is the report of what threads did, which is right whatever they did",
-     "crates/dsr_cli/src/serve.rt: run_serve; crates/dsr_cli/src/transcribe_service.rt: transcribe_service"),
-    ("What `dsr check` reports on is a run, and what it refuses is none from the line on that it names",
-     "crates/dsr_cli/src/check.rt: run_check"),
-    ("Whatever threads do at the mail, their logs are those of a run",
-     "crates/dsr_mail/src/replica_seat.rt: try_post, try_take; crates/dsr_mail/src/mail.rt: open, close"),
-    ("A service in threads that ends has served each client's operations, or says why not",
-     "crates/dsr_hosts/src/serving.rt: serve"),
-    ("The transcript of a world's record is its run, line by line, and is read back as that",
-     "crates/dsr_record/src/recording.rt: of_world; crates/dsr_record/src/files.rt: write; crates/dsr_record/src/laws.rt: "
-     "transcripts_spell_their_records; crates/dsr_record/src/record.rt: of_text"),
-]
 BESIDE_THE_CODE = ("dsr_mail_tries", "dsr_mail_office", "dsr_own_service", "dsr_rows")
 
 
@@ -179,7 +138,7 @@ def cell(text):
 def definitions_table(all_crates):
     order = [crate.name for crate in all_crates]
     rows, parts = [], []
-    for title, named in PROMISES:
+    for title, named in tables_by_hand("promises")["promises"]:
         text, counts = definitions_of(named, order)
         rows.append(f"| {title} | {counts[False]} | {counts[True]} |")
         parts.append(f"## {title}\n\n{text}")
