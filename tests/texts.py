@@ -244,16 +244,8 @@ def parts_by_chance(is_soak):
 
 def envelopes():
     """Envelopes with as many parts as are allowed, and with one more."""
-    for most in (32, 33):
-        yield f"{most} chains", f"round 0{' 0/idle/r0' * most}"
-    for most in (16, 17):
-        yield f"{most} signatures", f"round 0 0/idle/{'+'.join(['r0'] * most)}"
-        yield f"{most} signatures that are spelled out", f"round 0 0/idle/{'+'.join(['r0(1/idle/-)'] * most)}"
-        yield f"{most} signers before", f"round 0 0/idle/r0(0/idle/{'+'.join(['c9'] * most)})"
-    for most in (8, 9):
-        requests = [f"c0#{number}:read:a" for number in range(1, most + 1)]
-        yield f"{most} requests", f"round 0 0/{','.join(f'{request}~r0' for request in requests)}/r0"
-        yield f"{most} requests in a statement", f"round 0 0/idle/r0(0/{','.join(requests)}/-)"
+    for what, envelope, _ in transcript_rows.lists_at_limits():
+        yield what, envelope
     for number in (2**40 - 1, 2**40):
         yield f"round {number}", f"round {number}"
         yield f"slot {number}", f"round 0 {number}/idle/r0"

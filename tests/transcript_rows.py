@@ -35,16 +35,17 @@ def verdict(outcome):
 
 
 def lists_at_limits():
-    """Lists of as many items as are allowed, and of one more: version, line, and whether it is one."""
-    for count, is_good in [(8, True), (9, False)]:
+    """Envelopes with lists of as many items as are allowed, and of one more: what each has, it, and the header of a transcript that may have it, or None."""
+    for count, header in [(32, TRAITOR), (33, None)]:
+        yield f"{count} chains", f"round 0{' 0/idle/r0' * count}", header
+    for count, header in [(16, TRAITOR), (17, None)]:
+        yield f"{count} signatures", f"round 0 0/idle/{'+'.join(['r0'] * count)}", header
+        yield f"{count} signatures that are spelled out", f"round 0 0/idle/{'+'.join(['r0(1/idle/-)'] * count)}", header
+        yield f"{count} signers before", f"round 0 0/idle/r0(0/idle/{'+'.join(['c9'] * count)})", header
+    for count, header in [(8, TRAITOR_TWO), (9, None)]:
         requests = [f"c0#{number}:read:a" for number in range(1, count + 1)]
-        yield 2, f"r0 post r1 round 0 0/{','.join(f'{request}~r0' for request in requests)}/r0", is_good
-        yield 2, f"r0 post r1 round 0 0/idle/r0(0/{','.join(requests)}/-)", is_good
-    for count, is_good in [(16, True), (17, False)]:
-        yield 1, f"r0 post r1 round 0 0/idle/{'+'.join(['r0'] * count)}", is_good
-        yield 1, f"r0 post r1 round 0 0/idle/r0(0/idle/{'+'.join(['c9'] * count)})", is_good
-    for count, is_good in [(32, True), (33, False)]:
-        yield 1, f"r0 post r1 round 0{' 0/idle/r0' * count}", is_good
+        yield f"{count} requests", f"round 0 0/{','.join(f'{request}~r0' for request in requests)}/r0", header
+        yield f"{count} requests in a statement", f"round 0 0/idle/r0(0/{','.join(requests)}/-)", header
 
 
 def one_line_rows():
@@ -61,8 +62,9 @@ def one_line_rows():
         yield TRAITOR_TWO, line, outcome
     for line in TABLES["bad lines of version 2"]:
         yield TRAITOR_TWO, line, bad(2)
-    for version, line, is_good in lists_at_limits():
-        yield TRAITOR if version == 1 else TRAITOR_TWO, line, A_STEP if is_good else bad(2)
+    for _, envelope, allowed in lists_at_limits():
+        for header in [allowed] if allowed else [TRAITOR, TRAITOR_TWO]:
+            yield header, f"r0 post r1 {envelope}", A_STEP if allowed else bad(2)
 
 
 # ---- several lines
