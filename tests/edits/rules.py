@@ -15,6 +15,7 @@ import unittest
 from edits import bundles, command
 from edits.lexing import read_of
 from edits.record import Edit, Outcome, Record, Repository, key_of, outcomes, read_record, write_record
+from kit import report
 from kit.program import text_of
 
 VERSION = "toolchain-1 logic 0123"
@@ -227,6 +228,30 @@ class Folders(Made):
         for name in ("two.txt", "a b.edit", "deeper/two.edit"):
             self.write(f"crates/low/wrong-bodies/{name}", "file: src/lib.rt\n")
         self.assertEqual(len(self.faults()), 3)
+
+
+class OldTexts(Made):
+    def judged(self):
+        self.addCleanup(setattr, command, "TOP", command.TOP)
+        command.TOP = self.top
+        counts = report.Report()
+        with contextlib.redirect_stdout(io.StringIO()) as printed:
+            command.judge_old_texts(counts)
+        return counts.passed, counts.failed, printed.getvalue()
+
+    def test_all_are_found(self):
+        self.assertEqual(self.judged()[:2], (1, 0))
+
+    def test_one_that_is_gone_or_there_twice_or_changes_nothing_is_named(self):
+        for text in ("pub fn low();\n", "pub fn low() {} // {}\n", None):
+            if text is None:
+                self.write("crates/low/wrong-bodies/one.edit", "file: src/lib.rt\nold: low\nnew: low\n")
+            else:
+                self.write("crates/low/src/lib.rt", text)
+            passed, failed, printed = self.judged()
+            self.assertEqual((passed, failed), (0, 1), text)
+            self.assertIn("low/one.edit: ", printed)
+            self.assertNotIn("high/one.edit", printed)
 
 
 class Choice(Made):
