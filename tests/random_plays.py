@@ -14,7 +14,8 @@ as `dsr play` makes them:
 1. A search finds an order of the requests in which one directory gives these answers, and which keeps real time; and the history that is reported is one.
    How many histories were small enough for the search is said. Without traitors it is so too if each ask comes as late as the boxes allow.
 2. Each such history that is spoiled, by a wrong answer, or by two requests exchanged, in real time or in the order, is seen to be wrong.
-3. What an eager replica holds has acted at each loyal replica within the bound of rounds. The slowest plays reach it, and a bound one less is seen to fail.
+3. What an eager replica holds has acted at each loyal replica within the bound of rounds. The slowest plays reach it, their clients accept the replies that
+   come then, and a bound one less is seen to fail.
 4. Of 100 plays that go on in three ways, one order of what came first suits all three, and the reported histories go on from one.
 
 models: the two models of transcripts that tests/texts.py goes by, each judged by the other. No program runs.
@@ -179,15 +180,16 @@ def history_reported(play):
 
 
 def judged_answers(what, play, must_be_eager):
-    """The name of a play, what is wrong with how its clients are answered, or None, and what is counted of it."""
+    """The name of a play, what is wrong with how its clients are answered, or None, what is counted of it, and the greatest count of rounds, by the shape."""
     found, fault = history_reported(play)
     if fault:
-        return what, fault, Counter()
+        return what, fault, Counter(), Counter()
     transcript, calls, order = found
     rounds = eager.counted(transcript)
     fault, is_small = real_time.judged(calls, order)
     fault = fault or rounds.fault() or (rounds.fault_of_eagerness() if must_be_eager else None)
-    if not slow_check.header_of(transcript.split(b"\n")[0])[1].traitors:
+    n, f, m, traitors = slow_check.header_of(transcript.split(b"\n")[0])[1]
+    if not traitors:
         # In any order of the steps that the boxes allow they are a run, with the same history.
         fault = fault or real_time.judged(real_time.calls_of(real_time.with_late_asks(transcript)), order)[0]
     counts = Counter(plays=1, small=is_small, answered=sum(call.answered is not None for call in calls), pairs=len(real_time.pairs_in_real_time(calls)))
@@ -195,7 +197,7 @@ def judged_answers(what, play, must_be_eager):
         counts[way] += is_good is False
         fault = fault or (f"{way} is not seen" if is_good else None)
     counts["at the bound"] += rounds.greatest == rounds.bound
-    return what, fault, counts
+    return what, fault, counts, Counter({(n, f, m, rounds.bound): rounds.greatest})
 
 
 def judged_in_real_time(seed):
@@ -205,19 +207,25 @@ def judged_in_real_time(seed):
 def judged_eager_play(seed):
     """The same of a play of eager replicas, whose transcript must be the one that its writer's model of the world has."""
     play = eager_plays.random_eager_play(random.Random(f"eager {seed}"))
-    what, fault, counts = judged_answers(f"answers, eager play {seed}", play.text(), True)
+    what, fault, *counted = judged_answers(f"answers, eager play {seed}", play.text(), True)
     fault = fault or (None if program("play --transcript", play.text())[1] == play.world.transcript().encode() else "its transcript is another one")
-    return what, fault, counts
+    return what, fault, *counted
+
+
+def fault_of_slowest(play, counts):
+    """What is wrong with a slowest play, of which so much was counted, or None."""
+    _, transcript, _ = program("play --transcript", play.text())
+    if not counts["at the bound"]:
+        return "it does not reach the bound"
+    if counts["answered"] != play.m:
+        return f"{counts['answered']} of its {play.m} clients have accepted the replies that came then"
+    return None if eager.counted(transcript, 1).fault() else "a bound one less is not seen to fail"
 
 
 def judged_slowest(task):
-    """The slowest play of this shape must reach the bound, and with a bound one less it must be seen to fail."""
     play = eager_plays.slowest_play(*task)
-    what, fault, counts = judged_answers(f"answers, slowest play {task}", play.text(), True)
-    _, transcript, _ = program("play --transcript", play.text())
-    if not fault and not eager.counted(transcript, 1).fault():
-        fault = "a bound one less is not seen to fail"
-    return what, fault or (None if counts["at the bound"] else "it does not reach the bound"), counts
+    what, fault, counts, greatest = judged_answers(f"answers, slowest play {task}", play.text(), True)
+    return what, fault or fault_of_slowest(play, counts), counts, greatest
 
 
 def judged_branches(seed):
@@ -226,25 +234,28 @@ def judged_branches(seed):
     found = [history_reported(play.text()) for play in (stem, *branches)]
     fault = next((fault for _, fault in found if fault), None)
     if fault:
-        return f"branching play {seed}", fault, Counter()
+        return f"branching play {seed}", fault, Counter(), Counter()
     (_, first, before), *others = [history for history, _ in found]
     histories = [calls for _, calls, _ in others]
     fault = None if all(order[:len(before)] == before for _, _, order in others) else "a reported history does not go on from the earlier one"
     if False in [real_time.is_strongly_linearizable(first, histories, with_places) for with_places in (False, True)]:
         fault = fault or f"no order of {first} suits all of {histories}"
     pending = sum(call.answered is None for call in first)
-    return f"branching play {seed}", fault, Counter({"branching plays": 1, "pending where the ways part": pending})
+    return f"branching play {seed}", fault, Counter({"branching plays": 1, "pending where the ways part": pending}), Counter()
 
 
 def answers(report, _):
     judge_histories_by_hand(report)
     judge_rounds_by_hand(report)
-    sums = Counter()
+    sums, greatest = Counter(), Counter()
     for function, tasks in [(judged_in_real_time, range(PLAYS)), (judged_eager_play, range(EAGER_PLAYS)), (judged_slowest, eager_rows.SLOWEST),
                             (judged_branches, range(BRANCHING_PLAYS))]:
-        for what, fault, counts in in_processes(function, tasks, 8):
+        for what, fault, counts, rounds in in_processes(function, tasks, 8):
             report.judge(what, fault, None)
             sums += counts
+            # Of two counters the greater count of each.
+            greatest |= rounds
+    say("rounds from held to acted, n f m: " + ", ".join(f"{n} {f} {m}: {count} of {bound}" for (n, f, m, bound), count in sorted(greatest.items())))
     say(f"{sums['small']} of {sums['plays']} histories were small enough for the search; the others were judged by their places alone")
     say(", ".join(f"{what} {count}" for what, count in sums.items()))
     for what in ("answered", "pairs", "small", "a wrong answer", "two exchanged in real time", "two exchanged in the order", "at the bound",

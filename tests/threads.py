@@ -18,9 +18,9 @@ The first and the last of these are asked of `dsr serve` and of `dsr serve --tra
 anything else; and the report says of each accepted reply that the client's request is at its place of the history.
 
 answers: 200 services by `dsr serve --transcript`, with `soak` a thousand, and one of 16 replicas, with traitors, judged by tests/models/real_time.py and
-tests/models/eager.py. A search finds an order of the requests that keeps real time, and the history that `dsr check` reports is one: in the transcript, and in the
-same logs with each ask as late as it can come. All loyal replicas are eager, and what they hold acts within the bound of rounds: the greatest count of each shape
-is said, beside the bound. At least nine of ten services must serve all clients.
+tests/models/eager.py. A search finds an order of the requests that keeps real time, and the history that `dsr check` reports is one: in the transcript, and
+in the same logs with each ask as late as it can come. All loyal replicas are eager, and what they hold acts within the bound of rounds: the greatest count of
+each shape is said, beside the bound. At least nine of ten services must serve all clients.
 
 mail: random tries of the mail, by `dsr_mail_tries`, over shapes of all sizes, with `soak` for an hour. Each thread makes random calls at its seats, and
 what came of it is a transcript, which must be a run. By its lines alone what an actor took from another is the first so many envelopes that were posted to

@@ -226,7 +226,7 @@ def fault_of_real_time(calls, places):
 
 
 def judged(calls, order):
-    """Returns what is wrong with a history, or with this order as its linearization, or None; and whether the searches for an order were small enough to end."""
+    """Returns what is wrong with a history, or with this order as its linearization, or None; and whether the searches for an order came to an end."""
     found = [is_linearizable(calls), is_linearizable(calls, with_places=True)]
     fault = fault_of_turns(calls) or fault_of_order(calls, order) or (f"no order linearizes {calls}" if False in found else None)
     return fault, None not in found
