@@ -8,13 +8,15 @@ models: tests/models/parts.py, which was written anew from the documents, answer
 
 runner: what conformance/run.py says of adapters. conformance/adapters/chain_good.py passes all rows of chains that it answers, and chain_forgets.py fails
 just those in chain_forgets.known. An adapter that goes wrong in one row fails that row, and no other. A row that is known to fail and does not, a call that is
-skipped, and files that are no rows.
+skipped, files that are no rows, and the outcomes as JUnit XML.
 """
 
 import functools
 import re
 import sys
 import tempfile
+import time
+import xml.etree.ElementTree as ElementTree
 
 from kit.program import TOP, run, shown, write_bytes
 from kit.report import in_threads, main
@@ -84,6 +86,7 @@ WRONG = {
     "writes one answer more": "print('< ok')",
     "writes one answer less": "continue",
     "answers something else": "print('< no'); continue",
+    "answers what no XML may have": "print('< \\0\\x1b<&]]>', flush=True); continue",
 }
 
 NO_ROWS = {
@@ -149,12 +152,50 @@ def choices(room):
     yield "a group that there is not", ["--group", "other", *says_ok], 1, None
     yield "a known row that there is not", ["--known", written(room, "strange", "some/row\n"), *says_ok], 1, None
     yield "a program that there is not", ["--", f"{room}/nothing"], 1, None
+    yield "a file for JUnit that cannot be written", ["--junit", f"{room}/no/junit.xml", *says_ok], 2, None
 
 
 def check_of_wrong(words, what):
     """What an adapter does that goes wrong, and what is wrong with the run of it, or None."""
     words = [*words, "--seconds", str(SECONDS_OF_A_WRONG_ONE), *adapter(WRONG[what])]
     return f"an adapter that {what}", fault_of_run(words, 1, (2, 1, 0), b"some/middle: FAILED\n"), None
+
+
+def suites_of(path):
+    """The suites of a file of JUnit's: of each its name, the counts that it tells, and what came of each of its cases."""
+    for suite in ElementTree.parse(path).getroot():
+        cases = {case.get("name"): [(part.tag, part.text) for part in case] for case in suite}
+        yield suite.get("name"), [int(suite.get(count)) for count in ("tests", "failures", "errors", "skipped")], cases
+
+
+def fault_of_junit(words, path, statement, kind, wanted):
+    """What is wrong with the file for JUnit of an adapter that does this in the middle of three rows, or None. `wanted` must be in what is told of that row."""
+    ran, _ = conformance_run(*words, "--junit", path, *adapter(WRONG.get(statement, statement)))
+    (name, counts, cases), *more = suites_of(path)
+    (found, told), = cases["some/middle"] or [("passed", None)]
+    passed = cases["some/first"] == cases["some/last"] == [] and len(cases) == 3
+    counted = [3, int(found == "failure"), 0, int(found == "skipped")]
+    is_well = not more and name == "some" and passed and counts == counted and found == kind and wanted in (told or "")
+    return None if is_well and b"Traceback" not in ran[2] else f"{name}, {counts}, {cases}"
+
+
+def junit(report, words, room):
+    for statement, kind, wanted in [
+        ("answers something else", "failure", "wanted    ok\n      answered  no"),
+        ("answers what no XML may have", "failure", "answered  \\x00\\x1b<&]]>"),
+        ("ends with a status", "failure", "no answer: it ended with status 3"),
+        ("print('< skip'); continue", "skipped", ""),
+        ("pass", "passed", ""),
+    ]:
+        report.judge(f"JUnit's file of {statement}", fault_of_junit(words, f"{room}/junit.xml", statement, kind, wanted), None)
+
+
+def seconds(report, words):
+    """An adapter that hangs is given up after the seconds that are asked for: once with all rows, and once with the row at fault."""
+    begun = time.monotonic()
+    fault = fault_of_run([*words, "--seconds", "4", *adapter(WRONG["hangs"])], 1, (2, 1, 0), b"it did not end within 4 seconds\n")
+    took = time.monotonic() - begun
+    report.judge("an adapter that hangs is given up in time", fault or (None if 8 <= took < 20 else f"{took:.1f} seconds"))
 
 
 def runner(report, _):
@@ -168,6 +209,10 @@ def runner(report, _):
             report.judge(what, fault_of_run([*words, *adapter("pass")], *((0, (3, 0, 0)) if what == "rows" else (1, None))), None)
         written(room, "some.rows", SOME_ROWS)
         report.judge_all(in_threads(functools.partial(check_of_wrong, words), WRONG))
+        says_no = [*words, *adapter(WRONG["answers something else"])]
+        report.judge("the rule of a row that fails", fault_of_run(says_no, 1, (2, 1, 0), b"\nrule tagged: 1 of 1 rows failed\n"), None)
+        junit(report, words, room)
+        seconds(report, words)
         for what, more, *wanted in choices(room):
             report.judge(what, fault_of_run([*words, *more], *wanted), None)
 
