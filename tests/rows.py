@@ -4,6 +4,8 @@ runs another program on the rows, in whatever language.
 
 files: each file is in the grammar of conformance/README.md, and no name stands twice.
 
+rules: the files that rules of tests/rules list are as these rules and the models have them (tests/rows_by_rule.py), and all of them are there.
+
 models: tests/models/parts.py, which was written anew from the documents, answers all rows as they say, but for a few that it skips.
 
 runner: what conformance/run.py says of adapters. conformance/adapters/chain_good.py passes all rows of chains that it answers, and chain_forgets.py fails
@@ -18,7 +20,8 @@ import tempfile
 import time
 import xml.etree.ElementTree as ElementTree
 
-from kit.program import TOP, run, shown, write_bytes
+import rows_by_rule
+from kit.program import TOP, bytes_of, run, shown, write_bytes
 from kit.report import in_threads, main
 
 sys.path.insert(0, f"{TOP}/conformance")
@@ -27,6 +30,8 @@ import run as conformance  # noqa: E402
 
 ROWS, ADAPTERS = f"{TOP}/conformance/rows", f"{TOP}/conformance/adapters"
 SECONDS = 60
+# The rows that there are at least.
+LEAST_ROWS = 2000
 
 
 # ---- files
@@ -39,7 +44,17 @@ def files(report, _):
         groups, fault = [], str(bad)
     rows = [row for _, of_group in groups for row in of_group]
     calls = sum(len(row.calls) for row in rows)
-    report.judge("files of rows", fault or (None if rows else "there are none"), f", {len(groups)} files, {len(rows)} rows, {calls} calls")
+    fault = fault or (None if len(rows) >= LEAST_ROWS else f"there are {len(rows)} rows, and not {LEAST_ROWS}")
+    report.judge("files of rows", fault, f", {len(groups)} files, {len(rows)} rows, {calls} calls")
+
+
+# ---- rows that are listed by rules
+
+
+def rules(report, _):
+    for path, text in rows_by_rule.files():
+        fault = None if bytes_of(path) == text.encode("latin-1") else "not as its rules have it: tests/rows_by_rule.py --write writes it"
+        report.judge(path, fault, f", {text.count(chr(10) + 'row ')} rows")
 
 
 # ---- models, and what runs adapters
@@ -218,5 +233,5 @@ def runner(report, _):
 
 
 if __name__ == "__main__":
-    PARTS = {"files": files, "models": models, "runner": runner}
+    PARTS = {"files": files, "rules": rules, "models": models, "runner": runner}
     sys.exit(main(__doc__, PARTS, without_program=PARTS))
