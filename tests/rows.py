@@ -6,6 +6,8 @@ files: each file is in the grammar of conformance/README.md, and no name stands 
 
 rules: the files that rules of tests/rules list are as these rules and the models have them (tests/rows_by_rule.py), and all of them are there.
 
+mistakes: each mistake of tests/rules/mistakes.py, made in the models, is noticed by a row (tests/mistakes.py), and conformance/MISTAKES.md says by which.
+
 models: tests/models/parts.py, which was written anew from the documents, answers all rows as they say, but for a few that it skips.
 
 runner: what conformance/run.py says of adapters. conformance/adapters/chain_good.py passes all rows of chains that it answers, and chain_forgets.py fails
@@ -20,6 +22,7 @@ import tempfile
 import time
 import xml.etree.ElementTree as ElementTree
 
+import mistakes
 import rows_by_rule
 from kit.program import TOP, bytes_of, run, shown, write_bytes
 from kit.report import in_threads, main
@@ -55,6 +58,16 @@ def rules(report, _):
     for path, text in rows_by_rule.files():
         fault = None if bytes_of(path) == text.encode("latin-1") else "not as its rules have it: tests/rows_by_rule.py --write writes it"
         report.judge(path, fault, f", {text.count(chr(10) + 'row ')} rows")
+
+
+# ---- mistakes
+
+
+def noticed(report, _):
+    text, faults = mistakes.table()
+    report.judge("mistakes in the models, each of which a row notices", "\n".join(faults) or None, f", {len(mistakes.MISTAKES)} mistakes")
+    fault = None if bytes_of("conformance/MISTAKES.md") == text.encode() else "not current: tests/mistakes.py --write writes it"
+    report.judge("conformance/MISTAKES.md", fault)
 
 
 # ---- models, and what runs adapters
@@ -233,5 +246,5 @@ def runner(report, _):
 
 
 if __name__ == "__main__":
-    PARTS = {"files": files, "rules": rules, "models": models, "runner": runner}
+    PARTS = {"files": files, "rules": rules, "mistakes": noticed, "models": models, "runner": runner}
     sys.exit(main(__doc__, PARTS, without_program=PARTS))
