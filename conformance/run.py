@@ -39,10 +39,10 @@ KINDS = ("lists", "remove", "contract", "cut")
 
 
 class Row:
-    """A row: its name, its tags, and its calls, each with the answer that is wanted."""
+    """A row: its name, its tags, its notes, and its calls, each with the answer that is wanted."""
 
     def __init__(self, name, tags):
-        self.name, self.tags, self.calls = name, tags, []
+        self.name, self.tags, self.notes, self.calls = name, tags, [], []
 
     def text(self):
         return "".join([f"row {self.name}\n", *(f"> {call}\n" for call, _ in self.calls)])
@@ -67,6 +67,8 @@ def read_line(group, rows, asked, line):
         rows.append(Row(name, tags))
     elif not rows or kind != ">" and (kind != "note" or rows[-1].calls):
         raise BadRows
+    elif kind == "note":
+        rows[-1].notes.append(rest)
     return rest if kind == ">" else None
 
 

@@ -6,6 +6,8 @@ files: each file is in the grammar of conformance/README.md, and no name stands 
 
 rules: the files that rules of tests/rules list are as these rules and the models have them (tests/rows_by_rule.py), and all of them are there.
 
+json: conformance/json has the rows as tools/rows_json.py writes them, and each of its trees is the text beside it (tests/rows_in_json.py).
+
 mistakes: each mistake of tests/rules/mistakes.py, made in the models, is noticed by a row (tests/mistakes.py), and conformance/MISTAKES.md says by which.
 
 models: tests/models/parts.py, which was written anew from the documents, answers all rows as they say, but for a few that it skips.
@@ -24,11 +26,13 @@ import xml.etree.ElementTree as ElementTree
 
 import mistakes
 import rows_by_rule
+import rows_in_json
 from kit.program import TOP, bytes_of, run, shown, write_bytes
 from kit.report import in_threads, main
 
-sys.path.insert(0, f"{TOP}/conformance")
+sys.path[:0] = [f"{TOP}/conformance", f"{TOP}/tools"]
 
+import rows_json  # noqa: E402
 import run as conformance  # noqa: E402
 
 ROWS, ADAPTERS = f"{TOP}/conformance/rows", f"{TOP}/conformance/adapters"
@@ -58,6 +62,19 @@ def rules(report, _):
     for path, text in rows_by_rule.files():
         fault = None if bytes_of(path) == text.encode("latin-1") else "not as its rules have it: tests/rows_by_rule.py --write writes it"
         report.judge(path, fault, f", {text.count(chr(10) + 'row ')} rows")
+
+
+# ---- rows as JSON
+
+
+def as_json(report, _):
+    groups = {}
+    for group, found in conformance.all_rows(ROWS):
+        groups.setdefault(group, []).extend(found)
+    for path, text in rows_json.files():
+        fault = None if bytes_of(path) == text.encode() else "not current: tools/rows_json.py --write writes it"
+        report.judge(path, fault or rows_in_json.fault_of(text, groups.pop(path.split("/")[-1].removesuffix(".json"))), f", {rows_in_json.trees_in(text)} trees")
+    report.compare("groups without a file", groups, {}, "")
 
 
 # ---- mistakes
@@ -246,5 +263,5 @@ def runner(report, _):
 
 
 if __name__ == "__main__":
-    PARTS = {"files": files, "rules": rules, "mistakes": noticed, "models": models, "runner": runner}
+    PARTS = {"files": files, "rules": rules, "json": as_json, "mistakes": noticed, "models": models, "runner": runner}
     sys.exit(main(__doc__, PARTS, without_program=PARTS))
