@@ -12,13 +12,16 @@ mistakes: each mistake of tests/rules/mistakes.py, made in the models, is notice
 
 models: tests/models/parts.py, which was written anew from the documents, answers all rows as they say, but for a few that it skips.
 
-runner: what conformance/run.py says of adapters. conformance/adapters/chain_good.py passes all rows of chains that it answers, and chain_forgets.py fails
-just those in chain_forgets.known. An adapter that goes wrong in one row fails that row, and no other. A row that is known to fail and does not, a call that is
+adapters: the examples of conformance/adapters, in Python, C and Rust, pass all rows that they answer, and each wrong one beside them fails just those of its
+file .known, which name the rule that it breaks. One whose compiler is not there is skipped.
+
+runner: what conformance/run.py says of adapters. An adapter that goes wrong in one row fails that row, and no other. A row that is known to fail and does not, a call that is
 skipped, files that are no rows, and the outcomes as JUnit XML.
 """
 
 import functools
 import re
+import shutil
 import sys
 import tempfile
 import time
@@ -27,8 +30,8 @@ import xml.etree.ElementTree as ElementTree
 import mistakes
 import rows_by_rule
 import rows_in_json
-from kit.program import TOP, bytes_of, run, shown, write_bytes
-from kit.report import in_threads, main
+from kit.program import TOP, bytes_of, run, shown, text_of, write_bytes
+from kit.report import in_threads, main, say
 
 sys.path[:0] = [f"{TOP}/conformance", f"{TOP}/tools"]
 
@@ -243,10 +246,52 @@ def seconds(report, words):
     report.judge("an adapter that hangs is given up in time", fault or (None if 8 <= took < 20 else f"{took:.1f} seconds"))
 
 
+# The adapters in conformance/adapters: what makes a program of each, the groups that it answers, and the rule that a wrong one breaks.
+IN_C = ["cc", "-std=c11", "-Wall", "-Wextra", "-Werror"]
+IN_RUST = ["rustc", "--edition", "2021", "-D", "warnings", "-O"]
+EXAMPLES = [
+    ("parts.py", None, ["chain", "slot", "tally", "calendar"], None), ("parts_forgets.py", None, ["chain", "slot"], "signed-twice"),
+    ("chains.c", IN_C, ["chain"], None), ("chains_any_slot.c", IN_C, ["chain"], "misfit"),
+    ("chains.rs", IN_RUST, ["chain"], None), ("chains_late.rs", IN_RUST, ["chain"], "wrong-count"),
+]
+
+
+def made(compiler, name, room):
+    """The command of an adapter, which the compiler makes if there is one; None if it cannot."""
+    if compiler is None:
+        return [sys.executable, "-B", f"{ADAPTERS}/{name}"]
+    status, *_ = run([*compiler, f"{ADAPTERS}/{name}", "-o", f"{room}/{name}.made"])
+    return [f"{room}/{name}.made"] if status == 0 else None
+
+
+def fault_of_adapter(name, command, groups, rule):
+    """What is wrong with an adapter, or None, and what is said of it. One that breaks a rule fails the rows of its file .known, and most of all that rule's."""
+    words = ["--seconds", str(SECONDS), *(word for group in groups for word in ("--group", group))]
+    known = f"{ADAPTERS}/{name.split('.')[0]}.known"
+    ran, counts = conformance_run(*words, *(["--known", known] if rule else []), "--", *command)
+    if ran[0] != 0 or not counts:
+        return told_by(ran), ""
+    if not rule:
+        return None, f", {told(counts)}"
+    failed, _ = conformance_run(*words, "--", *command)
+    rules = re.findall(rb"^rule (.*): [0-9]+ of ", failed[1], re.M)
+    is_named = failed[0] == 1 and rules[:1] == [rule.encode()]
+    return None if is_named else f"the rules that it breaks are {rules}", f", {len(text_of(known).split())} rows failed, and most of the rule {rule}"
+
+
+def adapters(report, _):
+    with tempfile.TemporaryDirectory(prefix="dsr-adapters-") as room:
+        for name, compiler, groups, rule in EXAMPLES:
+            if compiler and not shutil.which(compiler[0]):
+                say(f"{name}: skipped, since there is no {compiler[0]}")
+                report.add(0, 0, 1)
+                continue
+            command = made(compiler, name, room)
+            fault, said = fault_of_adapter(name, command, groups, rule) if command else (f"{compiler[0]} makes no program of it", "")
+            report.judge(name, fault, said)
+
+
 def runner(report, _):
-    for name, known in [("chain_good", []), ("chain_forgets", ["--known", f"{ADAPTERS}/chain_forgets.known"])]:
-        ran, counts = conformance_run("--seconds", str(SECONDS), "--group", "chain", *known, f"{ADAPTERS}/{name}.py")
-        report.judge(f"{name}.py", None if ran[0] == 0 else told_by(ran), f", {told(counts)}")
     with tempfile.TemporaryDirectory(prefix="dsr-adapters-") as room:
         words = ["--rows", room]
         for what, text in {"rows": SOME_ROWS, **NO_ROWS}.items():
@@ -263,5 +308,5 @@ def runner(report, _):
 
 
 if __name__ == "__main__":
-    PARTS = {"files": files, "rules": rules, "json": as_json, "mistakes": noticed, "models": models, "runner": runner}
+    PARTS = {"files": files, "rules": rules, "json": as_json, "mistakes": noticed, "models": models, "adapters": adapters, "runner": runner}
     sys.exit(main(__doc__, PARTS, without_program=PARTS))
