@@ -1,5 +1,6 @@
 #!/usr/bin/env python3
-"""Runs an adapter against the rows: run.py [--group G ..] [--without TAG ..] [--known FILE] [--rows FOLDER] [--seconds N] [--junit FILE] ADAPTER ..
+"""Runs an adapter against the rows: run.py [--group G ..] [--without TAG ..] [--known FILE] [--rows FOLDER] [--seconds N] [--junit FILE]
+[--random N [--seed S]] [--answers COMMAND] ADAPTER ..
 
 ADAPTER is a command with its words; it follows `--` if a word of it begins with a dash. It reads lines `row NAME` and `> CALL` on standard
 input, and writes one line `< ANSWER` for each call, or `< skip` if it has no such call; other lines that it writes are ignored. It forgets
@@ -11,6 +12,9 @@ each row of the file goes to a start of its own, so that only the rows at fault 
 At the end stand a line for each group; if rows failed, a line for each rule that they have as a tag; and `N passed, M failed, K skipped`. The status
 is 0 if no row failed and some row passed. FILE of `--known` names rows that are known to fail, one a line: each of them passes if it fails, and fails
 if it does not. FILE of `--junit` gets the outcomes as JUnit XML, which most build servers read.
+
+With `--random` the rows are N of each group by chance, the same for the same S, as tests/rows_by_chance.py has the models answer them. With `--answers` what is wanted is what
+that command answers to the calls, in place of what the rows say; a row to which it says `skip` is left out.
 """
 
 import argparse
@@ -287,15 +291,39 @@ def words():
     parser.add_argument("--rows", metavar="FOLDER", default=os.path.join(HERE, "rows"), help="where the files of rows are")
     parser.add_argument("--seconds", type=float, metavar="N", default=20, help="how long a start of the adapter may take")
     parser.add_argument("--junit", type=argparse.FileType("wb"), metavar="FILE", help="where to write the outcomes as JUnit XML")
+    parser.add_argument("--random", type=int, metavar="N", help="rows by chance in place of those in files")
+    parser.add_argument("--seed", type=int, metavar="S", default=1, help="which rows by chance")
+    parser.add_argument("--answers", metavar="COMMAND", help="whose answers are wanted, in place of those of the rows")
     parser.add_argument("adapter", nargs="+", metavar="ADAPTER")
     return parser.parse_args()
+
+
+def rows_by_chance(count, seed):
+    """Returns files of rows by chance, as many of each group as the count says."""
+    program = os.path.join(os.path.dirname(HERE), "tests", "rows_by_chance.py")
+    with tempfile.TemporaryDirectory(prefix="dsr-rows-") as folder:
+        if subprocess.run([sys.executable, "-B", program, folder, str(seed), str(count)], check=False).returncode != 0:
+            raise SystemExit("no rows by chance: they need the folder tests of the repository")
+        return all_rows(folder)
+
+
+def with_answers(command, rows, seconds):
+    """Returns the rows that the command answers, with its answers in place of theirs."""
+    answers, fault = answers_of(shlex.split(command), rows, seconds) if rows else ([], None)
+    if fault or len(answers) != sum(len(row.calls) for row in rows):
+        raise SystemExit(f"{command} answers not all calls: {fault or f'{len(answers)} answers'}")
+    found = iter(answers)
+    for row in rows:
+        row.calls = [(call, next(found)) for call, _ in row.calls]
+    return [row for row in rows if "skip" not in [answer for _, answer in row.calls]]
 
 
 def chosen(asked):
     """Yields the group and the rows of each file that is asked for."""
     for group, rows in asked.files:
         if not asked.group or group in asked.group:
-            yield group, [row for row in rows if not set(row.tags) & set(asked.without)]
+            rows = [row for row in rows if not set(row.tags) & set(asked.without)]
+            yield group, with_answers(asked.answers, rows, asked.seconds) if asked.answers else rows
 
 
 def run(asked, known):
@@ -309,7 +337,7 @@ def run(asked, known):
 
 def main():
     asked = words()
-    asked.files = all_rows(asked.rows)
+    asked.files = rows_by_chance(asked.random, asked.seed) if asked.random else all_rows(asked.rows)
     known = set(asked.known.read().split()) if asked.known else set()
     unheard = known - {row.name for _, rows in asked.files for row in rows} | set(asked.group or []) - {group for group, _ in asked.files}
     if unheard:

@@ -15,12 +15,15 @@ models: tests/models/parts.py, which was written anew from the documents, answer
 adapters: the examples of conformance/adapters, in Python, C and Rust, pass all rows that they answer, and each wrong one beside them fails just those of its
 file .known, which name the rule that it breaks. One whose compiler is not there is skipped.
 
+chance: rows by chance, as conformance/run.py --random has them.
+
 runner: what conformance/run.py says of adapters. An adapter that goes wrong in one row fails that row, and no other. A row that is known to fail and does not, a call that is
 skipped, files that are no rows, and the outcomes as JUnit XML.
 """
 
 import functools
 import re
+import shlex
 import shutil
 import sys
 import tempfile
@@ -56,6 +59,9 @@ def files(report, _):
     calls = sum(len(row.calls) for row in rows)
     fault = fault or (None if len(rows) >= LEAST_ROWS else f"there are {len(rows)} rows, and not {LEAST_ROWS}")
     report.judge("files of rows", fault, f", {len(groups)} files, {len(rows)} rows, {calls} calls")
+    alone = sum(all(call.startswith("check ") for call, _ in row.calls) for row in rows)
+    for said in (f"has {len(rows):,} cases of such rules", f"; {alone} rows call nothing else", f": {len({name for name, *_ in mistakes.MISTAKES})} mistakes that were made"):
+        report.judge(f"conformance/README.md says ..{said}", None if said in text_of("conformance/README.md") else "it does not")
 
 
 # ---- rows that are listed by rules
@@ -200,6 +206,10 @@ def choices(room):
     yield "a group that there is not", ["--group", "other", *says_ok], 1, None
     yield "a known row that there is not", ["--known", written(room, "strange", "some/row\n"), *says_ok], 1, None
     yield "a program that there is not", ["--", f"{room}/nothing"], 1, None
+    yield "the answers of another program, the same", ["--answers", shlex.join(says_ok[1:]), *says_ok], 0, (3, 0, 0)
+    yield "the answers of another program, others", ["--answers", shlex.join(says_no[1:]), *says_ok], 1, (2, 1, 0)
+    yield "another program that skips a row", ["--answers", shlex.join(skips[1:]), *says_no], 0, (2, 0, 0)
+    yield "another program that ends early", ["--answers", shlex.join(adapter(WRONG["ends"])[1:]), *says_ok], 1, None
     yield "a file for JUnit that cannot be written", ["--junit", f"{room}/no/junit.xml", *says_ok], 2, None
 
 
@@ -246,6 +256,16 @@ def seconds(report, words):
     report.judge("an adapter that hangs is given up in time", fault or (None if 8 <= took < 20 else f"{took:.1f} seconds"))
 
 
+def by_chance(report, _):
+    """Rows by chance: a right adapter passes them, one that makes a mistake does not pass all, and another seed gives others."""
+    words = ["--random", "40", "--group", "chain", "--group", "slot", "--seconds", str(SECONDS)]
+    right, wrong = f"{ADAPTERS}/parts.py", f"{ADAPTERS}/parts_forgets.py"
+    runs = [conformance_run(*words, *seed, adapter_of) for seed, adapter_of in [(["--seed", "1"], right), (["--seed", "1"], wrong), (["--seed", "2"], wrong)]]
+    (ran, counts), (_, failed), (_, others) = runs
+    report.judge("rows by chance, by a right adapter", None if ran[0] == 0 and counts[0] > 60 else told_by(ran), f", {told(counts)}")
+    report.judge("rows by chance, by a wrong one", None if failed[1] and others[1] and runs[1][0][1] != runs[2][0][1] else f"{failed}, {others}", f", {told(failed)}")
+
+
 # The adapters in conformance/adapters: what makes a program of each, the groups that it answers, and the rule that a wrong one breaks.
 IN_C = ["cc", "-std=c11", "-Wall", "-Wextra", "-Werror"]
 IN_RUST = ["rustc", "--edition", "2021", "-D", "warnings", "-O"]
@@ -289,6 +309,9 @@ def adapters(report, _):
             command = made(compiler, name, room)
             fault, said = fault_of_adapter(name, command, groups, rule) if command else (f"{compiler[0]} makes no program of it", "")
             report.judge(name, fault, said)
+    words = ["--group", "chain", f"{ADAPTERS}/parts.py"]
+    shown_lines = b"".join(b"    " + line for line in conformance_run(*words)[0][1].splitlines(keepends=True)).decode()
+    report.judge("the sample in conformance/README.md", None if f"parts.py\n{shown_lines}" in text_of("conformance/README.md") else f"it prints {shown_lines}")
 
 
 def runner(report, _):
@@ -308,5 +331,5 @@ def runner(report, _):
 
 
 if __name__ == "__main__":
-    PARTS = {"files": files, "rules": rules, "json": as_json, "mistakes": noticed, "models": models, "adapters": adapters, "runner": runner}
+    PARTS = {"files": files, "rules": rules, "json": as_json, "mistakes": noticed, "models": models, "adapters": adapters, "chance": by_chance, "runner": runner}
     sys.exit(main(__doc__, PARTS, without_program=PARTS))

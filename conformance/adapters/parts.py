@@ -131,13 +131,20 @@ class Slot:
     def kept(self):
         return " | ".join(f"round {at} {chain.text}" for at, chain in self.chains) or "-"
 
+    def asks(self):
+        """Returns the requests of the value that is decided: those of the one chain that is kept."""
+        return self.chains[0][1].asks if len(self.chains) == 1 else []
+
     def decide(self):
-        if self.closed <= self.shape.f:
-            return "-"
-        return ",".join(self.chains[0][1].content()) or "idle" if len(self.chains) == 1 else "idle"
+        return ",".join(ask.partition("~")[0] for ask in self.asks()) or "idle" if self.closed > self.shape.f else "-"
+
+    def take_decision(self):
+        value = ",".join(self.asks()) or "idle"
+        return f"{self.decide()} value {value} requests {len(self.asks())}" if self.closed > self.shape.f else "no-call"
 
     CALLS = {
         "read": read, "would-keep": would_keep, "close": close_round, "close-round": close_round, "relays-in": relays_in, "kept": kept, "decide": decide,
+        "take-decision": take_decision,
         "relays": lambda self, me: self.relays_in(self.closed + 1, me),
     }
 
