@@ -1,20 +1,20 @@
 #!/usr/bin/env python3
-"""Runs an adapter against the rows: run.py [--group G ..] [--without TAG ..] [--known FILE] [--rows FOLDER] [--seconds N] [--junit FILE]
-[--random N [--seed S]] [--answers COMMAND] ADAPTER ..
+"""Runs an adapter against the rows: run.py [--group G ..] [--without TAG ..] [--known FILE] [--rows FOLDER] [--seconds N] [--junit FILE] [--random N
+[--seed S]] [--answers COMMAND] ADAPTER ..
 
-ADAPTER is a command with its words; it follows `--` if a word of it begins with a dash. It reads lines `row NAME` and `> CALL` on standard
-input, and writes one line `< ANSWER` for each call, or `< skip` if it has no such call; other lines that it writes are ignored. It forgets
-everything at a `row`. It never reads what the rows want.
+ADAPTER is a command with its words; it follows `--` if a word of it begins with a dash. It reads lines `row NAME` and `> CALL` on standard input, and
+writes one line `< ANSWER` for each call, or `< skip` if it has no such call; other lines that it writes are ignored. It forgets everything at a `row`.
+It never reads what the rows want.
 
-All rows of a file go to one start of the adapter. If that start ends early, takes longer than N seconds, or writes too little or too much,
-each row of the file goes to a start of its own, so that only the rows at fault fail.
+All rows of a file go to one start of the adapter. If that start ends early, takes longer than N seconds, or writes too little or too much, each row of
+the file goes to a start of its own, so that only the rows at fault fail.
 
-At the end stand a line for each group; if rows failed, a line for each rule that they have as a tag; and `N passed, M failed, K skipped`. The status
-is 0 if no row failed and some row passed. FILE of `--known` names rows that are known to fail, one a line: each of them passes if it fails, and fails
-if it does not. FILE of `--junit` gets the outcomes as JUnit XML, which most build servers read.
+At the end stand a line for each group; if rows failed, a line for each rule that they have as a tag; and `N passed, M failed, K skipped`. The status is
+0 if no row failed and some row passed. FILE of `--known` names rows that are known to fail, one a line: each of them passes if it fails, and fails if
+it does not. FILE of `--junit` gets the outcomes as JUnit XML, which most build servers read.
 
-With `--random` the rows are N of each group by chance, the same for the same S, as tests/rows_by_chance.py has the models answer them. With `--answers` what is wanted is what
-that command answers to the calls, in place of what the rows say; a row to which it says `skip` is left out.
+With `--random` the rows are N of each group by chance, the same for the same S, as tests/rows_by_chance.py has the models answer them. With `--answers`
+what is wanted is what that command answers to the calls, in place of what the rows say; a row to which it says `skip` is left out.
 """
 
 import argparse

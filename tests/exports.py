@@ -1,12 +1,13 @@
 #!/usr/bin/env python3
-"""What tools/export writes, read again by readers that are written here: tests/exports.py, or with the names of some of its parts. No program of dsr runs: the data
-lines and transcripts are those of the models of tests/models, and of examples/.
+"""What tools/export writes, read again by readers that are written here: tests/exports.py, or with the names of some of its parts. No program of dsr runs:
+the data lines and transcripts are those of the models of tests/models, and of examples/.
 
-jepsen: the histories of all plays of examples/, of their transcripts, of random plays, and of what examples/record/service.py printed. Each is read as EDN, and judged by a search for
-an order of the operations that the registers allow; it must be found. A history with another value, or with an answer before its request, must not be judged so.
+jepsen: the histories of all plays of examples/, of their transcripts, of random plays, and of what examples/record/service.py printed. Each is read as
+EDN, and judged by a search for an order of the operations that the registers allow; it must be found. A history with another value, or with an answer
+before its request, must not be judged so.
 
-shiviz: the logs of the same. In each clock an actor counts its own events one by one, and of each other actor just those that happened before, which is computed anew
-from the steps.
+shiviz: the logs of the same. In each clock an actor counts its own events one by one, and of each other actor just those that happened before, which is
+computed anew from the steps.
 
 refused: what tools/export must not take.
 """
@@ -259,7 +260,8 @@ def judge_refused(report, other):
         ("the report of this run", ["jepsen", "--report", right], honest, 0),
         ("the report of another run", ["jepsen", "--report", other], honest, 1),
         ("a transcript that ends too early", ["jepsen", "--report", right], b"".join(honest.splitlines(keepends=True)[:200]), 1),
-        ("no text", ["jepsen"], b"", 1), ("a play", ["shiviz"], bytes_of("examples/one-replica.play"), 1), ("a last line without its end", ["shiviz"], honest[:-1], 1),
+        ("no text", ["jepsen"], b"", 1), ("a play", ["shiviz"], bytes_of("examples/one-replica.play"), 1),
+        ("a last line without its end", ["shiviz"], honest[:-1], 1),
         ("a line that is none", ["jepsen"], honest + b"c0\n", 1), ("a take of nothing", ["shiviz"], b"dsr-transcript 1 1 0 1 -\nr0 take c0 empty\n", 1),
         ("no word", [], honest, 2), ("another word", ["dot"], honest, 2),
     ]:

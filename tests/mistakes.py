@@ -24,13 +24,17 @@ PATH = f"{TOP}/conformance/MISTAKES.md"
 # The files of crates whose wrong bodies are about a rule of the protocol or of a format, and not about how this code keeps it in memory, in threads or on streams.
 ABOUT_RULES = {
     "dsr_base": ["decimal", "few_text", "split", "up_to_text"], "dsr_names": ["actor", "places", "refusal", "replicas", "shape", "shape_text", "token"],
-    "dsr_request": ["answer", "name", "op", "request", "request_text"], "dsr_register": ["directory", "table"], "dsr_ledger": ["ledger"], "dsr_history": ["apply", "machine", "service"],
+    "dsr_request": ["answer", "name", "op", "request", "request_text"], "dsr_register": ["directory", "table"], "dsr_ledger": ["ledger"],
+    "dsr_history": ["apply", "machine", "service"],
     "dsr_rotation": ["calendar"], "dsr_desk": ["content_text", "keys", "links", "shared_content", "statement", "statement_text"],
     "dsr_chain": ["batch", "chain", "check", "shared_value", "signed_request", "slot_value"], "dsr_slot": ["decision", "kept", "slot_state"],
     "dsr_envelope": ["clients", "envelope", "limits", "chains"], "dsr_text": ["header", "lines"],
-    "dsr_replica": ["Conduct", "Held", "decided", "flights", "held", "proposal", "replica"], "dsr_quorum": ["Votes", "tally"], "dsr_client": ["Issue", "State", "client"],
-    "dsr_script": ["brief", "building", "draft_text", "forged", "known", "ops", "plain", "said_text", "said_display", "script", "serve_line", "sought", "spelled"],
-    "dsr_node": ["node"], "dsr_run": ["Answered", "Eager", "History", "Linearizable", "OwnStep", "Run"], "dsr_play": ["play", "play_events", "play_line"], "dsr_world": ["world"],
+    "dsr_replica": ["Conduct", "Held", "decided", "flights", "held", "proposal", "replica"], "dsr_quorum": ["Votes", "tally"],
+    "dsr_client": ["Issue", "State", "client"],
+    "dsr_script": ["brief", "building", "draft_text", "forged", "known", "ops", "plain", "said_text", "said_display", "script", "serve_line", "sought",
+        "spelled"],
+    "dsr_node": ["node"], "dsr_run": ["Answered", "Eager", "History", "Linearizable", "OwnStep", "Run"], "dsr_play": ["play", "play_events", "play_line"],
+    "dsr_world": ["world"],
     "dsr_mail": ["loyal"], "dsr_rounds": ["ring", "replica"], "dsr_record": ["mailboxes", "record", "transcript", "version"],
     "dsr_check": ["Check", "Verdict", "audit", "checking", "customer", "judging", "party", "shown", "table", "telling", "verdict"],
 }

@@ -1,7 +1,8 @@
 #!/usr/bin/env python3
-"""The checker from other languages, by the library for programs in C: tests/recorded.py. The library is built, and a shared object of it, as examples/record/check.py says;
-then check.py and the Rust crate examples/record/rust are run on what examples/record/service.py printed, honest and lying, and on texts that are no transcripts. What
-they must print and end with is written here. A language without its tools here is skipped. Both must also answer many texts in one process alike: check.py in threads.
+"""The checker from other languages, by the library for programs in C: tests/recorded.py. The library is built, and a shared object of it, as
+examples/record/check.py says; then check.py and the Rust crate examples/record/rust are run on what examples/record/service.py printed, honest and
+lying, and on texts that are no transcripts. What they must print and end with is written here. A language without its tools here is skipped. Both must
+also answer many texts in one process alike: check.py in threads.
 """
 
 import os
@@ -60,7 +61,8 @@ def judge_threads(report, fault, room):
 
 def cargo(room):
     """What is wrong with building the Rust crate in this folder, or None."""
-    words = ["cargo", "build", "--offline", "--quiet", "--locked", "--target-dir", f"{room}/target", "--manifest-path", f"{TOP}/examples/record/rust/Cargo.toml"]
+    words = ["cargo", "build", "--offline", "--quiet", "--locked", "--target-dir", f"{room}/target", "--manifest-path",
+        f"{TOP}/examples/record/rust/Cargo.toml"]
     folders = {"DSR_CHECK_LIBRARIES": f"{room}:{libraries.toolchain().KIT}/c", "RUSTFLAGS": "-D warnings"}
     made = subprocess.run(words, capture_output=True, text=True, timeout=SECONDS_OF_CARGO, env={**os.environ, **folders})
     return None if made.returncode == 0 else f"the crate is not built: {made.stderr}"

@@ -8,17 +8,18 @@ rules: the files that rules of tests/rules list are as these rules and the model
 
 json: conformance/json has the rows as tools/rows_json.py writes them, and each of its trees is the text beside it (tests/rows_in_json.py).
 
-mistakes: each mistake of tests/rules/mistakes.py, made in the models, is noticed by a row (tests/mistakes.py), and conformance/MISTAKES.md says by which.
+mistakes: each mistake of tests/rules/mistakes.py, made in the models, is noticed by a row (tests/mistakes.py), and conformance/MISTAKES.md says by
+which.
 
 models: tests/models/parts.py, which was written anew from the documents, answers all rows as they say, but for a few that it skips.
 
-adapters: the examples of conformance/adapters, in Python, C and Rust, pass all rows that they answer, and each wrong one beside them fails just those of its
-file .known, which name the rule that it breaks. One whose compiler is not there is skipped.
+adapters: the examples of conformance/adapters, in Python, C and Rust, pass all rows that they answer, and each wrong one beside them fails just those
+of its file .known, which name the rule that it breaks. One whose compiler is not there is skipped.
 
 chance: rows by chance, as conformance/run.py --random has them.
 
-runner: what conformance/run.py says of adapters. An adapter that goes wrong in one row fails that row, and no other. A row that is known to fail and does not, a call that is
-skipped, files that are no rows, and the outcomes as JUnit XML.
+runner: what conformance/run.py says of adapters. An adapter that goes wrong in one row fails that row, and no other. A row that is known to fail and
+does not, a call that is skipped, files that are no rows, and the outcomes as JUnit XML.
 """
 
 import functools
@@ -60,7 +61,8 @@ def files(report, _):
     fault = fault or (None if len(rows) >= LEAST_ROWS else f"there are {len(rows)} rows, and not {LEAST_ROWS}")
     report.judge("files of rows", fault, f", {len(groups)} files, {len(rows)} rows, {calls} calls")
     alone = sum(all(call.startswith("check ") for call, _ in row.calls) for row in rows)
-    for said in (f"has {len(rows):,} cases of such rules", f"; {alone} rows call nothing else", f": {len({name for name, *_ in mistakes.MISTAKES})} mistakes that were made"):
+    for said in (f"has {len(rows):,} cases of such rules", f"; {alone} rows call nothing else",
+        f": {len({name for name, *_ in mistakes.MISTAKES})} mistakes that were made"):
         report.judge(f"conformance/README.md says ..{said}", None if said in text_of("conformance/README.md") else "it does not")
 
 
@@ -82,7 +84,8 @@ def as_json(report, _):
         groups.setdefault(group, []).extend(found)
     for path, text in rows_json.files():
         fault = None if bytes_of(path) == text.encode() else "not current: tools/rows_json.py --write writes it"
-        report.judge(path, fault or rows_in_json.fault_of(text, groups.pop(path.split("/")[-1].removesuffix(".json"))), f", {rows_in_json.trees_in(text)} trees")
+        report.judge(path, fault or rows_in_json.fault_of(text, groups.pop(path.split("/")[-1].removesuffix(".json"))),
+            f", {rows_in_json.trees_in(text)} trees")
     report.compare("groups without a file", groups, {}, "")
 
 
@@ -227,7 +230,8 @@ def suites_of(path):
 
 
 def fault_of_junit(words, path, statement, kind, wanted):
-    """What is wrong with the file for JUnit of an adapter that does this in the middle of three rows, or None. `wanted` must be in what is told of that row."""
+    """What is wrong with the file for JUnit of an adapter that does this in the middle of three rows, or None. `wanted` must be in what is told of that
+    row."""
     ran, _ = conformance_run(*words, "--junit", path, *adapter(WRONG.get(statement, statement)))
     (name, counts, cases), *more = suites_of(path)
     (found, told), = cases["some/middle"] or [("passed", None)]
@@ -263,7 +267,8 @@ def by_chance(report, _):
     runs = [conformance_run(*words, *seed, adapter_of) for seed, adapter_of in [(["--seed", "1"], right), (["--seed", "1"], wrong), (["--seed", "2"], wrong)]]
     (ran, counts), (_, failed), (_, others) = runs
     report.judge("rows by chance, by a right adapter", None if ran[0] == 0 and counts[0] > 60 else told_by(ran), f", {told(counts)}")
-    report.judge("rows by chance, by a wrong one", None if failed[1] and others[1] and runs[1][0][1] != runs[2][0][1] else f"{failed}, {others}", f", {told(failed)}")
+    report.judge("rows by chance, by a wrong one", None if failed[1] and others[1] and runs[1][0][1] != runs[2][0][1] else f"{failed}, {others}",
+        f", {told(failed)}")
 
 
 # The adapters in conformance/adapters: what makes a program of each, the groups that it answers, and the rule that a wrong one breaks.
@@ -285,7 +290,8 @@ def made(compiler, name, room):
 
 
 def fault_of_adapter(name, command, groups, rule):
-    """What is wrong with an adapter, or None, and what is said of it. One that breaks a rule fails the rows of its file .known, and most of all that rule's."""
+    """What is wrong with an adapter, or None, and what is said of it. One that breaks a rule fails the rows of its file .known, and most of all that
+    rule's."""
     words = ["--seconds", str(SECONDS), *(word for group in groups for word in ("--group", group))]
     known = f"{ADAPTERS}/{name.split('.')[0]}.known"
     ran, counts = conformance_run(*words, *(["--known", known] if rule else []), "--", *command)
@@ -331,5 +337,6 @@ def runner(report, _):
 
 
 if __name__ == "__main__":
-    PARTS = {"files": files, "rules": rules, "json": as_json, "mistakes": noticed, "models": models, "adapters": adapters, "chance": by_chance, "runner": runner}
+    PARTS = {"files": files, "rules": rules, "json": as_json, "mistakes": noticed, "models": models, "adapters": adapters, "chance": by_chance,
+        "runner": runner}
     sys.exit(main(__doc__, PARTS, without_program=PARTS))

@@ -5,7 +5,8 @@ import json
 
 # How the items of a list are joined, by the kind of operand; and how a list without items is spelled.
 JOINED = {
-    "requests": (",", ""), "content": (",", "idle"), "value": (",", "idle"), "signers": ("+", "-"), "holders": ("+", "-"), "choice": ("+", ""), "chains": (" ", ""),
+    "requests": (",", ""), "content": (",", "idle"), "value": (",", "idle"), "signers": ("+", "-"), "holders": ("+", "-"), "choice": ("+", ""),
+    "chains": (" ", ""),
     "signatures": (" ", ""), "replies": (" | ", "-"),
 }
 
@@ -76,7 +77,8 @@ def item(tree):
 
 
 WRITERS = {
-    "operation": operation, "op": operation, "joined-op": lambda tree: operation(tree, ":"), "request": request, "statement": statement, "shape": shape, "chain": chain,
+    "operation": operation, "op": operation, "joined-op": lambda tree: operation(tree, ":"), "request": request, "statement": statement, "shape": shape,
+    "chain": chain,
     "signed-request": signed, "envelope": envelope, "draft": envelope, "reply": reply, "signature": item, "long-signature": item,
 }
 
@@ -142,4 +144,5 @@ def fault_of(text, rows):
 def trees_in(text):
     """How many trees there are."""
     calls = [call for row in json.loads(text)["rows"] for call in row["calls"]]
-    return sum(("tree" in call) + sum(("tree" in operand) + len(list(filter(None, operand.get("steps", [])))) for operand in call["operands"]) for call in calls)
+    return sum(("tree" in call) + sum(("tree" in operand) + len(list(filter(None, operand.get("steps", [])))) for operand in call["operands"])
+        for call in calls)

@@ -1,8 +1,8 @@
 #!/usr/bin/env python3
 """The rows of conformance/rows as JSON: tools/rows_json.py says which files of conformance/json are not current; tools/rows_json.py --write writes them.
 
-There is a file for each group. Each row is a line in it. A call has its text, and each operand as text and as a tree; an answer likewise, if it is a token. In
-trees numbers are strings, and a signature is `{"signer": ACTOR, "on": STATEMENT}`, with the text of the statement, which real keys can sign.
+There is a file for each group. Each row is a line in it. A call has its text, and each operand as text and as a tree; an answer likewise, if it is a
+token. In trees numbers are strings, and a signature is `{"signer": ACTOR, "on": STATEMENT}`, with the text of the statement, which real keys can sign.
 """
 
 import json
@@ -94,21 +94,28 @@ def tree(found):
 READS = {
     "shape": Reader.shape, "number": calls.val, "replica": calls.replica, "client": calls.client, "actor": Reader.actor, "name": Reader.name,
     "operation": calls.spaced_operation, "request": Reader.request, "requests": tokens.requests, "content": Reader.content, "statement": Reader.statement,
-    "signed-request": Reader.signed, "value": Reader.value, "chain": Reader.chain, "chains": slots.spaced_chains, "envelope": Reader.envelope, "reply": votes.reply,
+    "signed-request": Reader.signed, "value": Reader.value, "chain": Reader.chain, "chains": slots.spaced_chains, "envelope": Reader.envelope,
+    "reply": votes.reply,
     "replies": directory.client_replies, "signers": calls.signers, "signatures": keys.spaced_signatures, "holders": keys.holders, "word": calls.word,
     "choice": calls.optional("from ", replicas.chosen), "rest": calls.rest,
 }
 OPERANDS = {
-    "shape-of": "number number number number", "shape-parts": "shape", "replica-of": "number", "client-of": "number", "has": "shape actor", "is-loyal": "shape actor",
-    "sender": "shape number", "size": "shape", "place": "shape actor", "actor-at": "shape number", "request": "client number operation", "request-parts": "request",
+    "shape-of": "number number number number", "shape-parts": "shape", "replica-of": "number", "client-of": "number", "has": "shape actor",
+    "is-loyal": "shape actor",
+    "sender": "shape number", "size": "shape", "place": "shape actor", "actor-at": "shape number", "request": "client number operation",
+    "request-parts": "request",
     "check": "shape number number chain", "asked": "shape signed-request", "parts": "chain", "signature": "number chain", "has-signer": "actor chain",
     "has-misfit": "chain", "start": "actor number value", "extend": "actor chain", "sign": "actor statement", "links": "number content signers",
-    "are-links": "number content signatures", "link-fits": "number content signers", "calendar": "shape number", "round-of": "shape number number", "plain": "envelope",
-    "keys-of": "shape", "take": "actor", "tally": "number number", "note": "replica reply", "votes": "reply", "vote-of": "replica", "apply": "operation", "get": "name",
-    "machine": "number", "accept": "content", "kept": "client", "answer-at": "number", "ledger": "number", "slot": "shape number", "read": "chain", "would-keep": "chain",
+    "are-links": "number content signatures", "link-fits": "number content signers", "calendar": "shape number", "round-of": "shape number number",
+    "plain": "envelope",
+    "keys-of": "shape", "take": "actor", "tally": "number number", "note": "replica reply", "votes": "reply", "vote-of": "replica", "apply": "operation",
+    "get": "name",
+    "machine": "number", "accept": "content", "kept": "client", "answer-at": "number", "ledger": "number", "slot": "shape number", "read": "chain",
+    "would-keep": "chain",
     "close-round": "chains", "relays": "replica", "relays-in": "number replica", "client": "shape client", "begin": "operation", "first-ask": "operation",
     "ask-for": "replica", "taken": "actor envelope", "told": "number", "replica": "shape replica", "allows": "replica choice", "refused": "replica choice",
-    "envelope": "replica choice", "post": "replica choice", "passed-over": "replica envelope", "ask": "client signed-request", "held": "client", "reply": "client",
+    "envelope": "replica choice", "post": "replica choice", "passed-over": "replica envelope", "ask": "client signed-request", "held": "client",
+    "reply": "client",
     "keys": "holders", "build": "envelope", "learn": "envelope", "forged": "envelope", "ops": "client", "right": "replies", "step": "number",
 }
 # Two verbs have other operands in some groups.
@@ -116,7 +123,8 @@ IN_GROUP = {("ledger", "acts"): "client number", ("ledger", "note"): "client rep
 # Verbs whose last operand is a text of lines, and those whose answer is a token.
 TEXTS = ("play", "script", "transcript")
 ANSWERS = {
-    "relays": "envelope", "relays-in": "envelope", "envelope": "envelope", "post": "envelope", "ask-for": "envelope", "first-ask": "envelope", "extend": "envelope",
+    "relays": "envelope", "relays-in": "envelope", "envelope": "envelope", "post": "envelope", "ask-for": "envelope", "first-ask": "envelope",
+    "extend": "envelope",
     "reply": "envelope", "decide": "content", "held": "request", "sign": "long-signature", "signature": "long-signature", "forged": "long-signature",
 }
 

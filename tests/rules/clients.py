@@ -42,8 +42,8 @@ def not_alike():
 
 
 def first_votes():
-    """A replica votes for the reply that it gave first. Each list of three notes by r0 and r1 of the replies X and Y, of which the first is r0's of X, with f = 1:
-    the winner after each. It wins who first has two votes; that stays so."""
+    """A replica votes for the reply that it gave first. Each list of three notes by r0 and r1 of the replies X and Y, of which the first is r0's of X,
+    with f = 1: the winner after each. It wins who first has two votes; that stays so."""
     for second, third in itertools.product(itertools.product((0, 1), (X, Y)), repeat=2):
         given = [(0, X), second, third]
         calls, votes, winner, wanted = [tally(1, SHAPES[1])], {}, None, []
@@ -59,7 +59,8 @@ def first_votes():
 def again():
     """One replica gives the same reply again, f times more: it counts once. Then f others join it, one after another. f = 1, 2 and 7."""
     for f in (1, 2, 7):
-        calls = [tally(f, SHAPES[f]), *notes([0] * (f + 1), X), "winner", f"votes {X}", *notes(range(1, f), X), "winner", *notes([f], X), "winner", "vote-of r0"]
+        calls = [tally(f, SHAPES[f]), *notes([0] * (f + 1), X), "winner", f"votes {X}", *notes(range(1, f), X), "winner", *notes([f], X), "winner",
+            "vote-of r0"]
         wanted = ["-", "1", *["ok"] * (f - 1), "-", "ok", X, X]
         yield Listed(f"f{f}-one-replica-again", ["votes"], calls, wanted)
 

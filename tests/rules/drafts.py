@@ -41,8 +41,9 @@ def tags_of(place):
 
 
 def held_or_known():
-    """One signature of r1 or c1 stands at each of thirteen places of an envelope; all others are by r0 and c0, whose keys are held. The envelope is forged if the key of
-    r1 or c1 is not held and that very signature was not seen; it is built if the key is held, and also if it was seen on another envelope, of another round."""
+    """One signature of r1 or c1 stands at each of thirteen places of an envelope; all others are by r0 and c0, whose keys are held. The envelope is
+    forged if the key of r1 or c1 is not held and that very signature was not seen; it is built if the key is held, and also if it was seen on another
+    envelope, of another round."""
     for place, (before, signer, after) in PLACES.items():
         envelope = f"{before}{signer}{after}"
         yield Listed(f"not-held-{place}", tags_of(place), ["keys r0+c0", f"build {envelope}", f"forged {envelope}"][:2], ["E8 Forged"])
@@ -52,22 +53,24 @@ def held_or_known():
 
 
 def nearly_known():
-    """What was seen is nearly the signature at the place, and so not it: of another slot, of another content, with one signer more before it; the request with another
-    number, another operation, by another client. All of it is forged."""
+    """What was seen is nearly the signature at the place, and so not it: of another slot, of another content, with one signer more before it; the request
+    with another number, another operation, by another client. All of it is forged."""
     for place in PLACES:
         before, signer, after = PLACES[place]
         envelope, (_, learned) = f"{before}{signer}{after}", holder_and_learned(place)
         if signer == "r1":
             near = {name: f"round 9 {other(learned.removeprefix('round 9 '))}" for name, other in OTHERS.items()}
         else:
-            near = {"other-number": "ask c1#2:read:a~c1", "other-operation": "ask c1#1:read:b~c1", "other-client": "ask c1#1:read:a~c2", "a-link": "round 9 0/c1#1:read:a~c0/c1"}
+            near = {"other-number": "ask c1#2:read:a~c1", "other-operation": "ask c1#1:read:b~c1", "other-client": "ask c1#1:read:a~c2",
+                "a-link": "round 9 0/c1#1:read:a~c0/c1"}
         for name, other in near.items():
             yield Listed(f"seen-{name}-{place}", tags_of(place), ["keys r0+c0", f"learn {other}", f"build {envelope}"], ["ok", "E8 Forged"])
 
 
 def seen_where():
-    """A signature is known wherever it was seen: a client's on its request from an ask, from a value that others signed, from an unsigned value, and from the second place
-    of a list; a replica's on a link from a longer chain, from a second chain, and from an envelope of any round. Not from one that has other signatures alone."""
+    """A signature is known wherever it was seen: a client's on its request from an ask, from a value that others signed, from an unsigned value, and from
+    the second place of a list; a replica's on a link from a longer chain, from a second chain, and from an envelope of any round. Not from one that has
+    other signatures alone."""
     ask, link = "ask c1#1:read:a~c1", "round 3 0/idle/r1"
     for name, target, learned, answer in [
         ("ask-from-an-ask", ask, ask, "ok"),

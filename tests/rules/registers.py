@@ -4,7 +4,8 @@ import itertools
 
 from rules.listing import NUM_MOST, VAL_MOST, Listed
 
-OPERATIONS = ["read a", "write a 5", "write a 0", f"write a {VAL_MOST}", "swap a none 1", "swap a 0 1", "swap a 5 1", "swap a 5 5", f"swap a 6 {VAL_MOST}", "remove a"]
+OPERATIONS = ["read a", "write a 5", "write a 0", f"write a {VAL_MOST}", "swap a none 1", "swap a 0 1", "swap a 5 1", "swap a 5 5", f"swap a 6 {VAL_MOST}",
+    "remove a"]
 STATES = {"never-written": [], "zero": ["write a 0"], "5": ["write a 5"], "greatest": [f"write a {VAL_MOST}"], "removed": ["write a 5", "remove a"]}
 VALUES = {"never-written": "none", "zero": "0", "5": "5", "greatest": str(VAL_MOST), "removed": "none"}
 
@@ -48,8 +49,8 @@ def operations():
 
 
 def at_the_limit():
-    """Each operation on a register without a value, and on one with 5, where 1,022, 1,023 or 1,024 registers hold a value, that one among them. Only a write or a
-    swap that would be the 1,025th is full; a swap that does not fit is kept before it is full."""
+    """Each operation on a register without a value, and on one with 5, where 1,022, 1,023 or 1,024 registers hold a value, that one among them. Only a
+    write or a swap that would be the 1,025th is full; a swap that does not fit is kept before it is full."""
     for count, held in itertools.product((1022, 1023, 1024), ("none", "5")):
         for operation in ("read a", "write a 7", "swap a none 7", "swap a 5 7", "swap a 6 7", "remove a"):
             others = count - (held != "none")
@@ -114,8 +115,8 @@ def two_clients():
 
 
 def limits_of_numbers():
-    """After a number, in a history and in a ledger: the one before acts no more, nor does the same, and the next does; about 1, 5, 2^32 and the greatest number,
-    of one client; and of another each does."""
+    """After a number, in a history and in a ledger: the one before acts no more, nor does the same, and the next does; about 1, 5, 2^32 and the greatest
+    number, of one client; and of another each does."""
     for number in (1, 5, 2**32, NUM_MOST):
         around = [other for other in (number - 1, number, number + 1) if 1 <= other <= NUM_MOST]
         acts = ["yes" if other > number else "no" for other in around]

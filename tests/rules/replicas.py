@@ -45,8 +45,8 @@ def held_after(order):
 
 
 def held():
-    """Two asks arrive in every order, of seven kinds: number 1, number 1 with another operation, number 2, one that its client did not sign, one that it signed
-    for another number, one of another client, and one of c0 that c1 sent. Held is the latest of the greatest number, of those that c0 sent and
+    """Two asks arrive in every order, of seven kinds: number 1, number 1 with another operation, number 2, one that its client did not sign, one that it
+    signed for another number, one of another client, and one of c0 that c1 sent. Held is the latest of the greatest number, of those that c0 sent and
     signed as its own. The last two kinds count for nothing."""
     for order in itertools.product(ASKS, repeat=2):
         calls = opened() + [f"ask {ASKS[name][0]} {ASKS[name][1]}" for name in order] + ["held c0"]

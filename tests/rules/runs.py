@@ -1,5 +1,5 @@
-"""Recorded runs: which line may follow the lines before it. A run with each line left out, doubled, and exchanged with the next; what a loyal replica may post in a round,
-what a client may, and what a traitor may sign."""
+"""Recorded runs: which line may follow the lines before it. A run with each line left out, doubled, and exchanged with the next; what a loyal replica may
+post in a round, what a client may, and what a traitor may sign."""
 
 from rules.listing import Listed
 
@@ -77,8 +77,9 @@ def exchanged():
 
 
 def first_posts():
-    """What r0, whose slot 0 is, posts to r0 in round 0, where it holds an ask of c0 and not one of c1: idle or the ask, in a chain with its own signature alone. All else is
-    no step: nothing, no chain, another round, another slot, a second chain, a value that it does not hold, another signature beside it, and signatures more."""
+    """What r0, whose slot 0 is, posts to r0 in round 0, where it holds an ask of c0 and not one of c1: idle or the ask, in a chain with its own signature
+    alone. All else is no step: nothing, no chain, another round, another slot, a second chain, a value that it does not hold, another signature beside
+    it, and signatures more."""
     before = [f"c0 post r0 ask {ASK}", f"r0 take c0 ask {ASK}"]
     for name, envelope, is_step in [
         ("idle", "round 0 0/idle/r0", True), ("the-held-ask", f"round 0 0/{ASK}/r0", True), ("nothing", "empty", False), ("no-chain", "round 0", False),
@@ -94,15 +95,16 @@ def first_posts():
 
 def silent_posts():
     """What r1 posts to r0 in round 0: slot 0 is not its own, and it has kept nothing, so only the empty envelope, and not a round without chains."""
-    for name, envelope in [("nothing", "empty"), ("no-chain", "round 0"), ("idle-in-the-slot-of-r0", "round 0 0/idle/r1"), ("idle-in-its-next-slot", "round 0 1/idle/r1"),
+    for name, envelope in [("nothing", "empty"), ("no-chain", "round 0"), ("idle-in-the-slot-of-r0", "round 0 0/idle/r1"),
+        ("idle-in-its-next-slot", "round 0 1/idle/r1"),
                            ("an-ask", f"ask {ASK}"), ("a-reply", "reply 1 0 written"), ("a-front", "seen 0")]:
         wanted = "run 1 | history 0" if envelope == "empty" else "E14 NotARun 2"
         yield row(f"silent-post-{name}", ["rounds"], THREE_HEADER, [f"r1 post r0 {envelope}"], wanted)
 
 
 def orders():
-    """A loyal replica posts to r0, r1 and r2, the same to all, and then takes from r0, r1 and r2, each once in a round. r0 in round 0, out of turn in each way; a post to a
-    client with nothing decided, and takes from clients at any time."""
+    """A loyal replica posts to r0, r1 and r2, the same to all, and then takes from r0, r1 and r2, each once in a round. r0 in round 0, out of turn in
+    each way; a post to a client with nothing decided, and takes from clients at any time."""
     idle, ask = "round 0 0/idle/r0", ["c0 post r0 ask c0#1:read:a~c0"]
     posts = posted(0, idle)
     for name, lines, wanted in [
@@ -125,20 +127,25 @@ def orders():
 
 
 def relays():
-    """What r1 posts to r0 in round 1, after r0 proposed the ask of c0 in slot 0 and all took it: the chain of slot 0 with its own signature at the end, and then its own slot,
-    idle. All else is no step: one of them left out, their order turned, another signature, another content, its own slot with an ask that it does not hold."""
+    """What r1 posts to r0 in round 1, after r0 proposed the ask of c0 in slot 0 and all took it: the chain of slot 0 with its own signature at the end,
+    and then its own slot, idle. All else is no step: one of them left out, their order turned, another signature, another content, its own slot with an
+    ask that it does not hold."""
     relay, own, before = f"0/{ASK}/r0+r1", "1/idle/r1", round_zero()
     for name, chains, is_step in [
-        ("right", f"round 1 {relay} {own}", True), ("no-relay", f"round 1 {own}", False), ("own-slot-left-out", f"round 1 {relay}", False), ("nothing", "empty", False),
-        ("slots-turned", f"round 1 {own} {relay}", False), ("relay-unsigned", f"round 1 0/{ASK}/r0 {own}", False), ("relay-signed-twice", f"round 1 0/{ASK}/r0+r1+r1 {own}", False),
-        ("relay-signed-first", f"round 1 0/{ASK}/r1+r0 {own}", False), ("relay-of-idle", f"round 1 0/idle/r0+r1 {own}", False), ("relay-twice", f"round 1 {relay} {relay} {own}", False),
+        ("right", f"round 1 {relay} {own}", True), ("no-relay", f"round 1 {own}", False), ("own-slot-left-out", f"round 1 {relay}", False),
+        ("nothing", "empty", False),
+        ("slots-turned", f"round 1 {own} {relay}", False), ("relay-unsigned", f"round 1 0/{ASK}/r0 {own}", False),
+        ("relay-signed-twice", f"round 1 0/{ASK}/r0+r1+r1 {own}", False),
+        ("relay-signed-first", f"round 1 0/{ASK}/r1+r0 {own}", False), ("relay-of-idle", f"round 1 0/idle/r0+r1 {own}", False),
+        ("relay-twice", f"round 1 {relay} {relay} {own}", False),
         ("relay-on-another-link", f"round 1 0/{ASK}/r0+r1(0/c0#1:write:a:7/-) {own}", False), ("another-round", f"round 2 {relay} {own}", False),
         ("ask-that-it-does-not-hold", f"round 1 {relay} 1/{ASK}/r1", False), ("own-slot-of-another", f"round 1 {relay} 2/idle/r1", False),
     ]:
         wanted = f"run {len(before) + 1} | history 0" if is_step else f"E14 NotARun {len(before) + 2}"
         yield row(f"relay-{name}", ["relays", "lists"], THREE_HEADER, [*before, f"r1 post r0 {chains}"], wanted)
     for name, line, is_step in [("r0-posts-nothing", "r0 post r0 empty", True), ("r0-signs-again", f"r0 post r0 round 1 0/{ASK}/r0+r0", False),
-                                ("r2-relays-alone", f"r2 post r0 round 1 0/{ASK}/r0+r2", True), ("r2-opens-a-slot", f"r2 post r0 round 1 0/{ASK}/r0+r2 2/idle/r2", False)]:
+                                ("r2-relays-alone", f"r2 post r0 round 1 0/{ASK}/r0+r2", True),
+                                ("r2-opens-a-slot", f"r2 post r0 round 1 0/{ASK}/r0+r2 2/idle/r2", False)]:
         wanted = f"run {len(before) + 1} | history 0" if is_step else f"E14 NotARun {len(before) + 2}"
         yield row(f"relay-{name}", ["relays"], THREE_HEADER, [*before, line], wanted)
 
@@ -147,17 +154,21 @@ def relays():
 
 
 def client_posts():
-    """What c0 may post after one line or some: its next request, with its number and its signature, to any replica; the same one again to others as long as it is outstanding; and to
-    c1 the front that it has seen, which is 0 before anything is accepted."""
+    """What c0 may post after one line or some: its next request, with its number and its signature, to any replica; the same one again to others as long
+    as it is outstanding; and to c1 the front that it has seen, which is 0 before anything is accepted."""
     ask = "c0 post r0 ask c0#1:read:a~c0"
     for name, lines, is_step in [
-        ("first", [ask], True), ("to-the-last-replica", ["c0 post r2 ask c0#1:read:a~c0"], True), ("same-to-another", [ask, "c0 post r1 ask c0#1:read:a~c0"], True),
-        ("other-operation-to-another", [ask, "c0 post r1 ask c0#1:read:b~c0"], False), ("next-number-while-outstanding", [ask, "c0 post r1 ask c0#2:read:a~c0"], False),
+        ("first", [ask], True), ("to-the-last-replica", ["c0 post r2 ask c0#1:read:a~c0"], True),
+        ("same-to-another", [ask, "c0 post r1 ask c0#1:read:a~c0"], True),
+        ("other-operation-to-another", [ask, "c0 post r1 ask c0#1:read:b~c0"], False),
+        ("next-number-while-outstanding", [ask, "c0 post r1 ask c0#2:read:a~c0"], False),
         ("number-2-first", ["c0 post r0 ask c0#2:read:a~c0"], False), ("unsigned-by-itself", ["c0 post r0 ask c0#1:read:a~c1"], False),
         ("signed-on-another", ["c0 post r0 ask c0#1:read:a~c0(c0#2:read:a)"], False), ("of-c1", ["c0 post r0 ask c1#1:read:a~c1"], False),
         ("front-0", ["c0 post c1 seen 0"], True), ("front-1", ["c0 post c1 seen 1"], False), ("front-to-itself", ["c0 post c0 seen 0"], False),
-        ("front-to-a-replica", ["c0 post r0 seen 0"], False), ("ask-to-a-client", ["c0 post c1 ask c0#1:read:a~c0"], False), ("empty", ["c0 post r0 empty"], False),
-        ("reply", ["c0 post r0 reply 1 0 written"], False), ("to-outside", ["c0 post r3 ask c0#1:read:a~c0"], False), ("of-outside", ["c2 post r0 ask c2#1:read:a~c2"], False),
+        ("front-to-a-replica", ["c0 post r0 seen 0"], False), ("ask-to-a-client", ["c0 post c1 ask c0#1:read:a~c0"], False),
+        ("empty", ["c0 post r0 empty"], False),
+        ("reply", ["c0 post r0 reply 1 0 written"], False), ("to-outside", ["c0 post r3 ask c0#1:read:a~c0"], False),
+        ("of-outside", ["c2 post r0 ask c2#1:read:a~c2"], False),
     ]:
         wanted = f"run {len(lines)} | history 0" if is_step else f"E14 NotARun {len(lines) + 1}"
         yield row(f"client-posts-{name}", ["clients"], THREE_HEADER, lines, wanted)
@@ -180,21 +191,27 @@ def fronts():
 
 
 def traitors():
-    """The traitor r2 posts anything to anyone, at any time, as long as each signature in it is its own, or its signer has posted it before in some envelope, to whomever. r0 has posted its
-    idle chain of slot 0 to r0, and c0 its ask to r1."""
+    """The traitor r2 posts anything to anyone, at any time, as long as each signature in it is its own, or its signer has posted it before in some
+    envelope, to whomever. r0 has posted its idle chain of slot 0 to r0, and c0 its ask to r1."""
     header = "dsr-transcript 2 3 1 2 r2"
     before = ["r0 post r0 round 0 0/idle/r0", "c0 post r1 ask c0#1:read:a~c0"]
     for name, envelope, is_step in [
-        ("nothing", "empty", True), ("own-slot-ahead", "round 9 2/idle/r2", True), ("own-signature-on-anything", "round 0 0/idle/r2(7/c0#1:read:a/r0+r0)", True),
-        ("own-signature-twice", "round 0 0/idle/r2+r2", True), ("own-signature-beside-a-request", "ask c0#1:read:a~r2", True), ("lie-to-a-client", "reply 1 7 full", True),
+        ("nothing", "empty", True), ("own-slot-ahead", "round 9 2/idle/r2", True),
+        ("own-signature-on-anything", "round 0 0/idle/r2(7/c0#1:read:a/r0+r0)", True),
+        ("own-signature-twice", "round 0 0/idle/r2+r2", True), ("own-signature-beside-a-request", "ask c0#1:read:a~r2", True),
+        ("lie-to-a-client", "reply 1 7 full", True),
         ("r0-as-it-signed", "round 0 0/idle/r0", True), ("r0-relayed", "round 1 0/idle/r0+r2", True), ("r0-on-another-slot", "round 0 1/idle/r0", False),
         ("r0-on-another-content", "round 0 0/c0#1:read:a~c0/r0", False), ("r0-at-another-place", "round 1 0/idle/r2+r0", False),
-        ("r0-out-of-place", "round 1 1/idle/r2+r0(0/idle/-)", True), ("r1-that-signed-nothing", "round 0 0/idle/r1", False), ("c0-as-it-asked", "ask c0#1:read:a~c0", True),
-        ("c0-in-a-value", "round 2 2/c0#1:read:a~c0/r2", True), ("c0-with-another-number", "ask c0#2:read:a~c0", False), ("c0-on-another-operation", "ask c0#1:read:b~c0", False),
-        ("c1-that-asked-nothing", "ask c1#1:read:a~c1", False), ("outside-the-shape", "round 0 0/idle/r3", False), ("forged-beside-good", "round 0 0/idle/r0 0/idle/r1", False),
+        ("r0-out-of-place", "round 1 1/idle/r2+r0(0/idle/-)", True), ("r1-that-signed-nothing", "round 0 0/idle/r1", False),
+        ("c0-as-it-asked", "ask c0#1:read:a~c0", True),
+        ("c0-in-a-value", "round 2 2/c0#1:read:a~c0/r2", True), ("c0-with-another-number", "ask c0#2:read:a~c0", False),
+        ("c0-on-another-operation", "ask c0#1:read:b~c0", False),
+        ("c1-that-asked-nothing", "ask c1#1:read:a~c1", False), ("outside-the-shape", "round 0 0/idle/r3", False),
+        ("forged-beside-good", "round 0 0/idle/r0 0/idle/r1", False),
     ]:
         wanted = "run 3 | history 0" if is_step else "E14 NotARun 4"
         yield row(f"traitor-posts-{name}", ["forged"], header, [*before, f"r2 post c1 {envelope}"], wanted)
 
 
-FILES = {"transcript-lines": [beginnings, doubled, left_out, exchanged], "transcript-conduct": [first_posts, silent_posts, orders, relays, client_posts, fronts, traitors]}
+FILES = {"transcript-lines": [beginnings, doubled, left_out, exchanged],
+    "transcript-conduct": [first_posts, silent_posts, orders, relays, client_posts, fronts, traitors]}

@@ -1,4 +1,5 @@
-"""The broadcast of one slot at one replica, and the calendar: contents in every order of rounds, late and early chains, repeats, faults, relays, decisions."""
+"""The broadcast of one slot at one replica, and the calendar: contents in every order of rounds, late and early chains, repeats, faults, relays,
+decisions."""
 
 import itertools
 
@@ -127,7 +128,8 @@ def faulty():
 
 
 def not_kept():
-    """Would a chain be kept? Of each content and each count of signatures, before anything is kept, beside one content and beside two. Asking keeps nothing."""
+    """Would a chain be kept? Of each content and each count of signatures, before anything is kept, beside one content and beside two. Asking keeps
+    nothing."""
     shape = SHAPES[1]
     for kept, already in [("nothing", []), ("a", ["A"]), ("a-and-b", ["A", "B"])]:
         for name in ("A", "C", "idle"):

@@ -5,14 +5,18 @@ from rules.listing import NUM_MOST, VAL_MOST, Listed
 # Where a NUM stands: what is before it and after it, the kind of token, and whether it may be 0.
 NUMBERS = {
     "num": ("num", "", "", True), "request-number": ("request", "c0#", ":read:a", False), "slot-of-a-chain": ("chain", "", "/idle/-", True),
-    "slot-of-a-statement": ("statement", "", "/idle/-", True), "round": ("envelope", "round ", "", True), "number-of-a-reply": ("envelope", "reply ", " 0 written", False),
-    "place-of-a-reply": ("envelope", "reply 1 ", " written", True), "front": ("envelope", "seen ", "", True), "number-of-an-ask": ("envelope", "ask c0#", ":read:a~c0", False),
+    "slot-of-a-statement": ("statement", "", "/idle/-", True), "round": ("envelope", "round ", "", True),
+    "number-of-a-reply": ("envelope", "reply ", " 0 written", False),
+    "place-of-a-reply": ("envelope", "reply 1 ", " written", True), "front": ("envelope", "seen ", "", True),
+    "number-of-an-ask": ("envelope", "ask c0#", ":read:a~c0", False),
     "number-of-a-line": ("request-line", "c0 ", " read a", False), "slot-in-an-envelope": ("envelope", "round 0 ", "/idle/r0", True),
-    "slot-in-a-signed-statement": ("chain", "0/idle/r0(", "/idle/r5)", True), "number-in-a-signed-statement": ("signed-request", "c0#1:read:a~c0(c0#", ":read:b)", False),
+    "slot-in-a-signed-statement": ("chain", "0/idle/r0(", "/idle/r5)", True),
+    "number-in-a-signed-statement": ("signed-request", "c0#1:read:a~c0(c0#", ":read:b)", False),
 }
 # Where a VAL stands.
 VALUES = {
-    "val": ("val", "", ""), "old": ("old", "", ""), "written": ("op", "write a ", ""), "swapped-from": ("op", "swap a ", " 1"), "swapped-to": ("op", "swap a none ", ""),
+    "val": ("val", "", ""), "old": ("old", "", ""), "written": ("op", "write a ", ""), "swapped-from": ("op", "swap a ", " 1"),
+    "swapped-to": ("op", "swap a none ", ""),
     "written-joined": ("joined-op", "write:a:", ""), "held": ("answer", "held ", ""), "kept": ("answer", "kept ", ""), "removed": ("answer", "removed ", ""),
     "value-of-a-request": ("request", "c0#1:write:a:", ""), "value-in-an-envelope": ("envelope", "reply 1 0 held ", ""),
 }
@@ -20,13 +24,16 @@ VALUES = {
 ACTORS = {
     "replica": ("replica", "", "", "r"), "client": ("client", "", "", "c"), "actor": ("actor", "", "", "rc"), "signers": ("signers", "", "", "rc"),
     "second-signer": ("signers", "r0+", "", "rc"), "signer-of-a-chain": ("chain", "0/idle/", "", "rc"), "asker": ("signed-request", "c0#1:read:a~", "", "rc"),
-    "client-of-a-request": ("request", "", "#1:read:a", "c"), "client-of-a-line": ("request-line", "", " 1 read a", "c"), "signer-before": ("statement", "0/idle/", "", "rc"),
+    "client-of-a-request": ("request", "", "#1:read:a", "c"), "client-of-a-line": ("request-line", "", " 1 read a", "c"),
+    "signer-before": ("statement", "0/idle/", "", "rc"),
 }
 # Lists: the kind of token, what is before, an item, the mark, what is after, the most items, and how none is spelled, if it may be.
 LISTS = {
     "requests": ("requests", "", "c0#1:read:a", ",", "", 8, None), "content": ("content", "", "c0#1:read:a", ",", "", 8, "idle"),
-    "requests-of-a-statement": ("statement", "0/", "c0#1:read:a", ",", "/-", 8, "idle"), "requests-of-a-chain": ("chain", "0/", "c0#1:read:a~c0", ",", "/-", 8, "idle"),
-    "signers": ("signers", "", "r0", "+", "", 16, "-"), "signatures": ("chain", "0/idle/", "r0", "+", "", 16, "-"), "signers-before": ("statement", "0/idle/", "c9", "+", "", 16, "-"),
+    "requests-of-a-statement": ("statement", "0/", "c0#1:read:a", ",", "/-", 8, "idle"),
+    "requests-of-a-chain": ("chain", "0/", "c0#1:read:a~c0", ",", "/-", 8, "idle"),
+    "signers": ("signers", "", "r0", "+", "", 16, "-"), "signatures": ("chain", "0/idle/", "r0", "+", "", 16, "-"),
+    "signers-before": ("statement", "0/idle/", "c9", "+", "", 16, "-"),
     "chains": ("envelope", "round 0", " 0/idle/-", "", "", 32, ""),
 }
 # A token of each kind, with marks in it.
@@ -43,11 +50,13 @@ def tokens(kind, texts):
 
 
 def tags_of(name, kind):
-    return ["spelling"] + ["lists"] * (name.startswith(("request", "content")) and kind in ("requests", "content", "statement", "chain")) + ["remove"] * ("remove" in name)
+    return ["spelling"] + ["lists"] * (name.startswith(("request", "content"))
+        and kind in ("requests", "content", "statement", "chain")) + ["remove"] * ("remove" in name)
 
 
 def numbers():
-    """Each field with a NUM: 0, 1, the greatest, and one more; then 2^64, a leading zero, a sign, a digit too few, and a letter. Request numbers begin with 1."""
+    """Each field with a NUM: 0, 1, the greatest, and one more; then 2^64, a leading zero, a sign, a digit too few, and a letter. Request numbers begin
+    with 1."""
     for name, (kind, before, after, has_zero) in NUMBERS.items():
         texts = ["0", "1", str(NUM_MOST), str(NUM_MOST + 1), str(2**64), "01", "+1", "-1", "", "1e3", "0x1"]
         wanted = ["ok" if has_zero else "no", "ok", "ok", *["no"] * 8]
@@ -65,7 +74,8 @@ def values():
 
 
 def actors():
-    """Each field with an actor: r0, r15 and r16, c0, c31 and c32; a capital, a leading zero, no number, and another letter. Replicas and clients stand only where they may."""
+    """Each field with an actor: r0, r15 and r16, c0, c31 and c32; a capital, a leading zero, no number, and another letter. Replicas and clients stand
+    only where they may."""
     for name, (kind, before, after, kinds) in ACTORS.items():
         texts = ["r0", "r15", "r16", "c0", "c31", "c32", "R0", "r00", "c", "x0"]
         letters = [text[0] for text in texts[:6]]
@@ -75,7 +85,8 @@ def actors():
 
 
 def lists():
-    """Each list: of one item, of as many as it may have, of one more; none at all, as it is spelled if it may be; a mark too many at the end, and two marks between."""
+    """Each list: of one item, of as many as it may have, of one more; none at all, as it is spelled if it may be; a mark too many at the end, and two
+    marks between."""
     for name, (kind, before, item, mark, after, most, none) in LISTS.items():
         texts = [item, mark.join([item] * most), mark.join([item] * (most + 1))]
         wanted = ["ok", "ok", "no"]
@@ -87,7 +98,8 @@ def lists():
 
 
 def marks():
-    """A token of each kind: as it is; with a space before it and after it, a tab after it, a capital first letter; and with each of its marks doubled, and then left out."""
+    """A token of each kind: as it is; with a space before it and after it, a tab after it, a capital first letter; and with each of its marks doubled,
+    and then left out."""
     for kind, whole in WHOLES.items():
         at = [place for place, letter in enumerate(whole) if letter in MARKS]
         texts = [whole, f" {whole}", f"{whole} ", f"{whole}\t", whole[0].upper() + whole[1:] if whole[0].isalpha() else f"+{whole}"]
@@ -101,8 +113,8 @@ def marks():
 
 
 def long_forms():
-    """The statement that fits its place is spelled by the signer alone: its long form is no token, at the first, the second and the third place, whoever signs; the next
-    slot's is one. Beside a request, likewise."""
+    """The statement that fits its place is spelled by the signer alone: its long form is no token, at the first, the second and the third place, whoever
+    signs; the next slot's is one. Beside a request, likewise."""
     before = []
     for place, signer in enumerate(("r0", "c0", "r15")):
         text, joined = "+".join(before) or "-", "".join(f"{one}+" for one in before)
@@ -115,7 +127,8 @@ def long_forms():
 
 
 def shapes():
-    """n is 1 to 16 and at least 2f+1; m is 1 to 32; the traitors are replicas of the shape, rising, each once, and at most f. For f = 0 to 8: 2f, 2f+1, 16 and 17 replicas."""
+    """n is 1 to 16 and at least 2f+1; m is 1 to 32; the traitors are replicas of the shape, rising, each once, and at most f. For f = 0 to 8: 2f, 2f+1,
+    16 and 17 replicas."""
     for f in range(9):
         counts = [2 * f, 2 * f + 1, 16, 17]
         calls = tokens("shape", [f"{n} {f} 1 -" for n in counts])
@@ -125,7 +138,8 @@ def shapes():
         texts = ["+".join(f"r{number}" for number in range(count)) or "-" for count in (f, f + 1)] + [f"r{n - 1}", f"r{n}"]
         calls = tokens("shape", [f"{n} {f} 1 {text}" for text in texts])
         yield Listed(f"shape-f{f}-traitors", ["shapes"], calls, ["ok", "E1 BadShape", "ok" if f else "E1 BadShape", "E1 BadShape"])
-    calls = tokens("shape", ["5 2 1 r1+r0", "5 2 1 r0+r0", "5 2 1 r0+", "5 2 1 r00", "5 2 1 c0", "5 2 1 r16", "5 2 1", "5 2 1 - -", "5 2 0 -", "5 2 32 -", "5 2 33 -"])
+    calls = tokens("shape", ["5 2 1 r1+r0", "5 2 1 r0+r0", "5 2 1 r0+", "5 2 1 r00", "5 2 1 c0", "5 2 1 r16", "5 2 1", "5 2 1 - -", "5 2 0 -", "5 2 32 -",
+        "5 2 33 -"])
     yield Listed("shape-spellings", ["shapes"], calls, [*["no"] * 8, "E1 BadShape", "ok", "E1 BadShape"])
 
 
