@@ -1,15 +1,20 @@
 #!/usr/bin/env python3
-"""Runs an adapter against the rows: run.py [--group G ..] [--without TAG ..] [--known FILE] [--rows FOLDER] [--seconds N] ADAPTER ..
+"""Runs an adapter against the rows: run.py [--group G ..] [--without TAG ..] [--known FILE] [--rows FOLDER] [--seconds N] [--junit FILE] [--random N
+[--seed S]] [--answers COMMAND] ADAPTER ..
 
-ADAPTER is a command with its words; it follows `--` if a word of it begins with a dash. It reads lines `row NAME` and `> CALL` on standard
-input, and writes one line `< ANSWER` for each call, or `< skip` if it has no such call; other lines that it writes are ignored. It forgets
-everything at a `row`. It never reads what the rows want.
+ADAPTER is a command with its words; it follows `--` if a word of it begins with a dash. It reads lines `row NAME` and `> CALL` on standard input, and
+writes one line `< ANSWER` for each call, or `< skip` if it has no such call; other lines that it writes are ignored. It forgets everything at a `row`.
+It never reads what the rows want.
 
-All rows of a file go to one start of the adapter. If that start ends early, takes longer than N seconds, or writes too little or too much,
-each row of the file goes to a start of its own, so that only the rows at fault fail.
+All rows of a file go to one start of the adapter. If that start ends early, takes longer than N seconds, or writes too little or too much, each row of
+the file goes to a start of its own, so that only the rows at fault fail.
 
-The last line is `N passed, M failed, K skipped`. The status is 0 if no row failed and some row passed. FILE names rows that are known to fail,
-one a line: each of them passes if it fails, and fails if it does not.
+At the end stand a line for each group; if rows failed, a line for each rule that they have as a tag; and `N passed, M failed, K skipped`. The status is
+0 if no row failed and some row passed. FILE of `--known` names rows that are known to fail, one a line: each of them passes if it fails, and fails if
+it does not. FILE of `--junit` gets the outcomes as JUnit XML, which most build servers read.
+
+With `--random` the rows are N of each group by chance, the same for the same S, as tests/rows_by_chance.py has the models answer them. With `--answers`
+what is wanted is what that command answers to the calls, in place of what the rows say; a row to which it says `skip` is left out.
 """
 
 import argparse
@@ -23,20 +28,25 @@ import subprocess
 import sys
 import tempfile
 import time
+import xml.etree.ElementTree as ElementTree
 
 HERE = os.path.dirname(os.path.realpath(__file__))
 MOST_BYTES = 16 * 2**20
 NAME = re.compile("[a-z0-9]+(-[a-z0-9]+)*")
+# What no XML may have, escaped or not.
+NO_XML = re.compile("[^\t\n\x20-\ud7ff]")
+# Tags that say what a row has in it. All others name the rule that the row is about.
+KINDS = ("lists", "remove", "contract", "cut")
 
 
 # ---- rows
 
 
 class Row:
-    """A row: its name, its tags, and its calls, each with the answer that is wanted."""
+    """A row: its name, its tags, its notes, and its calls, each with the answer that is wanted."""
 
     def __init__(self, name, tags):
-        self.name, self.tags, self.calls = name, tags, []
+        self.name, self.tags, self.notes, self.calls = name, tags, [], []
 
     def text(self):
         return "".join([f"row {self.name}\n", *(f"> {call}\n" for call, _ in self.calls)])
@@ -61,6 +71,8 @@ def read_line(group, rows, asked, line):
         rows.append(Row(name, tags))
     elif not rows or kind != ">" and (kind != "note" or rows[-1].calls):
         raise BadRows
+    elif kind == "note":
+        rows[-1].notes.append(rest)
     return rest if kind == ">" else None
 
 
@@ -209,25 +221,66 @@ def with_known(outcome):
 
 
 class Report:
-    """Counts outcomes by their groups, and tells of each row that failed."""
+    """Keeps outcomes by their groups, and tells of each row that failed."""
 
     def __init__(self):
-        self.counts = {}
+        self.groups = {}
 
     def note(self, group, row, outcome):
-        self.counts.setdefault(group, collections.Counter())[outcome.kind] += 1
+        self.groups.setdefault(group, []).append((row, outcome))
         if outcome.kind == "failed":
             print(f"{row.name}: FAILED\n{outcome.why}", flush=True)
 
+    def all(self):
+        return [pair for pairs in self.groups.values() for pair in pairs]
+
+    def rules(self):
+        """Yields each rule of which a row failed, how many of its rows failed, and how many it has; first those of which the greatest part failed."""
+        failed, whole = collections.Counter(), collections.Counter()
+        for row, outcome in self.all():
+            rules = [tag for tag in row.tags if tag not in KINDS]
+            whole.update(rules)
+            failed.update(rules if outcome.kind == "failed" else [])
+        for rule in sorted(failed, key=lambda rule: (-failed[rule] / whole[rule], rule)):
+            yield rule, failed[rule], whole[rule]
+
     def summary(self):
-        """Prints a line for each group and one for all. Returns the count of all."""
-        total = sum(self.counts.values(), collections.Counter())
-        width = max(map(len, self.counts), default=0)
-        for group, count in self.counts.items():
+        """Prints a line for each group, one for each rule of which rows failed, and one for all. Returns the count of all."""
+        total = count_of(self.all())
+        width = max(map(len, self.groups), default=0)
+        for group, pairs in self.groups.items():
+            count = count_of(pairs)
             parts = [f"{count[kind]} {kind}" for kind in ("passed", "failed", "skipped") if count[kind]]
             print(f"{group:{width}}  {', '.join(parts)}")
+        for rule, failed, whole in self.rules():
+            print(f"rule {rule}: {failed} of {whole} rows failed")
         print(f"{total['passed']} passed, {total['failed']} failed, {total['skipped']} skipped")
         return total
+
+    def as_junit(self):
+        """Returns the outcomes as JUnit XML: a suite for each group, in it a case for each row."""
+        suites = ElementTree.Element("testsuites", attributes_of("dsr-rows", self.all()))
+        for group, pairs in self.groups.items():
+            suite = ElementTree.SubElement(suites, "testsuite", attributes_of(group, pairs))
+            for row, outcome in pairs:
+                case = ElementTree.SubElement(suite, "testcase", classname=group, name=row.name)
+                if outcome.kind == "failed":
+                    why = NO_XML.sub(lambda found: f"\\x{ord(found[0]):02x}", outcome.why)
+                    ElementTree.SubElement(case, "failure", message=f"{row.name} failed").text = why
+                elif outcome.kind == "skipped":
+                    ElementTree.SubElement(case, "skipped")
+        ElementTree.indent(suites)
+        return ElementTree.tostring(suites, "utf-8", xml_declaration=True) + b"\n"
+
+
+def count_of(pairs):
+    return collections.Counter(outcome.kind for _, outcome in pairs)
+
+
+def attributes_of(name, pairs):
+    """Returns the attributes of a suite with these outcomes."""
+    count = count_of(pairs)
+    return {"name": name, "tests": str(len(pairs)), "failures": str(count["failed"]), "errors": "0", "skipped": str(count["skipped"])}
 
 
 def words():
@@ -237,15 +290,40 @@ def words():
     parser.add_argument("--known", type=argparse.FileType(), metavar="FILE", help="rows that are known to fail")
     parser.add_argument("--rows", metavar="FOLDER", default=os.path.join(HERE, "rows"), help="where the files of rows are")
     parser.add_argument("--seconds", type=float, metavar="N", default=20, help="how long a start of the adapter may take")
+    parser.add_argument("--junit", type=argparse.FileType("wb"), metavar="FILE", help="where to write the outcomes as JUnit XML")
+    parser.add_argument("--random", type=int, metavar="N", help="rows by chance in place of those in files")
+    parser.add_argument("--seed", type=int, metavar="S", default=1, help="which rows by chance")
+    parser.add_argument("--answers", metavar="COMMAND", help="whose answers are wanted, in place of those of the rows")
     parser.add_argument("adapter", nargs="+", metavar="ADAPTER")
     return parser.parse_args()
+
+
+def rows_by_chance(count, seed):
+    """Returns files of rows by chance, as many of each group as the count says."""
+    program = os.path.join(os.path.dirname(HERE), "tests", "rows_by_chance.py")
+    with tempfile.TemporaryDirectory(prefix="dsr-rows-") as folder:
+        if subprocess.run([sys.executable, "-B", program, folder, str(seed), str(count)], check=False).returncode != 0:
+            raise SystemExit("no rows by chance: they need the folder tests of the repository")
+        return all_rows(folder)
+
+
+def with_answers(command, rows, seconds):
+    """Returns the rows that the command answers, with its answers in place of theirs."""
+    answers, fault = answers_of(shlex.split(command), rows, seconds) if rows else ([], None)
+    if fault or len(answers) != sum(len(row.calls) for row in rows):
+        raise SystemExit(f"{command} answers not all calls: {fault or f'{len(answers)} answers'}")
+    found = iter(answers)
+    for row in rows:
+        row.calls = [(call, next(found)) for call, _ in row.calls]
+    return [row for row in rows if "skip" not in [answer for _, answer in row.calls]]
 
 
 def chosen(asked):
     """Yields the group and the rows of each file that is asked for."""
     for group, rows in asked.files:
         if not asked.group or group in asked.group:
-            yield group, [row for row in rows if not set(row.tags) & set(asked.without)]
+            rows = [row for row in rows if not set(row.tags) & set(asked.without)]
+            yield group, with_answers(asked.answers, rows, asked.seconds) if asked.answers else rows
 
 
 def run(asked, known):
@@ -259,12 +337,16 @@ def run(asked, known):
 
 def main():
     asked = words()
-    asked.files = all_rows(asked.rows)
+    asked.files = rows_by_chance(asked.random, asked.seed) if asked.random else all_rows(asked.rows)
     known = set(asked.known.read().split()) if asked.known else set()
     unheard = known - {row.name for _, rows in asked.files for row in rows} | set(asked.group or []) - {group for group, _ in asked.files}
     if unheard:
         raise SystemExit(f"no row and no group has the name {', '.join(sorted(unheard))}")
-    total = run(asked, known).summary()
+    report = run(asked, known)
+    if asked.junit:
+        asked.junit.write(report.as_junit())
+        asked.junit.close()
+    total = report.summary()
     return 1 if total["failed"] or not total["passed"] else 0
 
 

@@ -1,103 +1,102 @@
 #!/usr/bin/env python3
-"""The rows of conformance/rows, which say what the calls of the parts answer: tests/rows.py, or with the names of some of its parts. With `files --write`
-it writes stdin and stdout of the driver crates/dsr_rows anew from the rows. conformance/run.py runs another program on the rows, in whatever language.
+"""The rows of conformance/rows, which say what the calls of the parts answer: tests/rows.py, or with the names of some of its parts. conformance/run.py
+runs another program on the rows, in whatever language.
 
-files: each file is in the grammar of conformance/README.md, and no name stands twice. Each verb of the driver, and each kind of token, stands in a row with
-an answer other than `no-call`. crates/dsr_rows/stdin has the first row of each file without its answers, and stdout has it with them: `rt ci` runs the
-driver on it, as two compilers build it.
+files: each file is in the grammar of conformance/README.md, and no name stands twice.
 
-models: tests/models/parts.py, which was written anew from the documents, answers all rows as they say, but for a few that it skips. So each answer has two
-sources.
+rules: the files that rules of tests/rules list are as these rules and the models have them (tests/rows_by_rule.py), and all of them are there.
 
-runner: what conformance/run.py says of adapters. conformance/adapters/chain_good.py passes all rows of chains that it answers, and chain_forgets.py fails
-just those in chain_forgets.known. An adapter that goes wrong in one row fails that row, and no other. A row that is known to fail and does not, a call that is
-skipped, and files that are no rows.
+json: conformance/json has the rows as tools/rows_json.py writes them, and each of its trees is the text beside it (tests/rows_in_json.py).
 
-driver: the driver, as `rt ci` built it, is given each file without its answers, and must write the file. The same with its 1st, 2nd, 3rd .. allocation refused,
-until a run meets no refusal, over all files of a group at once; in a long one with wider and wider steps. A run that met one must write the files all the
-same, since the driver makes a refused call again; or end with status 1 and say so, if the driver itself had no memory, after a prefix of them. Of each row
-with the tag `cut`: each text that is a token, cut at every byte from both sides, or with a byte changed, must be another token or none. Each script with a
-byte changed must be a script, or have a shape outside the limits, or its first bad line must not stand before that byte.
+mistakes: each mistake of tests/rules/mistakes.py, made in the models, is noticed by a row (tests/mistakes.py), and conformance/MISTAKES.md says by
+which.
+
+models: tests/models/parts.py, which was written anew from the documents, answers all rows as they say, but for a few that it skips.
+
+adapters: the examples of conformance/adapters, in Python, C and Rust, pass all rows that they answer, and each wrong one beside them fails just those
+of its file .known, which name the rule that it breaks. One whose compiler is not there is skipped.
+
+chance: rows by chance, as conformance/run.py --random has them.
+
+runner: what conformance/run.py says of adapters. An adapter that goes wrong in one row fails that row, and no other. A row that is known to fail and
+does not, a call that is skipped, files that are no rows, and the outcomes as JUnit XML.
 """
 
 import functools
-import os
 import re
+import shlex
+import shutil
 import sys
 import tempfile
-from typing import NamedTuple
+import time
+import xml.etree.ElementTree as ElementTree
 
-from kit.inputs import cut_at_bytes
-from kit.program import TOP, bytes_of, fault_of_building, run, shown, text_of, write_bytes
-from kit.refusals import refusing
-from kit.report import in_threads, main
+import mistakes
+import rows_by_rule
+import rows_in_json
+from kit.program import TOP, bytes_of, run, shown, text_of, write_bytes
+from kit.report import in_threads, main, say
 
-sys.path.insert(0, f"{TOP}/conformance")
+sys.path[:0] = [f"{TOP}/conformance", f"{TOP}/tools"]
 
+import rows_json  # noqa: E402
 import run as conformance  # noqa: E402
 
 ROWS, ADAPTERS = f"{TOP}/conformance/rows", f"{TOP}/conformance/adapters"
-CRATE = "crates/dsr_rows"
-DRIVER = [f"{TOP}/{CRATE}/out/dsr_rows"]
 SECONDS = 60
-
-
-class File(NamedTuple):
-    name: str
-    group: str
-    rows: list
-    text: bytes
-
-
-def read_files():
-    """The files of rows; and what is wrong with one, or None."""
-    try:
-        groups = conformance.all_rows(ROWS)
-    except SystemExit as fault:
-        return [], str(fault)
-    names = sorted(name for name in os.listdir(ROWS) if name.endswith(".rows"))
-    return [File(name, group, rows, bytes_of(f"{ROWS}/{name}")) for name, (group, rows) in zip(names, groups)], None if groups else "there are none"
-
-
-def asked(text):
-    """The rows without their answers."""
-    return b"".join(line for line in text.splitlines(keepends=True) if not line.startswith(b"<"))
-
-
-def first_row(text):
-    """The file's text to the end of its first row."""
-    first, row, _ = text.partition(b"\nrow ")
-    return first + row + text[len(first + row):].partition(b"\nrow ")[0].rstrip(b"\n") + b"\n"
-
-
-def answers_in(written):
-    return [line[2:] for line in written.decode("latin-1").split("\n") if line.startswith("< ")]
+# The rows that there are at least.
+LEAST_ROWS = 2000
 
 
 # ---- files
 
 
-def fault_of_verbs(found):
-    """A verb or a kind of the driver that no row makes, or None."""
-    sources = "".join(text_of(f"{CRATE}/src/{name}") for name in sorted(os.listdir(f"{TOP}/{CRATE}/src")))
-    known = set(re.findall(r'^    \("([a-z0-9-]+)", \w+::\w+\),$', sources, re.M))
-    made = {word for file in found for row in file.rows for call, answer in row.calls if answer != "no-call" for word in call.split(" ")[:2]}
-    left = sorted(known - made)
-    return f"no row makes {', '.join(left)}" if left else None if known else "the driver has no verbs"
+def files(report, _):
+    try:
+        groups, fault = conformance.all_rows(ROWS), None
+    except SystemExit as bad:
+        groups, fault = [], str(bad)
+    rows = [row for _, of_group in groups for row in of_group]
+    calls = sum(len(row.calls) for row in rows)
+    fault = fault or (None if len(rows) >= LEAST_ROWS else f"there are {len(rows)} rows, and not {LEAST_ROWS}")
+    report.judge("files of rows", fault, f", {len(groups)} files, {len(rows)} rows, {calls} calls")
+    alone = sum(all(call.startswith("check ") for call, _ in row.calls) for row in rows)
+    for said in (f"has {len(rows):,} cases of such rules", f"; {alone} rows call nothing else",
+        f": {len({name for name, *_ in mistakes.MISTAKES})} mistakes that were made"):
+        report.judge(f"conformance/README.md says ..{said}", None if said in text_of("conformance/README.md") else "it does not")
 
 
-def files(report, is_written):
-    found, fault = read_files()
-    calls = sum(len(row.calls) for file in found for row in file.rows)
-    if not report.judge("files of rows", fault, f", {len(found)} files, {sum(len(file.rows) for file in found)} rows, {calls} calls"):
-        return
-    report.judge("verbs", fault_of_verbs(found))
-    first = b"".join(first_row(file.text) for file in found)
-    for name, wanted in [("stdin", asked(first)), ("stdout", first)]:
-        if is_written:
-            write_bytes(f"{CRATE}/{name}", wanted)
-        fault = None if bytes_of(f"{CRATE}/{name}") == wanted else "it is not that of the rows: tests/rows.py files --write makes it anew"
-        report.judge(f"{CRATE}/{name}", fault)
+# ---- rows that are listed by rules
+
+
+def rules(report, _):
+    for path, text in rows_by_rule.files():
+        fault = None if bytes_of(path) == text.encode("latin-1") else "not as its rules have it: tests/rows_by_rule.py --write writes it"
+        report.judge(path, fault, f", {text.count(chr(10) + 'row ')} rows")
+
+
+# ---- rows as JSON
+
+
+def as_json(report, _):
+    groups = {}
+    for group, found in conformance.all_rows(ROWS):
+        groups.setdefault(group, []).extend(found)
+    for path, text in rows_json.files():
+        fault = None if bytes_of(path) == text.encode() else "not current: tools/rows_json.py --write writes it"
+        report.judge(path, fault or rows_in_json.fault_of(text, groups.pop(path.split("/")[-1].removesuffix(".json"))),
+            f", {rows_in_json.trees_in(text)} trees")
+    report.compare("groups without a file", groups, {}, "")
+
+
+# ---- mistakes
+
+
+def noticed(report, _):
+    text, faults = mistakes.table()
+    report.judge("mistakes in the models, each of which a row notices", "\n".join(faults) or None, f", {len(mistakes.MISTAKES)} mistakes")
+    fault = None if bytes_of("conformance/MISTAKES.md") == text.encode() else "not current: tests/mistakes.py --write writes it"
+    report.judge("conformance/MISTAKES.md", fault)
 
 
 # ---- models, and what runs adapters
@@ -144,6 +143,7 @@ WRONG = {
     "writes one answer more": "print('< ok')",
     "writes one answer less": "continue",
     "answers something else": "print('< no'); continue",
+    "answers what no XML may have": "print('< \\0\\x1b<&]]>', flush=True); continue",
 }
 
 NO_ROWS = {
@@ -209,6 +209,11 @@ def choices(room):
     yield "a group that there is not", ["--group", "other", *says_ok], 1, None
     yield "a known row that there is not", ["--known", written(room, "strange", "some/row\n"), *says_ok], 1, None
     yield "a program that there is not", ["--", f"{room}/nothing"], 1, None
+    yield "the answers of another program, the same", ["--answers", shlex.join(says_ok[1:]), *says_ok], 0, (3, 0, 0)
+    yield "the answers of another program, others", ["--answers", shlex.join(says_no[1:]), *says_ok], 1, (2, 1, 0)
+    yield "another program that skips a row", ["--answers", shlex.join(skips[1:]), *says_no], 0, (2, 0, 0)
+    yield "another program that ends early", ["--answers", shlex.join(adapter(WRONG["ends"])[1:]), *says_ok], 1, None
+    yield "a file for JUnit that cannot be written", ["--junit", f"{room}/no/junit.xml", *says_ok], 2, None
 
 
 def check_of_wrong(words, what):
@@ -217,10 +222,105 @@ def check_of_wrong(words, what):
     return f"an adapter that {what}", fault_of_run(words, 1, (2, 1, 0), b"some/middle: FAILED\n"), None
 
 
+def suites_of(path):
+    """The suites of a file of JUnit's: of each its name, the counts that it tells, and what came of each of its cases."""
+    for suite in ElementTree.parse(path).getroot():
+        cases = {case.get("name"): [(part.tag, part.text) for part in case] for case in suite}
+        yield suite.get("name"), [int(suite.get(count)) for count in ("tests", "failures", "errors", "skipped")], cases
+
+
+def fault_of_junit(words, path, statement, kind, wanted):
+    """What is wrong with the file for JUnit of an adapter that does this in the middle of three rows, or None. `wanted` must be in what is told of that
+    row."""
+    ran, _ = conformance_run(*words, "--junit", path, *adapter(WRONG.get(statement, statement)))
+    (name, counts, cases), *more = suites_of(path)
+    (found, told), = cases["some/middle"] or [("passed", None)]
+    passed = cases["some/first"] == cases["some/last"] == [] and len(cases) == 3
+    counted = [3, int(found == "failure"), 0, int(found == "skipped")]
+    is_well = not more and name == "some" and passed and counts == counted and found == kind and wanted in (told or "")
+    return None if is_well and b"Traceback" not in ran[2] else f"{name}, {counts}, {cases}"
+
+
+def junit(report, words, room):
+    for statement, kind, wanted in [
+        ("answers something else", "failure", "wanted    ok\n      answered  no"),
+        ("answers what no XML may have", "failure", "answered  \\x00\\x1b<&]]>"),
+        ("ends with a status", "failure", "no answer: it ended with status 3"),
+        ("print('< skip'); continue", "skipped", ""),
+        ("pass", "passed", ""),
+    ]:
+        report.judge(f"JUnit's file of {statement}", fault_of_junit(words, f"{room}/junit.xml", statement, kind, wanted), None)
+
+
+def seconds(report, words):
+    """An adapter that hangs is given up after the seconds that are asked for: once with all rows, and once with the row at fault."""
+    begun = time.monotonic()
+    fault = fault_of_run([*words, "--seconds", "4", *adapter(WRONG["hangs"])], 1, (2, 1, 0), b"it did not end within 4 seconds\n")
+    took = time.monotonic() - begun
+    report.judge("an adapter that hangs is given up in time", fault or (None if 8 <= took < 20 else f"{took:.1f} seconds"))
+
+
+def by_chance(report, _):
+    """Rows by chance: a right adapter passes them, one that makes a mistake does not pass all, and another seed gives others."""
+    words = ["--random", "40", "--group", "chain", "--group", "slot", "--seconds", str(SECONDS)]
+    right, wrong = f"{ADAPTERS}/parts.py", f"{ADAPTERS}/parts_forgets.py"
+    runs = [conformance_run(*words, *seed, adapter_of) for seed, adapter_of in [(["--seed", "1"], right), (["--seed", "1"], wrong), (["--seed", "2"], wrong)]]
+    (ran, counts), (_, failed), (_, others) = runs
+    report.judge("rows by chance, by a right adapter", None if ran[0] == 0 and counts[0] > 60 else told_by(ran), f", {told(counts)}")
+    report.judge("rows by chance, by a wrong one", None if failed[1] and others[1] and runs[1][0][1] != runs[2][0][1] else f"{failed}, {others}",
+        f", {told(failed)}")
+
+
+# The adapters in conformance/adapters: what makes a program of each, the groups that it answers, and the rule that a wrong one breaks.
+IN_C = ["cc", "-std=c11", "-Wall", "-Wextra", "-Werror"]
+IN_RUST = ["rustc", "--edition", "2021", "-D", "warnings", "-O"]
+EXAMPLES = [
+    ("parts.py", None, ["chain", "slot", "tally", "calendar"], None), ("parts_forgets.py", None, ["chain", "slot"], "signed-twice"),
+    ("chains.c", IN_C, ["chain"], None), ("chains_any_slot.c", IN_C, ["chain"], "misfit"),
+    ("chains.rs", IN_RUST, ["chain"], None), ("chains_late.rs", IN_RUST, ["chain"], "wrong-count"),
+]
+
+
+def made(compiler, name, room):
+    """The command of an adapter, which the compiler makes if there is one; None if it cannot."""
+    if compiler is None:
+        return [sys.executable, "-B", f"{ADAPTERS}/{name}"]
+    status, *_ = run([*compiler, f"{ADAPTERS}/{name}", "-o", f"{room}/{name}.made"])
+    return [f"{room}/{name}.made"] if status == 0 else None
+
+
+def fault_of_adapter(name, command, groups, rule):
+    """What is wrong with an adapter, or None, and what is said of it. One that breaks a rule fails the rows of its file .known, and most of all that
+    rule's."""
+    words = ["--seconds", str(SECONDS), *(word for group in groups for word in ("--group", group))]
+    known = f"{ADAPTERS}/{name.split('.')[0]}.known"
+    ran, counts = conformance_run(*words, *(["--known", known] if rule else []), "--", *command)
+    if ran[0] != 0 or not counts:
+        return told_by(ran), ""
+    if not rule:
+        return None, f", {told(counts)}"
+    failed, _ = conformance_run(*words, "--", *command)
+    rules = re.findall(rb"^rule (.*): [0-9]+ of ", failed[1], re.M)
+    is_named = failed[0] == 1 and rules[:1] == [rule.encode()]
+    return None if is_named else f"the rules that it breaks are {rules}", f", {len(text_of(known).split())} rows failed, and most of the rule {rule}"
+
+
+def adapters(report, _):
+    with tempfile.TemporaryDirectory(prefix="dsr-adapters-") as room:
+        for name, compiler, groups, rule in EXAMPLES:
+            if compiler and not shutil.which(compiler[0]):
+                say(f"{name}: skipped, since there is no {compiler[0]}")
+                report.add(0, 0, 1)
+                continue
+            command = made(compiler, name, room)
+            fault, said = fault_of_adapter(name, command, groups, rule) if command else (f"{compiler[0]} makes no program of it", "")
+            report.judge(name, fault, said)
+    words = ["--group", "chain", f"{ADAPTERS}/parts.py"]
+    shown_lines = b"".join(b"    " + line for line in conformance_run(*words)[0][1].splitlines(keepends=True)).decode()
+    report.judge("the sample in conformance/README.md", None if f"parts.py\n{shown_lines}" in text_of("conformance/README.md") else f"it prints {shown_lines}")
+
+
 def runner(report, _):
-    for name, known in [("chain_good", []), ("chain_forgets", ["--known", f"{ADAPTERS}/chain_forgets.known"])]:
-        ran, counts = conformance_run("--seconds", str(SECONDS), "--group", "chain", *known, f"{ADAPTERS}/{name}.py")
-        report.judge(f"{name}.py", None if ran[0] == 0 else told_by(ran), f", {told(counts)}")
     with tempfile.TemporaryDirectory(prefix="dsr-adapters-") as room:
         words = ["--rows", room]
         for what, text in {"rows": SOME_ROWS, **NO_ROWS}.items():
@@ -228,125 +328,15 @@ def runner(report, _):
             report.judge(what, fault_of_run([*words, *adapter("pass")], *((0, (3, 0, 0)) if what == "rows" else (1, None))), None)
         written(room, "some.rows", SOME_ROWS)
         report.judge_all(in_threads(functools.partial(check_of_wrong, words), WRONG))
+        says_no = [*words, *adapter(WRONG["answers something else"])]
+        report.judge("the rule of a row that fails", fault_of_run(says_no, 1, (2, 1, 0), b"\nrule tagged: 1 of 1 rows failed\n"), None)
+        junit(report, words, room)
+        seconds(report, words)
         for what, more, *wanted in choices(room):
             report.judge(what, fault_of_run([*words, *more], *wanted), None)
 
 
-# ---- the driver
-
-NO_MEMORY = 1, b"dsr: no memory\n"
-# So many first allocations are refused one by one; then each step is wider by a part of what came before.
-FIRST, PART = 1_500, 40
-CHANGES, SCRIPT_CHANGES = " 01rc+-,/~()", "\n 01rc+-,/~("
-
-
-def difference(rows, text):
-    """The first row that was answered otherwise, and how many more there are, in words."""
-    answers, faults = answers_in(text), []
-    for row in rows:
-        own, answers = answers[:len(row.calls)], answers[len(row.calls):]
-        other = [(call, wanted, *own[at:at + 1]) for at, (call, wanted) in enumerate(row.calls) if own[at:at + 1] != [wanted]]
-        if other:
-            call, wanted, *answer = other[0]
-            faults.append(f"{row.name}: `{call}` is " + (f"answered `{answer[0]}`, and not `{wanted}`" if answer else "not answered"))
-    if not faults:
-        return "each call is answered as its row says, but the rows do not come out as they are"
-    return faults[0] + (f"; and {len(faults) - 1} rows more" if faults[1:] else "")
-
-
-def fault_of_file(file):
-    """What is wrong with the driver's run on this file, or None."""
-    ran = run(DRIVER, asked(file.text), SECONDS)
-    if ran[1] != file.text:
-        return f"{difference(file.rows, ran[1])}, {shown(ran)}"
-    return None if ran == (0, file.text, b"") else shown(ran)
-
-
-def check_of_refusals(shim, group, found):
-    """What the runs of these files with an allocation refused are, what is wrong with them, or None, and what is said of them."""
-    rows, text = [row for file in found for row in file.rows], b"".join(file.text for file in found)
-    nth, count, ended, fault = 1, 0, 0, None
-    while not fault:
-        ran, noted = shim.run(DRIVER, asked(text), SECONDS, nth=nth)
-        status, output, errors = ran
-        if noted is None:
-            fault = None if count and ran == (0, text, b"") else f"no allocation is refused, and {shown(ran)}"
-            break
-        count += 1
-        if (status, errors) == NO_MEMORY and text.startswith(output):
-            ended += 1
-        elif ran != (0, text, b""):
-            fault = f"with allocation {nth} refused: {difference(rows, output) if status == 0 else shown(ran)}"
-        nth += 1 if nth < FIRST else 1 + nth // PART
-    return f"{group} with allocations refused", fault, f", {count} runs, {ended} of which ended for want of memory"
-
-
-def answers(calls):
-    """What the driver answers to these calls, which need no value before them."""
-    return answers_in(run(DRIVER, "".join(f"> {call}\n" for call in calls).encode("latin-1"), SECONDS)[1])
-
-
-def changed(text, changes):
-    """The text with each byte changed to each of these."""
-    return [text[:at] + other + text[at + 1:] for at in range(len(text)) for other in changes]
-
-
-def fault_of_cut_token(kind, text):
-    """What is wrong with what the driver says of the text of a token, cut and changed, or None; and how many texts there are."""
-    others = [*cut_at_bytes(text[:-1]), *(text[at:] for at in range(len(text))), *changed(text, CHANGES)]
-    found = answers([f"token {kind} {other}" for other in others])
-    if len(found) != len(others):
-        return "not every text is answered", len(others)
-    return next((f"{other!r} is read as {answer!r}" for other, answer in zip(others, found) if answer not in ("ok", "no")), None), len(others)
-
-
-def spelled(text):
-    """The text as a call has it: a spaced bar for each line feed."""
-    words = text.replace("\n", " | ")
-    return words[:-1] if text.endswith("\n") else words
-
-
-def fault_of_changed_script(words):
-    """What is wrong with what the driver says of a script with a byte changed, or None; and how many scripts there are."""
-    text = (words + " ").replace(" | ", "\n")
-    lines = [text[:at].count("\n") + 1 for at in range(len(text)) for _ in SCRIPT_CHANGES]
-    others = changed(text, SCRIPT_CHANGES)
-    found = answers([f"script {spelled(other)}" for other in others])
-    if len(found) != len(others):
-        return "not every script is answered", len(others)
-    for other, line, answer in zip(others, lines, found):
-        bad = re.fullmatch(r"E13 BadText (\d+)", answer)
-        if answer not in ("ok", "E1 BadShape") and not (bad and line <= int(bad[1]) <= text.count("\n") + 2):
-            return f"{other!r}, changed in line {line}, is answered {answer!r}", len(others)
-    return None, len(others)
-
-
-def check_of_cuts(row):
-    """What the cut and changed texts of the row are, what is wrong with what the driver says of them, or None, and what is said of them."""
-    count, fault = 0, None
-    for call, answer in row.calls:
-        verb, _, rest = call.partition(" ")
-        if verb == "script":
-            fault, more = fault_of_changed_script(rest)
-        else:
-            fault, more = fault_of_cut_token(*rest.partition(" ")[::2]) if answer == "ok" else (None, 0)
-        count += more
-        if fault:
-            break
-    return f"{row.name} cut and changed", fault, f", {count} texts"
-
-
-def driver(report, _):
-    found, fault = read_files()
-    if not report.judge("the driver", fault_of_building("dsr_rows") or fault, None):
-        return
-    report.judge_all((file.name, fault_of_file(file), f", {len(file.rows)} rows") for file in found)
-    groups = {file.group: [one for one in found if one.group == file.group] for file in found}
-    with refusing() as shim:
-        report.judge_all(in_threads(lambda group: check_of_refusals(shim, group, groups[group]), groups))
-    report.judge_some("rows cut and changed", (check_of_cuts(row) for file in found for row in file.rows if "cut" in row.tags))
-
-
 if __name__ == "__main__":
-    PARTS = {"files": files, "models": models, "runner": runner, "driver": driver}
-    sys.exit(main(__doc__, PARTS, "--write", without_program=PARTS))
+    PARTS = {"files": files, "rules": rules, "json": as_json, "mistakes": noticed, "models": models, "adapters": adapters, "chance": by_chance,
+        "runner": runner}
+    sys.exit(main(__doc__, PARTS, without_program=PARTS))

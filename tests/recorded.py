@@ -1,0 +1,85 @@
+#!/usr/bin/env python3
+"""The checker from other languages, by the library for programs in C: tests/recorded.py. The library is built, and a shared object of it, as
+examples/record/check.py says; then check.py and the Rust crate examples/record/rust are run on what examples/record/service.py printed, honest and
+lying, and on texts that are no transcripts. What they must print and end with is written here. A language without its tools here is skipped. Both must
+also answer many texts in one process alike: check.py in threads.
+"""
+
+import os
+import shutil
+import subprocess
+import sys
+import tempfile
+
+from kit.program import TOP, bytes_of, difference, run
+from kit.report import in_threads, main, say
+
+sys.path[:0] = [f"{TOP}/tools", f"{TOP}/examples/record"]
+
+import check  # noqa: E402
+import libraries  # noqa: E402
+
+LIBRARY = "dsr_check_c"
+SECONDS_OF_CARGO = 600
+
+# Each text, and what must be printed, and the status.
+ROWS = [
+    ("an honest service", bytes_of("examples/record/honest.transcript"), b"entries 273\nhistory 5\naccepted 5\n", 0),
+    ("a lying service", bytes_of("examples/record/lying.transcript"), b"not a run at line 47\n", 14),
+    ("no entries", b"dsr-transcript 1 1 0 1 -\n", b"entries 0\nhistory 0\naccepted 0\n", 0),
+    ("nothing", b"", b"bad text in line 1\n", 13),
+    ("a line that is not ended", bytes_of("examples/record/honest.transcript")[:-1], b"bad text in line 274\n", 13),
+    ("bytes that no text has", b"dsr-transcript 1 1 0 1 -\n\0\xff\n", b"bad text in line 2\n", 13),
+    ("a shape outside the limits", b"dsr-transcript 1 2 1 1 -\n", b"the shape is not allowed\n", 1),
+]
+
+
+def fault_of_library(room):
+    """What is wrong with building the library and its shared object in this folder, or None."""
+    said = libraries.build_archive(TOP, LIBRARY, f"{room}/lib{LIBRARY}.a")
+    if said is not None:
+        return f"{said}the library for programs in C is not built"
+    words = ["cc", "-shared", "-o", f"{room}/libdsr_check.so", "-Wl,-u,dsr_check_text", f"{room}/lib{LIBRARY}.a", f"{libraries.toolchain().KIT}/c/liblibc_c.a"]
+    made = subprocess.run(words, capture_output=True, text=True)
+    return None if made.returncode == 0 else f"the shared object is not built: {made.stderr}"
+
+
+def judge_rows(report, language, fault, command):
+    for what, text, output, status in ROWS:
+        report.judge(f"{language}, {what}", fault or difference(run(command, text), (status, output, b"")))
+
+
+def judge_threads(report, fault, room):
+    """The module's function in several threads at once, each on another text."""
+    texts = [text for _, text, *_ in ROWS] * 20
+    if not fault:
+        checker = check.Checker(f"{room}/libdsr_check.so")
+        found = [f"{it}\n".encode() for it in in_threads(checker.check, texts)]
+        fault = None if found == [output for _, _, output, _ in ROWS] * 20 else f"{found}"
+    report.judge("Python, in threads", fault)
+
+
+def cargo(room):
+    """What is wrong with building the Rust crate in this folder, or None."""
+    words = ["cargo", "build", "--offline", "--quiet", "--locked", "--target-dir", f"{room}/target", "--manifest-path",
+        f"{TOP}/examples/record/rust/Cargo.toml"]
+    folders = {"DSR_CHECK_LIBRARIES": f"{room}:{libraries.toolchain().KIT}/c", "RUSTFLAGS": "-D warnings"}
+    made = subprocess.run(words, capture_output=True, text=True, timeout=SECONDS_OF_CARGO, env={**os.environ, **folders})
+    return None if made.returncode == 0 else f"the crate is not built: {made.stderr}"
+
+
+def languages(report, _):
+    with tempfile.TemporaryDirectory(prefix="dsr-recorded-") as room:
+        fault = fault_of_library(room)
+        judge_rows(report, "Python", fault, [sys.executable, "-B", f"{TOP}/examples/record/check.py", f"{room}/libdsr_check.so"])
+        judge_threads(report, fault, room)
+        if shutil.which("cargo"):
+            judge_rows(report, "Rust", fault or cargo(room), [f"{room}/target/debug/check-record"])
+        else:
+            say("Rust: skipped, since there is no cargo")
+            report.add(0, 0, len(ROWS))
+
+
+if __name__ == "__main__":
+    PARTS = {"languages": languages}
+    sys.exit(main(__doc__, PARTS, without_program=PARTS))
