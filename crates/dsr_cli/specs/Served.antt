@@ -19,7 +19,7 @@ use Rattle.dsr_run.specs.Run.{AreLogs}
 use Rattle.dsr_run.specs.Step.{Logs as LogsOfAll}
 use Rattle.dsr_mail.specs.Logs.{Logs, logs_of}
 use Rattle.dsr_hosts.specs.Causes.{CauseOf}
-use Rattle.dsr_hosts.specs.Posted.{AreAllOwed, AreAllPlanned}
+use Rattle.dsr_hosts.specs.Posted.{AreAllOwed, AreAllEager, AreAllPlanned}
 use Rattle.dsr_hosts.specs.Served.{HasAll}
 use Rattle.dsr_record.specs.Merge.{IsMerge, IsWhole}
 use Rattle.dsr_record.specs.Record.{Record}
@@ -77,14 +77,15 @@ abbrev pub IsEndOf : Script → Logs → Option Refusal → Type 0
 IsEndOf script logs None = ServesAll script logs
 IsEndOf script logs (Some cause) = CauseOf (λ actor. ⊥) script logs cause
 
--- the text spells a script that was served, which gave these logs, and ended so: loyal replicas posted to clients only what they were owed, and traitors
--- only what the script says
+-- the text spells a script that was served, which gave these logs, and ended so: loyal replicas were eager, and posted to clients only what these were
+-- owed; traitors posted only what the script says
 pub record HasService (text : List ℕ) (logs : Logs) (cause : Option Refusal) : Type 0 where
   pub script : Script
   pub spells : Spells text script
   pub shape_is : logs.shape ≡ script.shape
   pub right : AreRightLogs logs.shape (logs_of logs)
   pub owed : AreAllOwed logs
+  pub eager : AreAllEager logs
   pub planned : AreAllPlanned script logs
   pub ended : IsEndOf script logs cause
 

@@ -10,6 +10,8 @@ use Rattle.dsr_names.specs.declared.refusal.Refusal.TheVariants.{NoThread}
 use Rattle.dsr_script.specs.Script.{Script}
 use Rattle.dsr_boxes.specs.Pass.{SharedBoxes, Pass, IsPassOf}
 use Rattle.dsr_calls.specs.Calls.{GoesOn}
+use Rattle.dsr_run.specs.Eager.{IsEager}
+use Rattle.dsr_rounds.specs.Eagerness.{WasEager}
 use Rattle.dsr_rounds.specs.Ends.{HostEnd}
 use Rattle.dsr_rounds.specs.declared.end.End.{End}
 use Rattle.dsr_rounds.specs.declared.end.End.TheVariants.{Told, Fault}
@@ -19,7 +21,7 @@ use Rattle.dsr_hosts.specs.declared.any_seat.AnySeat.{AnySeat}
 use Rattle.dsr_hosts.specs.declared.any_seat.AnySeat.TheVariants.{Loyal, Traitor, OfClient}
 use Rattle.dsr_hosts.specs.declared.back.Back.{Back}
 use Rattle.dsr_hosts.specs.Causes.{ClientRefusal, IsUnserved, SeatRefusal}
-use Rattle.dsr_hosts.specs.Hosted.{ComesBack, ClientEnd, IsEnding, IsServed, HasPostedOwed, HasPostedPlanned, HasPostedWell}
+use Rattle.dsr_hosts.specs.Hosted.{ComesBack, ClientEnd, IsEnding, IsServed, HasPostedOwed, WasAlwaysEager, HasPostedPlanned, HasPostedWell}
 use Rattle.dsr_hosts.specs.Seats.{pass_of, IsSeatOf, IsAgain, IsBack}
 
 -- it is a seat of the mail
@@ -107,6 +109,15 @@ owed_all new old none answers =
     let all : new.log ≡ answers.added = answers.log ∙ (ap (λ l. answers.added ++ l) none ∙ append-nil answers.added) in
     subst (AreOwed new.shape []) (sym all)
     (subst (λ s. AreOwed s [] answers.added) (sym answers.shape) (subst (λ l. AreOwed old.shape l answers.added) none answers.owed))
+
+pub eager_all : (new old : Pass) → old.log ≡ [] → new.shape ≡ old.shape → new.actor ≡ old.actor → WasEager new old → WasAlwaysEager new
+eager_all new old none shape actor way =
+    let added = way.0 in
+    let all : new.log ≡ added = way.1 ∙ (ap (λ l. added ++ l) none ∙ append-nil added) in
+    subst (IsEager new.shape new.actor []) (sym all)
+    (subst (λ a. IsEager new.shape a [] added) (sym actor)
+    (subst (λ s. IsEager s old.actor [] added) (sym shape)
+    (subst (λ l. IsEager old.shape old.actor l added) none way.2)))
 
 pub planned_all : (script : Script) (new old : Pass) → old.log ≡ [] → Follows script old new → HasPostedPlanned script new
 planned_all script new old none follows =

@@ -16,6 +16,7 @@ use Rattle.dsr_names.proofs.PlaceLemmas.{actor_of_place}
 use Rattle.dsr_client.specs.State.{accepted}
 use Rattle.dsr_script.specs.Script.{Script, ops_of}
 use Rattle.dsr_run.specs.Run.{IsTraitor}
+use Rattle.dsr_run.specs.Eager.{IsEager}
 use Rattle.dsr_boxes.specs.Pass.{SharedBoxes, Pass, IsPassOf, new_pass}
 use Rattle.dsr_mail.specs.Logs.{Logs, logs_of}
 use Rattle.dsr_mail.specs.Seats.{is_loyal_replica, is_traitor_replica, is_client, actor_if, actors_below, actors_of, AreSeatsOf}
@@ -27,8 +28,8 @@ use Rattle.dsr_rounds.specs.Traitors.{ArePlanned}
 use Rattle.dsr_hosts.specs.declared.ends.Fault.{Fault}
 use Rattle.dsr_hosts.specs.declared.ran.Ran.{Ran}
 use Rattle.dsr_hosts.specs.Causes.{CauseOf, HasUnserved, IsUnserved}
-use Rattle.dsr_hosts.specs.Hosted.{IsServed, HasPostedOwed, HasPostedPlanned}
-use Rattle.dsr_hosts.specs.Posted.{AreAllOwed, AreAllPlanned}
+use Rattle.dsr_hosts.specs.Hosted.{IsServed, HasPostedOwed, WasAlwaysEager, HasPostedPlanned}
+use Rattle.dsr_hosts.specs.Posted.{AreAllOwed, AreAllEager, AreAllPlanned}
 use Rattle.dsr_hosts.specs.Ranks.{cause_of}
 use Rattle.dsr_hosts.specs.Returns.{WasRefused, AreSomeUnserved, HaveRun}
 use Rattle.dsr_hosts.specs.Seats.{IsNewSeat, IsSeatOf, AreNew, AreAgain, all_of}
@@ -134,6 +135,22 @@ all_owed mail seats logs are owed same own p loyal =
     let log : seat.log ≡ logs_of logs (Replica p) = sym (own seat among) ∙ ap (logs_of logs) found.2 in
     subst (λ s. AreOwed s [] (logs_of logs (Replica p))) (here_is.1 ∙ sym same) (subst (AreOwed seat.shape []) log posted)
 
+-- where each seat of a loyal replica was always eager, so was each loyal replica
+pub all_eager : (mail : SharedBoxes) (seats : Seats) (logs : Logs) → AreSeatsOf mail is_loyal_replica seats.replicas.items
+    → All WasAlwaysEager seats.replicas.items → logs.shape ≡ mail.shape
+    → ((seat : Pass) → In seat (all_of seats) → logs_of logs seat.actor ≡ seat.log) → AreAllEager logs
+all_eager mail seats logs are eager same own p loyal =
+    let honest : IsLoyal mail.shape (Replica p) = subst (λ s. IsLoyal s (Replica p)) same loyal in
+    let found = seat_of_kind mail is_loyal_replica seats.replicas.items (Replica p) are honest.0 (ap not honest.1) in
+    let seat = found.0 in
+    let among : In seat (all_of seats) = In-append_left seat seats.replicas.items (seats.traitors.items ++ seats.clients.items) found.1 in
+    let here_is : IsPassOf mail seat = In-all (IsPassOf mail) seat seats.replicas.items are.0 found.1 in
+    let way : WasAlwaysEager seat = In-all WasAlwaysEager seat seats.replicas.items eager found.1 in
+    let log : seat.log ≡ logs_of logs (Replica p) = sym (own seat among) ∙ ap (logs_of logs) found.2 in
+    subst (λ s. IsEager s (Replica p) [] (logs_of logs (Replica p))) (here_is.1 ∙ sym same)
+    (subst (λ a. IsEager seat.shape a [] (logs_of logs (Replica p))) found.2
+    (subst (IsEager seat.shape seat.actor []) log way))
+
 -- and where each seat of a traitor has posted only what the script says, so has each traitor
 pub all_planned : (mail : SharedBoxes) (script : Script) (seats : Seats) (logs : Logs) → AreSeatsOf mail is_traitor_replica seats.traitors.items
     → All (HasPostedPlanned script) seats.traitors.items → logs.shape ≡ mail.shape
@@ -155,6 +172,9 @@ all_planned mail script seats logs are planned same own p traitor =
 -- where there are no entries, nothing was posted
 pub none_owed : (logs : Logs) → ((a : Actor) → logs_of logs a ≡ []) → AreAllOwed logs
 none_owed logs none p loyal = subst (AreOwed logs.shape []) (sym (none (Replica p))) tt
+
+pub none_eager : (logs : Logs) → ((a : Actor) → logs_of logs a ≡ []) → AreAllEager logs
+none_eager logs none p loyal = subst (IsEager logs.shape (Replica p) []) (sym (none (Replica p))) tt
 
 pub none_planned : (script : Script) (logs : Logs) → ((a : Actor) → logs_of logs a ≡ []) → AreAllPlanned script logs
 none_planned script logs none p traitor = subst (ArePlanned script logs.shape (Replica p) []) (sym (none (Replica p))) tt

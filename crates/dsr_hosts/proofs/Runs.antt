@@ -18,7 +18,7 @@ use Rattle.dsr_hosts.specs.declared.any_seat.AnySeat.TheVariants.{Loyal, Traitor
 use Rattle.dsr_hosts.specs.declared.ends.Ends.{Ends}
 use Rattle.dsr_hosts.specs.declared.ends.Fault.{Fault as AFault}
 use Rattle.dsr_hosts.specs.declared.ran.Ran.{Ran}
-use Rattle.dsr_hosts.specs.Hosted.{IsServed, IsEnding, HasPostedOwed, HasPostedPlanned, HasPostedWell}
+use Rattle.dsr_hosts.specs.Hosted.{IsServed, IsEnding, HasPostedOwed, WasAlwaysEager, HasPostedPlanned, HasPostedWell}
 use Rattle.dsr_hosts.specs.Ranks.{first_with, ends_with}
 use Rattle.dsr_hosts.specs.Returns.{WasRefused, AreSomeUnserved, HaveRun}
 use Rattle.dsr_hosts.specs.Seats.{pass_of, is_of_client, IsNewSeat, IsSeatOf, IsAgain, IsBack, HasLast, HasRoomFor, SameRoom, AreNew, AreNone, AreAgain, all_of}
@@ -187,7 +187,8 @@ come_on may mail script all others ran after (Loyal seat) (Loyal again) end last
       (in_longer ran.seats.replicas.items ran.seats.traitors.items ran.seats.clients.items after.seats.replicas.items after.seats.traitors.items after.seats.clients.items
       (in_more _ _ again last'.0) (in_same _ _ last'.1) (in_same _ _ last'.2))
       (in_first again after.seats.replicas.items after.seats.traitors.items after.seats.clients.items (in_last _ _ again last'.0)) ends run.refused (first_after ran.ends after.ends rank false end is);
-  owed = All-more HasPostedOwed ran.seats.replicas.items _ again run.owed posted last'.0;
+  owed = All-more HasPostedOwed ran.seats.replicas.items _ again run.owed posted.0 last'.0;
+  eager = All-more WasAlwaysEager ran.seats.replicas.items _ again run.eager posted.1 last'.0;
   planned = subst (All (HasPostedPlanned script)) (sym last'.1) run.planned;
 }
 come_on may mail script all others ran after (Loyal seat) (Traitor again) end last room run same ends posted last' room' rank is = absurd same
@@ -206,6 +207,7 @@ come_on may mail script all others ran after (Traitor seat) (Traitor again) end 
       (in_same _ _ last'.1) (in_more _ _ again last'.0) (in_same _ _ last'.2))
       (in_second again after.seats.replicas.items after.seats.traitors.items after.seats.clients.items (in_last _ _ again last'.0)) ends run.refused (first_after ran.ends after.ends rank false end is);
   owed = subst (All HasPostedOwed) (sym last'.1) run.owed;
+  eager = subst (All WasAlwaysEager) (sym last'.1) run.eager;
   planned = All-more (HasPostedPlanned script) ran.seats.traitors.items _ again run.planned posted last'.0;
 }
 come_on may mail script all others ran after (Traitor seat) (OfClient again) end last room run same ends posted last' room' rank is = absurd same
@@ -225,6 +227,7 @@ come_on may mail script all others ran after (OfClient seat) (OfClient again) en
       (in_same _ _ last'.1) (in_same _ _ last'.2) (in_more _ _ again last'.0))
       (in_third again after.seats.replicas.items after.seats.traitors.items after.seats.clients.items (in_last _ _ again last'.0)) ends run.refused (first_after ran.ends after.ends rank true end is);
   owed = subst (All HasPostedOwed) (sym last'.1) run.owed;
+  eager = subst (All WasAlwaysEager) (sym last'.1) run.eager;
   planned = subst (All (HasPostedPlanned script)) (sym last'.2) run.planned;
 }
 
@@ -294,5 +297,6 @@ none_run may mail script all none ends are room first served = record {
   unserved = λ no less. absurd (true≢false (sym served ∙ less));
   refused = subst (λ o. IfSome o (λ fault. WasRefused may script (all_of none) fault.refusal)) (sym first) tt;
   owed = subst (All HasPostedOwed) (sym are.replicas.1) (All-nil HasPostedOwed);
+  eager = subst (All WasAlwaysEager) (sym are.replicas.1) (All-nil WasAlwaysEager);
   planned = subst (All (HasPostedPlanned script)) (sym are.traitors.1) (All-nil (HasPostedPlanned script));
 }

@@ -2,6 +2,7 @@
 use Rattle.std.specs.Prelude.{[], Option, None, Some}
 use Rattle.dsr_names.specs.declared.actor.Actor.{Actor}
 use Rattle.dsr_script.specs.Script.{Script, ops_of}
+use Rattle.dsr_run.specs.Eager.{IsEager}
 use Rattle.dsr_boxes.specs.Pass.{SharedBoxes, Pass}
 use Rattle.dsr_calls.specs.Calls.{number_of}
 use Rattle.dsr_rounds.specs.Replicas.{AreOwed}
@@ -46,13 +47,17 @@ IsEnding may script seat (Some (Fault refusal)) = SeatRefusal may script (pass_o
 abbrev pub HasPostedOwed : Pass → Type 0
 HasPostedOwed seat = AreOwed seat.shape [] seat.log
 
+-- a replica's seat was eager from its first entry on
+abbrev pub WasAlwaysEager : Pass → Type 0
+WasAlwaysEager seat = IsEager seat.shape seat.actor [] seat.log
+
 -- a traitor's has posted only what the script says
 abbrev pub HasPostedPlanned : Script → Pass → Type 0
 HasPostedPlanned script seat = ArePlanned script seat.shape seat.actor [] seat.log
 
 -- a seat of any kind has posted what is asked of its kind
 abbrev pub HasPostedWell : Script → AnySeat → Type 0
-HasPostedWell script (Loyal seat) = HasPostedOwed seat
+HasPostedWell script (Loyal seat) = HasPostedOwed seat × WasAlwaysEager seat
 HasPostedWell script (Traitor seat) = HasPostedPlanned script seat
 HasPostedWell script (OfClient seat) = Unit {0}
 

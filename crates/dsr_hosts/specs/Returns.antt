@@ -8,7 +8,7 @@ use Rattle.dsr_boxes.specs.Pass.{SharedBoxes, Pass}
 use Rattle.dsr_mail.specs.declared.seats.Seats.{Seats}
 use Rattle.dsr_hosts.specs.declared.ran.Ran.{Ran}
 use Rattle.dsr_hosts.specs.Causes.{IsUnserved, SeatRefusal}
-use Rattle.dsr_hosts.specs.Hosted.{IsServed, HasPostedOwed, HasPostedPlanned}
+use Rattle.dsr_hosts.specs.Hosted.{IsServed, HasPostedOwed, WasAlwaysEager, HasPostedPlanned}
 use Rattle.dsr_hosts.specs.Seats.{AreAgain, SameRoom, all_of}
 
 -- the host of one of the seats was refused with this
@@ -29,4 +29,5 @@ pub record HaveRun (may : Actor → Type 0) (mail : SharedBoxes) (script : Scrip
   pub unserved : ran.ends.first ≡ None → ran.ends.served ≡ false → AreSomeUnserved script ran.seats.clients.items
   pub refused : IfSome ran.ends.first (λ fault. WasRefused may script (all_of ran.seats) fault.refusal)
   pub owed : All HasPostedOwed ran.seats.replicas.items
+  pub eager : All WasAlwaysEager ran.seats.replicas.items
   pub planned : All (HasPostedPlanned script) ran.seats.traitors.items

@@ -8,7 +8,7 @@ ghost use Rattle.dsr_boxes.specs.Pass.{new_pass};
 ghost use Rattle.dsr_mail.specs.Logs.{logs_of};
 ghost use Rattle.dsr_mail.specs.Seats.{is_loyal_replica, is_traitor_replica, is_client, actors_of};
 ghost use Rattle.dsr_hosts.specs.Causes.{CauseOf};
-ghost use Rattle.dsr_hosts.specs.Posted.{AreAllOwed, AreAllPlanned};
+ghost use Rattle.dsr_hosts.specs.Posted.{AreAllOwed, AreAllEager, AreAllPlanned};
 ghost use Rattle.dsr_hosts.specs.Served.{HasAll};
 
 use crate::threads::run_all;
@@ -40,7 +40,8 @@ pub struct ServeFault {
 /// post is past a limit, `Stopped` where the gate answered false, `Unanswered` where a client had no reply and the replicas had ended, so that it
 /// accepted fewer replies than it has operations, `NoMemory` where memory ran out; or by `NoThread`, where a thread could not be started. The logs
 /// until then come with the cause; there are no entries in them where the mail could not be opened. They are always the logs of a run. In them loyal
-/// replicas posted to clients only what those were owed, and traitors only what the script says.
+/// replicas began each of their own slots with the requests whose turn it was, and posted to clients only what those were owed; traitors posted only
+/// what the script says.
 pub fn serve<R: Threads + Wait + Sync, G: Gate + Sync>(
     rt: &R,
     alloc: Global,
@@ -51,10 +52,12 @@ pub fn serve<R: Threads + Wait + Sync, G: Gate + Sync>(
     ensures run { IfOk result (λ logs. AreLogs logs.shape (logs_of logs)) }
     ensures served { IfOk result (λ logs. (c : ℕ) → c < logs.shape.m → HasAll logs.shape c (logs_of logs (ClientNumber c)) (ops_of script.now c)) }
     ensures owed { IfOk result (λ logs. AreAllOwed logs) }
+    ensures eager { IfOk result (λ logs. AreAllEager logs) }
     ensures planned { IfOk result (λ logs. AreAllPlanned script.now logs) }
     ensures fault_shape { IfErr result (λ fault. fault.logs.shape ≡ script.now.shape) }
     ensures fault_run { IfErr result (λ fault. AreLogs fault.logs.shape (logs_of fault.logs)) }
     ensures fault_owed { IfErr result (λ fault. AreAllOwed fault.logs) }
+    ensures fault_eager { IfErr result (λ fault. AreAllEager fault.logs) }
     ensures fault_planned { IfErr result (λ fault. AreAllPlanned script.now fault.logs) }
     ensures cause { IfErr result (λ fault. CauseOf (G.may_refuse gate.now) script.now fault.logs fault.cause) }
 {

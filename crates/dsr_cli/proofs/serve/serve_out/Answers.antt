@@ -13,6 +13,6 @@ returns-clause-served g c =
       right = λ client inside. law.replies shape logs few are client;
       legal = law.legal shape logs;
     })
-    c.serve-ended.result c.service_of.result.logs c.service_of.result.cause came.shape came.run came.served came.owed came.planned
-    came.fault_shape came.fault_run came.fault_owed came.fault_planned came.cause
+    c.serve-ended.result c.service_of.result.logs c.service_of.result.cause came.shape came.run came.served came.owed came.eager came.planned
+    came.fault_shape came.fault_run came.fault_owed came.fault_eager came.fault_planned came.cause
     is.served is.fault

@@ -1,5 +1,5 @@
 use Rattle.dsr_mail.specs.Seats.{is_loyal_replica, is_traitor_replica, is_client}
-use Rattle.dsr_hosts.proofs.Closing.{are_new, are_seats_of, all_served, all_owed, all_planned, none_owed, none_planned, some_cause, none_cause}
+use Rattle.dsr_hosts.proofs.Closing.{are_new, are_seats_of, all_served, all_owed, all_eager, all_planned, none_owed, none_eager, none_planned, some_cause, none_cause}
 use Rattle.dsr_hosts.proofs.serving.serve.Goals as goal
 
 pub run_all-ran-requires-after_bounds : goal.run_all-ran-requires-after_bounds
@@ -40,6 +40,12 @@ returns-in-None-clause-owed g c =
     (are_seats_of c.in-Ok.opened.0 is_loyal_replica c.in-Ok.opened.1.replicas.items c.run_all-ran.result.seats.replicas.items
     c.in-Ok.ensures.replicas c.run_all-ran.ensures.replicas) c.run_all-ran.ensures.owed c.close-logs.ensures.shape c.close-logs.ensures.own
 
+pub returns-in-None-clause-eager : goal.returns-in-None-clause-eager
+returns-in-None-clause-eager g c =
+    all_eager c.in-Ok.opened.0 c.run_all-ran.result.seats c.close-logs.result
+    (are_seats_of c.in-Ok.opened.0 is_loyal_replica c.in-Ok.opened.1.replicas.items c.run_all-ran.result.seats.replicas.items
+    c.in-Ok.ensures.replicas c.run_all-ran.ensures.replicas) c.run_all-ran.ensures.eager c.close-logs.ensures.shape c.close-logs.ensures.own
+
 pub returns-in-None-clause-planned : goal.returns-in-None-clause-planned
 returns-in-None-clause-planned g c =
     all_planned c.in-Ok.opened.0 c.args.script.now c.run_all-ran.result.seats c.close-logs.result
@@ -52,6 +58,12 @@ returns-in-Some-clause-fault_owed g c =
     (are_seats_of c.in-Ok.opened.0 is_loyal_replica c.in-Ok.opened.1.replicas.items c.run_all-ran.result.seats.replicas.items
     c.in-Ok.ensures.replicas c.run_all-ran.ensures.replicas) c.run_all-ran.ensures.owed c.close-logs.ensures.shape c.close-logs.ensures.own
 
+pub returns-in-Some-clause-fault_eager : goal.returns-in-Some-clause-fault_eager
+returns-in-Some-clause-fault_eager g c =
+    all_eager c.in-Ok.opened.0 c.run_all-ran.result.seats c.close-logs.result
+    (are_seats_of c.in-Ok.opened.0 is_loyal_replica c.in-Ok.opened.1.replicas.items c.run_all-ran.result.seats.replicas.items
+    c.in-Ok.ensures.replicas c.run_all-ran.ensures.replicas) c.run_all-ran.ensures.eager c.close-logs.ensures.shape c.close-logs.ensures.own
+
 pub returns-in-Some-clause-fault_planned : goal.returns-in-Some-clause-fault_planned
 returns-in-Some-clause-fault_planned g c =
     all_planned c.in-Ok.opened.0 c.args.script.now c.run_all-ran.result.seats c.close-logs.result
@@ -60,6 +72,9 @@ returns-in-Some-clause-fault_planned g c =
 
 pub returns-in-Err-clause-fault_owed : goal.returns-in-Err-clause-fault_owed
 returns-in-Err-clause-fault_owed g c = none_owed c.empty-logs.result c.empty-logs.ensures.none
+
+pub returns-in-Err-clause-fault_eager : goal.returns-in-Err-clause-fault_eager
+returns-in-Err-clause-fault_eager g c = none_eager c.empty-logs.result c.empty-logs.ensures.none
 
 pub returns-in-Err-clause-fault_planned : goal.returns-in-Err-clause-fault_planned
 returns-in-Err-clause-fault_planned g c = none_planned c.args.script.now c.empty-logs.result c.empty-logs.ensures.none
