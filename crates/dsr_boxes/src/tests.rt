@@ -337,6 +337,45 @@ fn beside_a_stopped_taker_each_other_box_can_be_claimed(rt: HostRuntime) -> Resu
     claim_beside_a_taker(&rt, rt.alloc(), &client(1))
 }
 
+/// Has the loyal replicas and the clients use the boxes that a poster, stopped after its claim of the box to the second client, leaves to them. It had
+/// posted to each replica and to the first client. Fails if a box does not work, or if the second client can take what was claimed alone.
+fn work_beside_a_poster(
+    alloc: Global,
+    boxes: &SharedBoxes,
+    one: &mut Pass,
+    two: &mut Pass,
+    first: &mut Pass,
+    second: &mut Pass,
+) -> Result<(), Fail>
+    requires shape { boxes.now.shape ≡ shape_of 3 1 2 1 }
+    requires one { one.old ≡ new_pass boxes.now (Replica 1) }
+    requires two { two.old ≡ new_pass boxes.now (Replica 2) }
+    requires first { first.old ≡ new_pass boxes.now (Client 0) }
+    requires second { second.old ≡ new_pass boxes.now (Client 1) }
+{
+    take_nothing(boxes, second, &replica(0))?;
+    make_round(alloc, boxes, one, two)?;
+    tell(alloc, boxes, first, &client(1))?;
+    tell(alloc, boxes, second, &client(0))?;
+    take(boxes, first, &replica(0))?;
+    take(boxes, first, &client(1))?;
+    take(boxes, second, &client(0))?;
+    take_nothing(boxes, second, &replica(0))
+}
+
+/// Has the traitor post to each replica and to the first client.
+fn plant_for_later(alloc: Global, boxes: &SharedBoxes, traitor: &mut Pass) -> Result<(), Fail>
+    requires boxes { IsPassOf boxes.now traitor.old }
+    requires shape { traitor.old.shape ≡ shape_of 3 1 2 1 }
+    requires traitor { traitor.old.actor ≡ Replica 0 }
+    requires few { length traitor.old.log < 100 }
+    ensures pass { OnOk result (IsPassOf boxes.now traitor.new) }
+{
+    plant_round(alloc, boxes, traitor)?;
+    plant(alloc, boxes, traitor, &client(0))?;
+    Ok(())
+}
+
 #[test]
 fn a_poster_stopped_after_its_claim_stops_one_box(rt: HostRuntime) -> Result<(), Fail> {
     let Small {
@@ -347,20 +386,47 @@ fn a_poster_stopped_after_its_claim_stops_one_box(rt: HostRuntime) -> Result<(),
         mut first,
         mut second,
     } = open_small(rt.alloc())?;
-    // What the traitor posts before it stops is taken after that.
-    plant_round(rt.alloc(), &boxes, &mut traitor)?;
-    plant(rt.alloc(), &boxes, &mut traitor, &client(0))?;
+    plant_for_later(rt.alloc(), &boxes, &mut traitor)?;
     let Pass { mut token, actor } = traitor;
     assert!(rt; boxes.claim(&mut token, &actor, &client(1)));
-    take_nothing(&boxes, &mut second, &replica(0))?;
-    make_round(rt.alloc(), &boxes, &mut one, &mut two)?;
-    tell(rt.alloc(), &boxes, &mut first, &client(1))?;
-    tell(rt.alloc(), &boxes, &mut second, &client(0))?;
-    take(&boxes, &mut first, &replica(0))?;
-    take(&boxes, &mut first, &client(1))?;
-    take(&boxes, &mut second, &client(0))?;
-    take_nothing(&boxes, &mut second, &replica(0))?;
-    Ok(())
+    // What the traitor posted before it stopped is taken after that.
+    work_beside_a_poster(
+        rt.alloc(),
+        &boxes,
+        &mut one,
+        &mut two,
+        &mut first,
+        &mut second,
+    )
+}
+
+/// Has the others use the boxes that the first client, stopped after its fetch from the traitor, leaves to them. It had told the second client. Fails
+/// if a box does not work, or if the traitor can post again into the box from which was fetched.
+fn work_beside_a_taker(
+    alloc: Global,
+    boxes: &SharedBoxes,
+    traitor: &mut Pass,
+    one: &mut Pass,
+    two: &mut Pass,
+    second: &mut Pass,
+) -> Result<(), Fail>
+    requires shape { boxes.now.shape ≡ shape_of 3 1 2 1 }
+    requires traitor { traitor.old ≡ with_entry (new_pass boxes.now (Replica 0)) (Post (Client 0) Empty) }
+    requires one { one.old ≡ new_pass boxes.now (Replica 1) }
+    requires two { two.old ≡ new_pass boxes.now (Replica 2) }
+    requires second { second.old ≡ new_pass boxes.now (Client 1) }
+{
+    plant_nothing(alloc, boxes, traitor, &client(0))?;
+    plant_round(alloc, boxes, traitor)?;
+    plant(alloc, boxes, traitor, &client(1))?;
+    make_round(alloc, boxes, one, two)?;
+    take_round(boxes, traitor)?;
+    tell(alloc, boxes, second, &client(0))?;
+    take(boxes, second, &client(0))?;
+    take(boxes, second, &replica(0))?;
+    // What was taken leaves an empty box.
+    plant_round(alloc, boxes, traitor)?;
+    plant_nothing(alloc, boxes, traitor, &client(0))
 }
 
 #[test]
@@ -374,22 +440,18 @@ fn a_taker_stopped_after_its_fetch_stops_one_box(rt: HostRuntime) -> Result<(), 
         mut second,
     } = open_small(rt.alloc())?;
     plant(rt.alloc(), &boxes, &mut traitor, &client(0))?;
-    // What the client posts before it stops is taken after that.
     tell(rt.alloc(), &boxes, &mut first, &client(1))?;
     let Pass { mut token, actor } = first;
     assert!(rt; boxes.fetch(&mut token, &actor, &replica(0)));
-    plant_nothing(rt.alloc(), &boxes, &mut traitor, &client(0))?;
-    plant_round(rt.alloc(), &boxes, &mut traitor)?;
-    plant(rt.alloc(), &boxes, &mut traitor, &client(1))?;
-    make_round(rt.alloc(), &boxes, &mut one, &mut two)?;
-    take_round(&boxes, &mut traitor)?;
-    tell(rt.alloc(), &boxes, &mut second, &client(0))?;
-    take(&boxes, &mut second, &client(0))?;
-    take(&boxes, &mut second, &replica(0))?;
-    // What was taken leaves an empty box.
-    plant_round(rt.alloc(), &boxes, &mut traitor)?;
-    plant_nothing(rt.alloc(), &boxes, &mut traitor, &client(0))?;
-    Ok(())
+    // What the client posted before it stopped is taken after that.
+    work_beside_a_taker(
+        rt.alloc(),
+        &boxes,
+        &mut traitor,
+        &mut one,
+        &mut two,
+        &mut second,
+    )
 }
 
 /// Compares how the box of the traitor to the first client looks at its two ends.
@@ -468,6 +530,19 @@ fn looks_so(boxes: &SharedBoxes, full: bool) -> Result<(), Fail>
     }
 }
 
+/// Has the traitor post to the first client. Fails unless the box looks empty before and full after that.
+fn plant_into_an_empty_box(alloc: Global, boxes: &SharedBoxes, traitor: &mut Pass) -> Result<(), Fail>
+    requires boxes { IsPassOf boxes.now traitor.old }
+    requires shape { traitor.old.shape ≡ shape_of 3 1 2 1 }
+    requires traitor { traitor.old.actor ≡ Replica 0 }
+    requires few { length traitor.old.log < 1000 }
+    ensures posted { OnOk result (traitor.new ≡ with_entry traitor.old (Post (Client 0) Empty)) }
+{
+    looks_so(boxes, false)?;
+    plant(alloc, boxes, traitor, &client(0))?;
+    looks_so(boxes, true)
+}
+
 #[test]
 fn the_last_run_goes_on_from_each_moment(rt: HostRuntime) -> Result<(), Fail> {
     let Small {
@@ -479,9 +554,7 @@ fn the_last_run_goes_on_from_each_moment(rt: HostRuntime) -> Result<(), Fail> {
         mut second,
     } = open_small(rt.alloc())?;
     let mut moment = boxes.moment();
-    looks_so(&boxes, false)?;
-    plant(rt.alloc(), &boxes, &mut traitor, &client(0))?;
-    looks_so(&boxes, true)?;
+    plant_into_an_empty_box(rt.alloc(), &boxes, &mut traitor)?;
     let told = tell_in_order(rt.alloc(), &boxes, &mut first, &mut second)?;
     moment.meet(&boxes, told);
     let mut returned = boxes.none_returned();
