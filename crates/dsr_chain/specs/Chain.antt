@@ -13,7 +13,7 @@ pub record Chain : Type 0 where
   pub value : SlotValue
   pub signatures : List Signature
 
--- the chain of these three
+-- the chain with this slot, value and signatures
 abbrev pub chain_of : ℕ → SlotValue → List Signature → Chain
 chain_of slot value signatures = record { slot = slot; value = value; signatures = signatures }
 
@@ -21,15 +21,15 @@ chain_of slot value signatures = record { slot = slot; value = value; signatures
 abbrev pub signers_of : List Signature → List Actor
 signers_of signatures = map (λ s. s.signer) signatures
 
--- what is signed after these: the slot, the content of its value, and they
+-- the link that is signed after these signers: the slot, the content of its value, and the signers
 abbrev pub link_after : ℕ → SlotValue → List Actor → Statement
 link_after slot value before = Link slot (content value) before
 
--- the chain with one signature more, by this actor, on the link that fits there
+-- the chain with one more signature, by this actor, on the link that fits there
 abbrev pub extended : Chain → Actor → Chain
 extended chain signer =
     record chain { signatures = chain.signatures ++ signed signer (link_after chain.slot chain.value (signers_of chain.signatures)) ∷ [] }
 
--- the chain that has this actor's signature alone
+-- the chain with this actor's signature alone
 abbrev pub started : ℕ → SlotValue → Actor → Chain
 started slot value signer = extended (chain_of slot value []) signer

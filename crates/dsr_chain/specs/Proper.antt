@@ -24,13 +24,14 @@ sender_of shape slot = Replica (sender shape slot)
 abbrev pub fitting_at : Chain → ℕ → Statement
 fitting_at chain place = link_after chain.slot chain.value (signers_of (take place chain.signatures))
 
--- a request of a client of the shape, beside which stands that client's signature on that request
+-- the client is in the shape, and the signature beside its request is that client's on that request
 pub record IsAsked (shape : Shape) (s : SignedRequest) : Type 0 where
   pub client : s.request.client < shape.m
   pub signature : s.signature ≡ signed (Client s.request.client) (Ask s.request)
 
--- a proper chain for a round of a slot: it is of that slot and has as many signatures as the round's number, by
--- distinct replicas of the shape, the sender first, each on the statement that fits its place; and each request was asked
+-- a proper chain for a round of a slot: it is for that slot, and has as many signatures as the round's number, by
+-- distinct replicas of the shape, the sender first, each on the statement that fits its place; and each request is signed
+-- by its client
 pub record IsProper (shape : Shape) (slot round : ℕ) (chain : Chain) : Type 0 where
   pub of_slot : chain.slot ≡ slot
   pub count : length chain.signatures ≡ round

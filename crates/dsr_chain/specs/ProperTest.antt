@@ -27,7 +27,7 @@ same_content = option_eq requests_eq
 abbrev pub has_signed : Actor → List Signature → Bool
 has_signed a signatures = list_any (λ s. actor_eq s.signer a) signatures
 
--- whether this actor signed the chain
+-- whether this actor is one of the chain's signers
 abbrev pub is_signer : Actor → Chain → Bool
 is_signer a chain = has_signed a chain.signatures
 
@@ -36,23 +36,23 @@ abbrev pub begins_with : Actor → List Actor → Bool
 begins_with a [] = false
 begins_with a (b ∷ rest) = actor_eq b a
 
--- whether it is a replica of the shape
+-- whether the actor is a replica of the shape
 abbrev pub is_replica : Shape → Actor → Bool
 is_replica shape (Replica r) = nat_lt r shape.n
 is_replica shape (Client c) = false
 
--- whether no actor stands twice in the list
+-- whether no actor is in the list twice
 abbrev pub are_distinct : List Actor → Bool
 are_distinct [] = true
 are_distinct (a ∷ rest) = not (list_any (λ b. actor_eq b a) rest) && are_distinct rest
 
--- whether each signature is on the link after the signers before it, the first on the link after these
+-- whether each signature is on the link after the signers before it, if `before` signed before the first
 abbrev pub links_fit : ℕ → SlotValue → List Signature → List Actor → Bool
 links_fit slot value [] before = true
 links_fit slot value (s ∷ rest) before =
     statement_eq s.statement (link_after slot value before) && links_fit slot value rest (before ++ s.signer ∷ [])
 
--- whether it is a request of a client of the shape with that client's signature on it
+-- whether the request's client is in the shape, and the signature beside it is that client's on it
 abbrev pub is_asked : Shape → SignedRequest → Bool
 is_asked shape s = nat_lt s.request.client shape.m && signature_eq s.signature (signed (Client s.request.client) (Ask s.request))
 

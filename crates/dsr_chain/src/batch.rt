@@ -5,7 +5,7 @@ use crate::signed_request::SignedRequest;
 use dsr_base::{Exact, Few};
 use dsr_request::MOST_REQUESTS;
 
-/// A list of 1 to 8 signed requests, of fixed size: it is copied without allocating.
+/// A list of 1 to 8 signed requests, of fixed size, copied without allocating.
 pub type Batch = Few<SignedRequest, MOST_REQUESTS>;
 
 impl Exact for SignedRequest {

@@ -45,7 +45,7 @@ impl Chain {
     ghost use Rattle.dsr_chain.specs.Faults.{HasMisfit};
     ghost use Rattle.dsr_chain.specs.Support.Signatures.{signatures_in, AreKept};
 
-    /// The chain of this value with the key's signature alone. `NoMemory` where memory runs out.
+    /// Creates the chain of this value with the key's signature alone. `NoMemory` if memory runs out.
     pub fn start(alloc: Global, slot: u64, value: SlotValue, key: &Key) -> Result<Chain, Refusal>
         ensures started { IfOk result (λ chain. chain ≡ started slot value key.now) }
         ensures refusal { IsOkUnless result Refusal.NoMemory }
@@ -53,8 +53,8 @@ impl Chain {
         Chain::start_with(alloc, slot, value.signed(), key)
     }
 
-    /// The chain with the key's signature alone of the value that has these signed requests, idle where there are none. Requires
-    /// that they are at most 8. `NoMemory` where memory runs out.
+    /// Creates the chain whose value has these signed requests (idle if there are none), with the key's signature alone.
+    /// Requires at most 8 of them. `NoMemory` if memory runs out.
     pub fn start_with(
         alloc: Global,
         slot: u64,
@@ -78,9 +78,8 @@ impl Chain {
         )
     }
 
-    /// The chain with the key's signature put at its end, on the link that fits there. Requires that it has
-    /// fewer than 16 signatures. The chain itself comes back with `NoMemory`, where memory runs out
-    /// or one handle more is refused.
+    /// Puts the key's signature, on the link that fits there, at the end of the chain. Requires fewer than 16
+    /// signatures. If memory runs out or one more handle is refused, gives the chain back with `NoMemory`.
     pub fn extend(self, alloc: Global, key: &Key) -> Result<Chain, (Chain, Refusal)>
         requires { length self.signatures < 16 }
         ensures extended { IfOk result (λ chain. chain ≡ extended self key.now) }
@@ -93,8 +92,8 @@ impl Chain {
         }
     }
 
-    /// The chain of these parts, whatever they are. Requires that there are at most 16 signatures. `NoMemory` where
-    /// memory runs out: then the list of signatures is gone.
+    /// Makes a chain of these parts without checking them. Requires at most 16 signatures. `NoMemory` if memory runs
+    /// out: then the list of signatures is dropped.
     pub fn of(
         alloc: Global,
         slot: u64,
@@ -109,7 +108,7 @@ impl Chain {
         Chain::of_shared(alloc, slot, value, signatures)
     }
 
-    /// The same chain once more. It shares what this one holds. `NoMemory` where one handle more is refused.
+    /// Returns a copy, which shares what this chain holds. `NoMemory` if one more handle is refused.
     pub fn try_copy(&self) -> Result<Chain, Refusal>
         ensures same { IfOk result (λ chain. chain ≡ self.now) }
         ensures refusal { IsOkUnless result Refusal.NoMemory }
@@ -120,28 +119,28 @@ impl Chain {
         }
     }
 
-    /// The slot that the chain is for.
+    /// Returns the slot that the chain is for.
     pub fn slot(&self) -> u64
         ensures { result ≡ self.now.slot }
     {
         self.body.slot
     }
 
-    /// The value that was signed.
+    /// Returns the value that was signed.
     pub fn value(&self) -> SlotValue
         ensures { result ≡ self.now.value }
     {
         self.body.value.value()
     }
 
-    /// The requests of the value, without the signatures beside them; `None` where it is idle.
+    /// Returns the value's requests without the signatures beside them, or `None` if it is idle.
     pub fn content(&self) -> Option<Requests>
         ensures { result ≡ content self.now.value }
     {
         self.body.value.content()
     }
 
-    /// How many signatures there are, at most 16.
+    /// Returns the number of signatures, at most 16.
     pub fn signature_count(&self) -> usize
         ensures same { result ≡ length self.now.signatures }
         ensures few { result ≤ 16 }
@@ -152,7 +151,7 @@ impl Chain {
         }
     }
 
-    /// The signature at this place, counted from 0. Requires that there is one.
+    /// Returns the signature at `place`, counted from 0. Requires that there is one.
     pub fn signature(&self, place: usize) -> Signature
         requires { place < length self.now.signatures }
         ensures { slice_get self.now.signatures place ≡ Some result }
@@ -163,7 +162,7 @@ impl Chain {
         }
     }
 
-    /// Who signed, in their order.
+    /// Returns the signers, in the order in which they signed.
     pub fn signers(&self) -> Signers
         ensures { result ≡ signers_in self.now.signatures }
     {
@@ -173,7 +172,7 @@ impl Chain {
         }
     }
 
-    /// The signed requests of the value, at most 8, none where it is idle.
+    /// Returns the value's signed requests: at most 8, none if it is idle.
     pub fn signed(&self) -> &[SignedRequest]
         ensures same { result.now ≡ signed_in self.now.value }
         ensures few { length (signed_in self.now.value) ≤ 8 }
@@ -182,22 +181,22 @@ impl Chain {
         self.body.value.signed()
     }
 
-    /// Whether one of the signatures is by this actor.
+    /// Tells whether one of the signatures is by this actor.
     pub fn has_signer(&self, actor: Actor) -> bool
         ensures { IsTrue result ↔ Any (λ signature. signature.signer ≡ actor) self.now.signatures }
     {
         stands_in(actor, self.signers().as_slice())
     }
 
-    /// Whether the values of two chains have the same content: the same requests in the same order, whatever
-    /// signatures stand beside them, or none.
+    /// Tells whether the values of two chains have the same content: the same requests in the same order, with whatever
+    /// signatures beside them, or no requests in either.
     pub fn same_content(&self, other: &Chain) -> bool
         ensures { IsTrue result ↔ (content self.now.value ≡ content other.now.value) }
     {
         self.body.value.same_content(&other.body.value)
     }
 
-    /// Whether two chains have the same slot, value and signatures.
+    /// Tells whether two chains have the same slot, value and signatures.
     pub fn same(&self, other: &Chain) -> bool
         ensures { IsTrue result ↔ (self.now ≡ other.now) }
     {
@@ -206,7 +205,7 @@ impl Chain {
             && self.has_same_signatures(other)
     }
 
-    /// Whether one of the signatures is on a statement that does not fit its place.
+    /// Tells whether one of the signatures is on a statement that does not fit its place.
     pub fn has_misfit(&self) -> bool
         ensures { IsTrue result ↔ HasMisfit self.now }
     {
@@ -216,7 +215,7 @@ impl Chain {
         }
     }
 
-    /// Whether two chains of one slot and value have the same signatures.
+    /// Tells whether two chains with the same slot and value have the same signatures.
     fn has_same_signatures(&self, other: &Chain) -> bool
         requires slot { self.now.slot ≡ other.now.slot }
         requires value { self.now.value ≡ other.now.value }
@@ -234,7 +233,7 @@ impl Chain {
         }
     }
 
-    /// The chain of these parts, whatever they are.
+    /// Makes a chain of these parts without checking them.
     fn of_shared(
         alloc: Global,
         slot: u64,
@@ -260,7 +259,7 @@ impl Chain {
         )
     }
 
-    /// The chain of this body.
+    /// Puts this body behind a handle of shared memory.
     fn share(alloc: Global, body: Body) -> Result<Chain, Refusal>
         requires { AreKept body.slot body.value body.signatures }
         ensures made { IfOk result (λ chain. chain ≡ chain_of body.slot body.value (signatures_in body.signatures)) }
@@ -270,7 +269,7 @@ impl Chain {
         Ok(Chain { body })
     }
 
-    /// A chain that has the key's signature put at its end, and shares the value.
+    /// Makes a chain that has the key's signature at its end, and shares the value.
     fn try_extended(&self, alloc: Global, key: &Key) -> Result<Chain, Refusal>
         requires { length self.now.signatures < 16 }
         ensures extended { IfOk result (λ chain. chain ≡ extended self.now key.now) }
@@ -302,7 +301,7 @@ impl Chain {
     }
 }
 
-/// Who signed, in their order.
+/// Returns the signers, in the order in which they signed.
 fn signers_of(signatures: &[Signature]) -> Signers
     requires { length signatures.now ≤ 16 }
     ensures { result ≡ signers_in signatures.now }
@@ -314,21 +313,21 @@ fn signers_of(signatures: &[Signature]) -> Signers
     signers
 }
 
-/// Whether the actor is one of the signers.
+/// Tells whether the actor is one of the signers.
 pub(crate) fn stands_in(actor: Actor, signers: &[Actor]) -> bool
     ensures { IsTrue result ↔ Any (λ a. a ≡ actor) signers.now }
 {
     signers.iter().any(|signer| *signer == actor)
 }
 
-/// Whether two lists have the same signatures in the same order.
+/// Tells whether two lists have the same signatures in the same order.
 fn same_signatures(ours: &[Signature], theirs: &[Signature]) -> bool
     ensures { IsTrue result ↔ (ours.now ≡ theirs.now) }
 {
     ours == theirs
 }
 
-/// The signatures and one more, in a list of that length.
+/// Copies the signatures and one more into a list with room for just these.
 fn with_one_more(
     alloc: Global,
     signatures: &[Signature],

@@ -9,8 +9,9 @@ use crate::signed_request::SignedRequest;
 use dsr_names::{Actor, ReplicaId, Shape};
 
 impl Chain {
-    /// Whether the chain is proper for this round of the slot. Otherwise the first fault that holds, in
-    /// the order of `ChainFault`. Requires that the round is one of the slot's, 1 to f+1.
+    /// Checks whether the chain is proper for this round of the slot. If it is not, returns the first
+    /// fault that holds, in the order of `ChainFault`. Requires that the round is one of the slot's, 1
+    /// to f+1.
     pub fn check(&self, shape: &Shape, slot: u64, round: u8) -> Result<(), ChainFault>
         requires some { 0 < round }
         requires within { round ≤ shape.now.f + 1 }
@@ -23,7 +24,7 @@ impl Chain {
         }
     }
 
-    /// The first fault that holds.
+    /// Finds the first fault that holds.
     fn first_fault(&self, shape: &Shape, slot: u64, round: u8) -> Option<ChainFault>
         ensures some { IfSome result (IsFirstFault shape.now slot round self.now) }
         ensures none { IfNone result (HasNoFault shape.now slot round self.now) }
@@ -50,28 +51,28 @@ impl Chain {
     }
 }
 
-/// Whether the actor is a replica of the shape.
+/// Tells whether the actor is a replica of the shape.
 fn is_replica(shape: &Shape, actor: Actor) -> bool
     ensures { IsTrue result ↔ IsReplica shape.now actor }
 {
     matches!(actor, Actor::Replica(_)) && shape.has(actor)
 }
 
-/// Whether the first of the signers is this replica.
+/// Tells whether the first of the signers is this replica.
 fn begins_with(signers: &[Actor], sender: ReplicaId) -> bool
     ensures { IsTrue result ↔ (slice_get signers.now 0 ≡ Some (Actor.Replica sender)) }
 {
     signers.first().copied() == Some(Actor::Replica(sender))
 }
 
-/// Whether one of the signers is no replica of the shape.
+/// Tells whether one of the signers is not a replica of the shape.
 fn has_no_replica(shape: &Shape, signers: &[Actor]) -> bool
     ensures { IsTrue result ↔ Any (λ a. ¬ IsReplica shape.now a) signers.now }
 {
     signers.iter().any(|signer| !is_replica(shape, *signer))
 }
 
-/// Whether one of the signers stands twice.
+/// Tells whether one actor is a signer at two places.
 fn stands_twice(signers: &[Actor]) -> bool
     ensures { IsTrue result ↔ StandsTwice signers.now }
 {
@@ -81,7 +82,7 @@ fn stands_twice(signers: &[Actor]) -> bool
     }
 }
 
-/// Whether one of the requests was not asked by its client, a client of the shape.
+/// Tells whether one of the requests lacks the signature of its client, a client of the shape.
 fn has_bad_request(shape: &Shape, signed: &[SignedRequest]) -> bool
     ensures { IsTrue result ↔ Any (λ s. ¬ IsAsked shape.now s) signed.now }
 {

@@ -3,19 +3,19 @@ ghost use Rattle.std.proofs.Common.{rules};
 use dsr_base::Exact;
 use thiserror::Error;
 
-/// Why a chain is not proper. Where several of these hold, a check tells the first.
+/// Why a chain is not proper. If several of these hold, a check returns the first.
 #[derive(Clone, Copy, Debug, PartialEq, Eq, Error)]
 pub enum ChainFault {
-    /// The chain is of another slot.
+    /// The chain is for another slot.
     #[error("the chain is of another slot")]
     OtherSlot,
-    /// The chain does not have as many signatures as the round's number.
+    /// The number of signatures is not the round's number.
     #[error("the chain does not have as many signatures as the round's number")]
     WrongCount,
     /// The first signer is not the sender of the slot.
     #[error("the first signer is not the sender of the slot")]
     WrongSender,
-    /// A signer is no replica of the shape.
+    /// A signer is not a replica of the shape.
     #[error("a signer is no replica of the shape")]
     NoReplica,
     /// A signer signed twice.

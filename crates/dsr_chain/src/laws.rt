@@ -13,15 +13,15 @@ ghost use Rattle.dsr_chain.specs.ProperTest.{is_proper, is_asked, same_content, 
 ghost use Rattle.dsr_names.specs.Support.ActorEquality.{actor_eq};
 ghost use Rattle.dsr_chain.specs.Faults.{HasNoFault};
 
-/// A chain is proper exactly where no fault holds.
+/// A chain is proper exactly if no fault holds.
 pub fn proper_means_no_fault()
     ensures { (shape : Shape) (slot round : ℕ) (chain : Chain)
         → IsProper shape slot round chain ↔ HasNoFault shape slot round chain }
 {}
 
-/// The tests on which definitions branch tell what the facts say: `is_proper` holds exactly of proper chains,
-/// `is_asked` exactly of a request of a client of the shape that has that client's signature beside it, `same_content` exactly of equal contents, `is_signer`
-/// exactly where one of the signatures is the actor's, and `actor_eq` exactly of equal actors.
+/// The tests on which definitions branch decide the facts: `is_proper` holds exactly for proper chains, `is_asked` exactly for a request of a client of the
+/// shape with that client's signature beside it, `same_content` exactly for equal contents, `is_signer` exactly if one of the signatures is the actor's, and
+/// `actor_eq` exactly for equal actors.
 pub fn tests_decide_the_facts()
     ensures proper { (shape : Shape) (slot round : ℕ) (chain : Chain)
         → IsTrue (is_proper shape slot round chain) ↔ IsProper shape slot round chain }
@@ -31,7 +31,7 @@ pub fn tests_decide_the_facts()
     ensures actor { (a b : Actor) → IsTrue (actor_eq a b) ↔ (a ≡ b) }
 {}
 
-/// Values of one content have the same requests: those of the content, none where it is idle.
+/// A content determines the requests of each value that has it: they are those in the content, and none if it is idle.
 pub fn content_determines_requests()
     ensures requests { (value : SlotValue) (requests : List Request) → content value ≡ Some requests → requests_in value ≡ requests }
     ensures idle { (value : SlotValue) → content value ≡ None → requests_in value ≡ [] }

@@ -10,7 +10,7 @@ use std::alloc::Global;
 use std::marker::Model;
 use std::sync::Arc;
 
-/// A slot's value that several chains share: its signed requests, none where it is idle.
+/// A slot's value that several chains share, as its signed requests; none if it is idle.
 #[derive(Drop)]
 pub(crate) struct SharedValue {
     signed: Arc<Vec<SignedRequest>, Global>,
@@ -30,7 +30,7 @@ impl Model for SharedValue {
 }
 
 impl SharedValue {
-    /// The value with these signed requests, to be shared.
+    /// Makes the value with these signed requests, to be shared.
     pub(crate) fn of(alloc: Global, signed: &[SignedRequest]) -> Result<SharedValue, Refusal>
         requires few { length signed.now ≤ 8 }
         ensures made { IfOk result (λ shared. shared ≡ value_of signed.now) }
@@ -41,7 +41,7 @@ impl SharedValue {
         Ok(SharedValue { signed })
     }
 
-    /// The same value once more.
+    /// Returns another handle of the same value.
     pub(crate) fn try_share(&self) -> Result<SharedValue, Refusal>
         ensures same { IfOk result (λ shared. shared ≡ self.now) }
         ensures refusal { IsOkUnless result Refusal.NoMemory }
@@ -52,7 +52,7 @@ impl SharedValue {
         }
     }
 
-    /// The value itself.
+    /// Returns the value itself.
     pub(crate) fn value(&self) -> SlotValue
         ensures { result ≡ self.now }
     {
@@ -62,7 +62,7 @@ impl SharedValue {
         }
     }
 
-    /// Its signed requests, none where it is idle.
+    /// Returns its signed requests, none if it is idle.
     pub(crate) fn signed(&self) -> &[SignedRequest]
         ensures same { result.now ≡ signed_in self.now }
         ensures few { length result.now ≤ 8 }
@@ -71,21 +71,21 @@ impl SharedValue {
         self.signed.as_slice()
     }
 
-    /// Its requests without their signatures.
+    /// Returns its requests without their signatures, or `None` if it is idle.
     pub(crate) fn content(&self) -> Option<Requests>
         ensures { result ≡ content self.now }
     {
         content_of(self.signed.as_slice())
     }
 
-    /// Whether two values have the same requests in the same order, or both have none.
+    /// Tells whether two values have the same requests in the same order, or both have none.
     pub(crate) fn same_content(&self, other: &SharedValue) -> bool
         ensures { IsTrue result ↔ (content self.now ≡ content other.now) }
     {
         have_same_requests(self.signed.as_slice(), other.signed.as_slice())
     }
 
-    /// Whether two values are the same value.
+    /// Tells whether two values are equal.
     pub(crate) fn same(&self, other: &SharedValue) -> bool
         ensures { IsTrue result ↔ (self.now ≡ other.now) }
     {
@@ -93,7 +93,8 @@ impl SharedValue {
     }
 }
 
-/// Whether two lists have the same requests in the same order, whatever signatures stand beside them.
+/// Tells whether two lists have the same requests in the same order, with whatever signatures beside
+/// them.
 fn have_same_requests(ours: &[SignedRequest], theirs: &[SignedRequest]) -> bool
     ensures { IsTrue result ↔ (map (λ s. s.request) ours.now ≡ map (λ s. s.request) theirs.now) }
 {

@@ -3,8 +3,8 @@ use dsr_desk::{Links, Signature};
 /// The signatures of a chain.
 #[derive(Drop)]
 pub(crate) enum Signatures {
-    /// Each on the link that fits its place, in little room.
+    /// Each signature is on the link that fits its place; only the signers are stored.
     InTurn(Links),
-    /// One of them on another statement, all as they were given.
+    /// At least one signature is on another statement; all are stored as they were given.
     Given(Vec<Signature>),
 }

@@ -5,7 +5,7 @@ use dsr_desk::{Key, Signature, Statement};
 use dsr_names::{Actor, Shape};
 use dsr_request::Request;
 
-/// A request, and the signature that stands beside it. It is copied without allocating.
+/// A request with a signature beside it, copied without allocating.
 #[derive(Clone, Copy, Debug, PartialEq, Eq)]
 pub struct SignedRequest {
     /// The request.
@@ -18,7 +18,7 @@ impl SignedRequest {
     ghost use Rattle.dsr_chain.specs.Content.{signed_by};
     ghost use Rattle.dsr_chain.specs.Proper.{IsAsked};
 
-    /// The request, signed with the key.
+    /// Signs the request with the key.
     pub fn by(request: Request, key: &Key) -> SignedRequest
         ensures { result ≡ signed_by request key.now }
     {
@@ -28,8 +28,7 @@ impl SignedRequest {
         }
     }
 
-    /// Whether the request has its client's signature: the client is a client of the shape, and the signature beside the request is its
-    /// own on that request.
+    /// Tells whether the client is a client of the shape, and the signature beside the request is that client's on that request.
     pub fn is_asked(&self, shape: &Shape) -> bool
         ensures { IsTrue result ↔ IsAsked shape.now self.now }
     {
@@ -39,7 +38,7 @@ impl SignedRequest {
             && is_ask_of(self.signature.statement(), &self.request)
     }
 
-    /// Whether two requests are the same and have the same signature beside them.
+    /// Tells whether two signed requests have the same request and the same signature.
     pub fn same(&self, other: &SignedRequest) -> bool
         ensures { IsTrue result ↔ (self.now ≡ other.now) }
     {
@@ -47,7 +46,7 @@ impl SignedRequest {
     }
 }
 
-/// Whether it is this request that is signed.
+/// Tells whether the statement is that this request is asked.
 fn is_ask_of(statement: &Statement, request: &Request) -> bool
     ensures { IsTrue result ↔ (statement.now ≡ Ask request.now) }
 {

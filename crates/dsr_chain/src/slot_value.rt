@@ -5,7 +5,7 @@ use crate::batch::Batch;
 use crate::signed_request::SignedRequest;
 use dsr_request::{Request, Requests};
 
-/// What a slot is given: nothing, or signed requests. It is copied without allocating.
+/// The value of a slot: idle, or signed requests. It is copied without allocating.
 #[derive(Clone, Copy, Debug, PartialEq, Eq)]
 pub enum SlotValue {
     /// No request.
@@ -17,7 +17,8 @@ pub enum SlotValue {
 impl SlotValue {
     ghost use Rattle.dsr_chain.specs.Content.{content, requests_in, signed_in, value_of};
 
-    /// What a link of a chain covers: the requests without their signatures, or nothing.
+    /// Returns what a link of a chain covers: the requests without their signatures, or `None` if
+    /// it is idle.
     pub fn content(&self) -> Option<Requests>
         ensures same { result ≡ content self.now }
         ensures requests { IfSome result (λ requests. requests ≡ requests_in self.now) }
@@ -26,7 +27,7 @@ impl SlotValue {
         content_of(self.signed())
     }
 
-    /// Its signed requests, at most 8, none where it is idle.
+    /// Returns its signed requests: at most 8, none if it is idle.
     pub fn signed(&self) -> &[SignedRequest]
         ensures same { result.now ≡ signed_in self.now }
         ensures few { length (signed_in self.now) ≤ 8 }
@@ -38,7 +39,7 @@ impl SlotValue {
         }
     }
 
-    /// The same value once more. It goes through `clone`, so that a clone is the same value too.
+    /// Returns a copy. It goes through `clone`, so a clone equals its original too.
     pub fn copy(&self) -> SlotValue
         ensures { result ≡ self.now }
     {
@@ -48,7 +49,7 @@ impl SlotValue {
         }
     }
 
-    /// Whether two values have the same signed requests in the same order, or both have none.
+    /// Tells whether two values have the same signed requests in the same order, or both have none.
     pub fn same(&self, other: &SlotValue) -> bool
         ensures { IsTrue result ↔ (self.now ≡ other.now) }
     {
@@ -56,7 +57,7 @@ impl SlotValue {
     }
 }
 
-/// The requests without their signatures, or `None` where there are none.
+/// Returns the requests without their signatures, or `None` if there are none.
 pub(crate) fn content_of(signed: &[SignedRequest]) -> Option<Requests>
     requires { length signed.now ≤ 8 }
     ensures { result ≡ content_in signed.now }
@@ -67,7 +68,7 @@ pub(crate) fn content_of(signed: &[SignedRequest]) -> Option<Requests>
     }
 }
 
-/// This request and then the others, without their signatures.
+/// Returns `first` and then the others, without their signatures.
 fn requests_of(first: Request, rest: &[SignedRequest]) -> Requests
     requires { length rest.now < 8 }
     ensures { result ≡ first ∷ map (λ s. s.request) rest.now }
