@@ -7,12 +7,12 @@ use Rattle.dsr_chain.specs.Content.{signed_in}
 use Rattle.dsr_envelope.specs.declared.envelope.Envelope.{Envelope}
 use Rattle.dsr_envelope.specs.declared.envelope.Envelope.TheVariants.{Empty, Round, Ask, Reply, Seen}
 
--- the envelope of a round with these chains: the empty one where there is none
+-- the envelope of a round with these chains, the empty one if there are none
 abbrev pub round_envelope : ℕ → List Chain → Envelope
 round_envelope round [] = Empty
 round_envelope round (chain ∷ more) = Round round (chain ∷ more)
 
--- the chains that an envelope carries for this round: none where it is of another round, or of none
+-- the chains that an envelope carries for this round: none unless it is an envelope of this round
 abbrev pub chains_for : ℕ → Envelope → List Chain
 chains_for t Empty = []
 chains_for t (Round round chains) = if round == t then chains else []
@@ -20,7 +20,7 @@ chains_for t (Ask request) = []
 chains_for t (Reply reply) = []
 chains_for t (Seen front) = []
 
--- a signature on a chain: one of the chain's own, or one that stands beside a request of its value
+-- a signature on a chain: one of the chain's own, or one beside a request of its value
 abbrev pub IsOn : Signature → Chain → Type 0
 IsOn s chain = In s chain.signatures ⊎ In s (map (λ r. r.signature) (signed_in chain.value))
 

@@ -1,4 +1,4 @@
--- The limits of what an envelope carries (this project): what texts can spell.
+-- The limits of what an envelope carries (this project): what texts can encode.
 use Rattle.std.specs.Prelude.{ℕ, ◌^◌, ◌<◌, ◌≤◌, List, All, length}
 use Rattle.dsr_names.specs.Actor.{IsNumbered}
 use Rattle.dsr_request.specs.RequestText.{IsRequest}
@@ -38,7 +38,8 @@ pub record AreChains (chains : List Chain) : Type 0 where
   pub few : length chains ≤ 32
   pub each : All IsChain chains
 
--- a reply within the limits: its number is at least 1. Every answer is within them, as its number is a u64
+-- a reply within the limits: its number is at least 1. Every answer is within them, since its value is a
+-- u64
 pub record IsReply (reply : AReply) : Type 0 where
   pub some_number : 0 < reply.number
   pub number : IsCount reply.number

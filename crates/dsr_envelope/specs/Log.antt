@@ -23,7 +23,7 @@ taken_from a [] = []
 taken_from a (Post to envelope ∷ older) = taken_from a older
 taken_from a (Take from envelope ∷ older) = if actor_eq from a then taken_from a older ++ envelope ∷ [] else taken_from a older
 
--- what is due with the other replicas: posts to the replicas 0 to n-1, then takes from the replicas 0 to n-1, and so again
+-- what is due with the other replicas: posts to the replicas 0 to n-1, then takes from the replicas 0 to n-1, and so on
 abbrev pub due : Shape → List Entry → Due
 due shape [] = PostTo 0
 due shape (Post (Replica q) envelope ∷ older) = if suc q == shape.n then TakeFrom 0 else PostTo (suc q)
@@ -31,6 +31,6 @@ due shape (Post (Client c) envelope ∷ older) = due shape older
 due shape (Take (Replica p) envelope ∷ older) = if suc p == shape.n then PostTo 0 else TakeFrom (suc p)
 due shape (Take (Client c) envelope ∷ older) = due shape older
 
--- how many rounds are closed: the take from the last replica closes one
+-- the number of closed rounds: each take from the last replica closes one
 abbrev pub rounds : Shape → List Entry → ℕ
 rounds shape log = length (taken_from (Replica (shape.n - 1)) log)

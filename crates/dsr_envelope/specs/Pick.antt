@@ -1,9 +1,9 @@
--- What a loyal actor chooses where its conduct leaves it a choice (this project).
+-- What a loyal actor chooses if its protocol leaves it a choice (this project).
 use Rattle.std.specs.Prelude.{◌≢◌, ℕ, ◌<◌, ◌≤◌, List, AllPairs, length}
 use Rattle.dsr_envelope.specs.declared.pick.Pick.{Pick}
 use Rattle.dsr_envelope.specs.declared.pick.Pick.TheVariants.{Plain, From, Begin}
 
--- 1 to 8 clients, no two of them the same
+-- 1 to 8 clients, all different
 pub record IsClients (clients : List ℕ) : Type 0 where
   pub some : 0 < length clients
   pub few : length clients ≤ 8

@@ -21,29 +21,29 @@ impl Model for Chains {
 }
 
 impl Chains {
-    /// The chains of this list.
+    /// Makes the chains of an envelope from this list.
     pub fn of(items: Vec<Chain>) -> Chains
         ensures { result ≡ items.items }
     {
         Chains { items }
     }
 
-    /// The chains as a list that can be changed.
+    /// Returns the chains as a list that can be changed.
     pub fn into_vec(self) -> Vec<Chain>
         ensures { result.items ≡ self }
     {
         self.items
     }
 
-    /// The chains in their order.
+    /// Returns the chains in their order.
     pub fn as_slice(&self) -> &[Chain]
         ensures { result.now ≡ self.now }
     {
         self.items.as_slice()
     }
 
-    /// The same chains once more: each shares what it holds. `NoMemory` where memory runs out or one handle
-    /// more is refused.
+    /// Returns a copy, in which each chain shares what it holds. `NoMemory` if memory runs out or one more
+    /// handle is refused.
     pub fn try_copy(&self, alloc: Global) -> Result<Chains, Refusal>
         ensures same { IfOk result (λ copy. copy ≡ self.now) }
         ensures refusal { IsOkUnless result Refusal.NoMemory }
@@ -55,7 +55,7 @@ impl Chains {
         Ok(Chains { items })
     }
 
-    /// Whether two lists have the same chains in the same order.
+    /// Tells whether two lists have the same chains in the same order.
     pub fn same(&self, other: &Chains) -> bool
         ensures { IsTrue result ↔ (self.now ≡ other.now) }
     {
@@ -63,7 +63,7 @@ impl Chains {
     }
 }
 
-/// Whether two lists have the same chains in the same order.
+/// Tells whether two lists have the same chains in the same order.
 fn are_same(ours: &[Chain], theirs: &[Chain]) -> bool
     ensures { IsTrue result ↔ (ours.now ≡ theirs.now) }
 {

@@ -5,7 +5,7 @@ use dsr_base::{Exact, Few};
 use dsr_names::ClientId;
 use std::marker::Model;
 
-/// A list of 1 to 8 different clients. It is copied without allocating.
+/// A list of 1 to 8 different clients, copied without allocating.
 #[derive(Clone, Copy, Debug, PartialEq, Eq)]
 pub struct Clients {
     list: Few<ClientId, 8>,
@@ -26,7 +26,8 @@ impl Model for Clients {
 impl Clients {
     ghost use Rattle.dsr_envelope.specs.Pick.{IsClients};
 
-    /// The list of these clients. `None` where there are none, or more than 8, or one of them stands twice.
+    /// Makes the list of these clients. `None` if there are none, or more than 8, or one of them is there
+    /// twice.
     pub fn of(clients: &[ClientId]) -> Option<Clients>
         ensures some { IfSome result (λ list. list ≡ clients.now) }
         ensures when { IsSome result ↔ IsClients clients.now }
@@ -39,7 +40,7 @@ impl Clients {
         }
     }
 
-    /// The clients in their order, 1 to 8 of them and all different.
+    /// Returns the clients in their order: 1 to 8, all different.
     pub fn as_slice(&self) -> &[ClientId]
         ensures same { result.now ≡ self.now }
         ensures clients { IsClients self.now }
@@ -48,7 +49,7 @@ impl Clients {
     }
 }
 
-/// Whether no client stands twice.
+/// Tells whether no client is there twice.
 fn are_different(clients: &[ClientId]) -> bool
     ensures { IsTrue result ↔ AllPairs (λ (a : ℕ) b. a ≢ b) clients.now }
 {
@@ -58,7 +59,7 @@ fn are_different(clients: &[ClientId]) -> bool
     }
 }
 
-/// Whether the client is none of the others.
+/// Tells whether the client is none of the others.
 fn differs_from(client: ClientId, others: &[ClientId]) -> bool
     ensures { IsTrue result ↔ All (λ (other : ℕ). client ≢ other) others.now }
 {

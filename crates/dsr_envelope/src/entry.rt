@@ -1,19 +1,19 @@
 use crate::letter::Letter;
 use dsr_names::Actor;
 
-/// One step of an actor, as its log keeps it.
+/// One step of an actor, as its log records it.
 #[derive(Drop)]
 pub enum Entry {
     /// The actor posted the envelope.
     Post {
-        /// To whom.
+        /// The taker.
         to: Actor,
         /// What it posted.
         envelope: Letter,
     },
     /// The actor took the envelope.
     Take {
-        /// From whom.
+        /// The poster.
         from: Actor,
         /// What it took.
         envelope: Letter,

@@ -12,7 +12,7 @@ use std::alloc::Global;
 /// What one actor posts to another, and the other takes.
 #[derive(Drop)]
 pub enum Envelope {
-    /// Nothing: a replica has no chain to send.
+    /// Nothing: a replica's post in a round in which it has no chain to send.
     Empty,
     /// The chains that a replica sends in a global round.
     Round {
@@ -25,14 +25,15 @@ pub enum Envelope {
     Ask(SharedAsk),
     /// A replica's reply to a client.
     Reply(Reply),
-    /// A client's seen front: one more than the greatest place of the history that it knows of, 0 where it knows of none.
+    /// A client's seen front: one more than the greatest place of the history that it knows of, or 0 if it knows of
+    /// none.
     Seen(u64),
 }
 
 impl Envelope {
     ghost use Rattle.dsr_envelope.specs.declared.envelope.Envelope.TheVariants.{Ask};
 
-    /// The envelope of a client's request. `NoMemory` where memory runs out.
+    /// Makes the envelope of a client's request. `NoMemory` if memory runs out.
     pub fn ask(alloc: Global, ask: SignedRequest) -> Result<Envelope, Refusal>
         ensures made { IfOk result (λ envelope. envelope ≡ Ask ask) }
         ensures refusal { IsOkUnless result Refusal.NoMemory }
@@ -41,8 +42,8 @@ impl Envelope {
         Ok(Envelope::Ask(ask))
     }
 
-    /// The same envelope once more: its chains or its request share what they hold. `NoMemory` where memory
-    /// runs out or one handle more is refused.
+    /// Returns a copy, whose chains or request share what they hold. `NoMemory` if memory runs out or one more handle
+    /// is refused.
     pub fn try_copy(&self, alloc: Global) -> Result<Envelope, Refusal>
         ensures same { IfOk result (λ copy. copy ≡ self.now) }
         ensures refusal { IsOkUnless result Refusal.NoMemory }
@@ -62,8 +63,8 @@ impl Envelope {
         }
     }
 
-    /// Whether the envelope is within the limits: numbers of rounds, slots, places, fronts and requests below 2^40, at most 32
-    /// chains, at most 16 signatures and 8 requests in each, and the same for the statements of all signatures.
+    /// Tells whether the envelope is within the limits: numbers of rounds, slots, places, fronts and requests below 2^40, at
+    /// most 32 chains, at most 16 signatures and 8 requests in each, and the same for the statements of all signatures.
     pub fn fits(&self) -> bool
         ensures { IsTrue result ↔ IsEnvelope self.now }
     {
@@ -78,7 +79,7 @@ impl Envelope {
         }
     }
 
-    /// Whether two envelopes are the same.
+    /// Tells whether two envelopes are equal.
     pub fn same(&self, other: &Envelope) -> bool
         ensures { IsTrue result ↔ (self.now ≡ other.now) }
     {

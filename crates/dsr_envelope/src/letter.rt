@@ -22,7 +22,8 @@ impl Model for Letter {
 }
 
 impl Letter {
-    /// The envelope, to be shared. `NoMemory` where memory runs out: then the envelope is gone.
+    /// Puts the envelope behind a handle, to be shared. `NoMemory` if memory runs out: then the
+    /// envelope is dropped.
     pub fn of(alloc: Global, envelope: Envelope) -> Result<Letter, Refusal>
         ensures made { IfOk result (λ letter. letter ≡ envelope) }
         ensures refusal { IsOkUnless result Refusal.NoMemory }
@@ -31,14 +32,14 @@ impl Letter {
         Ok(Letter { envelope })
     }
 
-    /// The envelope.
+    /// Returns the envelope.
     pub fn envelope(&self) -> &Envelope
         ensures { result.now ≡ self.now }
     {
         &self.envelope
     }
 
-    /// The same letter once more. `NoMemory` where one handle more is refused.
+    /// Returns another handle of the same envelope. `NoMemory` if one more handle is refused.
     pub fn try_copy(&self) -> Result<Letter, Refusal>
         ensures same { IfOk result (λ copy. copy ≡ self.now) }
         ensures refusal { IsOkUnless result Refusal.NoMemory }

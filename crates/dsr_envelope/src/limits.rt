@@ -1,4 +1,4 @@
-//! Whether what an envelope carries is within the limits of the texts that spell it.
+//! Checks whether what an envelope carries is within the limits of the texts that encode it.
 
 ghost use Rattle.std.specs.Prelude.{◌↔◌, All, IsTrue};
 ghost use Rattle.dsr_envelope.specs.Limits.{IsSignature, IsSigned, IsChain, AreChains, IsReply};
@@ -10,27 +10,27 @@ use dsr_ledger::Reply;
 use dsr_names::NUMBER_END;
 use dsr_request::MOST_REQUESTS;
 
-/// The most chains of an envelope.
+/// The greatest number of chains in an envelope.
 const MOST_CHAINS: usize = 32;
 
-/// The most signatures of a chain.
+/// The greatest number of signatures on a chain.
 const MOST_SIGNATURES: usize = 16;
 
-/// Whether the reply's number and place are within the limits.
+/// Tells whether the reply's number and place are within the limits.
 pub(crate) fn reply_fits(reply: &Reply) -> bool
     ensures { IsTrue result ↔ IsReply reply.now }
 {
     reply.number > 0 && reply.number < NUMBER_END && reply.place < NUMBER_END
 }
 
-/// Whether there are at most 32 chains, each of them within the limits.
+/// Tells whether there are at most 32 chains, each within the limits.
 pub(crate) fn chains_fit(chains: &[Chain]) -> bool
     ensures { IsTrue result ↔ AreChains chains.now }
 {
     chains.len() <= MOST_CHAINS && chains.iter().all(|chain| chain_fits(chain))
 }
 
-/// Whether the chain is within the limits.
+/// Tells whether the chain is within the limits.
 fn chain_fits(chain: &Chain) -> bool
     ensures { IsTrue result ↔ IsChain chain.now }
 {
@@ -41,7 +41,7 @@ fn chain_fits(chain: &Chain) -> bool
         && signatures_fit(chain)
 }
 
-/// Whether each of the chain's signatures is within the limits.
+/// Tells whether each of the chain's signatures is within the limits.
 fn signatures_fit(chain: &Chain) -> bool
     ensures { IsTrue result ↔ All IsSignature chain.now.signatures }
 {
@@ -53,14 +53,14 @@ fn signatures_fit(chain: &Chain) -> bool
     true
 }
 
-/// Whether the request and the signature beside it are within the limits.
+/// Tells whether the request and the signature beside it are within the limits.
 pub(crate) fn signed_fits(ask: &SignedRequest) -> bool
     ensures { IsTrue result ↔ IsSigned ask.now }
 {
     ask.request.fits() && signature_fits(&ask.signature)
 }
 
-/// Whether the signer and the statement are within the limits.
+/// Tells whether the signer and the statement are within the limits.
 fn signature_fits(signature: &Signature) -> bool
     ensures { IsTrue result ↔ IsSignature signature.now }
 {

@@ -4,14 +4,14 @@ use crate::clients::Clients;
 use dsr_base::Exact;
 use dsr_request::Op;
 
-/// What a loyal actor chooses to post, where its conduct leaves a choice.
+/// What a loyal actor chooses to post, if its protocol leaves a choice.
 #[derive(Clone, Copy, Debug, PartialEq, Eq)]
 pub enum Pick {
     /// Nothing in particular.
     Plain,
     /// The held requests of these clients, in this order.
     From(Clients),
-    /// A new request of this operation.
+    /// A new request with this operation.
     Begin(Op),
 }
 

@@ -22,7 +22,7 @@ impl Model for SharedAsk {
 }
 
 impl SharedAsk {
-    /// The signed request, to be shared. `NoMemory` where memory runs out.
+    /// Puts the signed request behind a handle, to be shared. `NoMemory` if memory runs out.
     pub fn of(alloc: Global, ask: SignedRequest) -> Result<SharedAsk, Refusal>
         ensures made { IfOk result (λ shared. shared ≡ ask) }
         ensures refusal { IsOkUnless result Refusal.NoMemory }
@@ -31,14 +31,14 @@ impl SharedAsk {
         Ok(SharedAsk { ask })
     }
 
-    /// The signed request.
+    /// Returns the signed request.
     pub fn signed(&self) -> &SignedRequest
         ensures { result.now ≡ self.now }
     {
         &self.ask
     }
 
-    /// The same signed request once more. `NoMemory` where one handle more is refused.
+    /// Returns another handle of the same signed request. `NoMemory` if one more handle is refused.
     pub fn try_copy(&self) -> Result<SharedAsk, Refusal>
         ensures same { IfOk result (λ copy. copy ≡ self.now) }
         ensures refusal { IsOkUnless result Refusal.NoMemory }

@@ -27,12 +27,12 @@ from_each (suc n) given = from_each n given ++ given n
 abbrev pub read_by : Shape → Exchange → ℕ → ℕ → List Chain
 read_by shape given taker round = from_each shape.n (λ poster. given round poster taker)
 
--- a link of this slot
+-- the statement is a link of this slot
 abbrev pub IsLinkOf : ℕ → Statement → Type 0
 IsLinkOf slot (Ask request) = ⊥
 IsLinkOf slot (Link k covered before) = k ≡ slot
 
--- a signature stands in a chain that this replica gave some replica, in whichever of the slot's rounds
+-- this replica gave some replica a chain with the signature, in one of the slot's rounds 1 to f+1
 pub record WasPosted (shape : Shape) (given : Exchange) (l : ℕ) (s : Signature) : Type 0 where
   pub round : ℕ
   pub taker : ℕ
@@ -43,8 +43,8 @@ pub record WasPosted (shape : Shape) (given : Exchange) (l : ℕ) (s : Signature
   pub signed : In s chain.signatures
 
 -- what is given in the slot's rounds 1 to f+1 is a broadcast of this value: its requests were asked; each loyal replica
--- gives every replica what its conduct asks for; and where a traitor gives a loyal replica's signature on a link of this
--- slot, that replica posted the signature itself. Where the sender is a traitor, the value plays no part, and
+-- gives every replica what its protocol asks for; and if a traitor gives a loyal replica's signature on a link of this
+-- slot, that replica posted the signature itself. If the sender is a traitor, the value matters in `asked` alone, and
 -- idle will do
 pub record IsBroadcast (shape : Shape) (slot : ℕ) (value : SlotValue) (given : Exchange) : Type 0 where
   pub asked : All (IsAsked shape) (signed_in value)
@@ -54,7 +54,7 @@ pub record IsBroadcast (shape : Shape) (slot : ℕ) (value : SlotValue) (given :
       → is_traitor shape poster ≡ true → taker < shape.n → In chain (given (suc r) poster taker) → In s chain.signatures
       → IsLoyal shape (Replica l) → s.signer ≡ Replica l → IsLinkOf slot s.statement → WasPosted shape given l s
 
--- what a replica decides of the slot
+-- what a replica decides for the slot
 abbrev pub decided_by : Shape → ℕ → Exchange → ℕ → SlotValue
 decided_by shape slot given p = decided shape slot (read_by shape given p)
 

@@ -10,11 +10,12 @@ use Rattle.dsr_chain.specs.Proper.{sender_of}
 use Rattle.dsr_chain.specs.declared.slot_value.SlotValue.{SlotValue}
 use Rattle.dsr_slot.specs.declared.kept.Kept.{Kept}
 
--- whether a replica relays a kept chain in this round: it was kept in the round before, and the replica has not signed it
+-- whether a replica relays a kept chain in this round: it kept the chain in the round before, and has not signed it
 abbrev pub is_relayed : Actor → ℕ → Kept → Bool
 is_relayed me round k = (suc k.round == round) && not (is_signer me k.chain)
 
--- what a replica relays in this round of the chains that it kept, in their order: each with its signature put at the end
+-- what a replica relays in this round, from the chains that it kept, in their order: each with its signature put at the
+-- end
 abbrev pub relayed : Actor → ℕ → List Kept → List Chain
 relayed me round kept = map (λ k. extended k.chain me) (filter (is_relayed me round) kept)
 
@@ -23,6 +24,6 @@ abbrev pub begun : Shape → ℕ → Actor → SlotValue → ℕ → List Chain
 begun shape slot me value round =
     if (round == 1) && actor_eq me (sender_of shape slot) then started slot value me ∷ [] else []
 
--- what a loyal replica posts to every replica in this round, with what it kept in the rounds before
+-- what a loyal replica posts to every replica in this round, given what it kept in the rounds before
 abbrev pub posted : Shape → ℕ → Actor → SlotValue → ℕ → List Kept → List Chain
 posted shape slot me value round kept = relayed me round kept ++ begun shape slot me value round

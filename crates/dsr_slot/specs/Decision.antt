@@ -8,12 +8,12 @@ use Rattle.dsr_chain.specs.declared.slot_value.SlotValue.TheVariants.{Idle}
 use Rattle.dsr_slot.specs.declared.kept.Kept.{Kept}
 use Rattle.dsr_slot.specs.Keeping.{kept_after}
 
--- the value of the one kept chain; idle where none or more are kept
+-- the value of the kept chain if there is just one, else idle
 abbrev pub decision : List Kept → SlotValue
 decision [] = Idle
 decision (k ∷ []) = k.chain.value
 decision (k ∷ l ∷ more) = Idle
 
--- the decision over what is kept after the rounds 1 to f+1
+-- what is decided from the chains that are kept after the rounds 1 to f+1
 abbrev pub decided : Shape → ℕ → (ℕ → List Chain) → SlotValue
 decided shape slot read = decision (kept_after shape slot read (suc shape.f))

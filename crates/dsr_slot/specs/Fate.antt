@@ -11,7 +11,8 @@ use Rattle.dsr_slot.specs.declared.fate.Fate.{Fate}
 use Rattle.dsr_slot.specs.declared.fate.Fate.TheVariants.{First, Second, NotNew, OneTooMany, Improper}
 use Rattle.dsr_slot.specs.Keeping.{is_kept}
 
--- what becomes of a proper chain of this content beside those that are kept: it is kept where its content is not and they are fewer than two
+-- what becomes of a proper chain with this content beside those that are kept: it is kept if its content is not and
+-- they are fewer than two
 abbrev pub IsFateBeside : List Kept → Option (List Request) → Fate → Type 0
 IsFateBeside kept wanted First = kept ≡ []
 IsFateBeside kept wanted Second = (is_kept wanted kept ≡ false) × (length kept ≡ 1)
@@ -19,7 +20,8 @@ IsFateBeside kept wanted NotNew = is_kept wanted kept ≡ true
 IsFateBeside kept wanted OneTooMany = (is_kept wanted kept ≡ false) × (length kept ≡ 2)
 IsFateBeside kept wanted (Improper fault) = ⊥
 
--- what becomes of a chain that is read in this round of the slot beside those that are kept: one that is not proper is not kept
+-- what becomes of a chain that is read in this round of the slot beside those that are kept: it is not kept unless it
+-- is proper
 abbrev pub IsFate : Shape → ℕ → ℕ → List Kept → Chain → Fate → Type 0
 IsFate shape slot round kept chain First = IsProper shape slot round chain × IsFateBeside kept (content chain.value) First
 IsFate shape slot round kept chain Second = IsProper shape slot round chain × IsFateBeside kept (content chain.value) Second

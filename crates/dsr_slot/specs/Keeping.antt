@@ -22,8 +22,8 @@ content_of k = content k.chain.value
 abbrev pub is_kept : Option (List Request) → List Kept → Bool
 is_kept wanted kept = list_any (λ k. same_content (content_of k) wanted) kept
 
--- whether a chain that is read in this round is to be kept beside these: it is proper for the round, none of them has
--- its content, and they are fewer than two
+-- whether a chain that is read in this round is kept beside these: it is proper for the round, none of them has its
+-- content, and they are fewer than two
 abbrev pub is_news : Shape → ℕ → ℕ → List Kept → Chain → Bool
 is_news shape slot round kept chain =
     is_proper shape slot round chain && (not (is_kept (content chain.value) kept) && nat_lt (length kept) 2)
@@ -36,7 +36,7 @@ keep_one shape slot round kept chain = if is_news shape slot round kept chain th
 abbrev pub keep : Shape → ℕ → ℕ → List Kept → List Chain → List Kept
 keep shape slot round kept chains = fold (keep_one shape slot round) kept chains
 
--- what is kept after the slot's first rounds, as many as the number says, where `read` gives the chains of each round
+-- what is kept after this number of the slot's first rounds, if `read` gives the chains of each round
 abbrev pub kept_after : Shape → ℕ → (ℕ → List Chain) → ℕ → List Kept
 kept_after shape slot read zero = []
 kept_after shape slot read (suc r) = keep shape slot (suc r) (kept_after shape slot read r) (read (suc r))

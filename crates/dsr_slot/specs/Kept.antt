@@ -1,4 +1,4 @@
--- What may be said of the chains that are kept (this project's words for what Dolev and Strong 1983 use).
+-- Facts about the chains that are kept (this project's words for what Dolev and Strong 1983 use).
 use Rattle.std.specs.Prelude.{◌≡◌, ◌⊎◌, ℕ, ◌<◌, ◌≤◌, List, Option, length}
 use Rattle.dsr_base.specs.Member.{In}
 use Rattle.dsr_names.specs.Shape.{Shape}
@@ -12,11 +12,11 @@ use Rattle.dsr_slot.specs.Keeping.{content_of}
 abbrev pub HasContent : Option (List Request) → List Kept → Type 0
 HasContent wanted kept = (k : Kept) × In k kept × (content_of k ≡ wanted)
 
--- the content is kept, or two chains are: where it is not among them, two others
+-- the content is kept, or at least two chains are
 abbrev pub Hears : List Kept → Option (List Request) → Type 0
 Hears kept wanted = HasContent wanted kept ⊎ (2 ≤ length kept)
 
--- the chain was read in the round that stands with it, one of the slot's first rounds, and is proper for that round
+-- the chain was read in the round stored with it, one of this number of first rounds, and is proper for that round
 pub record CameFrom (shape : Shape) (slot : ℕ) (read : ℕ → List Chain) (rounds : ℕ) (k : Kept) : Type 0 where
   pub counted : 0 < k.round
   pub within : k.round ≤ rounds

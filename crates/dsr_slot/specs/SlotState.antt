@@ -7,7 +7,7 @@ use Rattle.dsr_slot.specs.declared.kept.Kept.{Kept}
 use Rattle.dsr_slot.specs.Keeping.{keep_one, keep, kept_after}
 use Rattle.dsr_slot.specs.Decision.{decision}
 
--- the shape, the slot, how many of its rounds are closed, and what is kept
+-- the shape, the slot, the number of its closed rounds, and the kept chains
 pub record SlotState : Type 0 where
   pub shape : Shape
   pub slot : ℕ
@@ -18,7 +18,7 @@ pub record SlotState : Type 0 where
 abbrev pub opened : Shape → ℕ → SlotState
 opened shape slot = record { shape = shape; slot = slot; closed = 0; kept = [] }
 
--- the state after one more chain was read, in the round after the closed ones
+-- the state after one more chain is read, in the round after the closed ones
 abbrev pub with_chain : SlotState → Chain → SlotState
 with_chain state chain = record state { kept = keep_one state.shape state.slot (suc state.closed) state.kept chain }
 
@@ -26,23 +26,23 @@ with_chain state chain = record state { kept = keep_one state.shape state.slot (
 abbrev pub with_closed : SlotState → SlotState
 with_closed state = record state { closed = suc state.closed }
 
--- the state after this round is closed, in which these chains were read
+-- the state after these chains are read in this round and it is closed
 abbrev pub with_round : SlotState → ℕ → List Chain → SlotState
 with_round state round chains = record state { closed = round; kept = keep state.shape state.slot round state.kept chains }
 
--- the state stands for what `read` gives of each round, as far as the rounds are closed
+-- the state represents what `read` gives for each closed round
 abbrev pub StandsFor : SlotState → (ℕ → List Chain) → Type 0
 StandsFor state read = state.kept ≡ kept_after state.shape state.slot read state.closed
 
--- the state stands for what `read` gives of each round as far as the rounds are closed, and of the round after them
+-- the state represents what `read` gives for each closed round and for the round after them
 abbrev pub HasRead : SlotState → (ℕ → List Chain) → Type 0
 HasRead state read = state.kept ≡ kept_after state.shape state.slot read (suc state.closed)
 
--- what was read is the same in the rounds before this one, and in this one the chain was read last
+-- both give the same for the rounds before this one, and for this one `later` gives one more chain, the last
 pub record IsOneChainMore (earlier later : ℕ → List Chain) (round : ℕ) (chain : Chain) : Type 0 where
   pub before : (r : ℕ) → 0 < r → r < round → later r ≡ earlier r
   pub last : later round ≡ earlier round ++ chain ∷ []
 
--- the decision, once round f+1 is closed
+-- the decision, if round f+1 is closed
 abbrev pub decision_of : SlotState → Option SlotValue
 decision_of state = if state.closed == suc state.shape.f then Some (decision state.kept) else None

@@ -6,7 +6,7 @@ use dsr_chain::{Chain, SignedRequest, SlotValue};
 use dsr_request::Requests;
 use std::marker::Model;
 
-/// What was decided of a slot: the value of the chain that is held, idle where none is. A chain is a handle, so
+/// What is decided for a slot: the value of the chain that is held, or idle if none is. A chain is a handle, so
 /// a list of decisions copies no value, and an idle slot holds nothing.
 #[derive(Drop)]
 pub struct Decision {
@@ -23,7 +23,7 @@ impl Model for Decision {
 }
 
 impl Decision {
-    /// The value that was decided.
+    /// Returns the value that was decided.
     pub fn value(&self) -> SlotValue
         ensures { result ≡ self.now }
     {
@@ -33,7 +33,7 @@ impl Decision {
         }
     }
 
-    /// Its requests, without the signatures beside them; `None` where it is idle.
+    /// Returns its requests without the signatures beside them, or `None` if it is idle.
     pub fn content(&self) -> Option<Requests>
         ensures { result ≡ content self.now }
     {
@@ -43,7 +43,7 @@ impl Decision {
         }
     }
 
-    /// Its signed requests, none where it is idle.
+    /// Returns its signed requests, none if it is idle.
     pub fn signed(&self) -> &[SignedRequest]
         ensures { result.now ≡ signed_in self.now }
     {
@@ -53,7 +53,7 @@ impl Decision {
         }
     }
 
-    /// The decision for the chain's value. A chain of the idle value is not held.
+    /// Decides the chain's value. A chain with the idle value is dropped.
     pub(crate) fn of(chain: Chain) -> Decision
         ensures { result ≡ chain.value }
     {
@@ -63,7 +63,7 @@ impl Decision {
         Decision { chain: Some(chain) }
     }
 
-    /// The decision for the idle value.
+    /// Decides idle.
     pub(crate) fn idle() -> Decision
         ensures { result ≡ Idle }
     {

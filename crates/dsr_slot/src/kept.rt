@@ -3,7 +3,7 @@ ghost use Rattle.std.specs.Prelude.{◌≡◌, IfOk, IsOkUnless};
 use dsr_chain::Chain;
 use dsr_names::Refusal;
 
-/// A chain that is kept.
+/// A chain that a replica keeps (extracts, in the words of Dolev and Strong 1983).
 #[derive(Drop)]
 pub struct Kept {
     /// The round of the slot in which it was read, counted from 1.
@@ -13,7 +13,7 @@ pub struct Kept {
 }
 
 impl Kept {
-    /// The same once more. It shares what the chain holds. `NoMemory` where one handle more is refused.
+    /// Returns a copy, which shares what the chain holds. `NoMemory` if one more handle is refused.
     pub fn try_copy(&self) -> Result<Kept, Refusal>
         ensures same { IfOk result (λ copy. copy ≡ self.now) }
         ensures refusal { IsOkUnless result Refusal.NoMemory }

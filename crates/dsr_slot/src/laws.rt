@@ -17,15 +17,14 @@ ghost use Rattle.dsr_slot.specs.Decision.{decided};
 ghost use Rattle.dsr_slot.specs.Keeping.{content_of, kept_after};
 ghost use Rattle.dsr_slot.specs.Kept.{CameFrom, Hears};
 
-/// Agreement and validity of the broadcast (Dolev and Strong 1983). Whatever at most f traitors give to whom
-/// in the f+1 rounds of a slot, as long as each loyal replica gives every replica what its conduct asks for, no
-/// traitor gives a loyal replica's signature on a link of the slot that this replica did not post, and beside
-/// each request of the value stands the signature on it of its client, a client of the shape: all loyal replicas decide the same. And where the sender is loyal
-/// they decide the value, however many are traitors.
+/// Agreement and validity of the broadcast (Dolev and Strong 1983). Whatever the traitors give to whom in the f+1 rounds of a slot, if they are at most f, all
+/// loyal replicas decide the same; and if the sender is loyal they decide the value, however many are traitors. Three premises: each loyal replica gives every
+/// replica what its protocol asks for; a traitor gives a loyal replica's signature on a link of the slot only if that replica posted the signature; and each
+/// request of the value has beside it the signature on it of its client, a client of the shape.
 ///
-/// Beside each request of what a replica decides stands the signature on it of its client, a client of the shape, whatever
-/// was read. And there is such an exchange for every value whose requests have such signatures: one in which traitors give
-/// nothing at all.
+/// Whatever a replica reads, each request of what it decides has beside it the signature on it of its client, a client of
+/// the shape. And for every value whose requests have such signatures there is such an exchange: one in which traitors
+/// give nothing at all.
 pub fn agreement_and_validity()
     ensures agreement { (shape : Shape) (slot : ℕ) (value : SlotValue) (given : Exchange)
         → HasFewTraitors shape → IsBroadcast shape slot value given
@@ -41,8 +40,9 @@ pub fn agreement_and_validity()
         → (given : Exchange) × IsBroadcast shape slot value given × AreTraitorsSilent shape given }
 {}
 
-/// The rules never look at who is a traitor. Two shapes that agree in all but that give the same: what a replica keeps
-/// in the first rounds of a slot, whatever it reads; what it posts, whatever it has kept; and what it decides.
+/// The rules never look at who is a traitor. Two shapes that differ only in their traitors give the same: what a
+/// replica keeps in the first rounds of a slot, whatever it reads; what it posts, whatever it has kept; and what it
+/// decides.
 pub fn rules_are_blind()
     ensures kept { (shape other : Shape) → AgreeButForTraitors shape other
         → (slot : ℕ) (read : ℕ → List Chain) (rounds : ℕ)
@@ -54,9 +54,9 @@ pub fn rules_are_blind()
         → (slot : ℕ) (read : ℕ → List Chain) → decided shape slot read ≡ decided other slot read }
 {}
 
-/// What a replica keeps in the first rounds of a slot, whatever it reads: at most two chains; no two of one
-/// content; each read in the round that stands with it, and proper for that round. What is kept stays, and what
-/// comes later stands behind it. And of each proper chain that it read, it keeps the content or two others.
+/// What a replica keeps in the first `rounds` rounds of a slot, whatever it reads: at most two chains, of distinct
+/// contents, each read in the round stored with it, and proper for that round. What is kept stays, and later chains
+/// come after it. And for each proper chain that the replica read in those rounds, it keeps that content or two others.
 pub fn first_two_contents_are_kept()
     ensures few { (shape : Shape) (slot : ℕ) (read : ℕ → List Chain) (rounds : ℕ)
         → length (kept_after shape slot read rounds) ≤ 2 }

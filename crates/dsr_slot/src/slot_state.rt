@@ -20,9 +20,9 @@ use dsr_names::{Actor, Refusal, Shape};
 use std::alloc::Global;
 use std::marker::Model;
 
-/// What a replica knows of one slot: the first two chains with distinct contents among the proper chains that
-/// it read, in the rounds that are closed and in the one after them. It is of fixed size but for those chains,
-/// which were moved in.
+/// What a replica knows of one slot: the first two chains with distinct contents among the proper chains that it read,
+/// in the rounds that are closed and in the one after them. Its size is fixed, apart from those chains, which were
+/// moved in.
 #[derive(Drop)]
 pub struct SlotState {
     shape: Shape,
@@ -44,7 +44,7 @@ impl Model for SlotState {
 }
 
 impl SlotState {
-    /// The slot before any of its rounds is closed.
+    /// Creates the state of a slot before any of its rounds is closed.
     pub fn new(shape: &Shape, slot: u64) -> SlotState
         ensures opened { result ≡ opened shape.now slot }
         ensures stands { (read : ℕ → List Chain) → StandsFor result read }
@@ -60,21 +60,21 @@ impl SlotState {
         }
     }
 
-    /// The shape in which the slot is broadcast.
+    /// Returns the shape in which the slot is broadcast.
     pub fn shape(&self) -> Shape
         ensures { result ≡ self.now.shape }
     {
         self.shape
     }
 
-    /// The slot.
+    /// Returns the slot.
     pub fn slot(&self) -> u64
         ensures { result ≡ self.now.slot }
     {
         self.slot
     }
 
-    /// How many of the slot's rounds are closed: at most f+1, and f is at most 7.
+    /// Returns the number of closed rounds of the slot: at most f+1, and f is at most 7.
     pub fn closed_rounds(&self) -> u8
         ensures same { result ≡ self.now.closed }
         ensures few { result ≤ self.now.shape.f + 1 }
@@ -83,7 +83,7 @@ impl SlotState {
         self.closed
     }
 
-    /// The same state once more. It shares what the kept chains hold. `NoMemory` where one handle more is refused.
+    /// Returns a copy, which shares what the kept chains hold. `NoMemory` if one more handle is refused.
     pub fn try_copy(&self) -> Result<SlotState, Refusal>
         ensures same { IfOk result (λ copy. copy ≡ self.now) }
         ensures refusal { IsOkUnless result Refusal.NoMemory }
@@ -99,7 +99,7 @@ impl SlotState {
         })
     }
 
-    /// The chains that are kept, in the order in which they were read: at most two, and no second one where there is no first.
+    /// Returns the kept chains, at most two, in the order in which they were read. Without a first there is no second.
     pub fn kept(&self) -> (Option<&Kept>, Option<&Kept>)
         ensures kept { self.now.kept ≡ option_to_list (option_map (λ k. k.now) result.0) ++ option_to_list (option_map (λ k. k.now) result.1) }
         ensures order { IsNone result.0 → IsNone result.1 }
@@ -107,8 +107,8 @@ impl SlotState {
         (self.first.as_ref(), self.second.as_ref())
     }
 
-    /// What would become of the chain if it was read now, in the round after the closed ones. Nothing changes by it. Requires that the
-    /// slot has such a round: that at most f are closed.
+    /// Tells what would become of the chain if it were read now, in the round after the closed ones, and changes nothing. Requires
+    /// that the slot has such a round: that at most f are closed.
     pub fn fate(&self, chain: &Chain) -> Fate
         requires within { self.now.closed ≤ self.now.shape.f }
         ensures fate { IsFate self.now.shape self.now.slot (suc self.now.closed) self.now.kept chain.now result }
@@ -117,9 +117,9 @@ impl SlotState {
         self.fate_of(chain)
     }
 
-    /// Whether the chain would be kept if it was read now, in the round after the closed ones. One that would not changes nothing
-    /// when it is read. Requires that the slot has such a round: that at most f are closed. A chain whose content is kept is told
-    /// without a look at its signatures.
+    /// Tells whether the chain would be kept if it were read now, in the round after the closed ones. If not, reading it changes
+    /// nothing. Requires that the slot has such a round: that at most f are closed. If the chain's content is already kept, its
+    /// signatures are not looked at.
     pub fn would_keep(&self, chain: &Chain) -> bool
         requires within { self.now.closed ≤ self.now.shape.f }
         ensures same { result ≡ is_news self.now.shape self.now.slot (suc self.now.closed) self.now.kept chain.now }
@@ -129,8 +129,8 @@ impl SlotState {
     }
 
     /// Reads one more chain in the round after the closed ones. Requires that the slot has such a round: that at most f are
-    /// closed. It keeps the chain where that is proper for the round and new, and fewer than two are kept. A chain
-    /// whose content is kept is dropped before its signatures are looked at.
+    /// closed. Keeps the chain if it is proper for the round, its content is not kept yet, and fewer than two are kept. If
+    /// its content is kept, it is dropped before its signatures are looked at.
     pub fn read(&mut self, chain: Chain)
         requires within { self.old.closed ≤ self.old.shape.f }
         ensures read { self.new ≡ with_chain self.old chain }
@@ -151,8 +151,8 @@ impl SlotState {
         self.closed += 1;
     }
 
-    /// Reads these chains in the slot's round, in this order, and closes it. Requires that it is the next one,
-    /// `closed_rounds` and one, and at most f+1. It takes the chains out of the list, whose room stays.
+    /// Reads these chains in this round of the slot, in this order, and closes it. Requires that it is the next one,
+    /// `closed_rounds` + 1, and at most f+1. Takes the chains out of the list, which keeps its room.
     pub fn close_round(&mut self, round: u8, chains: &mut Vec<Chain>)
         requires next { round ≡ self.old.closed + 1 }
         requires within { round ≤ self.old.shape.f + 1 }
@@ -168,12 +168,11 @@ impl SlotState {
         self.close();
     }
 
-    /// The chains that the key's holder relays in this round of the slot: those that were kept in the round
-    /// before and that it has not signed, with its signature put at their end, in the order in which they were
-    /// kept. So they are at most two. Any round may be asked for; but past round f+1, where what was kept in the
-    /// round before is still given, a loyal replica posts nothing of the slot. `NoMemory` where memory runs out or
-    /// one handle more is refused;
-    /// relaying nothing allocates nothing.
+    /// Returns the chains that the key's holder relays in this round of the slot: those kept in the round before that
+    /// it has not signed, with its signature put at their end, in the order in which they were kept; so at most two.
+    /// Any round may be asked for; after round f+1 a loyal replica posts nothing for the slot, though round f+2 still
+    /// gives what was kept in round f+1. `NoMemory` if memory runs out or one more handle is refused; relaying nothing
+    /// allocates nothing.
     pub fn relays(&self, alloc: Global, round: u8, key: &Key) -> Result<Vec<Chain>, Refusal>
         ensures relayed { IfOk result (λ chains. chains.items ≡ relayed key.now round self.now.kept) }
         ensures stands { (read : ℕ → List Chain) → StandsFor self.now read → IfOk result (λ chains.
@@ -192,9 +191,8 @@ impl SlotState {
         Ok(chains)
     }
 
-    /// What is decided: the value of the one kept chain, idle where none or two are kept. `None` until round
-    /// f+1 is closed. Beside each request of the value stands the signature on it of its
-    /// client, a client of the shape.
+    /// Returns what is decided: the value of the kept chain if there is just one, else idle. `None` until round f+1 is
+    /// closed. Each request of the value has beside it the signature on it of its client, a client of the shape.
     pub fn decide(&self) -> Option<SlotValue>
         ensures decision { result ≡ decision_of self.now }
         ensures when { IsSome result ↔ (self.now.closed ≡ self.now.shape.f + 1) }
@@ -211,7 +209,7 @@ impl SlotState {
         }
     }
 
-    /// What is decided, as `decide` says, without a copy: it takes the kept chain along. Requires that round f+1 is
+    /// Decides as `decide` does, but moves the kept chain instead of copying its value. Requires that round f+1 is
     /// closed.
     pub fn into_decision(self) -> Decision
         requires last { self.closed ≡ self.shape.f + 1 }
@@ -225,7 +223,7 @@ impl SlotState {
         }
     }
 
-    /// What becomes of a chain that is read in the round after the closed ones.
+    /// Tells what becomes of a chain that is read in the round after the closed ones.
     fn fate_of(&self, chain: &Chain) -> Fate
         requires { self.now.closed ≤ self.now.shape.f }
         ensures { IsFate self.now.shape self.now.slot (suc self.now.closed) self.now.kept chain.now result }
@@ -236,7 +234,7 @@ impl SlotState {
         }
     }
 
-    /// What becomes of a proper chain beside those that are kept.
+    /// Tells what becomes of a proper chain beside those that are kept.
     fn fate_beside(&self, chain: &Chain) -> Fate
         ensures { IsFateBeside self.now.kept (content chain.now.value) result }
     {
@@ -250,14 +248,14 @@ impl SlotState {
         }
     }
 
-    /// Whether a chain of the same content is kept.
+    /// Tells whether a chain with the same content is kept.
     fn is_kept(&self, chain: &Chain) -> bool
         ensures { result ≡ is_kept (content chain.now.value) self.now.kept }
     {
         has_content(&self.first, chain) || has_content(&self.second, chain)
     }
 
-    /// Keeps the chain where it is proper for this round and new, and fewer than two are kept.
+    /// Keeps the chain if it is proper for this round, its content is not kept yet, and fewer than two are kept.
     fn keep(&mut self, round: u8, chain: Chain)
         requires some { 0 < round }
         requires within { round ≤ self.old.shape.f + 1 }
@@ -274,7 +272,7 @@ impl SlotState {
         }
     }
 
-    /// Whether the chain is to be kept. The test of its signatures, which costs most, comes last.
+    /// Tells whether the chain is to be kept. The check of its signatures, which costs most, comes last.
     fn is_news(&self, round: u8, chain: &Chain) -> bool
         requires some { 0 < round }
         requires within { round ≤ self.now.shape.f + 1 }
@@ -289,7 +287,7 @@ impl SlotState {
         }
     }
 
-    /// Whether the chain is proper for this round of the slot.
+    /// Tells whether the chain is proper for this round of the slot.
     fn is_proper(&self, round: u8, chain: &Chain) -> bool
         requires some { 0 < round }
         requires within { round ≤ self.now.shape.f + 1 }
@@ -299,7 +297,7 @@ impl SlotState {
     }
 }
 
-/// The kept chain once more, where there is one.
+/// Copies the kept chain, if there is one.
 fn copy_of(kept: &Option<Kept>) -> Result<Option<Kept>, Refusal>
     ensures same { IfOk result (λ copy. copy ≡ kept.now) }
     ensures refusal { IsOkUnless result Refusal.NoMemory }
@@ -310,7 +308,7 @@ fn copy_of(kept: &Option<Kept>) -> Result<Option<Kept>, Refusal>
     }
 }
 
-/// Whether there is a kept chain, and it has the content of the other one.
+/// Tells whether there is a kept chain, and it has the same content as `chain`.
 fn has_content(kept: &Option<Kept>, chain: &Chain) -> bool
     ensures { result ≡ is_kept (content chain.now.value) (option_to_list kept.now) }
 {
@@ -320,8 +318,7 @@ fn has_content(kept: &Option<Kept>, chain: &Chain) -> bool
     }
 }
 
-/// Puts the kept chain with the key's signature at the end of the list, where its holder relays it in this
-/// round.
+/// Puts the kept chain, with the key's signature, at the end of the list, if the key's holder relays it in this round.
 fn relay(
     alloc: Global,
     kept: &Kept,
@@ -344,7 +341,7 @@ fn relay(
     chains.push(chain).map_err(|_| Refusal::NoMemory)
 }
 
-/// Whether this replica relays the kept chain in this round.
+/// Tells whether this replica relays the kept chain in this round.
 fn is_relayed(kept: &Kept, round: u8, replica: Actor) -> bool
     requires { IsOfSomeRound kept.now }
     ensures { result ≡ is_relayed replica round kept.now }

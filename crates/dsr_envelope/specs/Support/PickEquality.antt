@@ -1,4 +1,4 @@
--- When `==` holds of two picks: exactly where they are equal.
+-- When `==` holds for two picks: exactly if they are equal.
 use Rattle.std.specs.Prelude.{◌≡◌, ℕ, List, Bool}
 use Rattle.std.specs.Bool.{Decides}
 use Rattle.std.proofs.lemmas.Bool.Decides.{Decides-like}
@@ -10,17 +10,17 @@ use Rattle.dsr_envelope.specs.declared.pick.Pick.{Pick}
 use Rattle.dsr_envelope.specs.declared.pick.Pick.TheVariants.{Plain, From, Begin}
 use Rattle.dsr_envelope.specs.contracts.pick.PickPartialEq.TheImpl.{ghosts}
 
--- whether `==` holds of two picks
+-- whether `==` holds for two picks
 abbrev pub pick_eq : Pick → Pick → Bool
 pick_eq = ghosts.eq
 
--- of two operations exactly where they are equal
+-- it holds for two operations exactly if they are equal
 one_op : (a b : Op) → Decides (of_ops.eq a b) (a ≡ b)
 one_op a b = search rules
 
--- where it holds of two lists of clients exactly where they are equal, which `Clients` shows
+-- given that it holds for two lists of clients exactly if they are equal, which `Clients` shows
 module _ (same_lists : (xs ys : List ℕ) → Decides (of_clients.eq xs ys) (xs ≡ ys)) where
-  -- it holds exactly of equal ones
+  -- it holds exactly for equal picks
   pub pick_eq-Decides : (a b : Pick) → Decides (pick_eq a b) (a ≡ b)
   pick_eq-Decides Plain Plain = (λ e. cc, λ e. cc)
   pick_eq-Decides Plain (From ys) = (λ e. cc, λ e. cc)

@@ -7,7 +7,7 @@ use Rattle.dsr_slot.specs.declared.kept.Kept.{Kept}
 use Rattle.dsr_slot.specs.declared.slot_state.SlotState.TheInside.{Inside}
 use Rattle.dsr_slot.specs.SlotState.{SlotState}
 
--- the kept chains are those of the two places, in their order
+-- the state in these fields: the kept chains are those of the two fields, in their order
 abbrev pub slot_state_of : Inside → SlotState
 slot_state_of a = record {
   shape = a.shape;
@@ -16,17 +16,18 @@ slot_state_of a = record {
   kept = option_to_list a.first ++ option_to_list a.second;
 }
 
--- a kept chain is of some round of a slot and has as many signatures as the round's number; no slot has more than 8 rounds
+-- a kept chain is of some round of a slot: it has as many signatures as the round's number, which is at most 8
 pub record IsOfSomeRound (k : Kept) : Type 0 where
   pub counted : length k.chain.signatures ≡ k.round
   pub within : k.round ≤ 8
 
--- a kept chain is proper for the slot's round that stands with it
+-- a kept chain is proper for the slot's round stored with it
 pub record IsProperlyKept (shape : Shape) (slot : ℕ) (k : Kept) : Type 0 where
   pub within : k.round ≤ shape.f + 1
   pub proper : IsProper shape slot k.round k.chain
 
--- each kept chain is properly kept; the second place is empty where the first is, and no more rounds are closed than the slot has, at most 8
+-- each kept chain is proper for its round; the second field is empty if the first is, and no more rounds are closed
+-- than the slot has, at most 8
 pub record IsSlotFields (a : Inside) : Type 0 where
   pub in_order : a.first ≡ None → a.second ≡ None
   pub closed : a.closed ≤ a.shape.f + 1
