@@ -1,4 +1,4 @@
--- How many envelopes a loyal replica has posted and taken at each point of a round (this project).
+-- The number of envelopes that a loyal replica has posted and taken at each point of a round (this project).
 use Rattle.std.specs.Prelude.{◌≡◌, ℕ, suc, ◌<◌, nat_lt, List, length, if◌then◌else◌}
 use Rattle.dsr_names.specs.Shape.{Shape}
 use Rattle.dsr_names.specs.declared.actor.Actor.TheVariants.{Replica}
@@ -12,12 +12,12 @@ abbrev pub IsInside : ℕ → Due → Type 0
 IsInside n (PostTo q) = q < n
 IsInside n (TakeFrom p) = p < n
 
--- how many posts replica q was given, t rounds being closed: one more where this round's was posted already
+-- the number of posts to replica q if t rounds are closed: one more if this round's is made already
 abbrev pub posts_at : Due → ℕ → ℕ → ℕ
 posts_at (PostTo next) t q = if nat_lt q next then suc t else t
 posts_at (TakeFrom next) t q = suc t
 
--- how many envelopes were taken from replica p, t rounds being closed: one more where this round's was taken already
+-- the number of takes from replica p if t rounds are closed: one more if this round's is made already
 abbrev pub takes_at : Due → ℕ → ℕ → ℕ
 takes_at (PostTo next) t p = t
 takes_at (TakeFrom next) t p = if nat_lt p next then suc t else t

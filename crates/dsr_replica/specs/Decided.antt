@@ -1,5 +1,5 @@
--- What a replica's log holds of the slots: what was read in their rounds, what is kept, and what is decided (Dolev and Strong
--- 1983, slot by slot; the calendar is this project's).
+-- What a replica's log says about the slots: what was read in their rounds, what is kept, and what is decided (Dolev and
+-- Strong 1983, slot by slot; the calendar is this project's).
 use Rattle.std.specs.Prelude.{ℕ, zero, suc, ◌+◌, List, [], ◌∷◌, Option, None, Some, map, slice_get}
 use Rattle.dsr_names.specs.Shape.{Shape}
 use Rattle.dsr_names.specs.declared.actor.Actor.TheVariants.{Replica}
@@ -17,16 +17,17 @@ use Rattle.dsr_envelope.specs.declared.entry.Entry.{Entry}
 use Rattle.dsr_envelope.specs.Envelope.{chains_for}
 use Rattle.dsr_envelope.specs.Log.{taken_from, rounds}
 
--- the chains for this round in the envelope that was taken, if one was
+-- the chains for this round in the envelope, if there is one
 abbrev pub chains_of : ℕ → Option Envelope → List Chain
 chains_of t None = []
 chains_of t (Some envelope) = chains_for t envelope
 
--- the chains that a replica sent in this round: its envelope of the round is the one taken from it at that place
+-- the chains that a replica sent in this round: those of the envelope that was taken from it in this round, if it is of
+-- this round
 abbrev pub sent : List Entry → ℕ → ℕ → List Chain
 sent log t p = chains_of t (slice_get (taken_from (Replica p) log) t)
 
--- the chains read in a round, by the poster's number and then as they stand in its envelope
+-- the chains read in a round, by the poster's number and then in the order of its envelope
 abbrev pub read_in : Shape → List Entry → ℕ → List Chain
 read_in shape log t = from_each shape.n (sent log t)
 
@@ -35,11 +36,11 @@ abbrev pub slot_read : Shape → List Entry → ℕ → ℕ → List Chain
 slot_read shape log slot zero = []
 slot_read shape log slot (suc r) = read_in shape log (first_round shape slot + r)
 
--- what is kept of a slot after its first rounds, as many as the number says
+-- what is kept for a slot after this number of its first rounds
 abbrev pub slot_kept : Shape → List Entry → ℕ → ℕ → List Kept
 slot_kept shape log slot r = kept_after shape slot (slot_read shape log slot) r
 
--- what is decided of a slot
+-- what is decided for a slot
 abbrev pub slot_decided : Shape → List Entry → ℕ → SlotValue
 slot_decided shape log slot = decided shape slot (slot_read shape log slot)
 

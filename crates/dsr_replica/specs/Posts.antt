@@ -1,4 +1,4 @@
--- What may be said of a loyal replica's posts (this project's words; Dolev and Strong 1983 for what is relayed).
+-- Facts about a loyal replica's posts (this project's words; Dolev and Strong 1983 for what is relayed).
 use Rattle.std.specs.Prelude.{◌≡◌, ◌≢◌, ℕ, suc, ◌+◌, ◌<◌, ◌≤◌, List, Some, All, AllPairs, length}
 use Rattle.dsr_base.specs.Member.{In}
 use Rattle.dsr_names.specs.Shape.{Shape}
@@ -22,7 +22,7 @@ use Rattle.dsr_replica.specs.Decided.{slot_kept}
 use Rattle.dsr_envelope.specs.Envelope.{Carries, round_envelope}
 
 -- a value that a loyal replica may propose: idle, or 1 to 8 requests of different clients of the shape, each with the signature
--- that stood beside it in an ask which the replica took from its client
+-- that was beside it in an ask that the replica took from its client
 pub record MayPropose (shape : Shape) (log : List Entry) (value : SlotValue) : Type 0 where
   pub some : (requests : List Request) → content value ≡ Some requests → 0 < length requests
   pub few : length (requests_in value) ≤ 8
@@ -30,7 +30,7 @@ pub record MayPropose (shape : Shape) (log : List Entry) (value : SlotValue) : T
   pub asked : All (IsAsked shape) (signed_in value)
   pub taken : (s : SignedRequest) → In s (signed_in value) → In (Take (Client s.request.client) (Ask s)) log
 
--- the envelope of a round: with the chains that the log gives, for some value that may be proposed
+-- the envelope of a round: it has the chains that the log gives, for some value that may be proposed
 pub record IsOfRound (shape : Shape) (me : Actor) (log : List Entry) (round : ℕ) (envelope : Envelope) : Type 0 where
   pub value : SlotValue
   pub may : MayPropose shape log value
@@ -43,7 +43,8 @@ pub record WasTaken (log : List Entry) (s : Signature) : Type 0 where
   pub taken : In (Take from envelope) log
   pub carried : Carries envelope s
 
--- a chain that is posted in a global round: it is the replica's part in a round of a slot, and proper for the slot's round
+-- a chain that is posted in a global round: it is the replica's part in a round of a slot, and proper for the slot's
+-- round
 pub record IsPosted (shape : Shape) (me : Actor) (log : List Entry) (round : ℕ) (chain : Chain) : Type 0 where
   pub value : SlotValue
   pub may : MayPropose shape log value

@@ -1,4 +1,4 @@
--- A replica as contracts see it, and when it stands for a log (this project).
+-- A replica as contracts see it, and when it represents a log (this project).
 use Rattle.std.specs.Prelude.{◌≡◌, ◌⊎◌, ℕ, zero, suc, ◌<◌, ◌≤◌, ◌^◌, List, [], ◌∷◌, Option, None, Some, IsSome, slice_get, slice_index_or, if◌then◌else◌}
 use Rattle.dsr_base.specs.Member.{In}
 use Rattle.dsr_names.specs.Shape.{Shape}
@@ -21,9 +21,9 @@ use Rattle.dsr_replica.specs.Decided.{slot_read, decided_values}
 use Rattle.dsr_replica.specs.Held.{held, put_before}
 use Rattle.dsr_envelope.specs.Log.{posted_to, due}
 
--- who it is, of which shape; what is due; the round in progress and the slots in flight in it; what was decided of the closed
--- slots, the latest first; what it proposes in the round; the asks that it holds, by client; and for how many more requests
--- and values it has room
+-- who it is, and of which shape; what is due; the round in progress and the slots in flight in it; what was decided for the
+-- closed slots, the latest first; what it proposes in the round; the asks that it holds, by client; and for how many more
+-- requests and values it has room
 pub record Replica : Type 0 where
   pub me : Actor
   pub shape : Shape
@@ -41,11 +41,11 @@ pub record HasRoom (r : Replica) : Type 0 where
   pub requests : 8 ≤ r.requests
   pub places : 0 < r.places
 
--- the ask held of a client
+-- the ask held for a client
 abbrev pub ask_of : List (Option SignedRequest) → ℕ → Option SignedRequest
 ask_of asks client = slice_index_or asks client None
 
--- the asks held of these clients, in this order; none where one of them has none
+-- the asks held for these clients, in this order; none if one of them has none
 abbrev pub asks_of : List (Option SignedRequest) → List ℕ → Option (List SignedRequest)
 asks_of asks [] = Some []
 asks_of asks (client ∷ more) = put_before (ask_of asks client) (asks_of asks more)
@@ -56,14 +56,15 @@ value_of r Plain = Some Idle
 value_of r (From clients) = from_held r.shape r.me r.round (asks_of r.asks clients)
 value_of r (Begin op) = None
 
--- the value with which the envelope to a replica is made: at the posts after the one to replica 0 what was proposed there
+-- the value with which the envelope to a replica is made: after the post to replica 0, the value that was proposed
+-- there
 abbrev pub value_at : Replica → ℕ → Pick → Option SlotValue
 value_at r zero pick = value_of r pick
 value_at r (suc q) Plain = Some r.proposed
 value_at r (suc q) (From clients) = None
 value_at r (suc q) (Begin op) = None
 
--- the same, where the post is due
+-- the same if the post is due, else none
 abbrev pub value_for : Replica → ℕ → Pick → Option SlotValue
 value_for r to pick = if is_due r.next to then value_at r to pick else None
 
@@ -72,14 +73,14 @@ pub record Allows (r : Replica) (to : ℕ) (pick : Pick) : Type 0 where
   pub some : IsSome (value_for r to pick)
   pub below : r.round < 2 ^ 36
 
--- what is due is a post, and the one to replica 0 is done
+-- what is due is a post to a replica after replica 0
 abbrev pub IsLaterPost : Due → Type 0
 IsLaterPost (PostTo q) = 0 < q
 IsLaterPost (TakeFrom p) = ⊥
 
--- the replica stands for the log: what is due is what the log says; the rounds of the log are counted; each slot in flight
--- has read what was sent in its rounds, as far as it was taken; the values are those that are decided; the asks are those that
--- are held; and the value that it proposes gives the envelope that was posted to replica 0
+-- the replica represents the log: what is due is what the log says; the round is the number of closed rounds; each slot in
+-- flight has read what was sent in its rounds, as far as it was taken; the values are those that are decided; the asks are
+-- those that are held; and the value that it proposes gives the envelope that was posted to replica 0
 pub record StandsFor (r : Replica) (log : List Entry) : Type 0 where
   pub due_is : r.next ≡ due r.shape log
   pub counts : HasCounts r.shape log r.round
@@ -88,6 +89,6 @@ pub record StandsFor (r : Replica) (log : List Entry) : Type 0 where
   pub asks_are : (client : ℕ) → ask_of r.asks client ≡ held r.shape client log
   pub posted : IsLaterPost r.next → slice_get (posted_to (ReplicaNumber 0) log) r.round ≡ Some (envelope_with r.shape r.me log r.proposed)
 
--- what a post can be refused with: it is not due, the rounds are exhausted, or there is no memory
+-- a refusal of a post: it is not due, the rounds are exhausted, or there is no memory
 abbrev pub IsPostRefusal : Refusal → Type 0
 IsPostRefusal e = (e ≡ NotDue) ⊎ (e ≡ Exhausted) ⊎ (e ≡ NoMemory)

@@ -1,4 +1,5 @@
--- How a replica stands in its parts. No public contract cites this: it serves `impl Model` and private contracts.
+-- How a replica is stored in its parts. No public contract cites this: it serves `impl Model` and private
+-- contracts.
 pub mod Asks
 pub mod Decisions
 pub mod DecisionsFields

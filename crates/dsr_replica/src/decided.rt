@@ -13,7 +13,7 @@ use dsr_slot::Decision;
 use std::alloc::Global;
 use std::marker::Model;
 
-/// What is decided of the closed slots, and the machine that processed the requests of it.
+/// The decisions of the closed slots, and the machine that processed their requests.
 #[derive(Drop)]
 pub(crate) struct Decisions {
     machine: Machine,
@@ -32,7 +32,7 @@ impl Model for Decisions {
 }
 
 impl Decisions {
-    /// Nothing decided, for the clients of the shape. `NoMemory` where the memory of the machine is refused.
+    /// Creates an empty list, for the clients of the shape. `NoMemory` if the memory of the machine is refused.
     pub(crate) fn new(alloc: Global, shape: &Shape) -> Result<Decisions, Refusal>
         ensures none { IfOk result (λ decisions. decisions.values ≡ []) }
         ensures clients { IfOk result (λ decisions. decisions.clients ≡ shape.now.m) }
@@ -45,8 +45,8 @@ impl Decisions {
         })
     }
 
-    /// Makes room for one more. `NoMemory` where it is refused: then nothing changed, but that there may be more room. It is not refused
-    /// where there is room already.
+    /// Makes room for one more decision. `NoMemory` if it is refused: then nothing changes, except that there may be more room. It is
+    /// not refused if there is room already.
     pub(crate) fn room(&mut self) -> Result<(), Refusal>
         ensures ok { OnOk result (HasRoom self.new) }
         ensures has { HasRoom self.old → IsOk result }
@@ -63,15 +63,15 @@ impl Decisions {
         Ok(())
     }
 
-    /// Whether there is room for one more.
+    /// Tells whether there is room for one more decision.
     pub(crate) fn has_room(&self) -> bool
         ensures { IsTrue result ↔ HasRoom self.now }
     {
         8 <= self.machine.spare() && self.list.len() < self.list.capacity()
     }
 
-    /// Adds what was decided of the next slot, and processes its requests. It allocates nothing. Requires room for it,
-    /// that its requests are of the shape's clients, and fewer than 2^36 decisions.
+    /// Adds the decision of the next slot, and processes its requests. Allocates nothing. Requires room for it,
+    /// requests of the shape's clients only, and fewer than 2^36 decisions.
     pub(crate) fn add(&mut self, decision: Decision)
         requires room { HasRoom self.old }
         requires clients { All (λ r. r.client < self.old.clients) (requests_in decision) }
@@ -83,21 +83,21 @@ impl Decisions {
         self.list.push_reserved(decision);
     }
 
-    /// The requests that acted, in their order.
+    /// Returns the requests that acted, in their order.
     pub(crate) fn history(&self) -> &[Request]
         ensures { result.now ≡ reverse (acted (processed self.now)) }
     {
         self.machine.history()
     }
 
-    /// The reply to the client's last request that acted.
+    /// Returns the reply to the client's last request that acted.
     pub(crate) fn kept(&self, client: ClientId) -> Option<Reply>
         ensures { result ≡ reply (processed self.now) client }
     {
         self.machine.kept(client)
     }
 
-    /// What was decided, by the numbers of the slots.
+    /// Returns the decisions, by the numbers of the slots.
     pub(crate) fn list(&self) -> &[Decision]
         ensures { result.now ≡ reverse self.now.values }
     {
@@ -105,8 +105,8 @@ impl Decisions {
     }
 }
 
-/// Lets the machine process the requests of a decision. Requires room for them, that they are of its clients, and that
-/// the history is short.
+/// Lets the machine process the requests of a decision. Requires room for them, requests of the machine's clients only,
+/// and a history of fewer than 2^39 requests.
 fn process(machine: &mut Machine, decision: &Decision)
     requires room { 8 ≤ machine.old.room }
     requires clients { All (λ r. r.client < machine.old.clients) (requests_in decision.now) }
@@ -115,7 +115,7 @@ fn process(machine: &mut Machine, decision: &Decision)
     ensures few { length machine.new.history ≤ length machine.old.history + 8 }
     ensures clients { machine.new.clients ≡ machine.old.clients }
 {
-    // one request, as most values have, is taken out alone: a content moves the room for eight
+    // most values have one request, and it is taken out alone: a content moves the room for eight
     if let [only] = decision.signed() {
         accept(machine, &[only.request]);
         return;
@@ -126,7 +126,7 @@ fn process(machine: &mut Machine, decision: &Decision)
     }
 }
 
-/// Lets the machine process these requests, for which it has room.
+/// Lets the machine process these requests. Requires what `process` does.
 fn accept(machine: &mut Machine, requests: &[Request])
     requires room { 8 ≤ machine.old.room }
     requires few { length requests.now ≤ 8 }

@@ -15,7 +15,7 @@ use dsr_slot::{Decision, SlotState};
 use std::alloc::Global;
 use std::marker::Model;
 
-/// The slots in flight in the round in progress, by their numbers: at most f+1 of them.
+/// The slots in flight in the round in progress, by their numbers: at most f+1.
 #[derive(Drop)]
 pub(crate) struct Flights {
     shape: Shape,
@@ -35,7 +35,7 @@ impl Model for Flights {
 }
 
 impl Flights {
-    /// The slot that begins with round 0.
+    /// Creates the slots in flight in round 0: slot 0. `NoMemory` if memory runs out.
     pub(crate) fn new(alloc: Global, shape: &Shape) -> Result<Flights, Refusal>
         ensures opened { IfOk result (λ flights. flights ≡ record { shape = shape.now; round = 0; slots = opened shape.now 0 ∷ [] }) }
         ensures refusal { IsOkUnless result Refusal.NoMemory }
@@ -49,14 +49,14 @@ impl Flights {
         })
     }
 
-    /// The shape.
+    /// Returns the shape.
     pub(crate) fn shape(&self) -> Shape
         ensures { result ≡ self.now.shape }
     {
         self.shape
     }
 
-    /// The round in progress.
+    /// Returns the round in progress.
     pub(crate) fn round(&self) -> u64
         ensures same { result ≡ self.now.round }
         ensures in_flight { AreInFlight self.now.shape self.now.round self.now.slots (closed_slots self.now.shape self.now.round) }
@@ -64,15 +64,15 @@ impl Flights {
         self.round
     }
 
-    /// The slots in flight.
+    /// Returns the slots in flight.
     pub(crate) fn slots(&self) -> &[SlotState]
         ensures { result.now ≡ self.now.slots }
     {
         self.slots.as_slice()
     }
 
-    /// Whether one of these chains would be kept if they were read in the round in progress. Where none would, reading them
-    /// changes nothing.
+    /// Tells whether one of these chains would be kept if they were read in the round in progress. If none would, reading
+    /// them changes nothing.
     pub(crate) fn would_keep(&self, chains: &[Chain]) -> bool
         ensures { result ≡ false → map (with_chains chains.now) self.now.slots ≡ self.now.slots }
     {
@@ -84,7 +84,7 @@ impl Flights {
         false
     }
 
-    /// Whether the chain would be kept if it was read in the round in progress.
+    /// Tells whether the chain would be kept if it were read in the round in progress.
     fn would_keep_one(&self, chain: &Chain) -> bool
         ensures { result ≡ false → map (λ s. with_chain s chain.now) self.now.slots ≡ self.now.slots }
     {
@@ -98,7 +98,7 @@ impl Flights {
         self.slots[place as usize].would_keep(chain)
     }
 
-    /// Reads a chain in the round in progress: in that of the slots in flight which it is of.
+    /// Reads a chain in the round in progress: in its own slot, if that is in flight.
     pub(crate) fn read(&mut self, chain: Chain)
         ensures { self.new ≡ record self.old { slots = map (λ s. with_chain s chain) self.old.slots } }
     {
@@ -120,8 +120,8 @@ impl Flights {
         }
     }
 
-    /// Closes the round in progress, and returns what is decided of the slot that closes with it, if one does. The slot
-    /// of the next round begins. Requires that the round is below 2^36.
+    /// Closes the round in progress, and returns the decision of the slot that closes with it, if one does. The slot of
+    /// the next round begins. Requires that the round is below 2^36.
     pub(crate) fn close(&mut self) -> Option<Decision>
         requires { self.old.round < 2 ^ 36 }
         ensures decided { result ≡ decided_with self.old.shape self.old.round self.old.slots }
@@ -138,9 +138,9 @@ impl Flights {
         decision
     }
 
-    /// What the key's holder posts in the round in progress, where it proposes the value with these signed requests: for each slot
-    /// in flight the chains that it relays, and the one that it starts. Requires that they are at most 8. `NoMemory` where memory
-    /// runs out or one handle more is refused.
+    /// Returns what the key's holder posts in the round in progress if it proposes the value with these signed requests: for each
+    /// slot in flight the chains that it relays, and the one that it starts. Requires at most 8 requests. `NoMemory` if memory
+    /// runs out or one more handle is refused.
     pub(crate) fn posts(
         &self,
         alloc: Global,
@@ -160,8 +160,8 @@ impl Flights {
     }
 }
 
-/// Takes out the first slot and returns what is decided of it, unless all slots go on. Requires that otherwise there is a
-/// first slot, in its last round.
+/// Takes out the first slot and returns its decision, unless all slots go on. Requires that then there is a first slot,
+/// in its last round.
 fn decide_first(slots: &mut Vec<SlotState>, all_go_on: bool) -> Option<Decision>
     requires last { all_go_on ≡ false → IsFirstLast slots.old.items }
     ensures decided { result ≡ (if all_go_on then None else first_decided slots.old.items) }
@@ -188,7 +188,8 @@ fn close_each(slots: &mut Vec<SlotState>)
     }
 }
 
-/// What the key's holder posts of the slot in the round after its closed ones, where it proposes the value with these signed requests.
+/// Returns what the key's holder posts for the slot in the round after its closed ones, if it proposes the value with
+/// these signed requests.
 fn slot_post(
     alloc: Global,
     slot: &SlotState,
@@ -206,7 +207,7 @@ fn slot_post(
     Ok(chains)
 }
 
-/// Whether the key's holder is the sender of the slot, which is in its first round.
+/// Tells whether the key's holder is the sender of the slot, and the slot is in its first round.
 fn begins(slot: &SlotState, key: &Key) -> bool
     ensures { result ≡ is_begun key.now slot.now }
 {

@@ -12,7 +12,7 @@ use dsr_names::{ClientId, Refusal, Shape};
 use std::alloc::Global;
 use std::marker::Model;
 
-/// The ask that is held of each client of a shape, if one is.
+/// The ask that is held for each client of a shape, if one is (the client's pending request).
 #[derive(Drop)]
 pub(crate) struct Asks {
     list: Vec<Option<SharedAsk>>,
@@ -28,7 +28,7 @@ impl Model for Asks {
 }
 
 impl Asks {
-    /// No ask of any client of the shape. `NoMemory` where the memory for them is refused.
+    /// Creates an empty place for each client of the shape. `NoMemory` if the memory for them is refused.
     pub(crate) fn new(alloc: Global, shape: &Shape) -> Result<Asks, Refusal>
         ensures none { IfOk result (λ asks. (client : ℕ) → ask_of asks client ≡ None) }
         ensures count { IfOk result (λ asks. length asks ≡ shape.now.m) }
@@ -41,7 +41,7 @@ impl Asks {
         Ok(Asks { list })
     }
 
-    /// The ask held of this client.
+    /// Returns the ask held for this client.
     pub(crate) fn get(&self, client: ClientId) -> Option<&SignedRequest>
         ensures { option_map (λ ask. ask.now) result ≡ ask_of self.now client }
     {
@@ -51,7 +51,8 @@ impl Asks {
         }
     }
 
-    /// Takes an envelope from the client: holds its ask, if it signed it as its own and no ask of a greater number is held.
+    /// Takes an envelope from the client: holds its ask, if the client signed it as its own and no ask with a greater
+    /// number is held.
     pub(crate) fn take(&mut self, shape: &Shape, client: ClientId, envelope: Envelope)
         requires { client < length self.old }
         ensures { self.new ≡ asks_with shape.now client self.old envelope }
@@ -62,7 +63,7 @@ impl Asks {
         }
     }
 
-    /// Holds the client's ask, if it signed it as its own and no ask of a greater number is held.
+    /// Holds the client's ask, if the client signed it as its own and no ask with a greater number is held.
     fn hold(&mut self, shape: &Shape, client: ClientId, ask: SharedAsk)
         requires { client < length self.old }
         ensures { self.new ≡ asks_with shape.now client self.old (Ask ask) }
@@ -73,7 +74,7 @@ impl Asks {
         }
     }
 
-    /// Whether an ask of each of these clients is held.
+    /// Tells whether an ask is held for each of these clients.
     pub(crate) fn has_each(&self, clients: &[ClientId]) -> bool
         ensures { IsTrue result ↔ IsSome (asks_of self.now clients.now) }
     {
@@ -83,7 +84,7 @@ impl Asks {
         }
     }
 
-    /// Whether an ask of this client is held.
+    /// Tells whether an ask is held for this client.
     fn has(&self, client: ClientId) -> bool
         ensures { IsTrue result ↔ IsSome (ask_of self.now client) }
     {
@@ -93,8 +94,8 @@ impl Asks {
         }
     }
 
-    /// Puts the asks held of these clients, in this order, at the end of the list. It allocates nothing. Requires that one of each
-    /// is held, and room for them.
+    /// Puts the asks held for these clients, in this order, at the end of the list. Allocates nothing. Requires that one is held
+    /// for each, and room for them.
     pub(crate) fn add_to(&self, clients: &[ClientId], list: &mut Vec<SignedRequest>)
         requires held { IsSome (asks_of self.now clients.now) }
         requires room { length list.old.items + length clients.now ≤ vec_capacity list.old }
@@ -108,7 +109,7 @@ impl Asks {
     }
 }
 
-/// Whether the client signed the ask as its own, and what is held gives way to it.
+/// Tells whether the client signed the ask as its own, and what is held gives way to it.
 fn is_to_be_held(
     shape: &Shape,
     client: ClientId,
@@ -120,14 +121,14 @@ fn is_to_be_held(
     is_own_ask(shape, client, ask) && gives_way(held, ask.request.number())
 }
 
-/// Whether the client signed the ask as its own.
+/// Tells whether the client signed the ask as its own.
 fn is_own_ask(shape: &Shape, client: ClientId, ask: &SignedRequest) -> bool
     ensures { result ≡ is_own_ask shape.now client ask.now }
 {
     ask.request.client() == client && ask.is_asked(shape)
 }
 
-/// Whether what is held gives way to an ask of this number.
+/// Tells whether what is held gives way to an ask with this number.
 fn gives_way(held: &Option<SharedAsk>, number: u64) -> bool
     ensures { result ≡ gives_way held.now number }
 {

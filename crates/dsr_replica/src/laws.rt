@@ -36,8 +36,8 @@ ghost use Rattle.dsr_envelope.specs.Pick.{IsPick};
 ghost use Rattle.dsr_replica.specs.Posts.{IsOfRound, IsPosted, WasTaken};
 ghost use Rattle.dsr_replica.specs.Shown.{shown_value, shown_clients, shown_choice, IsOwnLast};
 
-/// The log of a `Replica` is a loyal one: the empty log is, and so is a loyal log with the entry that a call adds. That is a post to
-/// a replica by an allowed choice, the reply posted to a client, a take that is due, or a take from a client.
+/// The log of a `Replica` is a loyal one: the empty log is, and so is a loyal log with the entry that a call adds. The entry is a
+/// post to a replica by an allowed choice, the reply posted to a client, a take that is due, or a take from a client.
 pub fn calls_keep_a_log_loyal()
     ensures empty { (shape : Shape) (me : Actor) → IsLoyalLog shape me [] }
     ensures posted { (shape : Shape) (me : Actor) (log : List Entry) → IsLoyalLog shape me log
@@ -52,8 +52,8 @@ pub fn calls_keep_a_log_loyal()
         → (c : ℕ) → c < shape.m → (envelope : Envelope) → IsLoyalLog shape me (Take (Client c) envelope ∷ log) }
 {}
 
-/// At each point of a round a loyal replica has posted to each replica and taken from each as often as rounds are closed,
-/// and once more where the post or the take of this round was made already.
+/// At each point of a round a loyal replica has posted to each replica, and taken from each, once for each closed round,
+/// and once more if it made this round's post or take already.
 pub fn posts_and_takes_keep_step()
     ensures { (shape : Shape) (me : Actor) (log : List Entry) → 0 < shape.n → IsLoyalLog shape me log
         → HasCounts shape log (rounds shape log) }
@@ -65,9 +65,8 @@ pub fn due_posts_can_be_made()
         → (q : ℕ) → due shape log ≡ PostTo q → IsSome (envelope_to shape me log q Plain) }
 {}
 
-/// A loyal replica posts the same to all in a round: its envelope of that round by the log that it has now. Each chain in it
-/// is the replica's part in a round of some slot, and proper for that round: so is each that has a link with the replica's own
-/// signature.
+/// A loyal replica posts the same to all in a round: the envelope that its log, as it is now, gives for that round. Each chain
+/// in it is the replica's part in a round of some slot, and proper for that round.
 pub fn posts_follow_the_log()
     ensures equal { (shape : Shape) (me : Actor) (log : List Entry) → 0 < shape.n → IsLoyalLog shape me log
         → (q : ℕ) → q < shape.n → (round : ℕ) (envelope : Envelope) → slice_get (posted_to (Replica q) log) round ≡ Some envelope
@@ -80,7 +79,7 @@ pub fn posts_follow_the_log()
         → (chain : Chain) → In chain (chains_for round envelope) → IsPosted shape me log round chain }
 {}
 
-/// Each signature in an envelope that a loyal replica posts is its own, or stands in an envelope that it took before: on a
+/// Each signature in an envelope that a loyal replica posts is its own, or is in an envelope that it took before: on a
 /// chain, beside a request of a chain's value, or beside a request that was asked.
 pub fn signatures_are_own_or_taken()
     ensures { (shape : Shape) (me : Actor) (log : List Entry) → 0 < shape.n → IsLoyalLog shape me log
@@ -88,8 +87,8 @@ pub fn signatures_are_own_or_taken()
         → (s : Signature) → Carries envelope s → (s.signer ≡ me) ⊎ WasTaken log s }
 {}
 
-/// A loyal log that goes on says the same of its closed rounds: what was read and kept in them stays, what was decided stays
-/// decided, with later values before it, and the history only grows.
+/// As a loyal log goes on, it says the same about its closed rounds: what was read and kept in them stays, what was decided
+/// stays decided, with later values before it, and the history only grows.
 pub fn closed_rounds_stay()
     ensures read { (shape : Shape) (me : Actor) (later log : List Entry) → 0 < shape.n → IsLoyalLog shape me later
         → Extends later log → (round : ℕ) → round < rounds shape log → read_in shape later round ≡ read_in shape log round }
@@ -114,8 +113,8 @@ pub fn limits_are_kept()
         → (request : Request) → In request (acted (decided_requests shape log)) → IsRequest request }
 {}
 
-/// A loyal replica never looks at who is a traitor. Under two shapes that agree in all but that, the same is due, kept, decided and
-/// held; the same envelopes are posted; and the same logs are loyal.
+/// A loyal replica never looks at who is a traitor. Under two shapes that differ only in their traitors, the same is due, kept,
+/// decided and held; the same envelopes are posted; and the same logs are loyal.
 pub fn conduct_is_blind()
     ensures due { (shape other : Shape) → AgreeButForTraitors shape other → (log : List Entry) → due shape log ≡ due other log }
     ensures kept { (shape other : Shape) → AgreeButForTraitors shape other → (log : List Entry) (slot closed : ℕ)
@@ -130,9 +129,9 @@ pub fn conduct_is_blind()
         → IsLoyalLog shape me log → IsLoyalLog other me log }
 {}
 
-/// An envelope to a replica tells the choice by which it was posted: whatever the log, if some choice gave it, it was the one that it
-/// shows. In the round that begins a slot of its own a replica's chain for that slot stands last: on the requests of the chosen
-/// clients, in their order, and on idle for the plain choice. To the replicas after the first all posts are by the plain one.
+/// An envelope to a replica tells by which choice it was posted: whatever the log, if some choice gives it, that is the choice that
+/// it shows. In the round that begins a slot of its own, a replica's chain for that slot comes last: on the requests of the chosen
+/// clients, in their order, or on idle for the plain choice. All posts to the replicas after the first are by the plain choice.
 pub fn envelopes_tell_choices()
     ensures choice { (shape : Shape) (me : Actor) (log : List Entry) (q : ℕ) (pick : Pick) (envelope : Envelope) → IsPick pick
         → envelope_to shape me log q pick ≡ Some envelope → pick ≡ shown_choice shape me q envelope }
@@ -147,9 +146,9 @@ pub fn envelopes_tell_choices()
         → (value : SlotValue) × (proposed shape me log pick ≡ Some value) × IsOwnLast shape me (rounds shape log) value envelope }
 {}
 
-/// What a replica holds of a client is moved by the client's own asks alone: an ask of the client, with its signature, whose number is
-/// not below that of what is held, is held from its take on, and one of a smaller number is not. Nothing else that is taken or posted
-/// changes what is held. At first nothing is.
+/// What a replica holds for a client changes by that client's own asks alone. If an ask with the client's signature is taken from it,
+/// and its number is not below that of the held one, it is held from then on; if its number is smaller, it is not. Nothing else that
+/// is taken or posted changes what is held. At first nothing is held.
 pub fn own_asks_are_held()
     ensures start { (shape : Shape) (c : ℕ) → held shape c [] ≡ None }
     ensures newer { (shape : Shape) (c : ℕ) (log : List Entry) (ask : SignedRequest) → ask.request.client ≡ c → IsAsked shape ask
@@ -169,9 +168,9 @@ pub fn own_asks_are_held()
         → held shape c (Post to envelope ∷ log) ≡ held shape c log }
 {}
 
-/// Held asks can be proposed, in each round in which the replica is the sender, and in no other: where the post to replica 0 is due, there
-/// is an envelope with the asks held of the chosen clients, and its own chain on them stands last. They are there exactly where an ask
-/// of each of the clients is held, and are those in the clients' order.
+/// Held asks can be proposed in each round in which the replica is the sender, and in no other: if the post to replica 0 is due, there is
+/// an envelope with the asks held for the chosen clients, and the replica's own chain on them comes last. There is one exactly if an ask
+/// is held for each of these clients.
 pub fn held_asks_can_be_proposed()
     ensures sender { (shape : Shape) (me : Actor) (log : List Entry) (clients : List ℕ) (asks : List SignedRequest) → due shape log ≡ PostTo 0
         → me ≡ sender_of shape (rounds shape log) → all_held shape log clients ≡ Some asks
@@ -184,9 +183,9 @@ pub fn held_asks_can_be_proposed()
         → map (λ c. held shape c log) clients ≡ map Some asks }
 {}
 
-/// Each client's last request that acted has a reply, whichever client that is: with the request's number, and with its place and its
-/// answer there. So for each request that acted its client has a reply, to that request or to a later one. A client of whose
-/// requests none acted has none.
+/// If a request of a client acted, the client has a reply: to its last request that acted, with that request's number, its place and
+/// its answer there. So for each request that acted its client has a reply, to that request or to a later one. A client none of whose
+/// requests acted has none.
 pub fn last_requests_are_replied()
     ensures some { (shape : Shape) (log : List Entry) (request : Request) → In request (acted (decided_requests shape log))
         → (reply : AReply) × (reply_to shape log request.client ≡ Some (Reply reply))
@@ -199,8 +198,7 @@ pub fn last_requests_are_replied()
         → ((request : Request) → In request (acted (decided_requests shape log)) → request.client ≢ c) → reply_to shape log c ≡ None }
 {}
 
-/// The chains that a replica reads of an envelope are all those of the round in which it is taken. An envelope of another round or kind is
-/// an empty list of chains.
+/// From an envelope of the round in which it is taken a replica reads all chains, and from an envelope of another round or kind none.
 pub fn other_envelopes_are_silent()
     ensures own { (t : ℕ) (chains : List Chain) → chains_for t (Round t chains) ≡ chains }
     ensures others { (t round : ℕ) (chains : List Chain) → round ≢ t → chains_for t (Round round chains) ≡ [] }

@@ -11,8 +11,8 @@ use dsr_request::MOST_REQUESTS;
 use std::alloc::Global;
 use std::marker::Model;
 
-/// The value that a replica proposes in the round in progress: its signed requests, none where it is idle. It has room for as many
-/// as a value can have, so that proposing allocates nothing, and moves no more than them.
+/// The value that a replica proposes in the round in progress, as its signed requests; none if it is idle. It has room for as many
+/// as a value can have, so proposing allocates nothing, and moves no more than them.
 #[derive(Drop)]
 pub(crate) struct Proposal {
     asks: Vec<SignedRequest>,
@@ -31,7 +31,7 @@ impl Model for Proposal {
 }
 
 impl Proposal {
-    /// The idle value. `NoMemory` where the room is refused.
+    /// Creates the idle value. `NoMemory` if the room is refused.
     pub(crate) fn idle(alloc: Global) -> Result<Proposal, Refusal>
         ensures idle { IfOk result (λ proposal. proposal ≡ Idle) }
         ensures refusal { IsOkUnless result Refusal.NoMemory }
@@ -40,7 +40,7 @@ impl Proposal {
         Ok(Proposal { asks })
     }
 
-    /// The signed requests of the value, at most 8.
+    /// Returns the signed requests of the value, at most 8.
     pub(crate) fn signed(&self) -> &[SignedRequest]
         ensures value { value_of result.now ≡ self.now }
         ensures few { length result.now ≤ 8 }
@@ -48,14 +48,14 @@ impl Proposal {
         self.asks.as_slice()
     }
 
-    /// Proposes nothing.
+    /// Makes the value idle.
     pub(crate) fn clear(&mut self)
         ensures { self.new ≡ Idle }
     {
         self.asks.clear();
     }
 
-    /// Proposes the asks held of these clients, in this order. Requires 1 to 8 clients, of each of which an ask is held.
+    /// Proposes the asks held for these clients, in this order. Requires 1 to 8 clients, and an ask held for each.
     pub(crate) fn propose(&mut self, asks: &Asks, clients: &[ClientId])
         requires some { 0 < length clients.now }
         requires few { length clients.now ≤ 8 }

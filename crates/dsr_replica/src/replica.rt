@@ -40,10 +40,10 @@ use dsr_slot::{Decision, SlotState};
 use std::alloc::Global;
 use std::marker::Model;
 
-/// The end of rounds: none from 2^36 on is begun.
+/// The first round that is never begun.
 const ROUND_END: u64 = 1 << 36;
 
-/// A loyal replica, over its log of what it posted and took. It keeps no log: contracts say for which log it stands.
+/// A loyal replica, over its log of what it posted and took. It stores no log: contracts say which log it represents.
 #[derive(Drop)]
 pub struct Replica {
     key: Key,
@@ -66,8 +66,8 @@ impl Model for Replica {
 }
 
 impl Replica {
-    /// The replica that holds this key, with an empty log. Requires that the key's holder is an actor of the shape; the law of the
-    /// chains that it posts speaks of a replica. `NoMemory` where memory runs out: then the key is gone.
+    /// Creates the replica that holds this key, with an empty log. Requires that the key's holder is an actor of the shape; the
+    /// law about the chains that it posts requires a replica. `NoMemory` if memory runs out: then the key is dropped.
     pub fn new(alloc: Global, key: Key, shape: &Shape) -> Result<Replica, Refusal>
         requires { IsActor shape.now key }
         ensures stands { IfOk result (λ replica. StandsFor replica []) }
@@ -90,14 +90,14 @@ impl Replica {
         })
     }
 
-    /// The shape of which it is a replica.
+    /// Returns the shape.
     pub fn shape(&self) -> Shape
         ensures { result ≡ self.now.shape }
     {
         self.flights.shape()
     }
 
-    /// What it does next with the other replicas.
+    /// Returns what it does next with the other replicas.
     pub fn due(&self) -> Due
         ensures same { result ≡ self.now.next }
         ensures stands { (log : List Entry) → StandsFor self.now log → result ≡ due self.now.shape log }
@@ -107,7 +107,8 @@ impl Replica {
         self.due
     }
 
-    /// The slots in flight in the round in progress, by their numbers: at most f+1. Each has read what came in its rounds so far.
+    /// Returns the slots in flight in the round in progress, by their numbers: at most f+1. Each has read what came in
+    /// its rounds so far.
     pub fn in_flight(&self) -> &[SlotState]
         ensures same { result.now ≡ self.now.slots }
         ensures stands { (log : List Entry) (state : SlotStateOf) → StandsFor self.now log → In state result.now
@@ -116,8 +117,8 @@ impl Replica {
         self.flights.slots()
     }
 
-    /// Whether it may post to this replica by this choice: the post is due, there is such an envelope, and the round is below
-    /// 2^36.
+    /// Tells whether it may post to this replica by this choice: the post is due, the choice gives an envelope, and the round
+    /// is below 2^36.
     pub fn allows(&self, to: ReplicaId, pick: Pick) -> bool
         ensures allowed { IsTrue result ↔ Allows self.now to pick }
         ensures stands { (log : List Entry) → StandsFor self.now log
@@ -128,8 +129,8 @@ impl Replica {
         self.is_allowed(to, pick)
     }
 
-    /// The envelope that it posts to this replica by this choice. `NotDue` exactly where there is none: the post is not due, or the
-    /// choice not allowed there. Else `Exhausted` exactly in round 2^36; else `NoMemory` where memory runs out or one handle more
+    /// Makes the envelope that it posts to this replica by this choice. `NotDue` exactly if there is none: the post is not due, or
+    /// the choice not allowed there. Else `Exhausted` exactly in round 2^36; else `NoMemory` if memory runs out or one more handle
     /// is refused.
     pub fn envelope_for(
         &self,
@@ -156,8 +157,9 @@ impl Replica {
         self.chosen(alloc, to, pick)
     }
 
-    /// What a post to this replica by this choice is refused with, if it is: `NotDue` exactly where there is no such envelope, as the
-    /// post is not due, or the choice not allowed there; else `Exhausted` exactly in round 2^36. It allocates nothing.
+    /// Returns the refusal of a post to this replica by this choice, if it would be refused: `NotDue` exactly if there is no such
+    /// envelope, because the post is not due or the choice not allowed there; else `Exhausted` exactly in round 2^36. Allocates
+    /// nothing.
     pub fn refusal(&self, to: ReplicaId, pick: Pick) -> Option<Refusal>
         ensures not_due { (log : List Entry) → StandsFor self.now log
             → (result ≡ Some Refusal.NotDue) ↔ (envelope_to self.now.shape self.now.me log to pick ≡ None) }
@@ -177,7 +179,7 @@ impl Replica {
         None
     }
 
-    /// Posts to this replica by this choice. Requires that it is allowed.
+    /// Notes the post to this replica by this choice. Requires that it is allowed.
     pub fn posted(&mut self, to: ReplicaId, pick: Pick)
         requires { Allows self.old to pick }
         ensures stands { (log : List Entry) (envelope : Envelope) → StandsFor self.old log
@@ -189,8 +191,8 @@ impl Replica {
         self.post(to, pick);
     }
 
-    /// Makes room for what the next take may decide. `NoMemory` where it is refused: then nothing changed, but that there may
-    /// be more room. It is not refused where there is room already.
+    /// Makes room for what the next take may decide. `NoMemory` if it is refused: then nothing changes, except that there may
+    /// be more room. It is not refused if there is room already.
     pub fn room(&mut self) -> Result<(), Refusal>
         ensures ok { OnOk result (HasRoom self.new) }
         ensures has { HasRoom self.old → IsOk result }
@@ -202,14 +204,14 @@ impl Replica {
         self.decisions.room()
     }
 
-    /// Whether there is room for what the next take may decide.
+    /// Tells whether there is room for what the next take may decide.
     pub fn has_room(&self) -> bool
         ensures { IsTrue result ↔ HasRoom self.now }
     {
         self.decisions.has_room()
     }
 
-    /// What was decided of the closed slots, by their numbers.
+    /// Returns the decisions of the closed slots, by their numbers.
     pub fn decided(&self) -> &[Decision]
         ensures same { result.now ≡ reverse self.now.values }
         ensures stands { (log : List Entry) → StandsFor self.now log → result.now ≡ reverse (decided_values self.now.shape log) }
@@ -217,7 +219,7 @@ impl Replica {
         self.decisions.list()
     }
 
-    /// The requests that acted, in their order.
+    /// Returns the requests that acted, in their order.
     pub fn history(&self) -> &[Request]
         ensures same { result.now ≡ reverse (acted (map requests_in self.now.values)) }
         ensures stands { (log : List Entry) → StandsFor self.now log → result.now ≡ reverse (acted (decided_requests self.now.shape log)) }
@@ -225,8 +227,8 @@ impl Replica {
         self.decisions.history()
     }
 
-    /// The envelope with the reply to the client's last request that acted; `None` where none did. It may be posted to the client
-    /// at any time, which changes nothing of the replica.
+    /// Returns the envelope with the reply to the client's last request that acted, or `None` if none did. It may be posted to
+    /// the client at any time; that changes nothing in the replica.
     pub fn reply_for(&self, client: ClientId) -> Option<Envelope>
         ensures stands { (log : List Entry) → StandsFor self.now log → result ≡ reply_to self.now.shape log client }
         ensures posted { (log : List Entry) (envelope : Envelope) → StandsFor self.now log
@@ -235,8 +237,8 @@ impl Replica {
         self.decisions.kept(client).map(Envelope::Reply)
     }
 
-    /// Takes the envelope from this replica. The last take of a round closes it. It allocates nothing. Requires that the take
-    /// is due, and room for what it may decide. An envelope of another kind or round counts as no chains.
+    /// Takes the envelope from this replica. The last take of a round closes it. Allocates nothing. Requires that the take is
+    /// due, and room for what it may decide. An envelope of another kind or round counts as no chains.
     pub fn taken(&mut self, from: ReplicaId, envelope: Envelope)
         requires due { self.old.next ≡ TakeFrom from }
         requires room { HasRoom self.old }
@@ -248,9 +250,8 @@ impl Replica {
         self.go_on_after(from);
     }
 
-    /// Takes the envelope from this replica where none of its chains would be kept, and returns whether it did; where one would,
-    /// nothing changed, and `taken` takes it. So of most envelopes no copy is needed. It allocates nothing. Requires what `taken`
-    /// requires.
+    /// Takes the envelope from this replica if none of its chains would be kept, and returns true. Otherwise changes nothing and
+    /// returns false, and `taken` takes it. So most envelopes need no copy. Allocates nothing. Requires what `taken` requires.
     pub fn passed_over(&mut self, from: ReplicaId, envelope: &Envelope) -> bool
         requires due { self.old.next ≡ TakeFrom from }
         requires room { HasRoom self.old }
@@ -267,8 +268,8 @@ impl Replica {
         true
     }
 
-    /// Takes the envelope from this client. It allocates nothing. Requires that the client is one of the shape. An ask that the
-    /// client did not sign as its own is dropped; so is one where an ask of a greater number is held.
+    /// Takes the envelope from this client. Allocates nothing. Requires that the client is one of the shape. An ask is dropped
+    /// if the client did not sign it as its own, or if an ask with a greater number is held.
     pub fn ask_taken(&mut self, client: ClientId, envelope: Envelope)
         requires { client < self.old.shape.m }
         ensures stands { (log : List Entry) → StandsFor self.old log → StandsFor self.new (Take (ClientNumber client) envelope ∷ log) }
@@ -278,7 +279,7 @@ impl Replica {
         self.asks.take(&shape, client, envelope);
     }
 
-    /// The request that is held of this client.
+    /// Returns the request that is held for this client.
     pub fn held(&self, client: ClientId) -> Option<Request>
         ensures same { result ≡ option_map (λ ask. ask.request) (ask_of self.now.asks client) }
         ensures stands { (log : List Entry) → StandsFor self.now log → result ≡ option_map (λ ask. ask.request) (held self.now.shape client log) }
@@ -289,7 +290,7 @@ impl Replica {
         }
     }
 
-    /// The envelope of the round in progress by this choice. Requires that the choice is allowed.
+    /// Makes the envelope of the round in progress by this choice. Requires that the choice is allowed.
     fn chosen(&self, alloc: Global, to: ReplicaId, pick: Pick) -> Result<Envelope, Refusal>
         requires { IsSome (value_for self.now to pick) }
         ensures made { (value : SlotValue) → value_for self.now to pick ≡ Some value
@@ -306,7 +307,8 @@ impl Replica {
         }
     }
 
-    /// The envelope of the round in progress, which proposes the asks held of these clients. Requires that the choice is allowed.
+    /// Makes the envelope of the round in progress that proposes the asks held for these clients. Requires that the
+    /// choice is allowed.
     fn made_from(&self, alloc: Global, clients: Clients) -> Result<Envelope, Refusal>
         requires { IsSome (value_of self.now (From clients)) }
         ensures made { (value : SlotValue) → value_of self.now (From clients) ≡ Some value
@@ -314,7 +316,7 @@ impl Replica {
         ensures refusal { IsOkUnless result Refusal.NoMemory }
         ensures in_flight { AreInFlight self.now.shape self.now.round self.now.slots (closed_slots self.now.shape self.now.round) }
     {
-        // that the slots are in flight is known from here on
+        // from here on the prover knows that the slots are in flight
         let _round = self.flights.round();
         let clients = clients.as_slice();
         let mut asks = Vec::with_capacity(alloc, clients.len())?;
@@ -322,7 +324,8 @@ impl Replica {
         self.made(alloc, asks.as_slice())
     }
 
-    /// The envelope of the round in progress with the chains that are posted where the value with these signed requests is proposed.
+    /// Makes the envelope of the round in progress, with the chains that are posted if the value with these signed
+    /// requests is proposed.
     fn made(&self, alloc: Global, signed: &[SignedRequest]) -> Result<Envelope, Refusal>
         requires { length signed.now ≤ 8 }
         ensures made { IfOk result (λ envelope. envelope
@@ -335,14 +338,14 @@ impl Replica {
         Ok(envelope_of(round, chains))
     }
 
-    /// Whether the post is due, the choice allowed, and the round below 2^36.
+    /// Tells whether the post is due, the choice allowed, and the round below 2^36.
     fn is_allowed(&self, to: ReplicaId, pick: Pick) -> bool
         ensures { IsTrue result ↔ Allows self.now to pick }
     {
         self.has_value(to, pick) && self.flights.round() < ROUND_END
     }
 
-    /// Whether the post to this replica is due, and the choice allowed there.
+    /// Tells whether the post to this replica is due, and the choice allowed there.
     fn has_value(&self, to: ReplicaId, pick: Pick) -> bool
         ensures { IsTrue result ↔ IsSome (value_for self.now to pick) }
     {
@@ -356,14 +359,15 @@ impl Replica {
         }
     }
 
-    /// Whether the replica is the sender of the slot that begins with the round, and holds an ask of each of these clients.
+    /// Tells whether the replica is the sender of the slot that begins with the round, and holds an ask for each of
+    /// these clients.
     fn may_propose(&self, clients: Clients) -> bool
         ensures { IsTrue result ↔ IsSome (value_of self.now (From clients)) }
     {
         self.is_sender() && self.asks.has_each(clients.as_slice())
     }
 
-    /// Whether the replica is the sender of the slot that begins with the round.
+    /// Tells whether the replica is the sender of the slot that begins with the round.
     fn is_sender(&self) -> bool
         ensures { result ≡ actor_eq self.now.me (sender_of self.now.shape self.now.round) }
     {
@@ -371,7 +375,7 @@ impl Replica {
         self.key.signer() == sender
     }
 
-    /// Posts to this replica by this choice. Requires that it is allowed.
+    /// Notes the post to this replica by this choice. Requires that it is allowed.
     fn post(&mut self, to: ReplicaId, pick: Pick)
         requires { Allows self.old to pick }
         ensures { (value : SlotValue) → value_for self.old to pick ≡ Some value
@@ -394,7 +398,7 @@ impl Replica {
         }
     }
 
-    /// Goes on to the take from this replica. Requires that it is one of the shape, and that the round is below 2^36.
+    /// Makes the take from this replica due. Requires that it is one of the shape, and that the round is below 2^36.
     fn take_next_from(&mut self, number: u8)
         requires inside { number < self.old.shape.n }
         requires below { self.old.round < 2 ^ 36 }
@@ -404,7 +408,8 @@ impl Replica {
         self.due = Due::Take(replica_of(number));
     }
 
-    /// Goes on to what is due after the take from this replica. Requires that this take is due, and room for what it may decide.
+    /// Makes due what follows the take from this replica, and closes the round after the last one. Requires that this
+    /// take is due, and room for what it may decide.
     fn go_on_after(&mut self, from: ReplicaId)
         requires due { self.old.next ≡ TakeFrom from }
         requires room { HasRoom self.old }
@@ -420,7 +425,7 @@ impl Replica {
         }
     }
 
-    /// Whether one of the envelope's chains would be kept if it was read in the round in progress.
+    /// Tells whether one of the envelope's chains would be kept if it were read in the round in progress.
     fn would_keep(&self, envelope: &Envelope) -> bool
         ensures nothing { result ≡ false → with_envelope self.now envelope.now ≡ self.now }
         ensures in_flight { AreInFlight self.now.shape self.now.round self.now.slots (closed_slots self.now.shape self.now.round) }
@@ -448,7 +453,7 @@ impl Replica {
     }
 }
 
-/// The envelope of a round with these chains: the empty one where there is none.
+/// Makes the envelope of a round with these chains, the empty one if there are none.
 fn envelope_of(round: u64, chains: Vec<Chain>) -> Envelope
     ensures { result ≡ round_envelope round chains.items }
 {
@@ -461,7 +466,7 @@ fn envelope_of(round: u64, chains: Vec<Chain>) -> Envelope
     }
 }
 
-/// Looks at the choice, from which on it is known that its clients are 1 to 8 different ones.
+/// Shows the prover that the clients of a choice are 1 to 8 different ones; does nothing else.
 fn look_at(pick: &Pick)
     ensures { IsPick pick.now }
 {
@@ -473,7 +478,7 @@ fn look_at(pick: &Pick)
     }
 }
 
-/// Whether the post to this replica is due.
+/// Tells whether the post to this replica is due.
 fn is_due(due: Due, to: ReplicaId) -> bool
     ensures { result ≡ is_due due to }
 {
@@ -483,7 +488,7 @@ fn is_due(due: Due, to: ReplicaId) -> bool
     }
 }
 
-/// What is due after a post to this replica, one of n.
+/// Returns what is due after a post to this replica, one of n.
 fn due_after(to: ReplicaId, n: u8) -> Due
     requires { n ≤ 16 }
     ensures { to < n → result ≡ after_post_to n to }
@@ -496,7 +501,7 @@ fn due_after(to: ReplicaId, n: u8) -> Due
     }
 }
 
-/// The replica of this number, which is below 16.
+/// Returns the replica with this number, which is below 16.
 fn replica_of(number: u8) -> ReplicaId
     requires { number < 16 }
     ensures { result ≡ number }
@@ -523,7 +528,8 @@ fn read_envelope(flights: &mut Flights, envelope: Envelope)
     }
 }
 
-/// Whether one of the envelope's chains would be kept if it was read in the round in progress: none if it is of another round.
+/// Tells whether one of the envelope's chains would be kept if it were read in the round in progress: none if the
+/// envelope is of another round.
 fn keeps_one(flights: &Flights, envelope: &Envelope) -> bool
     ensures nothing { result ≡ false
         → map (with_chains (chains_for flights.now.round envelope.now)) flights.now.slots ≡ flights.now.slots }
@@ -538,7 +544,7 @@ fn keeps_one(flights: &Flights, envelope: &Envelope) -> bool
     }
 }
 
-/// Adds what was decided, if something was.
+/// Adds the decision, if there is one.
 fn add_decided(decisions: &mut Decisions, decision: Option<Decision>)
     requires room { HasPlaces decisions.old }
     requires clients { (value : SlotValue) → decision ≡ Some value → All (λ r. r.client < decisions.old.clients) (requests_in value) }

@@ -6,6 +6,6 @@ use Rattle.dsr_envelope.specs.declared.envelope.Envelope.{Envelope}
 use Rattle.dsr_replica.specs.Held.{held_with}
 use Rattle.dsr_replica.specs.Replica.{ask_of}
 
--- the asks after this envelope was taken from this client
+-- the asks after this envelope is taken from this client
 abbrev pub asks_with : Shape → ℕ → List (Option SignedRequest) → Envelope → List (Option SignedRequest)
 asks_with shape client asks envelope = slice_set asks client (held_with shape client (ask_of asks client) envelope)

@@ -4,8 +4,8 @@ use Rattle.dsr_request.specs.Request.{Request}
 use Rattle.dsr_chain.specs.Content.{requests_in}
 use Rattle.dsr_chain.specs.declared.slot_value.SlotValue.{SlotValue}
 
--- the values of the closed slots, the latest first; for how many clients the machine keeps replies; for how many more
--- requests there is room, and for how many more values
+-- the values of the closed slots, the latest first; the number of clients for which the machine keeps replies; for
+-- how many more requests there is room, and for how many more values
 pub record Decisions : Type 0 where
   pub values : List SlotValue
   pub clients : ℕ

@@ -23,7 +23,7 @@ AreInFlight shape round [] first = first ≡ suc round
 AreInFlight shape round (s ∷ more) first =
     (s.shape ≡ shape) × (s.slot ≡ first) × (first + s.closed ≡ round) × AreInFlight shape round more (suc first)
 
--- a slot after these chains were read in the round after its closed ones
+-- a slot after these chains are read in the round after its closed ones
 abbrev pub with_chains : List Chain → SlotState → SlotState
 with_chains chains s = record s { kept = keep s.shape s.slot (suc s.closed) s.kept chains }
 
@@ -36,7 +36,7 @@ abbrev pub IsFirstLast : List SlotState → Type 0
 IsFirstLast [] = ⊥
 IsFirstLast (s ∷ more) = s.closed ≡ s.shape.f
 
--- these slots are of this shape
+-- these slots have this shape
 abbrev pub AreOf : Shape → List SlotState → Type 0
 AreOf shape slots = All (λ (s : SlotState). s.shape ≡ shape) slots
 
@@ -44,11 +44,11 @@ AreOf shape slots = All (λ (s : SlotState). s.shape ≡ shape) slots
 abbrev pub is_begun : Actor → SlotState → Bool
 is_begun me s = (s.closed == 0) && actor_eq me (sender_of s.shape s.slot)
 
--- what is posted of a slot in the round after its closed ones
+-- what is posted for a slot in the round after its closed ones
 abbrev pub slot_post : Actor → SlotValue → SlotState → List Chain
 slot_post me value s = posted s.shape s.slot me value (suc s.closed) s.kept
 
--- what is posted of these slots, one after the other
+-- what is posted for these slots, one after the other
 abbrev pub posts_of : Actor → SlotValue → List SlotState → List Chain
 posts_of me value [] = []
 posts_of me value (s ∷ more) = slot_post me value s ++ posts_of me value more
@@ -70,11 +70,11 @@ next_flights flights = record {
   slots = map with_closed (going_on flights.shape flights.round flights.slots) ++ opened flights.shape (suc flights.round) ∷ [];
 }
 
--- what is decided of the first
+-- what is decided for the first slot, if there is one
 abbrev pub first_decided : List SlotState → Option SlotValue
 first_decided [] = None
 first_decided (s ∷ more) = Some (decision s.kept)
 
--- what is decided with this round: the slot that closes with it, from round f on
+-- what is decided with this round, from round f on: the value of the slot that closes with it
 abbrev pub decided_with : Shape → ℕ → List SlotState → Option SlotValue
 decided_with shape round slots = if nat_lt round shape.f then None else first_decided slots

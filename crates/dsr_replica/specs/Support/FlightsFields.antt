@@ -4,11 +4,12 @@ use Rattle.dsr_rotation.specs.Calendar.{closed_slots}
 use Rattle.dsr_replica.specs.declared.flights.Flights.TheInside.{Inside}
 use Rattle.dsr_replica.specs.Support.Flights.{Flights, AreInFlight}
 
--- the slots of the list
+-- the slots in flight in these fields
 abbrev pub flights_of : Inside → Flights
 flights_of a = record { shape = a.shape; round = a.round; slots = a.slots.items }
 
--- the slots are those of the round, and there is room for as many as are ever in flight
+-- the slots are those of the round, there is room for as many as are ever in flight, and f is at
+-- most 7
 pub record IsFlightsFields (a : Inside) : Type 0 where
   pub in_flight : AreInFlight a.shape a.round a.slots.items (closed_slots a.shape a.round)
   pub room : a.shape.f + 1 ≤ vec_capacity a.slots

@@ -1,4 +1,4 @@
--- How a replica stands in its parts, and what they hold (this project).
+-- How a replica is stored in its parts, and what they hold (this project).
 use Rattle.std.specs.Prelude.{◌≡◌, ℕ, suc, ◌^◌, ◌<◌, ◌≤◌, ◌==◌, true, false, List, ◌∷◌, ◌++◌, [], Option, None, Some, length, map, if◌then◌else◌}
 use Rattle.dsr_rotation.specs.Calendar.{closed_slots}
 use Rattle.dsr_chain.specs.declared.slot_value.SlotValue.{SlotValue}
@@ -12,7 +12,7 @@ use Rattle.dsr_envelope.specs.Envelope.{chains_for}
 use Rattle.dsr_replica.specs.Replica.{Replica}
 use Rattle.dsr_replica.specs.Support.Flights.{with_chains, going_on, decided_with}
 
--- the parts, one after the other
+-- the replica with these parts
 abbrev pub replica_of : Inside → Replica
 replica_of a = record {
   me = a.key;
@@ -32,8 +32,8 @@ abbrev pub IsWithin : Due → ℕ → Type 0
 IsWithin (PostTo q) round = round ≤ 2 ^ 36
 IsWithin (TakeFrom p) round = round < 2 ^ 36
 
--- what is due is inside the shape; there are as many values as closed slots, and replies for the shape's clients and
--- places for their asks
+-- what is due is inside the shape; there are as many values as closed slots, replies for the shape's clients, and
+-- places for their asks; and the round is within the limit
 pub record IsReplicaFields (a : Inside) : Type 0 where
   pub inside : IsInside a.flights.shape.n a.due
   pub counted : length a.decisions.values ≡ closed_slots a.flights.shape a.flights.round
@@ -41,7 +41,7 @@ pub record IsReplicaFields (a : Inside) : Type 0 where
   pub asks : length a.asks ≡ a.flights.shape.m
   pub within : IsWithin a.due a.flights.round
 
--- the replica after this envelope was read in the round in progress
+-- the replica after this envelope is read in the round in progress
 abbrev pub with_envelope : Replica → Envelope → Replica
 with_envelope r envelope = record r { slots = map (with_chains (chains_for r.round envelope)) r.slots }
 
@@ -50,7 +50,7 @@ abbrev pub with_decided : Option SlotValue → List SlotValue → List SlotValue
 with_decided None values = values
 with_decided (Some value) values = value ∷ values
 
--- the replica after the round in progress was closed
+-- the replica after the round in progress is closed
 abbrev pub next_round : Replica → Replica
 next_round r = record r {
   next = PostTo 0;
@@ -63,7 +63,8 @@ next_round r = record r {
 abbrev pub after_post_to : ℕ → ℕ → Due
 after_post_to n q = if suc q == n then TakeFrom 0 else PostTo (suc q)
 
--- the replica after a take from this replica was read: the next take is due, or with the last one the round is closed
+-- the replica after the envelope of a take from this replica is read: the next take is due, or the round is closed if
+-- it was the last
 pub record IsAfterTake (before : Replica) (from : ℕ) (after : Replica) : Type 0 where
   pub more : (suc from == before.shape.n) ≡ false → after ≡ record before { next = TakeFrom (suc from) }
   pub last : (suc from == before.shape.n) ≡ true → after ≡ record (next_round before) { requests = after.requests; places = after.places }
