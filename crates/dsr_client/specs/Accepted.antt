@@ -1,4 +1,4 @@
--- What stands behind an accepted reply (Schneider 1990: of f+1 replicas one is loyal).
+-- Facts behind an accepted reply (Schneider 1990: of f+1 replicas one is loyal).
 use Rattle.std.specs.Prelude.{◌≡◌, ℕ, suc, ◌<◌, Bool, true, List, [], ◌∷◌, ◌++◌, None, Some, length}
 use Rattle.dsr_base.specs.Bits.{count_below}
 use Rattle.dsr_base.specs.Member.{In}
@@ -11,7 +11,7 @@ use Rattle.dsr_envelope.specs.declared.entry.Entry.{Entry}
 use Rattle.dsr_envelope.specs.declared.entry.Entry.TheVariants.{Post, Take}
 use Rattle.dsr_client.specs.State.{outstanding, accepted}
 
--- the reply was taken from this replica when a request of its number was outstanding
+-- the reply was taken from this replica when a request with its number was outstanding
 pub record WasTaken (shape : Shape) (log : List Entry) (replica : ℕ) (reply : AReply) : Type 0 where
   pub newer : List Entry
   pub older : List Entry
@@ -20,7 +20,7 @@ pub record WasTaken (shape : Shape) (log : List Entry) (replica : ℕ) (reply : 
   pub current : outstanding shape older ≡ Some ask
   pub number : reply.number ≡ ask.request.number
 
--- more than f replicas gave the reply, each in a take when a request of its number was outstanding
+-- more than f replicas gave the reply, each in a take when a request with its number was outstanding
 pub record WasAccepted (shape : Shape) (log : List Entry) (reply : AReply) : Type 0 where
   pub gave : ℕ → Bool
   pub enough : shape.f < count_below gave shape.n
@@ -41,7 +41,8 @@ pub record AcceptsNone (shape : Shape) (entry : Entry) (log : List Entry) : Type
   pub same : accepted shape (entry ∷ log) ≡ accepted shape log
   pub still : (ask : SignedRequest) → outstanding shape log ≡ Some ask → outstanding shape (entry ∷ log) ≡ Some ask
 
--- the entry accepts this reply: it takes it from a replica when a request of its number is outstanding, and then none is (this project)
+-- the entry accepts this reply: it takes it from a replica when a request with its number is outstanding, and then none
+-- is (this project)
 pub record Accepts (shape : Shape) (entry : Entry) (log : List Entry) (reply : AReply) : Type 0 where
   pub replica : ℕ
   pub taken : entry ≡ Take (Replica replica) (Reply reply)

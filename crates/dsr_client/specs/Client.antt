@@ -8,7 +8,7 @@ use Rattle.dsr_quorum.specs.Tally.{Tally, StandsFor as Counts}
 use Rattle.dsr_envelope.specs.declared.entry.Entry.{Entry}
 use Rattle.dsr_client.specs.State.{state_after, outstanding, accepted, seen}
 
--- who it is, the shape, what is outstanding, how many replies were accepted, the votes for replies to what is outstanding, and
+-- who it is, the shape, what is outstanding, the number of accepted replies, the votes for replies to what is outstanding, and
 -- the seen front
 pub record Client : Type 0 where
   pub me : ℕ
@@ -18,7 +18,7 @@ pub record Client : Type 0 where
   pub tally : Tally
   pub seen : ℕ
 
--- the client stands for this log
+-- the client represents this log
 pub record StandsFor (client : Client) (log : List Entry) : Type 0 where
   pub outstanding : client.outstanding ≡ outstanding client.shape log
   pub accepted : client.accepted ≡ length (accepted client.shape log)

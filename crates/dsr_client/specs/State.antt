@@ -1,6 +1,6 @@
 -- What a client's log says: what is outstanding, which replies were accepted, and what the client has seen of the history.
--- Logs, notes and accepted replies stand newest first (this project; that a client believes what f+1 replicas say alike is
--- Schneider's, 1990).
+-- Logs, notes and accepted replies are listed newest first (this project; that a client believes what f+1 replicas say
+-- alike is Schneider's, 1990).
 use Rattle.std.specs.Prelude.{ℕ, suc, ◌==◌, max, List, [], ◌∷◌, Option, None, Some, if◌then◌else◌}
 use Rattle.dsr_names.specs.Shape.{Shape}
 use Rattle.dsr_names.specs.declared.actor.Actor.TheVariants.{Replica, Client}
@@ -12,22 +12,23 @@ use Rattle.dsr_envelope.specs.declared.envelope.Envelope.TheVariants.{Empty, Rou
 use Rattle.dsr_envelope.specs.declared.entry.Entry.{Entry}
 use Rattle.dsr_envelope.specs.declared.entry.Entry.TheVariants.{Post, Take}
 
--- the signed request that is outstanding, the replies of its number that replicas gave since it is, and the accepted replies
+-- the outstanding signed request, the replies with its number that replicas gave since it is outstanding, and the
+-- accepted replies
 pub record State : Type 0 where
   pub outstanding : Option SignedRequest
   pub notes : List Note
   pub accepted : List AReply
 
--- at first nothing is outstanding and nothing accepted
+-- the state at first: nothing is outstanding and nothing accepted
 abbrev pub start : State
 start = record { outstanding = None; notes = []; accepted = [] }
 
--- a post of an ask makes it the outstanding one, unless one is outstanding already
+-- the state after a post of an ask: this one is outstanding, unless another is already
 abbrev pub asked_beside : Option SignedRequest → SignedRequest → State → State
 asked_beside None ask state = record { outstanding = Some ask; notes = []; accepted = state.accepted }
 asked_beside (Some other) ask state = state
 
--- what a post to a replica does
+-- the state after a post to a replica
 abbrev pub with_post : Envelope → State → State
 with_post Empty state = state
 with_post (Round round chains) state = state
@@ -35,7 +36,7 @@ with_post (Ask ask) state = asked_beside state.outstanding ask state
 with_post (Reply reply) state = state
 with_post (Seen front) state = state
 
--- a reply that won is accepted, and nothing is outstanding then
+-- the state after a reply won, if one did: it is accepted, and nothing is outstanding
 abbrev pub settled : Option AReply → State → State
 settled None state = state
 settled (Some reply) state = record { outstanding = None; notes = []; accepted = reply ∷ state.accepted }
@@ -48,7 +49,7 @@ with_note replica reply state = record {
   accepted = state.accepted;
 }
 
--- a reply of the outstanding number is noted, and may win; no other counts for anything
+-- the state after a reply: if it has the outstanding number it is noted, and may win; else nothing changes
 abbrev pub replied_beside : Option SignedRequest → Shape → ℕ → AReply → State → State
 replied_beside None shape replica reply state = state
 replied_beside (Some ask) shape replica reply state =
@@ -56,7 +57,7 @@ replied_beside (Some ask) shape replica reply state =
     then settled (winner shape.f shape.n (record { replica = replica; reply = reply } ∷ state.notes)) (with_note replica reply state)
     else state
 
--- what a take from a replica does
+-- the state after a take from a replica
 abbrev pub with_take : Shape → ℕ → Envelope → State → State
 with_take shape replica Empty state = state
 with_take shape replica (Round round chains) state = state
@@ -64,7 +65,7 @@ with_take shape replica (Ask ask) state = state
 with_take shape replica (Reply reply) state = replied_beside state.outstanding shape replica reply state
 with_take shape replica (Seen front) state = state
 
--- the state after a log; what is posted to clients and taken from them changes nothing of it
+-- the state after a log; posts to clients and takes from them change nothing in it
 abbrev pub state_after : Shape → List Entry → State
 state_after shape [] = start
 state_after shape (Post (Replica q) envelope ∷ older) = with_post envelope (state_after shape older)
@@ -80,12 +81,12 @@ outstanding shape log = (state_after shape log).outstanding
 abbrev pub accepted : Shape → List Entry → List AReply
 accepted shape log = (state_after shape log).accepted
 
--- one more than the greatest place of these replies, 0 where there is none
+-- one more than the greatest place of these replies, or 0 if there are none
 abbrev pub front_of : List AReply → ℕ
 front_of [] = 0
 front_of (reply ∷ older) = max (suc reply.place) (front_of older)
 
--- the front that an envelope tells
+-- the seen front that an envelope reports, or 0 if it reports none
 abbrev pub told_by : Envelope → ℕ
 told_by Empty = 0
 told_by (Round round chains) = 0
@@ -93,13 +94,14 @@ told_by (Ask ask) = 0
 told_by (Reply reply) = 0
 told_by (Seen front) = front
 
--- the greatest front that other clients told, 0 where none did; what a replica says of fronts counts for nothing
+-- the greatest front that other clients reported, or 0 if none did; a front from a replica counts for nothing
 abbrev pub told : List Entry → ℕ
 told [] = 0
 told (Post to envelope ∷ older) = told older
 told (Take (Replica p) envelope ∷ older) = told older
 told (Take (Client c) envelope ∷ older) = max (told_by envelope) (told older)
 
--- the seen front: how much of the history the client knows to be there, by its accepted replies and by what other clients told it
+-- the seen front: how many places of the history the client knows of, by its accepted replies and by what other clients
+-- reported
 abbrev pub seen : Shape → List Entry → ℕ
 seen shape log = max (front_of (accepted shape log)) (told log)

@@ -1,2 +1,2 @@
--- How a client stands in its fields. No public contract cites this: it serves `impl Model`.
+-- How a client is stored in its fields. No public contract cites this: it serves `impl Model`.
 pub mod Client

@@ -23,8 +23,8 @@ use dsr_quorum::Tally;
 use dsr_request::{Op, Request};
 use std::marker::Model;
 
-/// A client of a shape. It has at most one request outstanding, and believes what more than f replicas reply alike. It
-/// is of fixed size.
+/// A client of a shape. It has at most one request outstanding, and believes a reply that more than f replicas give as
+/// their first. It is of fixed size.
 #[derive(Drop)]
 pub struct Client {
     key: Key,
@@ -48,7 +48,8 @@ impl Model for Client {
 }
 
 impl Client {
-    /// A client that holds this key, before its first request. Requires that the key is a client's of the shape.
+    /// Creates a client that holds this key, before its first request. Requires that the key is that of a client of the
+    /// shape.
     pub fn new(key: Key, shape: &Shape) -> Client
         requires { IsClientOf shape.now key }
         ensures me { key ≡ AClient result.me }
@@ -67,7 +68,7 @@ impl Client {
         }
     }
 
-    /// The number of the outstanding request; `None` where nothing is outstanding.
+    /// Returns the number of the outstanding request, or `None` if nothing is outstanding.
     pub fn outstanding(&self) -> Option<u64>
         ensures same { result ≡ option_map (λ ask. ask.request.number) self.now.outstanding }
         ensures stands { (log : List Entry) → StandsFor self.now log
@@ -77,7 +78,7 @@ impl Client {
         Some(ask.request.number())
     }
 
-    /// The votes for replies to the outstanding request.
+    /// Returns the votes for replies to the outstanding request.
     pub fn tally(&self) -> &Tally
         ensures same { result.now ≡ self.now.tally }
         ensures f { result.now.f ≡ self.now.shape.f }
@@ -87,7 +88,7 @@ impl Client {
         &self.tally
     }
 
-    /// The signed request that `begin` would make of this operation; `None` where `begin` would refuse.
+    /// Returns the signed request that `begin` would make with this operation, or `None` if `begin` would refuse.
     pub fn first_ask(&self, op: Op) -> Option<SignedRequest>
         ensures ask { IfSome result (λ ask. ask ≡ ask_of self.now.me (suc self.now.accepted) op) }
         ensures when { IsSome result ↔ MayBegin self.now }
@@ -97,9 +98,9 @@ impl Client {
         self.next_ask(op)
     }
 
-    /// Makes a request of this operation the outstanding one, and returns its number: one more than the count of accepted
-    /// replies. This stands for the first post of the request, to whichever replica. `Busy` where a request is outstanding,
-    /// else `Exhausted` where the number would be 2^40: then nothing changed.
+    /// Makes a request with this operation the outstanding one, and returns its number: one more than the count of accepted
+    /// replies. This represents the first post of the request, to any replica. `Busy` if a request is outstanding, else
+    /// `Exhausted` if the number would be 2^40: then nothing changes.
     pub fn begin(&mut self, op: Op) -> Result<u64, Refusal>
         ensures busy { IsErrOf result Refusal.Busy ↔ IsSome self.old.outstanding }
         ensures exhausted { IsErrOf result Refusal.Exhausted ↔ ((self.old.outstanding ≡ None) × (2 ^ 40 ≤ suc self.old.accepted)) }
@@ -124,8 +125,8 @@ impl Client {
         Ok(ask.request.number())
     }
 
-    /// The outstanding request, signed, to be asked of this replica; `None` where nothing is outstanding. It may be posted to any
-    /// replica at any time, which changes nothing of the client.
+    /// Returns the outstanding request, signed, or `None` if nothing is outstanding. It may be posted to any replica at any time;
+    /// that changes nothing in the client.
     pub fn ask_for(&self, _replica: ReplicaId) -> Option<SignedRequest>
         ensures same { result ≡ self.now.outstanding }
         ensures stands { (log : List Entry) → StandsFor self.now log
@@ -137,9 +138,9 @@ impl Client {
         Some(*ask)
     }
 
-    /// Takes the envelope, and returns the reply that is accepted by it. Requires that it comes from another actor of the
-    /// shape, and is within the limits. A reply of a replica counts where its number is outstanding, and a seen front of a
-    /// client; all else is dropped.
+    /// Takes the envelope, and returns the reply that it accepts with it, if any. Requires that it comes from another
+    /// actor of the shape, and is within the limits. From a replica a reply with the outstanding number counts, and from a
+    /// client a seen front; all else is dropped.
     pub fn taken(&mut self, from: Actor, envelope: Envelope) -> Option<Reply>
         requires actor { IsActor self.old.shape from }
         requires other { from ≢ AClient self.old.me }
@@ -161,8 +162,8 @@ impl Client {
         }
     }
 
-    /// The seen front: how many of the history's first places the client knows to be there, at most 2^40. It may be told to another
-    /// client at any time, which changes nothing of the client.
+    /// Returns the seen front: how many first places of the history the client knows of, at most 2^40. It may be posted to another
+    /// client at any time; that changes nothing in this one.
     pub fn seen(&self) -> u64
         ensures same { result ≡ self.now.seen }
         ensures most { result ≤ 2 ^ 40 }
@@ -173,7 +174,8 @@ impl Client {
         self.seen
     }
 
-    /// Notes the seen front that another client told, as taking `Seen` of it does. Requires that it is below 2^40.
+    /// Notes the seen front that another client posted, just as `taken` does with a `Seen`. Requires that it is below
+    /// 2^40.
     pub fn told(&mut self, front: u64)
         requires { front < 2 ^ 40 }
         ensures me { self.new.me ≡ self.old.me }
@@ -184,8 +186,8 @@ impl Client {
         self.seen = self.seen.max(front);
     }
 
-    /// The next request, of this operation, with the client's signature; `None` where one is outstanding, or the next number
-    /// would be 2^40.
+    /// Makes the next request, with this operation and the client's signature; `None` if one is outstanding, or the next
+    /// number would be 2^40.
     fn next_ask(&self, op: Op) -> Option<SignedRequest>
         ensures ask { IfSome result (λ ask. ask ≡ ask_of self.now.me (suc self.now.accepted) op) }
         ensures when { IsSome result ↔ MayBegin self.now }
@@ -197,7 +199,7 @@ impl Client {
         Some(SignedRequest::by(request, &self.key))
     }
 
-    /// Takes the envelope of a replica: a reply may count.
+    /// Takes the envelope from a replica: a reply may count.
     fn taken_from_replica(&mut self, replica: ReplicaId, envelope: &Envelope) -> Option<Reply>
         requires inside { replica < self.old.shape.n }
         requires fits { IsEnvelope envelope.now }
@@ -215,7 +217,7 @@ impl Client {
         }
     }
 
-    /// Takes the envelope of another client: a seen front counts.
+    /// Takes the envelope from another client: a seen front counts.
     fn taken_from_client(&mut self, envelope: &Envelope)
         requires fits { IsEnvelope envelope.now }
         ensures me { self.new.me ≡ self.old.me }
@@ -228,7 +230,7 @@ impl Client {
         }
     }
 
-    /// Notes the reply where its number is outstanding, and returns it where it is accepted by that.
+    /// Notes the reply if its number is outstanding, and returns it if that accepts it.
     fn replied(&mut self, replica: ReplicaId, reply: Reply) -> Option<Reply>
         requires inside { replica < self.old.shape.n }
         requires place { reply.place < 2 ^ 40 }
@@ -252,7 +254,7 @@ impl Client {
         Some(reply)
     }
 
-    /// Whether the outstanding request has this number.
+    /// Tells whether the outstanding request has this number.
     fn is_outstanding(&self, number: u64) -> bool
         ensures same { IsTrue result ↔ (option_map (λ ask. ask.request.number) self.now.outstanding ≡ Some number) }
         ensures more { IsTrue result → suc self.now.accepted < 2 ^ 40 }
@@ -267,7 +269,7 @@ impl Client {
     }
 }
 
-/// The client that this actor is, as it is known to be one of the shape.
+/// Returns the client that this actor is. Requires that it is a client of the shape.
 fn client_of(actor: Actor, shape: &Shape) -> ClientId
     requires { IsClientOf shape.now actor }
     ensures same { actor ≡ AClient result }

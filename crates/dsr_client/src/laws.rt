@@ -23,9 +23,9 @@ ghost use Rattle.dsr_client.specs.Conduct.{ask_of, next_number, ask_to, told_cho
 ghost use Rattle.dsr_client.specs.Issue.{issue_front, IsUnasked, IsIssued};
 ghost use Rattle.dsr_client.specs.State.{state_after, outstanding, accepted, told, seen};
 
-/// The log of a `Client` is a client's log: the empty log is, and so is a client's log with the entry that a call adds. That is an ask
-/// posted to a replica of the shape, by whichever choice: a new one where nothing is outstanding, else the outstanding one again. Or
-/// it is the seen front told to another client of the shape, or a take from another actor of the shape.
+/// The log of a `Client` is a client's log: the empty log is, and so is a client's log with the entry that a call adds. The entry is
+/// an ask posted to a replica of the shape, by an allowed choice: a new one if nothing is outstanding, else the outstanding one again.
+/// Or it is the seen front posted to another client of the shape, or a take from another actor of the shape.
 pub fn calls_keep_a_clients_log()
     ensures empty { (shape : Shape) (me : ℕ) → IsClientLog shape me [] }
     ensures posted { (shape : Shape) (me : ℕ) (log : List Entry) → IsClientLog shape me log
@@ -43,8 +43,8 @@ pub fn calls_keep_a_clients_log()
         → (from : Actor) → IsActor shape from → from ≢ Client me → (envelope : Envelope) → IsClientLog shape me (Take from envelope ∷ log) }
 {}
 
-/// An ask tells the choice by which it was posted: where a request was outstanding the plain one, which asks for that again, and
-/// else the choice to begin a request of the ask's operation, which asks for the next number.
+/// An ask tells the choice by which it was posted: if a request was outstanding, the plain one, which asks for that again, and
+/// else the choice to begin a request with the ask's operation, which asks for the next number.
 pub fn asks_tell_choices()
     ensures choice { (shape : Shape) (me : ℕ) (log : List Entry) (pick : Pick) (ask : SignedRequest)
         → ask_to shape me log pick ≡ Some (Ask ask) → pick ≡ told_choice (outstanding shape log) ask }
@@ -59,9 +59,9 @@ pub fn asks_tell_choices()
         → (ask : SignedRequest) × (Ask ask ≡ envelope) }
 {}
 
-/// Each accepted reply was given by more than f replicas, each in a take of the log when a request of the reply's number was
-/// outstanding. Where at most f replicas are traitors, one of those is loyal. What is accepted stays accepted. A reply counts
-/// for nothing where no request of its number is outstanding, and where the replica has replied to it before.
+/// Each accepted reply was given by more than f replicas, each in a take of the log when a request with the reply's number
+/// was outstanding. If at most f replicas are traitors, one of those is loyal. What is accepted stays accepted. A reply
+/// counts for nothing if no request with its number is outstanding, or if the replica has replied to that request before.
 pub fn accepted_replies_have_enough_votes()
     ensures votes { (shape : Shape) (log : List Entry) (reply : AReply) → In reply (accepted shape log) → WasAccepted shape log reply }
     ensures loyal { (shape : Shape) (log : List Entry) (reply : AReply) → HasFewTraitors shape → In reply (accepted shape log)
@@ -75,8 +75,8 @@ pub fn accepted_replies_have_enough_votes()
         × (outstanding shape (Take (Replica p) (Reply reply) ∷ log) ≡ outstanding shape log) }
 {}
 
-/// An entry accepts the reply that it takes, to what was outstanding before it and is not any more; or it accepts nothing, and what was
-/// outstanding still is. Where nothing is outstanding a take changes nothing but the seen front, and an ask that is posted to a replica
+/// An entry accepts the reply that it takes, to what was outstanding before it and no longer is; or it accepts nothing, and what was
+/// outstanding still is. If nothing is outstanding, a take changes nothing but the seen front, and an ask that is posted to a replica
 /// becomes the outstanding one. No post accepts anything.
 pub fn takes_settle()
     ensures settles { (shape : Shape) (entry : Entry) (log : List Entry)
@@ -88,9 +88,9 @@ pub fn takes_settle()
     ensures posts { (shape : Shape) (to : Actor) (envelope : Envelope) (log : List Entry) → AcceptsNone shape (Post to envelope) log }
 {}
 
-/// Where at most f replicas are traitors, and n is at least 2f+1: a client that took, while its request was outstanding, one and
-/// the same reply to it from every loyal replica, and in its whole log no other reply of that number from any of them, has
-/// accepted that reply. What traitors reply, and when, plays no part.
+/// Requires that at most f replicas are traitors, and n is at least 2f+1. If a client took, while its request was outstanding,
+/// one and the same reply to it from every loyal replica, and in its whole log no other reply with that number from any of them,
+/// it has accepted that reply. What traitors reply, and when, does not matter.
 pub fn loyal_replies_are_accepted()
     ensures { (shape : Shape) (older newer : List Entry) (ask : SignedRequest) (reply : AReply)
         → HasFewTraitors shape → 2 * shape.f < shape.n
@@ -101,8 +101,8 @@ pub fn loyal_replies_are_accepted()
         → In reply (accepted shape (newer ++ older)) }
 {}
 
-/// A client posts one request under a number, ever; all are its own, with its signature; and the outstanding one has the
-/// number after the count of accepted replies. What is outstanding was posted to some replica.
+/// A client only ever posts one request under a number; all are its own, with its signature; and the outstanding one has
+/// the number after the count of accepted replies. What is outstanding was posted to some replica.
 pub fn numbers_name_one_request()
     ensures once { (shape : Shape) (me : ℕ) (log : List Entry) → IsClientLog shape me log
         → (q r : ℕ) (ask other : SignedRequest) → In (Post (Replica q) (Ask ask)) log → In (Post (Replica r) (Ask other)) log
@@ -115,7 +115,7 @@ pub fn numbers_name_one_request()
 {}
 
 /// A client's accepted replies have the numbers 1, 2, 3 .. in their order: no two have one number, and each is at most their count. In
-/// any log each answers a request that was posted to some replica, so its number is below 2^40 where those of all such requests are.
+/// any log each answers a request that was posted to some replica, so its number is below 2^40 if those of all such requests are.
 pub fn accepted_replies_are_numbered()
     ensures numbered { (shape : Shape) (me : ℕ) (log : List Entry) → IsClientLog shape me log → AreNumbered (accepted shape log) }
     ensures once { (shape : Shape) (me : ℕ) (log : List Entry) → IsClientLog shape me log
@@ -128,9 +128,9 @@ pub fn accepted_replies_are_numbered()
         → (reply : AReply) → In reply (accepted shape log) → IsCount reply.number }
 {}
 
-/// The issue front of a number is the front that the client had seen just before it first posted an ask of that number to a replica;
-/// there is none exactly where it never did, as for the next number while nothing is outstanding. It stays as the log goes on,
-/// and is no more than the seen front.
+/// The issue front of a number is the seen front of the client just before it first posted an ask with that number to a replica;
+/// there is none exactly if it never did, as for the next number while nothing is outstanding. It stays as the log goes on, and is
+/// no more than the seen front.
 pub fn issue_fronts_are_of_first_asks()
     ensures issued { (shape : Shape) (number : ℕ) (log : List Entry) (front : ℕ)
         → (issue_front shape number log ≡ Some front) ↔ IsIssued shape number log front }
@@ -146,9 +146,9 @@ pub fn issue_fronts_are_of_first_asks()
         → front ≤ seen shape log }
 {}
 
-/// The seen front is 0 at first and never falls, and it is above the place of each accepted reply. What moves it is a `Seen` taken from
-/// a client, to the front that is told, or an entry that accepts a reply, to just past the reply's place, in each case where that is
-/// greater; every other entry leaves it. So a `Seen` from a replica counts for nothing, nor does a reply from a client.
+/// The seen front is 0 at first and never falls, and it is above the place of each accepted reply. Two entries move it: a `Seen` taken
+/// from a client, to the front that it tells, and an entry that accepts a reply, to just past the reply's place, in each case if that
+/// is greater. Every other entry leaves it. So a `Seen` from a replica counts for nothing, nor does a reply from a client.
 pub fn seen_fronts_only_grow()
     ensures start { (shape : Shape) → seen shape [] ≡ 0 }
     ensures grows { (shape : Shape) (entry : Entry) (log : List Entry) → seen shape log ≤ seen shape (entry ∷ log) }
@@ -165,8 +165,8 @@ pub fn seen_fronts_only_grow()
         ⊎ (seen shape (entry ∷ log) ≡ seen shape log) }
 {}
 
-/// A client never looks at who is a traitor. Under two shapes that agree in all but that, it accepts and sees the same, and
-/// asks for the same; and the same logs are a client's.
+/// A client never looks at who is a traitor. Under two shapes that differ only in their traitors, it accepts and sees the
+/// same, and asks for the same; and the same logs are a client's.
 pub fn clients_are_blind()
     ensures accepted { (shape other : Shape) → AgreeButForTraitors shape other → (log : List Entry) → state_after shape log ≡ state_after other log }
     ensures seen { (shape other : Shape) → AgreeButForTraitors shape other → (log : List Entry) → seen shape log ≡ seen other log }

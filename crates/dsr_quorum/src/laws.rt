@@ -7,8 +7,8 @@ ghost use Rattle.dsr_names.specs.declared.actor.Actor.TheVariants.{Replica};
 ghost use Rattle.dsr_ledger.specs.declared.reply.Reply.{Reply};
 ghost use Rattle.dsr_quorum.specs.Votes.{Note, first_of, votes, winner};
 
-/// Where at most f replicas are traitors, one of more than f different replicas is loyal, whatever they have in common. So a reply with
-/// more than f votes was given by a loyal replica: it is the first reply of one. The winner has more than f votes, and where there is none, no reply has.
+/// If at most f replicas are traitors, one of more than f different replicas is loyal, whatever they have in common. So if a reply has more than f votes,
+/// it is the first reply of a loyal replica. The winner has more than f votes, and if there is no winner, no reply has more than f.
 pub fn enough_votes_have_a_loyal_one()
     ensures one { (shape : Shape) (gave : ℕ → Bool) → HasFewTraitors shape → shape.f < count_below gave shape.n
         → (p : ℕ) × IsLoyal shape (Replica p) × (gave p ≡ true) }
@@ -19,8 +19,8 @@ pub fn enough_votes_have_a_loyal_one()
     ensures none { (f n : ℕ) (notes : List Note) (reply : Reply) → winner f n notes ≡ None → votes n notes reply ≤ f }
 {}
 
-/// Where more than twice as many replicas are there as may be traitors, and the first reply of each loyal one is the same,
-/// that reply has more than f votes and wins.
+/// If n is greater than 2f, at most f replicas are traitors, and the first reply of each loyal replica is the same, that
+/// reply has more than f votes and wins.
 pub fn loyal_replicas_are_enough()
     ensures votes { (shape : Shape) (notes : List Note) (reply : Reply) → HasFewTraitors shape → 2 * shape.f < shape.n
         → ((p : ℕ) → IsLoyal shape (Replica p) → first_of p notes ≡ Some reply) → shape.f < votes shape.n notes reply }

@@ -7,10 +7,11 @@ use dsr_ledger::Reply;
 use dsr_names::ReplicaId;
 use std::marker::Model;
 
-/// The most replicas of a shape.
+/// The greatest number of replicas of a shape.
 const MOST_REPLICAS: usize = 16;
 
-/// Which replica gave which reply first, and which reply first had more than f votes. It is of fixed size.
+/// Which replica gave which reply first, and which reply was the first to have more than f votes. It is of
+/// fixed size.
 #[derive(Drop)]
 pub struct Tally {
     f: u8,
@@ -31,7 +32,7 @@ impl Model for Tally {
 }
 
 impl Tally {
-    /// A tally of no note, among n replicas of which f may lie. Requires that n is at most 16.
+    /// Creates an empty tally for n replicas, at most f of them traitors. Requires that n is at most 16.
     pub fn new(f: u8, n: u8) -> Tally
         requires { n ≤ 16 }
         ensures f { result.f ≡ f }
@@ -55,7 +56,8 @@ impl Tally {
         *self = Tally::new(self.f, self.n);
     }
 
-    /// Notes that the replica, one below n, gave the reply. Only its first reply counts.
+    /// Notes that the replica gave the reply; only its first reply counts. Requires that the replica is
+    /// below n.
     pub fn note(&mut self, replica: ReplicaId, reply: Reply)
         requires { replica < self.old.n }
         ensures f { self.new.f ≡ self.old.f }
@@ -70,7 +72,7 @@ impl Tally {
         }
     }
 
-    /// The reply that first had more than f votes; `None` while none has.
+    /// Returns the reply that was the first to have more than f votes, or `None` while none has.
     pub fn winner(&self) -> Option<Reply>
         ensures same { result ≡ self.now.winner }
         ensures stands { (notes : List Note) → StandsFor self.now notes → result ≡ winner self.now.f self.now.n notes }
@@ -78,7 +80,8 @@ impl Tally {
         self.winner
     }
 
-    /// The reply that the replica, one below n, gave first; `None` while it gave none.
+    /// Returns the reply that the replica gave first, or `None` while it gave none. Requires that the
+    /// replica is below n.
     pub fn vote_of(&self, replica: ReplicaId) -> Option<Reply>
         requires { replica < self.now.n }
         ensures { (notes : List Note) → StandsFor self.now notes → result ≡ first_of replica notes }
@@ -86,7 +89,7 @@ impl Tally {
         self.firsts[replica.number() as usize]
     }
 
-    /// The reply, where more than f replicas gave it first.
+    /// Returns the reply if more than f replicas gave it first.
     fn elected(&self, reply: Reply) -> Option<Reply>
         ensures { result ≡ (if nat_lt self.now.f (votes_in self.now reply) then Some reply else None) }
     {
@@ -97,7 +100,7 @@ impl Tally {
         }
     }
 
-    /// How many replicas gave this reply first: at most n.
+    /// Returns the number of replicas that gave this reply first, at most n.
     pub fn votes(&self, reply: &Reply) -> u8
         ensures same { result ≡ votes_in self.now reply.now }
         ensures stands { (notes : List Note) → StandsFor self.now notes → result ≡ votes self.now.n notes reply.now }
@@ -109,7 +112,7 @@ impl Tally {
         count
     }
 
-    /// One where the replica of this number gave this reply first, else none.
+    /// Returns 1 if the replica with this number gave this reply first, else 0.
     fn vote(&self, replica: usize, reply: &Reply) -> u8
         requires { replica < 16 }
         ensures { result ≡ vote_in self.now reply.now replica }

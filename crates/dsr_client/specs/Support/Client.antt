@@ -4,7 +4,7 @@ use Rattle.dsr_names.specs.declared.actor.Actor.TheVariants.{Client as AClient}
 use Rattle.dsr_client.specs.declared.client.Client.TheInside.{Inside}
 use Rattle.dsr_client.specs.Client.{Client}
 
--- the fields but for the key
+-- the client in these fields, without its key
 abbrev pub client_of : Inside → Client
 client_of a = record {
   me = a.me;
@@ -15,8 +15,8 @@ client_of a = record {
   seen = a.seen;
 }
 
--- the key is this client's, one of the shape; the tally is of the shape; what is outstanding has the next number; and the
--- counts are below the limits
+-- the key is this client's, one of the shape; the tally is that of the shape; what is outstanding has the next number,
+-- and no reply to it won yet; and the counts are below the limits
 pub record IsClientFields (a : Inside) : Type 0 where
   pub holder : a.key ≡ AClient a.me
   pub inside : a.me < a.shape.m

@@ -5,10 +5,10 @@ use Rattle.dsr_ledger.specs.declared.reply.Reply.{Reply}
 use Rattle.dsr_quorum.specs.Tally.{Tally}
 use Rattle.dsr_quorum.specs.Votes.{is_reply}
 
--- one where this replica's first reply is the reply, else none
+-- 1 if this replica's first reply is the reply, else 0
 abbrev pub vote_in : Tally → Reply → ℕ → ℕ
 vote_in tally reply replica = if is_reply reply (slice_index_or tally.firsts replica None) then 1 else 0
 
--- how many first replies are the reply
+-- the number of first replies that are the reply
 abbrev pub votes_in : Tally → Reply → ℕ
 votes_in tally reply = count_below (λ replica. is_reply reply (slice_index_or tally.firsts replica None)) tally.n
