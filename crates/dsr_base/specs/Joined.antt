@@ -11,18 +11,18 @@ abbrev pub joined : {X : Type 0} → ℕ → (X → List ℕ) → List X → Lis
 joined mark text [] = []
 joined mark text (x ∷ xs) = text x ++ more_joined mark text xs
 
--- the same, or a dash where there is no item
+-- the same, or a dash if there is no item
 abbrev pub joined_or_dash : {X : Type 0} → ℕ → (X → List ℕ) → List X → List ℕ
 joined_or_dash mark text [] = codes "-"
 joined_or_dash mark text (x ∷ xs) = text x ++ more_joined mark text xs
 
--- 1 to so many items of a kind
+-- 1 to `most` items that satisfy `is`
 pub record AreFew {X : Type 0} (is : X → Type 0) (most : ℕ) (items : List X) : Type 0 where
   pub some : 0 < length items
   pub few : length items ≤ most
   pub each : All is items
 
--- at most so many items of a kind
+-- at most `most` items that satisfy `is`
 pub record AreUpTo {X : Type 0} (is : X → Type 0) (most : ℕ) (items : List X) : Type 0 where
   pub few : length items ≤ most
   pub each : All is items

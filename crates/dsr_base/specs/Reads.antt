@@ -1,6 +1,7 @@
--- What a reader of texts promises (this project).
+-- What a reader of texts guarantees (this project).
 use Rattle.std.specs.Prelude.{◌≡◌, ℕ, ◌↔◌, List, Option, Some}
 
--- the answer is the value of this kind whose text the bytes are, and there is none exactly where they are no such text
+-- the answer is the value that satisfies `is` and whose text the bytes are, and there is none exactly if they are no
+-- such text
 abbrev pub Reads : {X : Type 0} → (X → Type 0) → (X → List ℕ) → List ℕ → Option X → Type 0
 Reads {X} is text bytes answer = (x : X) → (answer ≡ Some x) ↔ (is x × (bytes ≡ text x))

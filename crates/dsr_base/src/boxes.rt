@@ -1,4 +1,4 @@
-//! Boxes in a square: one from each place to each place, which holds at most one item.
+//! Boxes in a square: one from each place to each place, each with at most one item.
 
 ghost use Rattle.std.specs.Prelude.{◌≡◌, ℕ, suc, ◌<◌, ◌^◌, None, Some, IsSome, length, slice_set, IfOk};
 ghost use Rattle.std.specs.Option.{option_map};
@@ -7,7 +7,7 @@ ghost use Rattle.dsr_base.specs.Boxes.{AreSquare, empty_box, box_in, row_of, box
 use std::alloc::{AllocError, Global};
 use std::marker::Model;
 
-/// A box: how many items were ever put into it, and the one that it holds, if it holds one.
+/// A box: the number of items that were ever put into it, and the one that it holds, if it holds one.
 #[derive(Drop)]
 pub struct MailBox<T> {
     posts: u64,
@@ -29,7 +29,7 @@ impl<T> Model for Row<T> {
     ghost view = { λ r. r.boxes.items };
 }
 
-/// The boxes from each place to each place, which are counted from 0.
+/// The boxes from each place to each place; places are counted from 0.
 #[derive(Drop)]
 pub struct Boxes<T> {
     rows: Vec<Row<T>>,
@@ -45,7 +45,7 @@ impl<T> Model for Boxes<T> {
 }
 
 impl<T: Drop> Row<T> {
-    /// The boxes to this many places, all empty.
+    /// Creates the boxes to the places below `places`, all empty. An error if memory runs out.
     fn new(alloc: Global, places: usize) -> Result<Row<T>, AllocError>
         ensures count { IfOk result (λ row. length row ≡ places) }
         ensures empty { IfOk result (λ row. (to : ℕ) → box_in row to ≡ empty_box) }
@@ -73,7 +73,7 @@ impl<T: Drop> Row<T> {
         };
     }
 
-    /// Takes the item out of the box to this place.
+    /// Takes the item out of the box to this place, if it holds one.
     fn take(&mut self, to: usize) -> Option<T>
         requires inside { to < length self.old }
         ensures item { result ≡ (box_in self.old to).item }
@@ -84,7 +84,7 @@ impl<T: Drop> Row<T> {
 }
 
 impl<T: Drop> Boxes<T> {
-    /// The boxes between this many places, all empty. An error where memory runs out.
+    /// Creates the boxes between the places below `places`, all empty. An error if memory runs out.
     pub fn new(alloc: Global, places: usize) -> Result<Boxes<T>, AllocError>
         ensures square { IfOk result (λ rows. AreSquare places rows) }
         ensures empty { IfOk result (λ rows. (from to : ℕ) → box_at rows from to ≡ empty_box) }
@@ -96,7 +96,7 @@ impl<T: Drop> Boxes<T> {
         Ok(Boxes { rows })
     }
 
-    /// How many items were ever put into the box from one place to another.
+    /// Returns the number of items that were ever put into the box from one place to another.
     pub fn posts(&self, from: usize, to: usize) -> u64
         requires inside { from < length self.now }
         requires row { to < length (row_of self.now from) }
@@ -105,7 +105,7 @@ impl<T: Drop> Boxes<T> {
         self.rows[from].boxes[to].posts
     }
 
-    /// The item in the box from one place to another, where it holds one.
+    /// Returns the item in the box from one place to another, if it holds one.
     pub fn item(&self, from: usize, to: usize) -> Option<&T>
         requires inside { from < length self.now }
         requires row { to < length (row_of self.now from) }
@@ -114,7 +114,7 @@ impl<T: Drop> Boxes<T> {
         self.rows[from].boxes[to].item.as_ref()
     }
 
-    /// Puts the item into the box from one place to another; what the box held is let go. Requires that fewer than 2^40 items were
+    /// Puts the item into the box from one place to another, and drops what the box held. Requires that fewer than 2^40 items were
     /// put there.
     pub fn put(&mut self, from: usize, to: usize, item: T)
         requires inside { from < length self.old }

@@ -4,8 +4,8 @@ ghost use Rattle.std.specs.Fmt.{decimal};
 ghost use Rattle.std.specs.Str.Parse.{IsNumeral, digits_value};
 ghost use Rattle.dsr_base.specs.Reads.{Reads};
 
-/// The number below 2^64 whose decimal the bytes are: no sign, and no leading zero but in `0` itself.
-/// `None` exactly where they are no such decimal.
+/// Reads the number below 2^64 whose decimal the bytes are: no sign, and no leading zero unless it is
+/// `0`. `None` exactly if they are no such decimal.
 pub fn read_decimal(bytes: &[u8]) -> Option<u64>
     ensures { Reads (λ (n : ℕ). n < 2 ^ 64) decimal bytes.now result }
 {
@@ -15,7 +15,8 @@ pub fn read_decimal(bytes: &[u8]) -> Option<u64>
     digits(bytes)
 }
 
-/// The number that the bytes write in decimal, which may have leading zeros.
+/// Reads the number that the bytes write in decimal, with or without leading zeros. `None` if they
+/// have no digit or another byte, or the number is 2^64 or more.
 fn digits(bytes: &[u8]) -> Option<u64>
     ensures { SomeIff result (IsNumeral 10 bytes.now × (digits_value 10 bytes.now < 2 ^ 64)) (digits_value 10 bytes.now) }
 {

@@ -5,7 +5,7 @@ use crate::exact::Exact;
 use std::alloc::AllocError;
 use std::marker::Model;
 
-/// A list of 1 to `N` items, of fixed size: it is copied without allocating.
+/// A list of 1 to `N` items, of fixed size, copied without allocating.
 // The length is a `usize`, so that no caller has to show that `N` fits into less. Beside items of 8-byte
 // alignment it takes no more room than a `u8`.
 #[derive(Copy, Debug)]
@@ -31,7 +31,7 @@ impl<T: Copy, const N: usize> Model for Few<T, N> {
 }
 
 impl<T: Copy, const N: usize> Few<T, N> {
-    /// The list of this one item.
+    /// Makes the list with this one item. Requires that `N` is not 0.
     pub fn one(item: T) -> Self
         requires { 0 < N }
         ensures { result ≡ item ∷ [] }
@@ -42,7 +42,7 @@ impl<T: Copy, const N: usize> Few<T, N> {
         }
     }
 
-    /// The list of these items. `None` where there are none, or more than `N`.
+    /// Makes the list with these items. `None` if there are none, or more than `N`.
     pub fn of(items: &[T]) -> Option<Self>
         ensures some { IfSome result (λ list. list ≡ items.now) }
         ensures when { IsSome result ↔ ((0 < length items.now) × (length items.now ≤ N)) }
@@ -53,7 +53,7 @@ impl<T: Copy, const N: usize> Few<T, N> {
         }
     }
 
-    /// The list of this item and then those of this list. `None` where they are more than `N`.
+    /// Makes the list with this item first and then those of this list. `None` if that is more than `N`.
     pub fn after(&self, first: T) -> Option<Self>
         ensures { SomeIff result (length self.now < N) (first ∷ self.now) }
     {
@@ -64,7 +64,7 @@ impl<T: Copy, const N: usize> Few<T, N> {
         }
     }
 
-    // The list of this item and then the others.
+    // Makes the list with this item first and then the others.
     fn led(first: T, rest: &[T]) -> Self
         requires { length rest.now < N }
         ensures { result ≡ first ∷ rest.now }
@@ -76,7 +76,7 @@ impl<T: Copy, const N: usize> Few<T, N> {
         list
     }
 
-    /// Puts the item at the end of the list, which must have fewer than `N`.
+    /// Puts the item at the end of the list. Requires that it has fewer than `N`.
     pub fn push(&mut self, item: T)
         requires { length self.old < N }
         ensures { self.new ≡ self.old ++ item ∷ [] }
@@ -85,7 +85,7 @@ impl<T: Copy, const N: usize> Few<T, N> {
         self.len += 1;
     }
 
-    /// The items in their order, 1 to `N` of them.
+    /// Returns the items in their order, 1 to `N` of them.
     pub fn as_slice(&self) -> &[T]
         ensures same { result.now ≡ self.now }
         ensures some { 0 < length self.now }
@@ -94,7 +94,7 @@ impl<T: Copy, const N: usize> Few<T, N> {
         &self.items[..self.len]
     }
 
-    /// How many there are, 1 to `N`.
+    /// Returns the number of items, 1 to `N`.
     pub fn len(&self) -> usize
         ensures same { result ≡ length self.now }
         ensures some { 0 < result }
@@ -103,7 +103,7 @@ impl<T: Copy, const N: usize> Few<T, N> {
         self.as_slice().len()
     }
 
-    /// The item at this place, counted from 0; `None` past the end.
+    /// Returns the item at `place`, counted from 0, or `None` past the end.
     pub fn get(&self, place: usize) -> Option<T>
         ensures { result ≡ slice_get self.now place }
     {
@@ -112,7 +112,7 @@ impl<T: Copy, const N: usize> Few<T, N> {
 }
 
 impl<T: Exact, const N: usize> Few<T, N> {
-    /// Whether two lists have the same items in the same order.
+    /// Tells whether two lists have the same items in the same order.
     pub fn same(&self, other: &Self) -> bool
         ensures { IsTrue result ↔ (self.now ≡ other.now) }
     {

@@ -8,15 +8,15 @@ use crate::token::Token;
 use std::fmt;
 
 impl<T: Token, const N: usize> Few<T, N> {
-    /// The list whose text the bytes are: 1 to `N` tokens joined by their mark. `None` exactly where they are
-    /// no such text.
+    /// Reads the list whose text the bytes are: 1 to `N` tokens joined by their mark. `None` exactly if they
+    /// are no such text.
     pub fn read(bytes: &[u8]) -> Option<Self>
         ensures { Reads (AreFew T.is N) (joined T.MARK T.text) bytes.now result }
     {
         read_joined(bytes, N)
     }
 
-    /// Whether the list has a text: each item has a token.
+    /// Tells whether the list has a text: each item has a token.
     pub fn fits(&self) -> bool
         ensures { IsTrue result ↔ AreFew T.is N self.now }
     {
@@ -42,7 +42,7 @@ impl<T: Token, const N: usize> fmt::Display for Few<T, N> {
     }
 }
 
-/// The list of at most `most` items whose text the bytes are.
+/// Reads the list of at most `most` items whose text the bytes are.
 fn read_joined<T: Token, const N: usize>(bytes: &[u8], most: usize) -> Option<Few<T, N>>
     requires { most ≤ N }
     ensures { Reads (AreFew T.is most) (joined T.MARK T.text) bytes.now result }

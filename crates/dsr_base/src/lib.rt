@@ -1,5 +1,5 @@
 //! What the directory's types are built on: lists of bounded length that are copied without allocating, and
-//! what every text is read and written by, whatever it says: cuts, decimals, and items joined by a mark.
+//! what reads and writes every text: cuts, decimals, and items joined by a mark.
 #![tactic(auto)]
 
 mod boxes;

@@ -3,7 +3,8 @@ ghost use Rattle.dsr_base.specs.Split.{IsAbsent, IsFree, IsPart, is_inside_with}
 
 use memchr::memchr;
 
-/// What stands before the first such byte, and what stands after it. `None` exactly where there is none.
+/// Cuts at the first such byte: returns what is before it, and what is after it. `None` exactly if there
+/// is none.
 pub fn split_once(bytes: &[u8], byte: u8) -> Option<(&[u8], &[u8])>
     ensures found { IfSome result (λ parts. bytes.now ≡ parts.0.now ++ byte ∷ parts.1.now) }
     ensures first { IfSome result (λ parts. IsAbsent byte parts.0.now) }
@@ -15,8 +16,8 @@ pub fn split_once(bytes: &[u8], byte: u8) -> Option<(&[u8], &[u8])>
     }
 }
 
-/// What stands before the first mark outside parentheses, and what stands after it. `None` exactly where
-/// there is no such mark. Parentheses are one level deep.
+/// Cuts at the first mark outside parentheses: returns what is before it, and what is after it. `None`
+/// exactly if there is no such mark. Parentheses are one level deep.
 pub fn split_outside(bytes: &[u8], mark: u8) -> Option<(&[u8], &[u8])>
     ensures found { IfSome result (λ parts. bytes.now ≡ parts.0.now ++ mark ∷ parts.1.now) }
     ensures first { IfSome result (λ parts. IsPart mark parts.0.now) }
@@ -32,7 +33,7 @@ pub fn split_outside(bytes: &[u8], mark: u8) -> Option<(&[u8], &[u8])>
     None
 }
 
-/// Whether what follows the byte stands in parentheses, where it is known whether the byte does.
+/// Tells whether what follows the byte is in parentheses, given whether the byte is.
 fn inside_with(inside: bool, byte: u8) -> bool
     ensures { result ≡ is_inside_with inside byte }
 {

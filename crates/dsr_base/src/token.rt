@@ -4,7 +4,7 @@ ghost use Rattle.dsr_base.specs.Split.{IsPart};
 
 use std::fmt;
 
-/// An item that texts spell by a token, and join to others of its kind by a mark.
+/// An item that texts write as a token, and join to others of its kind by a mark.
 pub trait Token: Copy + fmt::Display {
     // the items that have a token
     ghost is: { Self → Type 0 };
@@ -17,11 +17,11 @@ pub trait Token: Copy + fmt::Display {
     /// The byte that joins these tokens.
     const MARK: u8;
 
-    /// The item whose token the bytes are. `None` exactly where they are no such token.
+    /// Reads the item whose token the bytes are. `None` exactly if they are no such token.
     fn read(bytes: &[u8]) -> Option<Self>
         ensures { Reads is text bytes.now result };
 
-    /// Whether the item has a token.
+    /// Tells whether the item has a token.
     fn fits(&self) -> bool
         ensures { IsTrue result ↔ is self.now };
 

@@ -5,7 +5,7 @@ use crate::few::Few;
 use std::alloc::AllocError;
 use std::marker::Model;
 
-/// A list of at most `N` items, of fixed size: it is copied without allocating.
+/// A list of at most `N` items, of fixed size, copied without allocating.
 #[derive(Copy, Debug)]
 pub struct UpTo<T: Copy, const N: usize> {
     pub(crate) list: Option<Few<T, N>>,
@@ -28,14 +28,14 @@ impl<T: Copy, const N: usize> Model for UpTo<T, N> {
 }
 
 impl<T: Copy, const N: usize> UpTo<T, N> {
-    /// The empty list.
+    /// Creates the empty list.
     pub fn new() -> Self
         ensures { result ≡ [] }
     {
         UpTo { list: None }
     }
 
-    /// Puts the item at the end of the list, which must have fewer than `N`.
+    /// Puts the item at the end of the list. Requires that it has fewer than `N`.
     pub fn push(&mut self, item: T)
         requires { length self.old < N }
         ensures { self.new ≡ self.old ++ item ∷ [] }
@@ -46,7 +46,7 @@ impl<T: Copy, const N: usize> UpTo<T, N> {
         }
     }
 
-    /// The items in their order, at most `N` of them.
+    /// Returns the items in their order, at most `N` of them.
     pub fn as_slice(&self) -> &[T]
         ensures same { result.now ≡ self.now }
         ensures few { length self.now ≤ N }
@@ -57,7 +57,7 @@ impl<T: Copy, const N: usize> UpTo<T, N> {
         }
     }
 
-    /// How many there are, at most `N`.
+    /// Returns the number of items, at most `N`.
     pub fn len(&self) -> usize
         ensures same { result ≡ length self.now }
         ensures few { result ≤ N }
@@ -65,7 +65,7 @@ impl<T: Copy, const N: usize> UpTo<T, N> {
         self.as_slice().len()
     }
 
-    /// Whether there is none.
+    /// Tells whether the list is empty.
     pub fn is_empty(&self) -> bool
         ensures { IsTrue result ↔ (self.now ≡ []) }
     {
@@ -74,7 +74,7 @@ impl<T: Copy, const N: usize> UpTo<T, N> {
 }
 
 impl<T: Exact, const N: usize> UpTo<T, N> {
-    /// Whether two lists have the same items in the same order.
+    /// Tells whether two lists have the same items in the same order.
     pub fn same(&self, other: &Self) -> bool
         ensures { IsTrue result ↔ (self.now ≡ other.now) }
     {

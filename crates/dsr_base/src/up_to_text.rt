@@ -8,8 +8,8 @@ use crate::up_to::UpTo;
 use std::fmt;
 
 impl<T: Token, const N: usize> UpTo<T, N> {
-    /// The list whose text the bytes are: `-` for none, or 1 to `N` tokens joined by their mark. `None` exactly
-    /// where they are no such text.
+    /// Reads the list whose text the bytes are: `-` for the empty one, or 1 to `N` tokens joined by their mark.
+    /// `None` exactly if they are no such text.
     pub fn read(bytes: &[u8]) -> Option<Self>
         ensures { Reads (AreUpTo T.is N) (joined_or_dash T.MARK T.text) bytes.now result }
     {
@@ -21,7 +21,7 @@ impl<T: Token, const N: usize> UpTo<T, N> {
         })
     }
 
-    /// Whether the list has a text: each item has a token.
+    /// Tells whether the list has a text: each item has a token.
     pub fn fits(&self) -> bool
         ensures { IsTrue result ↔ AreUpTo T.is N self.now }
     {

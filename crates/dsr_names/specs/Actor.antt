@@ -17,7 +17,7 @@ replica_text r = codes "r" ++ decimal r
 abbrev pub client_text : ℕ → List ℕ
 client_text c = codes "c" ++ decimal c
 
--- the token of an actor: of a replica, or `c` and the client's number
+-- the token of an actor: that of a replica, or `c` and the client's number
 abbrev pub actor_text : Actor → List ℕ
 actor_text (Replica r) = replica_text r
 actor_text (Client c) = codes "c" ++ decimal c

@@ -1,10 +1,10 @@
 -- The limits of inputs and outputs that contracts cite (this project). Each is the constant of the same name in the code.
 use Rattle.std.specs.Prelude.{ℕ}
 
--- the most bytes of an input
+-- the greatest number of bytes of an input
 abbrev pub most_bytes : ℕ
 most_bytes = 16777216
 
--- the most calls of a source or a sink for one input or output
+-- the greatest number of calls of a source or a sink for one input or output
 abbrev pub most_calls : ℕ
 most_calls = 33554432

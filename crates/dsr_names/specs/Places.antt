@@ -4,7 +4,7 @@ use Rattle.dsr_names.specs.Shape.{Shape}
 use Rattle.dsr_names.specs.declared.actor.Actor.{Actor}
 use Rattle.dsr_names.specs.declared.actor.Actor.TheVariants.{Replica, Client}
 
--- how many actors there are
+-- the number of actors
 abbrev pub size : Shape → ℕ
 size shape = shape.n + shape.m
 

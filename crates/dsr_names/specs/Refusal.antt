@@ -70,10 +70,10 @@ refusal_text ReadFailed = codes "reading failed"
 refusal_text WriteFailed = codes "writing failed"
 refusal_text NoThread = codes "no thread"
 
--- the line that tells a refusal: the program's name, the refusal's text and a line feed
+-- the line that reports a refusal: the program's name, the refusal's text and a line feed
 abbrev pub refusal_line : Refusal → List ℕ
 refusal_line refusal = codes "dsr: " ++ (refusal_text refusal ++ codes "\n")
 
--- what reading a whole input can be refused with: the reader failed, or there was no memory
+-- a refusal of reading a whole input: the reader failed, or there was no memory
 abbrev pub IsReadRefusal : Refusal → Type 0
 IsReadRefusal e = (e ≡ ReadFailed) ⊎ (e ≡ NoMemory)

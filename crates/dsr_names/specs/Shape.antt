@@ -1,5 +1,5 @@
--- Shapes: who takes part, and who of them may lie (the setting of Dolev and Strong 1983: n processors, at most f
--- of them traitors; the clients are this project's).
+-- Shapes: who takes part, and who of them may be a traitor (the setting of Dolev and Strong 1983: n processors,
+-- at most f of them traitors; the clients are this project's).
 use Rattle.std.specs.Prelude.{◌≡◌, ℕ, ◌*◌, ◌^◌, ◌%◌, ◌<◌, ◌≤◌, Bool, false}
 use Rattle.dsr_base.specs.Bits.{is_bit_set, count_below}
 use Rattle.dsr_names.specs.declared.actor.Actor.{Actor}
@@ -12,11 +12,11 @@ pub record Shape : Type 0 where
   pub m : ℕ
   pub traitors : ℕ
 
--- the shape of these four
+-- the shape with these four
 abbrev pub shape_of : ℕ → ℕ → ℕ → ℕ → Shape
 shape_of n f m traitors = record { n = n; f = f; m = m; traitors = traitors }
 
--- whether the bits of a shape call this replica a traitor
+-- whether the shape's bits say that this replica is a traitor
 abbrev pub is_traitor : Shape → ℕ → Bool
 is_traitor shape p = is_bit_set shape.traitors p
 
@@ -28,8 +28,8 @@ sender shape slot = slot % shape.n
 abbrev pub HasFewTraitors : Shape → Type 0
 HasFewTraitors shape = count_below (is_traitor shape) shape.n ≤ shape.f
 
--- a shape within the limits: 1 to 16 replicas, more than twice as many as traitors are allowed; 1 to 32 clients;
--- only replicas are traitors, and at most f of them
+-- a shape within the limits: 1 to 16 replicas, more than twice as many as the traitors that it allows; 1 to 32
+-- clients; only replicas are traitors, and at most f of them
 pub record IsAllowed (shape : Shape) : Type 0 where
   pub some_replica : 0 < shape.n
   pub few_replicas : shape.n ≤ 16
@@ -44,12 +44,12 @@ abbrev pub IsActor : Shape → Actor → Type 0
 IsActor shape (Replica r) = r < shape.n
 IsActor shape (Client c) = c < shape.m
 
--- an actor of the shape that is no traitor; clients are loyal
+-- an actor of the shape that is not a traitor; all clients are loyal
 abbrev pub IsLoyal : Shape → Actor → Type 0
 IsLoyal shape (Replica r) = (r < shape.n) × (is_traitor shape r ≡ false)
 IsLoyal shape (Client c) = c < shape.m
 
--- two shapes agree in all but perhaps in who the traitors are (this project)
+-- two shapes agree, except perhaps in who the traitors are (this project)
 pub record AgreeButForTraitors (shape other : Shape) : Type 0 where
   pub replicas : shape.n ≡ other.n
   pub most_traitors : shape.f ≡ other.f

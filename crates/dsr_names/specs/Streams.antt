@@ -1,38 +1,36 @@
--- What contracts see of sources and sinks, and of what went through them (this project).
+-- What contracts see of sources and sinks, and what went through them (this project).
 use Rattle.std.specs.Prelude.{ℕ, ◌<◌, ◌≤◌, ◌⊎◌, List, length, take, Option, None, IfSome}
 use Rattle.std.specs.Io.KnownBytes.{Appends}
 use Rattle.dsr_names.specs.Limits.{most_bytes, most_calls}
 
--- a source: the bytes that are left to give, where they are known; whether it is steady, and so never fails; and the
--- number of calls that it counts, 0 where it counts none
+-- a source: the bytes that are left to give, if they are known; whether it is steady, and so never fails; and the
+-- number of calls that it counts, 0 if it counts none
 pub record Input : Type 1 where
   pub left : Option (List ℕ)
   pub is_steady : Type 0
   pub calls : ℕ
 
--- a sink: the bytes that were taken, and how many more it takes all at once, where they are known; whether it is steady:
--- it never fails, and takes at least one byte where there is one; and the number of calls that it counts, 0 where it
--- counts none
+-- a sink: the bytes that were taken, and how many more it takes all at once, if they are known; whether it is steady: it
+-- never fails, and takes at least one byte if there is one; and the number of calls that it counts, 0 if it counts none
 pub record Output : Type 1 where
   pub contents : Option (List ℕ)
   pub room : Option ℕ
   pub is_steady : Type 0
   pub calls : ℕ
 
--- a source of which nothing is known
+-- a source about which nothing is known
 abbrev pub unknown_input : Input
 unknown_input = record { left = None; is_steady = ⊥; calls = 0 }
 
--- a sink of which nothing is known
+-- a sink about which nothing is known
 abbrev pub unknown_output : Output
 unknown_output = record { contents = None; room = None; is_steady = ⊥; calls = 0 }
 
--- reading all of it may fail: of a steady source only where too many bytes are left
+-- reading all of it may fail: if it is steady and what is left is known, only if that is too many bytes
 abbrev pub CanFailToGive : Input → Type 0
 CanFailToGive input = input.is_steady → IfSome input.left (λ bytes. most_bytes < length bytes)
 
--- writing so many bytes may fail: where the room is known only if it is less, and on a steady sink only if the calls
--- could run out
+-- writing `count` bytes may fail: if the room is known, it is less; and if the sink is steady, the calls could run out
 abbrev pub CanFailToTake : ℕ → Output → Type 0
 CanFailToTake count output = IfSome output.room (λ most. most < count) × (output.is_steady → most_calls < count)
 
@@ -46,11 +44,12 @@ pub record SentPrefix (bytes : List ℕ) (before after : Output) : Type 0 where
   pub within : sent ≤ length bytes
   pub appended : Appends before.contents after.contents (take sent bytes)
 
--- all of the bytes went out, or a prefix of them where writing them may fail
+-- all of the bytes went out, or a prefix of them and writing them may fail
 abbrev pub Sent : List ℕ → Output → Output → Type 0
 Sent bytes before after = SentAll bytes before after ⊎ (SentPrefix bytes before after × CanFailToTake (length bytes) before)
 
--- what a call had and left that reads a source and writes a sink: the source before it, and the sink before and after it
+-- what a call that reads a source and writes a sink finds and leaves: the source before it, and the sink before and
+-- after it
 pub record Streams : Type 1 where
   pub input : Input
   pub output : Output

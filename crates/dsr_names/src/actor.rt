@@ -33,7 +33,7 @@ impl ReplicaId {
     /// Replica 0.
     pub const FIRST: ReplicaId = ReplicaId { number: 0 };
 
-    /// The replica of this number. `NoActor` from 16 on.
+    /// Returns the replica with this number. `NoActor` from 16 on.
     pub fn new(number: u8) -> Result<ReplicaId, Refusal>
         ensures ok { IfOk result (λ replica. replica ≡ number) }
         ensures when { IsOk result ↔ (number < 16) }
@@ -46,7 +46,7 @@ impl ReplicaId {
         }
     }
 
-    /// The replica whose token the bytes are, as `r0`; `None` exactly where they are no such token.
+    /// Reads the replica whose token the bytes are, like `r0`. `None` exactly if they are no such token.
     pub fn read(bytes: &[u8]) -> Option<ReplicaId>
         ensures { Reads (λ (r : ℕ). r < 16) replica_text bytes.now result }
     {
@@ -56,7 +56,8 @@ impl ReplicaId {
         }
     }
 
-    /// The replica of this number. Requires that it is below 16: `new` is for a number that may not be.
+    /// Returns the replica with this number. Requires that it is below 16: `new` is for a number that may
+    /// not be.
     pub fn of(number: u8) -> ReplicaId
         requires { number < 16 }
         ensures { result ≡ number }
@@ -64,7 +65,7 @@ impl ReplicaId {
         ReplicaId { number }
     }
 
-    /// The replica's number, below 16.
+    /// Returns the replica's number, below 16.
     pub fn number(self) -> u8
         ensures same { result ≡ self }
         ensures small { result < 16 }
@@ -110,7 +111,7 @@ impl ClientId {
     /// Client 0.
     pub const FIRST: ClientId = ClientId { number: 0 };
 
-    /// The client of this number. `NoActor` from 32 on.
+    /// Returns the client with this number. `NoActor` from 32 on.
     pub fn new(number: u8) -> Result<ClientId, Refusal>
         ensures ok { IfOk result (λ client. client ≡ number) }
         ensures when { IsOk result ↔ (number < 32) }
@@ -123,7 +124,7 @@ impl ClientId {
         }
     }
 
-    /// The client whose token the bytes are, as `c0`; `None` exactly where they are no such token.
+    /// Reads the client whose token the bytes are, like `c0`. `None` exactly if they are no such token.
     pub fn read(bytes: &[u8]) -> Option<ClientId>
         ensures { Reads (λ (c : ℕ). c < 32) client_text bytes.now result }
     {
@@ -133,7 +134,8 @@ impl ClientId {
         }
     }
 
-    /// The client of this number. Requires that it is below 32: `new` is for a number that may not be.
+    /// Returns the client with this number. Requires that it is below 32: `new` is for a number that may
+    /// not be.
     pub fn of(number: u8) -> ClientId
         requires { number < 32 }
         ensures { result ≡ number }
@@ -141,7 +143,7 @@ impl ClientId {
         ClientId { number }
     }
 
-    /// The client's number, below 32.
+    /// Returns the client's number, below 32.
     pub fn number(self) -> u8
         ensures same { result ≡ self }
         ensures small { result < 32 }
@@ -175,7 +177,8 @@ pub enum Actor {
 }
 
 impl Actor {
-    /// The actor whose token the bytes are, as `r0` or `c31`; `None` exactly where they are no such token.
+    /// Reads the actor whose token the bytes are, like `r0` or `c31`. `None` exactly if they are no such
+    /// token.
     pub fn read(bytes: &[u8]) -> Option<Actor>
         ensures { Reads IsNumbered actor_text bytes.now result }
     {
@@ -210,7 +213,7 @@ impl fmt::Display for Actor {
     }
 }
 
-/// The replica of this number, where there is one.
+/// Returns the replica with this number, if it is below 16.
 fn replica_of(number: u64) -> Option<Actor>
     ensures { SomeIff result (number < 16) (Actor.Replica number) }
 {
@@ -223,7 +226,7 @@ fn replica_of(number: u64) -> Option<Actor>
     }
 }
 
-/// The client of this number, where there is one.
+/// Returns the client with this number, if it is below 32.
 fn client_of(number: u64) -> Option<Actor>
     ensures { SomeIff result (number < 32) (Actor.Client number) }
 {

@@ -6,7 +6,7 @@ ghost use Rattle.dsr_names.specs.Support.ActorToken.{replica_part, client_part, 
 use crate::actor::{Actor, ClientId, ReplicaId};
 use dsr_base::Token;
 
-/// Actors are joined by plus signs, as `r0+c1`.
+/// Actors are joined by plus signs, like `r0+c1`.
 impl Token for Actor {
     ghost is = { IsNumbered };
 
@@ -20,7 +20,7 @@ impl Token for Actor {
         Actor::read(bytes)
     }
 
-    // Every actor in hand has a token: what is called says that its number is small enough.
+    // Every actor in hand has a token: the calls of `number` say that its number is small enough.
     fn fits(&self) -> bool {
         let _number = match self {
             Actor::Replica(replica) => replica.number(),
@@ -38,7 +38,7 @@ impl Token for Actor {
     ghost shown = { λ actor. refl };
 }
 
-/// Replicas are joined by plus signs, as `r0+r2`.
+/// Replicas are joined by plus signs, like `r0+r2`.
 impl Token for ReplicaId {
     ghost is = { λ (r : ℕ). r < 16 };
 
@@ -52,7 +52,7 @@ impl Token for ReplicaId {
         ReplicaId::read(bytes)
     }
 
-    // As every actor has.
+    // Every replica in hand has a token, like every actor.
     fn fits(&self) -> bool {
         let _number = self.number();
         true
@@ -67,7 +67,7 @@ impl Token for ReplicaId {
     ghost shown = { λ r. refl };
 }
 
-/// Clients are joined by plus signs, as `c0+c2`.
+/// Clients are joined by plus signs, like `c0+c2`.
 impl Token for ClientId {
     ghost is = { λ (c : ℕ). c < 32 };
 
@@ -81,7 +81,7 @@ impl Token for ClientId {
         ClientId::read(bytes)
     }
 
-    // As every actor has.
+    // Every client in hand has a token, like every actor.
     fn fits(&self) -> bool {
         let _number = self.number();
         true

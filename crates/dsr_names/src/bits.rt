@@ -1,7 +1,7 @@
 ghost use Rattle.std.specs.Prelude.{◌≡◌, ◌≤◌};
 ghost use Rattle.dsr_base.specs.Bits.{is_bit_set, count_below};
 
-/// How many of the lowest `n` bits of `bits` are set.
+/// Counts the set bits among the lowest `n` bits of `bits`.
 pub(crate) fn count_bits(bits: u16, n: u8) -> u8
     requires { n ≤ 16 }
     ensures { result ≡ count_below (is_bit_set bits) n }

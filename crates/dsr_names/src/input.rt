@@ -11,18 +11,18 @@ use std::alloc::Global;
 use std::io;
 use std::io::Read;
 
-/// The most bytes that an input may have.
+/// The greatest number of bytes of an input.
 pub const MOST_BYTES: usize = 16_777_216;
 
-/// The most calls of a reader or a writer for one text.
+/// The greatest number of calls of a source or a sink for one text.
 pub const MOST_CALLS: usize = 33_554_432;
 
 /// What an input is read from. A source may be steady: then it never fails.
 pub trait Source {
-    // What contracts see of it.
+    // What contracts see of it: by default nothing is known.
     ghost input: { Self → Input } = { λ _. unknown_input };
 
-    /// Puts some of what is left into the buffer and says how many bytes; 0 at the end.
+    /// Puts some of what is left into the buffer and returns how many bytes; 0 at the end.
     fn give(&mut self, buffer: &mut [u8]) -> io::Result<usize>
         ensures bound { ReadsAtMost result buffer.new }
         ensures bytes { ReadConsumes (input self.old).left (input self.new).left result buffer.new }
@@ -31,7 +31,7 @@ pub trait Source {
         ensures counted { (input self.new).calls ≤ (input self.old).calls + 1 };
 }
 
-/// Bytes in memory: a steady source.
+/// Bytes in memory, a steady source.
 impl Source for &[u8] {
     ghost input = { λ s. record unknown_input { left = Some s.now; is_steady = Unit {0} } };
 
@@ -52,9 +52,9 @@ impl<R: Read> Source for Outside<R> {
     }
 }
 
-/// All bytes that the source gives, in at most `MOST_CALLS` calls. `ReadFailed` where it fails, or gives more than
-/// `MOST_BYTES` bytes, or takes more than `MOST_CALLS` calls; of a steady source only for too many bytes. `NoMemory`
-/// where the text finds no room. After either, what was read is gone.
+/// Reads all bytes that the source gives, in at most `MOST_CALLS` calls. `ReadFailed` if it fails, or gives more than
+/// `MOST_BYTES` bytes, or needs more than `MOST_CALLS` calls; if it is steady, only for too many bytes. `NoMemory` if
+/// memory for the text runs out. After either, what was read is dropped.
 pub fn read_input<S: Source>(alloc: Global, source: &mut S) -> Result<Vec<u8>, Refusal>
     ensures all { IfOk result (λ text. IfSome (S.input source.old).left (λ bytes. text.items ≡ bytes)) }
     ensures end { OnOk result (IsAtEnd (S.input source.new).left) }
@@ -75,8 +75,8 @@ pub fn read_input<S: Source>(alloc: Global, source: &mut S) -> Result<Vec<u8>, R
     Err(Refusal::ReadFailed)
 }
 
-/// Puts the bytes at the end of the text. `ReadFailed` exactly where it would then have more than `MOST_BYTES` bytes,
-/// else `NoMemory` where memory runs out.
+/// Puts the bytes at the end of the text. `ReadFailed` exactly if it would then have more than `MOST_BYTES` bytes,
+/// else `NoMemory` if memory runs out.
 fn keep(text: &mut Vec<u8>, bytes: &[u8]) -> Result<(), Refusal>
     requires { vec_len text.old ≤ most_bytes }
     ensures kept { OnOk result (text.new.items ≡ text.old.items ++ bytes.now) }
@@ -91,7 +91,8 @@ fn keep(text: &mut Vec<u8>, bytes: &[u8]) -> Result<(), Refusal>
     Ok(())
 }
 
-/// Puts the next bytes of the source into the buffer and says how many; 0 at the end. `ReadFailed` where it fails.
+/// Puts the next bytes of the source into the buffer and returns how many; 0 at the end. `ReadFailed` if the source
+/// fails.
 fn next_bytes<S: Source>(source: &mut S, buffer: &mut [u8]) -> Result<usize, Refusal>
     ensures bound { ReadsAtMost result buffer.new }
     ensures bytes { ReadConsumes (S.input source.old).left (S.input source.new).left result buffer.new }

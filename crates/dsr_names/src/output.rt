@@ -10,10 +10,10 @@ use crate::refusal::Refusal;
 use std::io;
 use std::io::Write;
 
-/// What an output is written to. A sink may have room that is known: it takes what fits there whole. Or it may be
-/// steady: it never fails, and takes at least one byte where there is one.
+/// What an output is written to. A sink may have room that is known: then it takes what fits there whole. Or it
+/// may be steady: then it never fails, and takes at least one byte if there is one.
 pub trait Sink {
-    // What contracts see of it.
+    // What contracts see of it: by default nothing is known.
     ghost output: { Self → Output } = { λ _. unknown_output };
 
     /// Takes some of the first bytes and returns how many.
@@ -26,7 +26,7 @@ pub trait Sink {
         ensures counted { (output self.new).calls ≤ (output self.old).calls + 1 };
 }
 
-/// A vector, which has known room, and grows where that is not enough.
+/// A vector, whose room is known; it grows if that is not enough.
 impl Sink for Vec<u8> {
     ghost output = { λ v. record unknown_output { contents = Some v.items; room = Some (vec_capacity v - vec_len v) } };
 
@@ -44,9 +44,9 @@ impl<W: Write> Sink for Outside<W> {
     }
 }
 
-/// Writes all of the bytes, in at most `MOST_CALLS` calls. `WriteFailed` where the sink fails, takes none of a
-/// rest that is not empty, or the calls run out: then a prefix of the bytes went out. It never fails on a sink
-/// with known room for all of them, nor on a steady one where the bytes are at most `MOST_CALLS`.
+/// Writes all of the bytes, in at most `MOST_CALLS` calls. `WriteFailed` if the sink fails, takes none of a rest
+/// that is not empty, or the calls run out: then a prefix of the bytes went out. It never fails on a sink with
+/// known room for all of them, nor on a steady one if the bytes are at most `MOST_CALLS`.
 pub fn write_output<S: Sink>(sink: &mut S, bytes: &[u8]) -> Result<(), Refusal>
     ensures all { OnOk result (SentAll bytes.now (S.output sink.old) (S.output sink.new)) }
     ensures prefix { SentPrefix bytes.now (S.output sink.old) (S.output sink.new) }

@@ -1,3 +1,3 @@
-/// A reader or a writer of the outside, of which nothing is known but what it gave or took.
+/// A reader or a writer outside the proof: nothing is known about it but what it gave or took.
 #[derive(Drop)]
 pub struct Outside<T>(pub T);

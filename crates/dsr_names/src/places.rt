@@ -9,7 +9,7 @@ use crate::actor::{Actor, ClientId, ReplicaId};
 use crate::shape::Shape;
 
 impl Shape {
-    /// How many actors the shape has, at most 48.
+    /// Returns the number of actors of the shape, at most 48.
     pub fn size(&self) -> usize
         ensures same { result ≡ size self.now }
         ensures few { result ≤ 48 }
@@ -17,7 +17,7 @@ impl Shape {
         self.n() as usize + self.m() as usize
     }
 
-    /// The place of an actor in a row of all, from 0: replicas first, then clients.
+    /// Returns the place of an actor in a row of all, counted from 0: replicas first, then clients.
     pub fn place(&self, actor: &Actor) -> usize
         ensures { result ≡ place_of self.now actor.now }
     {
@@ -27,7 +27,7 @@ impl Shape {
         }
     }
 
-    /// The actor at this place. Requires that there is one.
+    /// Returns the actor at this place. Requires that there is one.
     pub fn actor_at(&self, place: usize) -> Actor
         requires { place < size self.now }
         ensures same { result ≡ actor_at self.now place }

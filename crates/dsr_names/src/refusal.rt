@@ -23,9 +23,9 @@ pub enum Refusal {
     NotDue,
     /// The box holds an envelope.
     BoxFull,
-    /// The box holds none.
+    /// The box is empty.
     BoxEmpty,
-    /// A signature is neither by a key held nor known.
+    /// The signer's key is not held, and the signature is not known.
     Forged,
     /// A counter would pass its limit.
     Exhausted,
@@ -47,7 +47,7 @@ pub enum Refusal {
     ReadFailed,
     /// The writer failed, took none of a rest that was not empty, or its calls ran out.
     WriteFailed,
-    /// A thread could not be started, for lack of memory too.
+    /// A thread could not be started, or memory for it ran out.
     NoThread,
 }
 
@@ -70,7 +70,7 @@ impl<T: Drop> From<AllocFailed<T>> for Refusal {
 }
 
 impl Refusal {
-    /// The number of this refusal, from 1 to 19.
+    /// Returns the number of this refusal, from 1 to 19.
     pub fn code(&self) -> u8
         ensures { result ≡ code_of self.now }
     {
@@ -97,7 +97,7 @@ impl Refusal {
         }
     }
 
-    /// The name of this refusal's variant.
+    /// Returns the name of this refusal's variant.
     pub fn word(&self) -> &'static str
         ensures { result.now ≡ word_of self.now }
     {
@@ -124,7 +124,8 @@ impl Refusal {
         }
     }
 
-    /// The words of this refusal's text, and the number of the line that it names after them.
+    /// Returns the words of this refusal's text, and the number of the line that the text names
+    /// after them, if it names one.
     pub(crate) fn parts(&self) -> (&'static str, Option<u64>)
         ensures text { refusal_text self.now ≡ result.0.now ++ line_text result.1 }
         ensures short { length result.0.now ≤ 26 }

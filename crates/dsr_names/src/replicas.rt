@@ -8,7 +8,7 @@ use dsr_base::UpTo;
 /// A list of at most 16 replicas.
 pub(crate) type Replicas = UpTo<ReplicaId, 16>;
 
-/// The replicas whose bits are set, rising.
+/// Returns the replicas whose bits are set, in ascending order.
 pub(crate) fn replicas_in(bits: u16) -> Replicas
     ensures { result ≡ replicas_of bits }
 {
@@ -21,7 +21,7 @@ pub(crate) fn replicas_in(bits: u16) -> Replicas
     replicas
 }
 
-/// The number in which the bits of these replicas are set.
+/// Returns the number in which the bits of these replicas are set, and no others.
 pub(crate) fn bits_of(replicas: &[ReplicaId]) -> u16
     ensures set { result ≡ bits_with 0 replicas.now }
     ensures fits { result < 2 ^ 16 }

@@ -7,8 +7,8 @@ use crate::refusal::Refusal;
 use dsr_base::Exact;
 use std::marker::Model;
 
-/// How many replicas there are, how many of them may be traitors, how many clients there are, and
-/// which replicas are traitors.
+/// The number of replicas, the greatest number of traitors among them, the number of clients, and which
+/// replicas are traitors.
 #[derive(Clone, Copy, Debug, PartialEq, Eq)]
 pub struct Shape {
     n: u8,
@@ -32,9 +32,9 @@ impl Model for Shape {
 impl Shape {
     ghost use Rattle.dsr_names.specs.Shape.{shape_of, sender, IsAllowed, IsActor, IsLoyal};
 
-    /// The shape of `n` replicas, `f` of which at most are traitors, and `m` clients; bit i of `traitors`
-    /// says that replica i is a traitor. `BadShape` where n is not 1 to 16, n is less than 2f+1, m is not
-    /// 1 to 32, a bit from n on is set, or more than f bits are.
+    /// Makes the shape of `n` replicas, at most `f` of them traitors, and `m` clients; bit i of
+    /// `traitors` says that replica i is a traitor. `BadShape` if n is not 1 to 16, n is less than 2f+1,
+    /// m is not 1 to 32, a bit from n on is set, or more than f bits are.
     pub fn new(n: u8, f: u8, m: u8, traitors: u16) -> Result<Shape, Refusal>
         ensures ok { IfOk result (λ shape. shape ≡ shape_of n f m traitors) }
         ensures when { IsOk result ↔ IsAllowed (shape_of n f m traitors) }
@@ -51,7 +51,7 @@ impl Shape {
         }
     }
 
-    /// How many replicas there are, 1 to 16.
+    /// Returns the number of replicas, 1 to 16.
     pub fn n(&self) -> u8
         ensures same { result ≡ self.now.n }
         ensures allowed { IsAllowed self.now }
@@ -59,7 +59,7 @@ impl Shape {
         self.n
     }
 
-    /// How many replicas may be traitors, 0 to 7.
+    /// Returns the greatest number of traitors, 0 to 7.
     pub fn f(&self) -> u8
         ensures same { result ≡ self.now.f }
         ensures allowed { IsAllowed self.now }
@@ -67,7 +67,7 @@ impl Shape {
         self.f
     }
 
-    /// How many clients there are, 1 to 32.
+    /// Returns the number of clients, 1 to 32.
     pub fn m(&self) -> u8
         ensures same { result ≡ self.now.m }
         ensures allowed { IsAllowed self.now }
@@ -75,7 +75,7 @@ impl Shape {
         self.m
     }
 
-    /// The traitors, replica i by bit i.
+    /// Returns the traitors: bit i is set if replica i is one.
     pub fn traitors(&self) -> u16
         ensures same { result ≡ self.now.traitors }
         ensures allowed { IsAllowed self.now }
@@ -83,7 +83,7 @@ impl Shape {
         self.traitors
     }
 
-    /// Whether this is an actor of the shape: a replica below n, or a client below m.
+    /// Tells whether this is an actor of the shape: a replica below n, or a client below m.
     pub fn has(&self, actor: Actor) -> bool
         ensures { IsTrue result ↔ IsActor self.now actor }
     {
@@ -93,7 +93,7 @@ impl Shape {
         }
     }
 
-    /// Whether this is an actor of the shape and no traitor. All clients are loyal.
+    /// Tells whether this is an actor of the shape and not a traitor. All clients are loyal.
     pub fn is_loyal(&self, actor: Actor) -> bool
         ensures { IsTrue result ↔ IsLoyal self.now actor }
     {
@@ -106,7 +106,7 @@ impl Shape {
         }
     }
 
-    /// The replica that sends in this slot: the senders take turns.
+    /// Returns the replica that is the sender of this slot: the replicas take turns.
     pub fn sender(&self, slot: u64) -> ReplicaId
         ensures same { result ≡ sender self.now slot }
         ensures inside { result < self.now.n }

@@ -12,9 +12,9 @@ use dsr_base::split_once;
 use std::fmt;
 
 impl Shape {
-    /// The shape whose token the bytes are, as `3 1 1 -` or `5 2 1 r0+r1`: n, f and m below 2^40, then the
-    /// traitors from r0 to r15, rising, or a dash. `None` exactly where the bytes are no such token; `BadShape`
-    /// exactly where they are one, but of a shape outside the limits.
+    /// Reads the shape whose token the bytes are, like `3 1 1 -` or `5 2 1 r0+r1`: n, f and m below 2^40, then
+    /// the traitors from r0 to r15 in ascending order, or a dash. `None` exactly if the bytes are no such
+    /// token; `BadShape` exactly if they are, but the shape is outside the limits.
     pub fn read(bytes: &[u8]) -> Option<Result<Shape, Refusal>>
         ensures spelled { IfSome result (IsShapeReading bytes.now) }
         ensures read { (shape : Shape) → IsSpelled shape → bytes.now ≡ shape_text shape → IsSomeAnd result (IsVerdict shape) }
@@ -40,7 +40,7 @@ impl fmt::Display for Shape {
     }
 }
 
-/// The shape of these numbers, or `BadShape` where it is outside the limits.
+/// Makes the shape of these numbers, or returns `BadShape` if it is outside the limits.
 fn within_limits(n: u64, f: u64, m: u64, traitors: u16) -> Result<Shape, Refusal>
     ensures { IsVerdict (shape_of n f m traitors) result }
 {
@@ -50,7 +50,7 @@ fn within_limits(n: u64, f: u64, m: u64, traitors: u16) -> Result<Shape, Refusal
     Shape::new(n as u8, f as u8, m as u8, traitors)
 }
 
-/// A number and the space after it at the beginning of the bytes, and what follows.
+/// Reads a number and the space after it at the beginning of the bytes; returns the number and what follows.
 fn read_field(bytes: &[u8]) -> Option<(u64, &[u8])>
     ensures spelled { IfSome result (λ field. (field.0 < 2 ^ 40) × (bytes.now ≡ decimal field.0 ++ (codes " " ++ field.1.now))) }
     ensures read { (n : ℕ) (rest : List ℕ) → n < 2 ^ 40 → bytes.now ≡ decimal n ++ (codes " " ++ rest)
@@ -61,13 +61,13 @@ fn read_field(bytes: &[u8]) -> Option<(u64, &[u8])>
     Some((number, rest))
 }
 
-/// The traitors that the bytes spell, replica i by bit i.
+/// Reads the traitors, replica i by bit i.
 fn read_traitors(bytes: &[u8]) -> Option<u16>
     ensures { Reads (λ (bits : ℕ). bits < 2 ^ 16) (λ bits. replicas_text (replicas_of bits)) bytes.now result }
 {
     let spelled = Replicas::read(bytes)?;
     let bits = bits_of(spelled.as_slice());
-    // One spelling alone stands for a set: the one in which its replicas rise.
+    // A set has one text alone: the one in which its replicas ascend.
     if replicas_in(bits).same(&spelled) {
         Some(bits)
     } else {

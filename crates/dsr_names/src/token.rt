@@ -7,18 +7,18 @@ ghost use Rattle.dsr_names.specs.Token.{old_text, IsOld};
 use dsr_base::{Exact, read_decimal};
 use std::fmt;
 
-/// 2^40: one more than the greatest number of a request, or of any text but for a register's value.
+/// 2^40: one more than the greatest number in any text, apart from a register's value.
 pub const NUMBER_END: u64 = 1_099_511_627_776;
 
-/// The number below 2^40 whose token the bytes are. `None` exactly where they are no such token.
+/// Reads the number below 2^40 whose token the bytes are. `None` exactly if they are no such token.
 pub fn read_num(bytes: &[u8]) -> Option<u64>
     ensures { Reads (λ n. n < 2 ^ 40) decimal bytes.now result }
 {
     read_decimal(bytes).filter(|n| *n < NUMBER_END)
 }
 
-/// The content of a register whose token the bytes are: `none`, or a number below 2^64. The outer
-/// `None` comes exactly where they are no such token.
+/// Reads the content of a register whose token the bytes are: `none`, or a number below 2^64. The
+/// outer `None` means exactly that they are no such token.
 pub fn read_old(bytes: &[u8]) -> Option<Option<u64>>
     ensures { Reads IsOld old_text bytes.now result }
 {
@@ -28,7 +28,7 @@ pub fn read_old(bytes: &[u8]) -> Option<Option<u64>>
     read_decimal(bytes).map(Some)
 }
 
-/// A register's content as texts spell it: `none`, or the number.
+/// A register's content as texts write it: `none`, or the number.
 #[derive(Clone, Copy, Debug, PartialEq, Eq)]
 pub struct Old(pub Option<u64>);
 

@@ -8,11 +8,11 @@ use crate::refusal::Refusal;
 use dsr_base::UpTo;
 use itoa::Buffer;
 
-/// The most bytes of a line, as long as the words of a refusal and of what a line's number could take at most.
+/// The greatest number of bytes of a line. A refusal's words and the greatest line number fit.
 const MOST_LINE: usize = 80;
 
-/// Writes the text where it can be written, in at most `MOST_CALLS` calls: where the sink fails, a prefix of it. For what
-/// is told of a failure, where there is no further place to tell another.
+/// Writes the text as far as it can be written, in at most `MOST_CALLS` calls: if the sink fails, a prefix of it. Made
+/// for reporting a failure, it returns no refusal of its own.
 pub fn tell<S: Sink>(sink: &mut S, text: &[u8])
     ensures sent { Sent text.now (S.output sink.old) (S.output sink.new) }
     ensures calls { (S.output sink.new).calls ≤ (S.output sink.old).calls + most_calls }
@@ -20,7 +20,7 @@ pub fn tell<S: Sink>(sink: &mut S, text: &[u8])
     let _ = write_output(sink, text);
 }
 
-/// Writes `dsr: `, the refusal's text and a line feed where they can be written, as `tell` does. Allocates nothing.
+/// Writes `dsr: `, the refusal's text and a line feed as far as they can be written, as `tell` does. Allocates nothing.
 pub fn tell_refusal<S: Sink>(sink: &mut S, refusal: Refusal)
     ensures sent { Sent (refusal_line refusal) (S.output sink.old) (S.output sink.new) }
     ensures calls { (S.output sink.new).calls ≤ (S.output sink.old).calls + most_calls }
@@ -29,7 +29,7 @@ pub fn tell_refusal<S: Sink>(sink: &mut S, refusal: Refusal)
     tell(sink, line.as_slice());
 }
 
-/// The line that tells the refusal.
+/// Makes the line that reports the refusal.
 fn line_of(refusal: Refusal) -> UpTo<u8, MOST_LINE>
     ensures { result ≡ refusal_line refusal }
 {
@@ -44,7 +44,7 @@ fn line_of(refusal: Refusal) -> UpTo<u8, MOST_LINE>
     line
 }
 
-/// Puts the bytes at the end of the line, which must have room for them.
+/// Puts the bytes at the end of the line. Requires room for them.
 fn append(line: &mut UpTo<u8, MOST_LINE>, bytes: &[u8])
     requires { length line.old + length bytes.now ≤ 80 }
     ensures { line.new ≡ line.old ++ bytes.now }

@@ -12,11 +12,11 @@ pub record IsPadded {X : Type 0} (n : ℕ) (blank : X) (places : List X) (k : �
 abbrev pub padded : {X : Type 0} → ℕ → X → List X → List X
 padded n blank items = items ++ replicate (n - length items) blank
 
--- there are k items
+-- the items in the first k places are k
 pub length_items : {X : Type 0} (n k : ℕ) (blank : X) (places : List X) → IsPadded n blank places k → length (take k places) ≡ k
 length_items n k blank places h = simp length-take (omega (arith, h.size, h.within))
 
--- the items give the places back
+-- the items, padded, give the places back
 pub padded_items : {X : Type 0} (n k : ℕ) (blank : X) (places : List X) → IsPadded n blank places k → padded n blank (take k places) ≡ places
 padded_items n k blank places h =
     ap (λ l. take k places ++ replicate (n - l) blank) (length_items n k blank places h)

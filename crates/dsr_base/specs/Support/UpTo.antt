@@ -1,4 +1,4 @@
--- How a list of at most n items stands in an optional list of 1 to n.
+-- How a list of at most n items is stored in an optional list of 1 to n.
 use Rattle.std.specs.Prelude.{◌≡◌, ℕ, refl, ◌≤◌, List, [], ◌∷◌, length, Option, None, Some}
 use Rattle.dsr_base.specs.declared.up_to.UpTo.TheInside.{Inside}
 
@@ -8,7 +8,7 @@ IsUpTo n None = Unit {0}
 IsUpTo n (Some []) = ⊥
 IsUpTo n (Some (x ∷ xs)) = length (x ∷ xs) ≤ n
 
--- the items
+-- the items, none if there is no list
 abbrev pub items_of : {X : Type 0} → Option (List X) → List X
 items_of None = []
 items_of (Some xs) = xs
@@ -26,6 +26,6 @@ back n None h = refl
 back n (Some []) h = absurd h
 back n (Some (x ∷ xs)) h = refl
 
--- the list that the fields hold gives them back
+-- the fields that hold the list in some fields are those fields
 pub fields_back : {X : Type 0} (n : ℕ) (a : Inside X n) → IsUpTo n a.list → up_to_fields n (items_of a.list) ≡ a
 fields_back n a h = back n a.list h

@@ -2,7 +2,7 @@
 use Rattle.std.specs.Prelude.{ℕ, List, [], Option, None, Some}
 use Rattle.std.specs.Fmt.{decimal}
 
--- the number of the line that it names, where it names one
+-- the number of the line that the text names, if it names one
 abbrev pub line_text : Option ℕ → List ℕ
 line_text None = []
 line_text (Some line) = decimal line
