@@ -6,7 +6,7 @@ use dsr_names::{ClientId, Refusal};
 use std::alloc::Global;
 use std::marker::Model;
 
-/// The last reply of each client of a shape, if it had one.
+/// The last reply to each client of a shape, if there was one.
 #[derive(Drop)]
 pub struct Ledger {
     replies: Vec<Option<Reply>>,
@@ -22,8 +22,8 @@ impl Model for Ledger {
 }
 
 impl Ledger {
-    /// The ledger of `clients` clients, none of which had a reply. All its memory is allocated here.
-    /// `NoMemory` where memory runs out.
+    /// Creates the ledger of `clients` clients, none of which had a reply. All its memory is allocated here.
+    /// `NoMemory` if memory runs out.
     pub fn new(alloc: Global, clients: u8) -> Result<Ledger, Refusal>
         ensures empty { IfOk result (λ ledger. ledger ≡ replicate clients None) }
         ensures refusal { IsOkUnless result Refusal.NoMemory }
@@ -32,8 +32,8 @@ impl Ledger {
         Ok(Ledger { replies })
     }
 
-    /// Whether a request of this client, one of the ledger's, with this number would act: its number is above
-    /// the one of the kept reply, or at least 1 where none is kept.
+    /// Tells whether a request of this client with this number would act: the number is above that of the client's
+    /// last reply, or at least 1 if there is none. Requires that the client is one of the ledger's.
     pub fn acts(&self, client: ClientId, number: u64) -> bool
         requires { client < length self.now }
         ensures { IsTrue result ↔ Acts (last_reply self.now client) number }
@@ -44,7 +44,7 @@ impl Ledger {
         }
     }
 
-    /// The client's last reply; none for a client outside the shape.
+    /// Returns the client's last reply, if there was one; `None` for a client outside the shape.
     pub fn kept(&self, client: ClientId) -> Option<Reply>
         ensures { result ≡ last_reply self.now client }
     {
@@ -56,8 +56,8 @@ impl Ledger {
         }
     }
 
-    /// Keeps this reply as the last one of the client. Requires that it is one of the ledger's, and that the reply's
-    /// number acts.
+    /// Stores this reply as the client's last one. Requires that the client is one of the ledger's, and that the
+    /// reply's number acts.
     pub fn note(&mut self, client: ClientId, reply: Reply)
         requires inside { client < length self.old }
         requires acts { Acts (last_reply self.old client) reply.number }

@@ -1,4 +1,4 @@
-//! The last reply given to each client, by which a request is seen to be new.
+//! The last reply given to each client, which shows whether a request is new.
 #![tactic(auto)]
 
 mod ledger;

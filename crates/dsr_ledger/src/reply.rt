@@ -3,15 +3,15 @@ ghost use Rattle.std.proofs.Common.{rules};
 use dsr_base::Exact;
 use dsr_request::Answer;
 
-/// What a replica tells a client of its request: the request's number, its place in the history, counted
-/// from 0, and the answer that it was given there.
+/// What a replica replies to a client's request: the request's number, its place in the history, counted
+/// from 0, and its answer there.
 #[derive(Clone, Copy, Debug, PartialEq, Eq)]
 pub struct Reply {
     /// The number under which the client issued the request.
     pub number: u64,
-    /// How many requests stand before it in the history.
+    /// The number of requests before it in the history.
     pub place: u64,
-    /// What the directory answered there.
+    /// The directory's answer there.
     pub answer: Answer,
 }
 

@@ -11,12 +11,12 @@ use Rattle.dsr_request.specs.declared.op.Op.TheVariants.{Read, Write, Swap, Remo
 use Rattle.dsr_request.specs.declared.answer.Answer.{Answer}
 use Rattle.dsr_request.specs.declared.answer.Answer.TheVariants.{Held, Written, Swapped, Kept, Full, Removed}
 
--- the registers that operations are on, each once
+-- the registers that the operations are on, each once
 abbrev pub registers : List Op → List (List ℕ)
 registers [] = []
 registers (op ∷ older) = if list_any (bytes_eq (register_of op)) (registers older) then registers older else register_of op ∷ registers older
 
--- the most registers that hold a number
+-- the greatest number of registers that hold a number
 abbrev pub most_registers : ℕ
 most_registers = 1024
 
@@ -28,7 +28,7 @@ is_full held_in names = nat_le most_registers (count_by (λ name. is_some (held_
 abbrev pub is_blocked : Option ℕ → Bool → Bool
 is_blocked held full = is_none held && full
 
--- what the operation leaves in its register, which held `held`
+-- what the operation leaves in its register, which held `held` before
 abbrev pub left_by : Op → Option ℕ → Bool → Option ℕ
 left_by (Read name) held full = held
 left_by (Write name value) held full = if is_blocked held full then held else Some value
@@ -41,17 +41,17 @@ value [] name = None
 value (op ∷ older) name =
     if bytes_eq (register_of op) name then left_by op (value older name) (is_full (λ other. value older other) (registers older)) else value older name
 
--- how many registers hold a number after the operations
+-- the number of registers that hold a number after the operations
 abbrev pub count_held : List Op → ℕ
 count_held ops = count_by (λ name. is_some (value ops name)) (registers ops)
 
--- what an operation on a register that holds `held` answers
+-- the answer to an operation on a register that holds `held`
 abbrev pub answer_on : Op → Option ℕ → Bool → Answer
 answer_on (Read name) held full = Held held
 answer_on (Write name value) held full = if is_blocked held full then Full else Written
 answer_on (Swap name from to) held full = if not (option_eq nat_eq held from) then Kept held else (if is_blocked held full then Full else Swapped)
 answer_on (Remove name) held full = Removed held
 
--- what the operation answers after the older ones
+-- the answer to the operation after the older ones
 abbrev pub answer_after : List Op → Op → Answer
 answer_after older op = answer_on op (value older (register_of op)) (is_full (λ other. value older other) (registers older))

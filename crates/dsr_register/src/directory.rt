@@ -28,8 +28,8 @@ impl Model for Directory {
 }
 
 impl Directory {
-    /// A directory in which no register holds a value, with the room for all that it can ever hold.
-    /// `NoMemory` where that room is refused.
+    /// Creates a directory in which no register holds a value, with the room for all that it can ever
+    /// hold. `NoMemory` if that room is refused.
     pub fn new(alloc: Global) -> Result<Directory, Refusal>
         ensures empty { IfOk result (λ directory. StandsFor directory []) }
         ensures refusal { IsOkUnless result Refusal.NoMemory }
@@ -45,7 +45,7 @@ impl Directory {
         self.table.clear();
     }
 
-    /// What the register holds; `None` where it holds nothing.
+    /// Returns what the register holds, or `None` if it holds nothing.
     pub fn get(&self, name: &Name) -> Option<u64>
         ensures held_in { result ≡ held_in self.now name.now }
         ensures value { (ops : List Op) → StandsFor self.now ops → result ≡ value ops name.now }
@@ -53,7 +53,7 @@ impl Directory {
         self.table.get(name)
     }
 
-    /// How many registers hold a value, at most 1,024.
+    /// Returns the number of registers that hold a value, at most 1,024.
     pub fn len(&self) -> usize
         ensures entries { result ≡ length self.now }
         ensures count { (ops : List Op) → StandsFor self.now ops → result ≡ count_held ops }
@@ -62,14 +62,14 @@ impl Directory {
         self.table.len()
     }
 
-    /// Whether no register holds a value.
+    /// Tells whether no register holds a value.
     pub fn is_empty(&self) -> bool
         ensures { (ops : List Op) → StandsFor self.now ops → IsTrue result ↔ (count_held ops ≡ 0) }
     {
         self.len() == 0
     }
 
-    /// Does the operation and answers it. It allocates nothing.
+    /// Does the operation and returns its answer. Allocates nothing.
     pub fn apply(&mut self, op: Op) -> Answer
         ensures answer { (ops : List Op) → StandsFor self.old ops → result ≡ answer_after ops op }
         ensures change { (ops : List Op) → StandsFor self.old ops → StandsFor self.new (op ∷ ops) }

@@ -14,10 +14,10 @@ use std::alloc::Global;
 use std::marker::Model;
 use std::mem::replace;
 
-/// The most registers that hold a value.
+/// The greatest number of registers that hold a value.
 const MOST_REGISTERS: usize = 1024;
 
-/// The most entries of a table: twice as many as can hold a value.
+/// The greatest number of entries of a table: twice as many as can hold a value.
 const MOST_ENTRIES: usize = 2 * MOST_REGISTERS;
 
 /// Registers by their names, each with its value, if it holds one.
@@ -25,9 +25,10 @@ type Entries = IndexMap<Name, Option<u64>>;
 
 /// The registers that hold a value, at most 1,024, by their names. All its memory is allocated when it is made.
 ///
-/// A register whose value is taken out keeps its entry, since no hash map promises that a removed entry gives its room
-/// back. Where a register needs an entry and all are there, the table is swept: the entries that hold a value move to
-/// the front, and the others are cut off, at least half of all. A map promises to give back the room of so many.
+/// A register whose value is taken out keeps its entry, since no hash map guarantees that a removed entry gives its
+/// room back. If a register needs an entry and all are in use, the table is swept: the entries that hold a value move
+/// to the front, and the others are cut off, at least half of all. A map guarantees to give back the room of half of
+/// its entries.
 #[derive(Drop)]
 pub(crate) struct Table {
     entries: Entries,
@@ -46,7 +47,7 @@ impl Model for Table {
     ghost invariant = { IsTable };
 }
 
-/// Lets the register hold this, or nothing, if it has an entry, and returns what it held.
+/// Lets the register hold `held`, if it has an entry, and returns what it held before; `None` if it has no entry.
 fn write(entries: &mut Entries, name: &Name, held: Option<u64>) -> Option<Option<u64>>
     requires { IsRoomy entries.old }
     ensures changes { IfSome result (λ before.
@@ -63,7 +64,7 @@ fn write(entries: &mut Entries, name: &Name, held: Option<u64>) -> Option<Option
     }
 }
 
-/// Leaves the entries that hold a value, and no other.
+/// Removes the entries that hold no value.
 fn sweep(entries: &mut Entries)
     requires few { length (held_entries entries.old.entries) < most_registers }
     requires many { most_entries ≤ index_map_len entries.old }
@@ -83,7 +84,7 @@ fn sweep(entries: &mut Entries)
     entries.truncate(kept);
 }
 
-/// Makes room for an entry. It allocates nothing.
+/// Makes room for an entry. Allocates nothing.
 fn make_room(entries: &mut Entries)
     requires few { length (held_entries entries.old.entries) < most_registers }
     requires roomy { IsRoomy entries.old }
@@ -109,7 +110,7 @@ fn add(entries: &mut Entries, name: Name, value: u64)
 }
 
 impl Table {
-    /// A table in which no register holds a value. `NoMemory` where its room is refused.
+    /// Creates a table in which no register holds a value. `NoMemory` if its room is refused.
     pub(crate) fn new(alloc: Global) -> Result<Table, Refusal>
         ensures empty { IfOk result (λ table. table ≡ []) }
         ensures refusal { IsOkUnless result Refusal.NoMemory }
@@ -126,7 +127,7 @@ impl Table {
         self.held = 0;
     }
 
-    /// What the register holds.
+    /// Returns what the register holds, or `None` if it holds nothing.
     pub(crate) fn get(&self, name: &Name) -> Option<u64>
         ensures held { result ≡ held_in self.now name.now }
         ensures distinct { IsDistinct bytes_eq (keys_of self.now) }
@@ -134,7 +135,7 @@ impl Table {
         self.entries.get(name).copied().flatten()
     }
 
-    /// How many registers hold a value.
+    /// Returns the number of registers that hold a value.
     pub(crate) fn len(&self) -> usize
         ensures count { result ≡ length self.now }
         ensures few { result ≤ most_registers }
@@ -143,7 +144,7 @@ impl Table {
         self.held
     }
 
-    /// Whether the register may hold a value: it holds one, or not all 1,024 are taken.
+    /// Tells whether the register may hold a value: it holds one, or fewer than 1,024 registers do.
     fn may_hold(&self, name: &Name) -> bool
         ensures may { result ≡ not (is_blocked (held_in self.now name.now) (nat_le most_registers (length self.now))) }
         ensures distinct { IsDistinct bytes_eq (keys_of self.now) }
@@ -151,7 +152,8 @@ impl Table {
         self.len() < MOST_REGISTERS || self.get(name).is_some()
     }
 
-    /// Lets the register hold the value, if it holds one or not all 1,024 are taken. It allocates nothing.
+    /// Lets the register hold the value, if it holds one or fewer than 1,024 registers do, and returns whether that
+    /// was so. Allocates nothing.
     pub(crate) fn put(&mut self, name: Name, value: u64) -> bool
         ensures done { result ≡ not (is_blocked (held_in self.old name) (nat_le most_registers (length self.old))) }
         ensures contents { (other : List ℕ) → held_in self.new other
@@ -175,7 +177,7 @@ impl Table {
         true
     }
 
-    /// Takes the register's value out.
+    /// Takes the register's value out and returns it, or `None` if it held nothing.
     pub(crate) fn take(&mut self, name: &Name) -> Option<u64>
         ensures held { result ≡ held_in self.old name.now }
         ensures contents { (other : List ℕ) → held_in self.new other

@@ -1,4 +1,4 @@
--- How texts spell an operation (this project): `read NAME`, `write NAME VAL`, `swap NAME OLD VAL` and `remove NAME`, with
+-- How texts write an operation (this project): `read NAME`, `write NAME VAL`, `swap NAME OLD VAL` and `remove NAME`, with
 -- one separator between all parts, as in `swap a none 1` and `swap:a:none:1`.
 use Rattle.std.specs.Prelude.{ℕ, ◌<◌, ◌^◌, List, ◌∷◌, ◌++◌, codes}
 use Rattle.std.specs.Fmt.{decimal}
@@ -14,18 +14,18 @@ verb_of (Write name value) = codes "write"
 verb_of (Swap name from to) = codes "swap"
 verb_of (Remove name) = codes "remove"
 
--- what stands after the word and a separator
+-- what follows the word and a separator
 abbrev pub operands_text : ℕ → Op → List ℕ
 operands_text separator (Read name) = name
 operands_text separator (Write name value) = name ++ separator ∷ decimal value
 operands_text separator (Swap name from to) = name ++ separator ∷ (old_text from ++ separator ∷ decimal to)
 operands_text separator (Remove name) = name
 
--- the text of an operation, its parts apart by the separator
+-- the text of an operation, with the separator between its parts
 abbrev pub op_text : ℕ → Op → List ℕ
 op_text separator op = verb_of op ++ separator ∷ operands_text separator op
 
--- an operation that a text can spell: it is on a name, and its numbers are below 2 ^ 64
+-- an operation that a text can write: it is on a name, and its numbers are below 2 ^ 64
 abbrev pub IsOp : Op → Type 0
 IsOp (Read name) = IsName name
 IsOp (Write name value) = IsName name × (value < 2 ^ 64)

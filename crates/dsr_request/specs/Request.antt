@@ -8,6 +8,6 @@ pub record Request : Type 0 where
   pub number : ℕ
   pub op : Op
 
--- the request of these three
+-- the request with these three
 abbrev pub request_of : ℕ → ℕ → Op → Request
 request_of client number op = record { client = client; number = number; op = op }

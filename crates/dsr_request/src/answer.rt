@@ -8,25 +8,25 @@ use dsr_base::Exact;
 use dsr_names::{Old, read_old};
 use std::fmt;
 
-/// What an operation answers.
+/// The answer to an operation.
 #[derive(Clone, Copy, Debug, PartialEq, Eq)]
 pub enum Answer {
-    /// A read: what the register held.
+    /// A read was done, and the register held this.
     Held(Option<u64>),
     /// A write was done.
     Written,
     /// A swap was done.
     Swapped,
-    /// A swap was not done, since the register held this in place of its `from`.
+    /// A swap was not done, because the register held this and not its `from`.
     Kept(Option<u64>),
-    /// A write or a swap would have made one register too many, and was not done.
+    /// A write or a swap was not done, because it would have made one register too many.
     Full,
     /// A remove was done, and the register held this before.
     Removed(Option<u64>),
 }
 
 impl Answer {
-    /// The answer that the bytes spell. `None` exactly where they spell none.
+    /// Reads the answer whose text the bytes are. `None` exactly if they are no such text.
     pub fn read(bytes: &[u8]) -> Option<Answer>
         ensures { Reads IsAnswer answer_text bytes.now result }
     {
@@ -47,8 +47,8 @@ impl Answer {
         }
     }
 
-    /// The word of this answer's text, with the space where there is more, and what the register held, where the text
-    /// tells that after it. For a text that is made without `Display`.
+    /// Returns the word of this answer's text, with a space if more follows, and what the register held, if the text
+    /// has that after it. It serves texts that are made without `Display`.
     pub fn parts(&self) -> (&'static str, Option<Option<u64>>)
         ensures { answer_text self.now ≡ result.0.now ++ held_text result.1 }
     {
@@ -80,7 +80,7 @@ impl fmt::Display for Answer {
     }
 }
 
-/// What stands after the word, where the bytes are the word and a token OLD.
+/// Returns the content of a register that follows the word, if the bytes are the word and a token OLD.
 fn old_after(bytes: &[u8], word: &[u8]) -> Option<Option<u64>>
     ensures { Reads IsOld (λ old. word.now ++ old_text old) bytes.now result }
 {

@@ -1,4 +1,4 @@
-//! What clients ask for: names of registers, operations and their answers, requests, and how texts spell them.
+//! What clients ask for: names of registers, operations and their answers, requests, and how texts write them.
 #![tactic(auto)]
 
 mod answer;

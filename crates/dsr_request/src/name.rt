@@ -7,7 +7,7 @@ use std::hash::{Hash, Hasher};
 use std::marker::Model;
 use std::{fmt, str};
 
-/// The most bytes of a register's name.
+/// The greatest number of bytes of a register's name.
 const MOST_NAME_BYTES: usize = 32;
 
 /// The name of a register: 1 to 32 bytes of `a-z`, `0-9`, `.`, `_` and `-`. A name is copied without
@@ -35,7 +35,7 @@ impl Model for Name {
     ghost inverse_ok = { fields_back };
 }
 
-/// Whether a name may have this byte.
+/// Tells whether a name may have this byte.
 fn is_allowed(byte: u8) -> bool
     ensures { result ≡ is_name_byte byte }
 {
@@ -46,7 +46,7 @@ fn is_allowed(byte: u8) -> bool
         || byte == b'-'
 }
 
-/// Whether the bytes spell a name.
+/// Tells whether the bytes are a name.
 fn is_name(bytes: &[u8]) -> bool
     ensures { IsTrue result ↔ IsName bytes.now }
 {
@@ -55,8 +55,8 @@ fn is_name(bytes: &[u8]) -> bool
 }
 
 impl Name {
-    /// The name that the bytes spell. `BadName` exactly where they are empty, more than 32, or have
-    /// another byte than a name's.
+    /// Reads the name whose text the bytes are. `BadName` exactly if they are empty, more than 32,
+    /// or have a byte that no name has.
     pub fn read(bytes: &[u8]) -> Result<Name, Refusal>
         ensures ok { IfOk result (λ name. name ≡ bytes.now) }
         ensures when { IsOk result ↔ IsName bytes.now }
@@ -71,7 +71,7 @@ impl Name {
         Ok(Name { bytes: places, len })
     }
 
-    /// The bytes of the name.
+    /// Returns the bytes of the name.
     pub fn as_bytes(&self) -> &[u8]
         ensures same { result.now ≡ self.now }
         ensures name { IsName self.now }
@@ -79,7 +79,7 @@ impl Name {
         &self.bytes[..self.len]
     }
 
-    /// The name as text.
+    /// Returns the name as text.
     pub fn as_str(&self) -> &str
         ensures { result.now ≡ self.now }
     {
@@ -89,7 +89,7 @@ impl Name {
         }
     }
 
-    /// Whether two names are the same name.
+    /// Tells whether two names are equal.
     pub fn same(&self, other: &Name) -> bool
         ensures { IsTrue result ↔ (self.now ≡ other.now) }
     {
@@ -126,7 +126,7 @@ impl Exact for Name {
     ghost clones = { λ a b. Prim.search rules };
 }
 
-// What is hashed is the bytes of the name.
+// Only the bytes of the name are hashed.
 impl Hash for Name {
     ghost use Rattle.std.proofs.Common.{rules};
     ghost use Rattle.std.specs.Cmp.Rules.{hashing};

@@ -14,28 +14,28 @@ use std::fmt;
 /// One operation on one register.
 #[derive(Clone, Copy, Debug, PartialEq, Eq)]
 pub enum Op {
-    /// What the register holds.
+    /// Returns what the register holds.
     Read {
         /// The register.
         name: Name,
     },
-    /// Let it hold this value.
+    /// Lets the register hold this value.
     Write {
         /// The register.
         name: Name,
-        /// What it is to hold.
+        /// What the register is to hold.
         value: u64,
     },
-    /// Let it hold `to` where it holds `from`.
+    /// Lets the register hold `to` if it holds `from`.
     Swap {
         /// The register.
         name: Name,
-        /// What it must hold for that, none where it must hold nothing.
+        /// What the register must hold before, `None` if it must hold nothing.
         from: Option<u64>,
-        /// What it is to hold then.
+        /// What the register is to hold then.
         to: u64,
     },
-    /// Let it hold nothing.
+    /// Lets the register hold nothing.
     Remove {
         /// The register.
         name: Name,
@@ -43,8 +43,9 @@ pub enum Op {
 }
 
 impl Op {
-    /// The operation that the bytes spell. Its parts are apart by the separator: a space, as in
-    /// `swap a none 1`, or a colon, as in `swap:a:none:1`. `None` exactly where they spell none.
+    /// Reads the operation whose text the bytes are. Between its parts is the separator: a space,
+    /// as in `swap a none 1`, or a colon, as in `swap:a:none:1`. `None` exactly if the bytes are no
+    /// such text.
     pub fn read(bytes: &[u8], separator: u8) -> Option<Op>
         requires { (separator ≡ 32) ⊎ (separator ≡ 58) }
         ensures { Reads IsOp (op_text separator) bytes.now result }
@@ -53,7 +54,7 @@ impl Op {
         read_operands(verb, operands, separator)
     }
 
-    /// The register that the operation is on.
+    /// Returns the register that the operation is on.
     pub fn name(&self) -> Name
         ensures same { result ≡ register_of self.now }
         ensures spelled { IsOp self.now }
@@ -63,7 +64,7 @@ impl Op {
             Op::Read { name } | Op::Write { name, .. } => name,
             Op::Swap { name, .. } | Op::Remove { name } => name,
         };
-        // that it is a name is known from here on
+        // from here on the prover knows that it is a name
         let _bytes = name.as_bytes();
         name
     }
@@ -87,7 +88,7 @@ impl fmt::Display for Op {
     }
 }
 
-/// An operation that is printed with colons in place of spaces, as `swap:a:none:1`.
+/// An operation that is printed with colons instead of spaces, like `swap:a:none:1`.
 #[derive(Clone, Copy, Debug, PartialEq, Eq)]
 pub struct Joined(pub Op);
 
@@ -109,7 +110,7 @@ impl fmt::Display for Joined {
     }
 }
 
-/// The operation that begins with this word and goes on with these operands.
+/// Reads the operation that begins with this word and goes on with these operands.
 fn read_operands(verb: &[u8], operands: &[u8], separator: u8) -> Option<Op>
     requires { (separator ≡ 32) ⊎ (separator ≡ 58) }
     ensures { (op : Op) → (result ≡ Some op)
@@ -128,7 +129,7 @@ fn read_operands(verb: &[u8], operands: &[u8], separator: u8) -> Option<Op>
     }
 }
 
-/// The write whose operands the bytes are.
+/// Reads the write whose operands the bytes are.
 fn read_write(operands: &[u8], separator: u8) -> Option<Op>
     requires { (separator ≡ 32) ⊎ (separator ≡ 58) }
     ensures { (op : Op) → (result ≡ Some op)
@@ -140,7 +141,7 @@ fn read_write(operands: &[u8], separator: u8) -> Option<Op>
     Some(Op::Write { name, value })
 }
 
-/// The swap whose operands the bytes are.
+/// Reads the swap whose operands the bytes are.
 fn read_swap(operands: &[u8], separator: u8) -> Option<Op>
     requires { (separator ≡ 32) ⊎ (separator ≡ 58) }
     ensures { (op : Op) → (result ≡ Some op)
@@ -154,7 +155,7 @@ fn read_swap(operands: &[u8], separator: u8) -> Option<Op>
     Some(Op::Swap { name, from, to })
 }
 
-/// The name that the bytes spell.
+/// Reads the name whose text the bytes are.
 fn read_name(bytes: &[u8]) -> Option<Name>
     ensures { Reads IsName (λ name. name) bytes.now result }
 {

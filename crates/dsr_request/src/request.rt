@@ -7,8 +7,8 @@ use crate::op::Op;
 use dsr_names::{ClientId, NUMBER_END, Refusal};
 use std::marker::Model;
 
-/// An operation that a client wants, under a number of its own from 1 to 2^40-1. A request is copied
-/// without allocating.
+/// An operation that a client asks for, under a number of the client's own from 1 to 2^40-1. A request
+/// is copied without allocating.
 #[derive(Clone, Copy, Debug, PartialEq, Eq)]
 pub struct Request {
     client: ClientId,
@@ -30,7 +30,7 @@ impl Model for Request {
 }
 
 impl Request {
-    /// The request of this client for the operation. `BadNumber` where the number is 0, or 2^40 or more.
+    /// Makes this client's request for the operation. `BadNumber` if the number is 0, or 2^40 or more.
     pub fn new(client: ClientId, number: u64, op: Op) -> Result<Request, Refusal>
         ensures ok { IfOk result (λ request. request ≡ request_of client number op) }
         ensures when { IsOk result ↔ ((0 < number) × (number < 2 ^ 40)) }
@@ -43,27 +43,27 @@ impl Request {
         }
     }
 
-    /// Whose request it is.
+    /// Returns the client whose request it is.
     pub fn client(&self) -> ClientId
         ensures { result ≡ self.now.client }
     {
         self.client
     }
 
-    /// Its number, from 1 to 2^40-1.
+    /// Returns its number, from 1 to 2^40-1.
     pub fn number(&self) -> u64
         ensures same { result ≡ self.now.number }
         ensures some { 0 < result }
         ensures small { result < 2 ^ 40 }
         ensures spelled { IsRequest self.now }
     {
-        // that the client and the operation can be spelled is known from here on
+        // from here on the prover knows that texts can write the client and the operation
         let _client = self.client.number();
         let _op = self.op();
         self.number
     }
 
-    /// The operation.
+    /// Returns the operation.
     pub fn op(&self) -> Op
         ensures same { result ≡ self.now.op }
         ensures spelled { IsOp result }

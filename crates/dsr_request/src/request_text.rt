@@ -14,15 +14,16 @@ use dsr_names::{Actor, ClientId, read_num};
 use std::fmt;
 
 impl Request {
-    /// The request whose token the bytes are, as `c0#7:write:a:5`. `None` exactly where they are no such token.
+    /// Reads the request whose token the bytes are, like `c0#7:write:a:5`. `None` exactly if they are no such
+    /// token.
     pub fn read(bytes: &[u8]) -> Option<Request>
         ensures { Reads IsRequest request_token bytes.now result }
     {
         read_request(bytes, b'#', b':')
     }
 
-    /// The request that the bytes spell as a line does, without its line feed, as `c0 7 write a 5`. `None` exactly
-    /// where they spell none.
+    /// Reads the request whose line the bytes are, without its line feed, like `c0 7 write a 5`. `None` exactly if
+    /// they are no such line.
     pub fn read_line(bytes: &[u8]) -> Option<Request>
         ensures { Reads IsRequest (request_text 32 32) bytes.now result }
     {
@@ -41,7 +42,8 @@ impl fmt::Display for Request {
     }
 }
 
-/// The request that the bytes spell with this mark after the client, and this separator between all other parts.
+/// Reads the request whose text the bytes are, with this mark after the client, and this separator between all
+/// other parts.
 fn read_request(bytes: &[u8], mark: u8, separator: u8) -> Option<Request>
     requires mark { (mark ≡ 32) ⊎ (mark ≡ 35) }
     requires separator { (separator ≡ 32) ⊎ (separator ≡ 58) }
@@ -52,7 +54,7 @@ fn read_request(bytes: &[u8], mark: u8, separator: u8) -> Option<Request>
     read_parts(client, number, op, separator)
 }
 
-/// The request of this client with this number for this operation, each as bytes.
+/// Reads the request of this client with this number for this operation, each as bytes.
 fn read_parts(client: &[u8], number: &[u8], op: &[u8], separator: u8) -> Option<Request>
     requires { (separator ≡ 32) ⊎ (separator ≡ 58) }
     ensures { (request : Request) → (result ≡ Some request)
@@ -65,7 +67,7 @@ fn read_parts(client: &[u8], number: &[u8], op: &[u8], separator: u8) -> Option<
     Request::new(client, number, op).ok()
 }
 
-/// The client whose token the bytes are.
+/// Reads the client whose token the bytes are.
 fn read_client(bytes: &[u8]) -> Option<ClientId>
     ensures { Reads (λ client. client < 32) (λ client. actor_text (Client client)) bytes.now result }
 {

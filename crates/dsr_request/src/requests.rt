@@ -7,11 +7,11 @@ ghost use Rattle.dsr_request.specs.Support.RequestToken.{request_part, request_b
 use crate::request::Request;
 use dsr_base::{Exact, Few, Token};
 
-/// The most requests of one value.
+/// The greatest number of requests in one value.
 pub const MOST_REQUESTS: usize = 8;
 
-/// A list of 1 to 8 requests, of fixed size: it is copied without allocating. Its text has them joined by commas,
-/// as `c0#7:write:a:5,c1#1:read:a`.
+/// A list of 1 to 8 requests, of fixed size, copied without allocating. In its text commas join them, like
+/// `c0#7:write:a:5,c1#1:read:a`.
 pub type Requests = Few<Request, MOST_REQUESTS>;
 
 impl Exact for Request {
@@ -34,7 +34,7 @@ impl Token for Request {
         Request::read(bytes)
     }
 
-    // Every request in hand has a token: what is called says so.
+    // Every request in hand has a token: the call of `number` says so.
     fn fits(&self) -> bool {
         let _number = self.number();
         true

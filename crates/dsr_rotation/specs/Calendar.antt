@@ -26,8 +26,8 @@ pub record IsRoundOf (shape : Shape) (slot t r : ℕ) : Type 0 where
 abbrev pub ClosesWith : Shape → ℕ → ℕ → Type 0
 ClosesWith shape slot t = last_round shape slot ≡ t
 
--- how many slots are closed after t rounds, the rounds 0 to t-1: slots close in their order, each with its last
--- round (this project)
+-- the number of slots that are closed after t rounds, the rounds 0 to t-1: slots close in their order, each with
+-- its last round (this project)
 unfoldable pub closed_slots : Shape → ℕ → ℕ
 closed_slots shape zero = 0
 closed_slots shape (suc t) =

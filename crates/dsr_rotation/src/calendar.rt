@@ -34,22 +34,22 @@ impl Model for Calendar {
 }
 
 impl Calendar {
-    /// The calendar of this shape.
+    /// Makes the calendar of this shape.
     pub fn new(shape: &Shape) -> Calendar
         ensures { result ≡ shape.now }
     {
         Calendar { shape: *shape }
     }
 
-    /// The shape whose calendar it is.
+    /// Returns the shape whose calendar it is.
     pub fn shape(&self) -> Shape
         ensures { result ≡ self.now }
     {
         self.shape
     }
 
-    /// The slots in flight in global round `t`. The last of them begins with that round. The first is the
-    /// next to close: as many slots as its number are closed before round `t`.
+    /// Returns the slots in flight in global round `t`. The last of them begins with that round. The first is
+    /// the next to close: its number is the count of slots that are closed before round `t`.
     #[tactic(auto, using(crate::proofs::Closing::closed_slots_count), unfolding(crate::specs::Calendar::first_round))]
     pub fn slots_in(&self, t: u64) -> Slots
         ensures in_flight { (slot : ℕ) → IsInFlight self.now slot t
@@ -66,7 +66,8 @@ impl Calendar {
         Slots { first, last: t }
     }
 
-    /// Which of its rounds, 1 to f+1, a slot has in global round `t`. `None` where it is not in flight.
+    /// Returns which of a slot's rounds, 1 to f+1, falls in global round `t`. `None` if the slot is not in
+    /// flight.
     #[tactic(auto, unfolding(crate::specs::Calendar::first_round))]
     pub fn round_of(&self, slot: u64, t: u64) -> Option<u8>
         ensures round { (r : ℕ) → (result ≡ Some r) ↔ IsRoundOf self.now slot t r }
@@ -79,8 +80,8 @@ impl Calendar {
         Some(earlier as u8 + 1)
     }
 
-    /// The slot that closes with global round `t`, the next in the order of slots. `None` exactly where `t` is
-    /// below f.
+    /// Returns the slot that closes with global round `t`, the next in the order of slots. `None` exactly if
+    /// `t` is below f.
     #[tactic(auto, using(crate::proofs::Closing::closed_slots_count), unfolding(crate::specs::Calendar::first_round))]
     pub fn closes(&self, t: u64) -> Option<u64>
         ensures slot { (slot : ℕ) → (result ≡ Some slot) ↔ ClosesWith self.now slot t }
@@ -94,7 +95,7 @@ impl Calendar {
         t.checked_sub(self.shape.f() as u64)
     }
 
-    /// The replica that sends in this slot: the senders take turns.
+    /// Returns the replica that is the sender of this slot: the replicas take turns.
     pub fn sender(&self, slot: u64) -> ReplicaId
         ensures same { result ≡ sender self.now slot }
         ensures inside { result < self.now.n }

@@ -1,4 +1,4 @@
--- How a name stands in an array: the bytes after it are 0.
+-- How a name is stored in an array: the bytes after it are 0.
 use Rattle.std.specs.Prelude.{◌≡◌, ℕ, List, length, take}
 use Rattle.std.proofs.Common.{ap₂}
 use Rattle.dsr_base.specs.Support.Padded.{IsPadded, padded, length_items, padded_items}
@@ -10,7 +10,7 @@ pub record IsNameFields (a : Inside) : Type 0 where
   pub name : IsName (take a.len a.bytes)
   pub places : IsPadded 32 0 a.bytes a.len
 
--- the fields of these two
+-- the fields with these bytes and this length
 abbrev fields_of : List ℕ → ℕ → Inside
 fields_of bytes len = record { bytes = bytes; len = len }
 
@@ -18,6 +18,6 @@ fields_of bytes len = record { bytes = bytes; len = len }
 abbrev pub name_fields : List ℕ → Inside
 name_fields name = fields_of (padded 32 0 name) (length name)
 
--- the name that the fields hold gives them back
+-- the fields that hold the name in some fields are those fields
 pub fields_back : (a : Inside) → IsNameFields a → name_fields (take a.len a.bytes) ≡ a
 fields_back a h = ap₂ fields_of (padded_items 32 a.len 0 a.bytes h.places) (length_items 32 a.len 0 a.bytes h.places)

@@ -17,7 +17,7 @@ joined_without : (byte : ℕ) (first second : List ℕ) (mark : ℕ) → (mark �
 joined_without byte first second mark apart p q =
     All-append (λ b. b ≡ byte → ⊥) first (mark ∷ second) p (All-cons (λ b. b ≡ byte → ⊥) mark second apart q)
 
--- a byte that no name has stands in no request's text, unless it separates the parts
+-- a byte that no name has is in no request's text, unless it separates the parts
 pub text_without : (byte mark separator : ℕ) (request : Request) → is_name_byte byte ≡ false → (mark ≡ byte → ⊥) → (separator ≡ byte → ⊥)
     → IsRequest request → IsAbsent byte (request_text mark separator request)
 text_without byte mark separator request other apart_mark apart_separator h =
@@ -27,7 +27,7 @@ text_without byte mark separator request other apart_mark apart_separator h =
     (joined_without byte (decimal request.number) (op_text separator request.op) separator apart_separator
     (decimal_without byte request.number other (omega (arith, h.small_number))) (op_without byte separator request.op other apart_separator h.is_op))
 
--- nor in its token
+-- a byte that no name has is in no request's token, unless it is `#` or a colon
 pub token_without : (byte : ℕ) (request : Request) → is_name_byte byte ≡ false → (◌≡◌ {A = ℕ} 35 byte → ⊥) → (◌≡◌ {A = ℕ} 58 byte → ⊥) → IsRequest request
     → IsAbsent byte (request_token request)
 token_without byte request other no_mark no_colon h = text_without byte 35 58 request other no_mark no_colon h

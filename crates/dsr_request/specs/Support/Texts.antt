@@ -28,25 +28,25 @@ decimal_name_bytes n small =
     (λ k ds above so_far. All-push IsNameByte ds (48 + k % 10) so_far (digit_is_name_byte (k % 10) (omega arith)))
     n small
 
--- a byte that no name has stands in nothing that is made of names' bytes
+-- a byte that no name has is in nothing that is made of names' bytes
 without : (byte : ℕ) (bytes : List ℕ) → is_name_byte byte ≡ false → All IsNameByte bytes → IsAbsent byte bytes
 without byte bytes other h =
     All-weaker IsNameByte (λ b. b ≡ byte → ⊥) (λ b allowed e. false≢true (sym other ∙ (ap is_name_byte (sym e) ∙ allowed))) bytes h
 
--- so it stands in no name
+-- such a byte is in no name
 pub name_without : (byte : ℕ) (name : List ℕ) → is_name_byte byte ≡ false → IsName name → IsAbsent byte name
 name_without byte name other h = without byte name other h.allowed
 
--- in no number
+-- such a byte is in no number
 pub decimal_without : (byte n : ℕ) → is_name_byte byte ≡ false → n < 2 ^ 64 → IsAbsent byte (decimal n)
 decimal_without byte n other small = without byte (decimal n) other (decimal_name_bytes n small)
 
--- in nothing that a register holds
+-- such a byte is in nothing that a register holds
 pub old_without : (byte : ℕ) (old : Option ℕ) → is_name_byte byte ≡ false → IsOld old → IsAbsent byte (old_text old)
 old_without byte None other h = without byte (codes "none") other (search rules)
 old_without byte (Some n) other h = decimal_without byte n other h
 
--- in no word of an operation
+-- such a byte is in no word of an operation
 pub verb_without : (byte : ℕ) (op : Op) → is_name_byte byte ≡ false → IsAbsent byte (verb_of op)
 verb_without byte (Read name) other = without byte (codes "read") other (search rules)
 verb_without byte (Write name value) other = without byte (codes "write") other (search rules)
@@ -67,12 +67,12 @@ operands_without byte separator (Swap name from to) other apart h =
     (two_without byte separator (old_text from) (decimal to) apart (old_without byte from other h.1) (decimal_without byte to other h.2))
 operands_without byte separator (Remove name) other apart h = name_without byte name other h
 
--- in no operation, unless it separates the parts
+-- such a byte is in no operation, unless it separates the parts
 pub op_without : (byte separator : ℕ) (op : Op) → is_name_byte byte ≡ false → (separator ≡ byte → ⊥) → IsOp op → IsAbsent byte (op_text separator op)
 op_without byte separator op other apart h =
     two_without byte separator (verb_of op) (operands_text separator op) apart (verb_without byte op other) (operands_without byte separator op other apart h)
 
--- in no answer, unless it is a space
+-- such a byte is in no answer, unless it is a space
 pub answer_without : (byte : ℕ) (a : Answer) → is_name_byte byte ≡ false → (32 ≡ byte → ⊥) → IsAnswer a → IsAbsent byte (answer_text a)
 answer_without byte (Held old) other apart h =
     two_without byte 32 (codes "held") (old_text old) apart (without byte (codes "held") other (search rules)) (old_without byte old other h)
