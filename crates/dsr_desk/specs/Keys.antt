@@ -15,6 +15,6 @@ abbrev pub is_taken : Keys → Actor → Bool
 is_taken keys (Replica r) = unwrap_or (slice_get keys.replicas r) false
 is_taken keys (Client c) = unwrap_or (slice_get keys.clients c) false
 
--- nobody's key was taken
+-- no key was taken
 abbrev pub IsWhole : Keys → Type 0
 IsWhole keys = (a : Actor) → is_taken keys a ≡ false

@@ -6,19 +6,19 @@ use Rattle.dsr_request.specs.Request.{Request}
 use Rattle.dsr_desk.specs.Signature.{Signature, signed}
 use Rattle.dsr_desk.specs.declared.statement.Statement.TheVariants.{Link}
 
--- the slot and the content that they are on, and who signed, in their order
+-- the slot and the content that the signatures are on, and the signers, in the order in which they signed
 pub record Links : Type 0 where
   pub slot : ℕ
   pub content : Option (List Request)
   pub signers : List Actor
 
--- the signatures of these signers after those before, each on the link that fits its place
+-- the signatures of these signers, after `before` signed, each on the link that fits its place
 abbrev pub signed_after : ℕ → Option (List Request) → List Actor → List Actor → List Signature
 signed_after slot content before [] = []
 signed_after slot content before (signer ∷ more) =
     signed signer (Link slot content before) ∷ signed_after slot content (before ++ signer ∷ []) more
 
--- the signatures that they are
+-- the links as a list of signatures
 abbrev pub signatures_of : Links → List Signature
 signatures_of links = signed_after links.slot links.content [] links.signers
 
@@ -26,11 +26,11 @@ signatures_of links = signed_after links.slot links.content [] links.signers
 abbrev pub started : ℕ → Option (List Request) → Actor → Links
 started slot content signer = record { slot = slot; content = content; signers = signer ∷ [] }
 
--- these, and after them this actor's signature
+-- these links, and after them this actor's signature
 abbrev pub extended : Links → Actor → Links
 extended links signer = record links { signers = links.signers ++ signer ∷ [] }
 
--- they are these signatures, on this content of the slot
+-- the links are these signatures, on this content of the slot
 pub record AreLinks (slot : ℕ) (content : Option (List Request)) (signatures : List Signature) (links : Links) : Type 0 where
   pub of_slot : links.slot ≡ slot
   pub of_content : links.content ≡ content

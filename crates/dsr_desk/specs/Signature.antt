@@ -3,7 +3,7 @@
 use Rattle.dsr_names.specs.declared.actor.Actor.{Actor}
 use Rattle.dsr_desk.specs.declared.statement.Statement.{Statement}
 
--- that an actor signed a statement
+-- the signature of an actor on a statement
 pub record Signature : Type 0 where
   pub signer : Actor
   pub statement : Statement

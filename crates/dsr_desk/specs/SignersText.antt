@@ -1,10 +1,10 @@
--- How texts spell a list of signers (this project): `r0+r1`, or `-` for none.
+-- How texts write a list of signers (this project): `r0+r1`, or `-` if there are none.
 use Rattle.std.specs.Prelude.{ℕ, List}
 use Rattle.dsr_base.specs.Joined.{joined_or_dash, AreUpTo}
 use Rattle.dsr_names.specs.Actor.{actor_text, IsNumbered}
 use Rattle.dsr_names.specs.declared.actor.Actor.{Actor}
 
--- actors joined by plus signs, or a dash where there is none
+-- actors joined by plus signs, or a dash if there are none
 abbrev pub signers_text : List Actor → List ℕ
 signers_text = joined_or_dash 43 actor_text
 

@@ -1,4 +1,5 @@
--- What `==` of contents, signers, statements and signatures decides. These serve `==`, and tests that definitions branch on.
+-- What `==` decides for contents, signers, statements and signatures. These serve `==`, and tests that definitions
+-- branch on.
 pub mod ContentEquality
 pub mod SharedContent
 pub mod SignatureEquality

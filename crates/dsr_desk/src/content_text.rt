@@ -7,8 +7,8 @@ use dsr_base::Exact;
 use dsr_request::Requests;
 use std::fmt;
 
-/// The content whose token the bytes are: `idle`, or 1 to 8 requests joined by commas. The outer `None`
-/// comes exactly where they are no such token.
+/// Reads the content whose token the bytes are: `idle`, or 1 to 8 requests joined by commas. The outer
+/// `None` means exactly that they are no such token.
 pub fn read_content(bytes: &[u8]) -> Option<Option<Requests>>
     ensures { Reads IsContent content_text bytes.now result }
 {
@@ -18,7 +18,7 @@ pub fn read_content(bytes: &[u8]) -> Option<Option<Requests>>
     Requests::read(bytes).map(Some)
 }
 
-/// Whether the content has a token: each of its requests has one.
+/// Tells whether the content has a token: each of its requests has one.
 pub(crate) fn content_fits(content: &Option<Requests>) -> bool
     ensures { IsTrue result ↔ IsContent content.now }
 {
@@ -28,7 +28,7 @@ pub(crate) fn content_fits(content: &Option<Requests>) -> bool
     }
 }
 
-/// What a slot carries as texts spell it: `idle`, or its requests joined by commas.
+/// The content of a slot as texts write it: `idle`, or its requests joined by commas.
 #[derive(Clone, Copy, Debug, PartialEq, Eq)]
 pub struct Content(pub Option<Requests>);
 

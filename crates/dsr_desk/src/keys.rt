@@ -7,8 +7,8 @@ use dsr_names::{Actor, Refusal, Shape};
 use std::alloc::Global;
 use std::marker::Model;
 
-/// The keys of a shape: one for each of its actors, to be taken once. A run is to make one `Keys` alone: a second
-/// one, of whatever shape, gives second keys to the actors that both have.
+/// The keys of a shape: one for each of its actors, to be taken once. A run must make only one `Keys`: a second one,
+/// whatever its shape, gives second keys to the actors that both have.
 #[derive(Drop)]
 pub struct Keys {
     shape: Shape,
@@ -27,8 +27,8 @@ impl Model for Keys {
     ghost invariant = { λ k. (length k.replicas.items ≡ k.shape.n) × (length k.clients.items ≡ k.shape.m) };
 }
 
-/// What an actor signs with. One `Keys` has one key for each actor of its shape; a key is never copied, and it
-/// comes from `Keys::take` alone.
+/// What an actor signs with. One `Keys` has one key for each actor of its shape. A key is never copied, and only
+/// `Keys::take` makes one.
 #[derive(Drop)]
 pub struct Key {
     holder: Actor,
@@ -42,8 +42,8 @@ impl Model for Key {
     ghost view = { λ k. k.holder };
 }
 
-/// That an actor signed a statement. It comes from `Key::sign`, and from `Links`, which come from keys and signatures; it is copied
-/// without allocating.
+/// The signature of an actor on a statement. Only `Key::sign` makes one, and `Links`, which are made from keys and signatures. It
+/// is copied without allocating.
 #[derive(Clone, Copy, Debug, PartialEq, Eq)]
 pub struct Signature {
     signer: Actor,
@@ -64,7 +64,7 @@ impl Keys {
     ghost use Rattle.dsr_names.specs.Shape.{IsActor};
     ghost use Rattle.dsr_desk.specs.Keys.{is_taken, IsWhole};
 
-    /// All keys of the shape, none of them taken. `NoMemory` where memory runs out.
+    /// Makes all keys of the shape, none of them taken. `NoMemory` if memory runs out.
     pub fn new(alloc: Global, shape: Shape) -> Result<Keys, Refusal>
         ensures shape { IfOk result (λ keys. keys.shape ≡ shape) }
         ensures whole { IfOk result IsWhole }
@@ -79,8 +79,8 @@ impl Keys {
         })
     }
 
-    /// The actor's key, the first time that it is taken. `None` where the actor is not of the shape, or
-    /// its key was taken before.
+    /// Takes the actor's key. `None` if the actor is not of the shape, or its key was taken before: then nothing
+    /// changes.
     pub fn take(&mut self, actor: Actor) -> Option<Key>
         ensures key { IfSome result (λ key. key ≡ actor) }
         ensures when { IsSome result ↔ (IsActor self.old.shape actor × (is_taken self.old actor ≡ false)) }
@@ -100,14 +100,14 @@ impl Keys {
         }
     }
 
-    /// The shape that the keys were made for.
+    /// Returns the shape that the keys were made for.
     pub fn shape(&self) -> Shape
         ensures { result ≡ self.now.shape }
     {
         self.shape
     }
 
-    /// Whether no key was taken yet.
+    /// Tells whether no key was taken yet.
     pub fn whole(&self) -> bool
         ensures { IsTrue result ↔ IsWhole self.now }
     {
@@ -118,14 +118,14 @@ impl Keys {
 impl Key {
     ghost use Rattle.dsr_desk.specs.Signature.{signed};
 
-    /// Whose key it is.
+    /// Returns the holder of the key.
     pub fn signer(&self) -> Actor
         ensures { result ≡ self.now }
     {
         self.holder
     }
 
-    /// The signature of the key's holder on the statement.
+    /// Signs the statement in the name of the key's holder.
     pub fn sign(&self, statement: Statement) -> Signature
         ensures { result ≡ signed self.now statement }
     {
@@ -139,28 +139,28 @@ impl Key {
 impl Signature {
     ghost use Rattle.dsr_desk.specs.Signature.{signed};
 
-    /// The signature of this signer on the statement, for those who keep what it takes to know that the signer made it.
+    /// Makes the signature of this signer on the statement, for callers that know that the signer made it.
     pub(crate) fn by(signer: Actor, statement: Statement) -> Signature
         ensures { result ≡ signed signer statement }
     {
         Signature { signer, statement }
     }
 
-    /// Who signed.
+    /// Returns the signer.
     pub fn signer(&self) -> Actor
         ensures { result ≡ self.now.signer }
     {
         self.signer
     }
 
-    /// What was signed.
+    /// Returns the statement that was signed.
     pub fn statement(&self) -> &Statement
         ensures { result.now ≡ self.now.statement }
     {
         &self.statement
     }
 
-    /// The same signature once more. It goes through `clone`, so that a clone is the same signature too.
+    /// Returns a copy. It goes through `clone`, so a clone equals its original too.
     pub fn copy(&self) -> Signature
         ensures { result ≡ self.now }
     {
@@ -170,7 +170,7 @@ impl Signature {
         }
     }
 
-    /// Whether two signatures are by the same signer on the same statement.
+    /// Tells whether two signatures are by the same signer on the same statement.
     pub fn same(&self, other: &Signature) -> bool
         ensures { IsTrue result ↔ (self.now ≡ other.now) }
     {
@@ -178,7 +178,7 @@ impl Signature {
     }
 }
 
-/// One flag for each of `count` actors: no key is taken.
+/// Makes `count` flags, none set: no key is taken. `NoMemory` if memory runs out.
 fn untaken(alloc: Global, count: u8) -> Result<Vec<bool>, Refusal>
     ensures unset { IfOk result (λ flags. flags.items ≡ replicate count false) }
     ensures refusal { IsOkUnless result Refusal.NoMemory }
@@ -186,14 +186,14 @@ fn untaken(alloc: Global, count: u8) -> Result<Vec<bool>, Refusal>
     Ok(vec![in alloc; false; count as usize]?)
 }
 
-/// Whether no flag is set.
+/// Tells whether no flag is set.
 fn none_is_set(flags: &[bool]) -> bool
     ensures { IsTrue result ↔ All (λ flag. flag ≡ false) flags.now }
 {
     flags.iter().all(|flag| !*flag)
 }
 
-/// Sets the flag at this place, and returns whether there is one that was not set.
+/// Sets the flag at this place, and returns whether there is one and it was not set.
 fn set_flag(flags: &mut Vec<bool>, place: u8) -> bool
     ensures first { IsTrue result ↔ (slice_get flags.old.items place ≡ Some false) }
     ensures set { OnTrue result (flags.new.items ≡ slice_set flags.old.items place true) }

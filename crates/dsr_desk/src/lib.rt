@@ -1,8 +1,8 @@
-//! The desk: keys, and the signatures that only their holders make.
+//! The desk, the signature authority: keys, and the signatures that only their holders make.
 //!
-//! A signature here is ideal. It is a value that says who signed which statement. Only a key makes one, by `Key::sign`, or in turn with
-//! others by `Links`, and one `Keys` gives a key once. So in a run that makes one `Keys`, whoever holds a signature holds
-//! what that signer signed. No type keeps code from making a second `Keys`.
+//! A signature here is ideal: a value that says who signed which statement. Only a key makes one, by `Key::sign`, or in turn with
+//! others by `Links`, and one `Keys` gives each key once. So in a run that makes one `Keys`, whoever holds a signature holds what that
+//! signer signed. No type keeps code from making a second `Keys`.
 #![tactic(auto)]
 
 mod content_text;

@@ -11,8 +11,9 @@ use dsr_request::Requests;
 use std::alloc::Global;
 use std::marker::Model;
 
-/// Signatures that were put one after another on one content of a slot, each on the link that fits its place. They are kept in
-/// little room, whatever their number: the slot and the content once, and who signed. They come from keys and signatures alone.
+/// Signatures that were put one after another on one content of a slot, each on the link that fits its place. They take little
+/// room, whatever their number: the slot and the content are stored once, beside the signers. Only keys and signatures make
+/// them.
 #[derive(Drop)]
 pub struct Links {
     slot: u64,
@@ -29,7 +30,7 @@ impl Model for Links {
 }
 
 impl Links {
-    /// The key's signature alone on this content of the slot. `NoMemory` where memory runs out.
+    /// Makes the key's signature alone on this content of the slot. `NoMemory` if memory runs out.
     pub fn start(
         alloc: Global,
         slot: u64,
@@ -49,8 +50,8 @@ impl Links {
         })
     }
 
-    /// These, and after them the key's signature. It shares the content. Requires that they are fewer than 16. `NoMemory` where
-    /// one handle more is refused.
+    /// Makes these signatures and one more after them, the key's. The content is shared. Requires that they are fewer than 16.
+    /// `NoMemory` if one more handle is refused.
     pub fn extend(&self, key: &Key) -> Result<Links, Refusal>
         requires { length self.now.signers < 16 }
         ensures extended { IfOk result (λ links. links ≡ extended self.now key.now) }
@@ -66,8 +67,8 @@ impl Links {
         })
     }
 
-    /// These signatures, where each of them is on the link of this slot and content that fits its place; `None` where one is not.
-    /// Requires that they are at most 16. `NoMemory` where memory runs out.
+    /// Makes links of these signatures, if each is on the link of this slot and content that fits its place; else returns `None`.
+    /// Requires at most 16. `NoMemory` if memory runs out.
     pub fn of(
         alloc: Global,
         slot: u64,
@@ -94,14 +95,14 @@ impl Links {
         }))
     }
 
-    /// Who signed, in their order.
+    /// Returns the signers, in the order in which they signed.
     pub fn signers(&self) -> Signers
         ensures { result ≡ self.now.signers }
     {
         self.signers
     }
 
-    /// The signature at this place, counted from 0. Requires that there is one.
+    /// Returns the signature at `place`, counted from 0. Requires that there is one.
     pub fn signature(&self, place: usize) -> Signature
         requires { place < length self.now.signers }
         ensures { slice_get (signatures_of self.now) place ≡ Some result }
@@ -120,7 +121,7 @@ impl Links {
     }
 }
 
-/// Whether the signature is on the link of this slot and content after these signers.
+/// Tells whether the signature is on the link of this slot and content after these signers.
 fn is_on_link(
     signature: &Signature,
     slot: u64,
@@ -139,7 +140,7 @@ fn is_on_link(
     }
 }
 
-/// Whether two contents are the same: the same requests in the same order, or none.
+/// Tells whether two contents are equal: the same requests in the same order, or both idle.
 fn is_content(value: &Option<Requests>, content: &Option<Requests>) -> bool
     ensures { IsTrue result ↔ (value.now ≡ content.now) }
 {

@@ -6,7 +6,7 @@ use std::alloc::Global;
 use std::marker::Model;
 use std::sync::Arc;
 
-/// A list of requests, in no more room than they take.
+/// A list of requests that takes no more room than they do.
 #[derive(Drop)]
 struct RequestList {
     items: Vec<Request>,
@@ -21,7 +21,7 @@ impl Model for RequestList {
     ghost view = { λ l. l.items.items };
 }
 
-/// The content of a slot that several lists of signatures share: its requests, none where it is idle.
+/// The content of a slot that several lists of signatures share: its requests, none if it is idle.
 #[derive(Drop)]
 pub(crate) struct SharedContent {
     requests: Option<Arc<RequestList, Global>>,
@@ -42,7 +42,8 @@ impl Model for SharedContent {
 }
 
 impl SharedContent {
-    /// The content, to be shared. It takes no memory where the slot is idle.
+    /// Puts the content behind a handle, to be shared. Takes no memory if it is idle. `NoMemory` if
+    /// memory runs out.
     pub(crate) fn of(alloc: Global, content: &Option<Requests>) -> Result<SharedContent, Refusal>
         ensures made { IfOk result (λ shared. shared ≡ content.now) }
         ensures refusal { IsOkUnless result Refusal.NoMemory }
@@ -57,7 +58,7 @@ impl SharedContent {
         Ok(SharedContent { requests })
     }
 
-    /// The same content once more.
+    /// Returns another handle of the same content. `NoMemory` if one more handle is refused.
     pub(crate) fn try_share(&self) -> Result<SharedContent, Refusal>
         ensures same { IfOk result (λ shared. shared ≡ self.now) }
         ensures refusal { IsOkUnless result Refusal.NoMemory }
@@ -72,7 +73,7 @@ impl SharedContent {
         Ok(SharedContent { requests })
     }
 
-    /// The content itself.
+    /// Returns the content itself.
     pub(crate) fn content(&self) -> Option<Requests>
         ensures { result ≡ self.now }
     {

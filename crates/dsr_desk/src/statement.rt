@@ -8,19 +8,19 @@ use dsr_request::{Request, Requests};
 pub enum Statement {
     /// A client asks for this request.
     Ask(Request),
-    /// This slot's value has these requests, or none where it is idle, after these signed it.
+    /// This slot's value has these requests, or is idle, and the actors in `before` signed it before.
     Link {
-        /// The slot. One from 2^40 on is written too, but read by no reader.
+        /// The slot. A link with a slot from 2^40 on is written too, but no reader reads it.
         slot: u64,
-        /// The content of the slot's value: its requests without their signatures, none where it is idle.
+        /// The content of the slot's value: its requests without their signatures, `None` if it is idle.
         value: Option<Requests>,
-        /// Those who signed before, in their order.
+        /// The actors that signed before, in their order.
         before: Signers,
     },
 }
 
 impl Statement {
-    /// The same statement once more. It goes through `clone`, so that a clone is the same statement too.
+    /// Returns a copy. It goes through `clone`, so a clone equals its original too.
     pub fn copy(&self) -> Statement
         ensures { result ≡ self.now }
     {
@@ -30,7 +30,7 @@ impl Statement {
         }
     }
 
-    /// Whether two statements are the same statement.
+    /// Tells whether two statements are equal.
     pub fn same(&self, other: &Statement) -> bool
         ensures { IsTrue result ↔ (self.now ≡ other.now) }
     {

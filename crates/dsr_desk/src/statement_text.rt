@@ -12,8 +12,8 @@ use dsr_request::Request;
 use std::fmt;
 
 impl Statement {
-    /// The statement that the bytes spell: a request, or slot (below 2^40), content and signers before with
-    /// slashes between them, as `0/c0#1:write:a:5/r1`. `None` exactly where they spell none.
+    /// Reads the statement whose text the bytes are: a request, or slot (below 2^40), content and signers before
+    /// with slashes between them, like `0/c0#1:write:a:5/r1`. `None` exactly if they are no such text.
     pub fn read(bytes: &[u8]) -> Option<Statement>
         ensures { Reads IsStatement statement_text bytes.now result }
     {
@@ -29,7 +29,8 @@ impl Statement {
         }
     }
 
-    /// Whether the statement has a text. That only a link's slot from 2^40 on can prevent it is read in the code.
+    /// Tells whether the statement has a text. Only a link whose slot is 2^40 or more has none, as the code
+    /// shows; no clause says so.
     pub fn fits(&self) -> bool
         ensures { IsTrue result ↔ IsStatement self.now }
     {
@@ -62,7 +63,7 @@ impl fmt::Display for Statement {
     }
 }
 
-/// The link of the slot, the content and the signers before, each as bytes.
+/// Reads the link of the slot, the content and the signers before, each as bytes.
 fn read_link(slot: &[u8], content: &[u8], before: &[u8]) -> Option<Statement>
     ensures { (statement : Statement) → (result ≡ Some statement)
         ↔ (IsStatement statement × HasParts slot.now content.now before.now statement) }

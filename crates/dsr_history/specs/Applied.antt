@@ -1,5 +1,5 @@
--- What lines of requests are answered with (this project). Requests stand newest first: the last line's request is
--- the first of the list.
+-- How lines of requests are answered (this project). Requests are listed newest first: the last line's request is the
+-- first of the list.
 use Rattle.std.specs.Prelude.{◌≡◌, ◌≢◌, ◌⊎◌, ℕ, ◌+◌, ◌≤◌, nat_lt, if◌then◌else◌, List, [], ◌∷◌, ◌++◌, length, map, codes, Option, None, Some}
 use Rattle.std.specs.List.{AllByRecursion}
 use Rattle.std.specs.Fmt.{decimal}
@@ -23,11 +23,12 @@ abbrev pub request_lines : List Request → List ℕ
 request_lines [] = []
 request_lines (request ∷ older) = request_lines older ++ request_line request
 
--- the values that lines of requests stand for: one of one request for each line
+-- the values that lines of requests represent: one for each line, with its one request
 abbrev pub values_of : List Request → List (List Request)
 values_of requests = map (λ request. request ∷ []) requests
 
--- what a request is told by its client's last reply, which there always is after its own line: `old` where that has a greater number, else its place and answer
+-- the answer to a request, given its client's last reply, which there always is after its own line: `old` if that has a
+-- greater number, else its place and answer
 abbrev pub told_by : Request → Option Reply → List ℕ
 told_by request None = []
 told_by request (Some last) =
@@ -38,12 +39,12 @@ abbrev pub answer_line : List Request → List ℕ
 answer_line [] = []
 answer_line (request ∷ older) = told_by request (reply (values_of (request ∷ older)) request.client) ++ 10 ∷ []
 
--- what the requests' lines are answered with, a line for each
+-- the answers to the requests' lines, a line for each
 abbrev pub applied : List Request → List ℕ
 applied [] = []
 applied (request ∷ older) = applied older ++ answer_line (request ∷ older)
 
--- the text is the lines of these requests, and then the rest
+-- the text is the lines of these requests, all of which a text can write, and then the rest
 pub record BeginsWith (text : List ℕ) (requests : List Request) (rest : List ℕ) : Type 0 where
   pub each : AllByRecursion IsRequest requests
   pub lines : text ≡ request_lines requests ++ rest
@@ -63,7 +64,8 @@ pub record HasAnswered (text answers : List ℕ) : Type 0 where
   pub begins : BeginsWith text requests []
   pub answered : answers ≡ applied requests
 
--- this line of the text is no request's, and these are the answers to the lines before it
+-- the line with this number, counted from 1, is the first of the text that is no request's, and these are the answers
+-- to the lines before it
 pub record HasAnsweredTo (line : ℕ) (text answers : List ℕ) : Type 0 where
   pub requests : List Request
   pub rest : List ℕ
@@ -72,12 +74,12 @@ pub record HasAnsweredTo (line : ℕ) (text answers : List ℕ) : Type 0 where
   pub counted : line ≡ length requests + 1
   pub answered : answers ≡ applied requests
 
--- the text that a source gives, where it is known
+-- the text that a source gives, if that is known
 abbrev pub IsTextOf : Option (List ℕ) → List ℕ → Type 0
 IsTextOf None text = Unit {0}
 IsTextOf (Some bytes) text = text ≡ bytes
 
--- all lines were good, and what they are answered with went out
+-- all lines were requests', and their answers went out
 pub record AppliedAll (s : Streams) : Type 0 where
   pub text : List ℕ
   pub short : length text ≤ most_bytes
@@ -86,7 +88,7 @@ pub record AppliedAll (s : Streams) : Type 0 where
   pub begins : BeginsWith text requests []
   pub went_out : SentAll (applied requests) s.output s.written
 
--- the lines before the bad one are answered, and it is counted from 1
+-- the lines before the bad one, which has this number counted from 1, are answered
 pub record AppliedToLine (line : ℕ) (s : Streams) : Type 0 where
   pub text : List ℕ
   pub short : length text ≤ most_bytes
@@ -98,7 +100,7 @@ pub record AppliedToLine (line : ℕ) (s : Streams) : Type 0 where
   pub counted : line ≡ length requests + 1
   pub went_out : SentAll (applied requests) s.output s.written
 
--- a prefix of the answers went out; the sink was one that may not take them all
+-- a prefix of the answers went out, and the sink is one that may not take them all
 pub record AppliedPart (s : Streams) : Type 0 where
   pub text : List ℕ
   pub short : length text ≤ most_bytes
@@ -110,9 +112,9 @@ pub record AppliedPart (s : Streams) : Type 0 where
   pub too_many : CanFailToTake (length (applied requests)) s.output
   pub went_out : SentPrefix (applied requests) s.output s.written
 
--- what stands after each refusal: after a bad line the lines before it are answered; with no memory nothing was written,
--- nor where reading failed, which it does of a steady source only for too many bytes; where writing failed, a prefix of
--- the answers was written; there is no other refusal
+-- what was written after each refusal: after a bad line the answers to the lines before it; nothing if memory ran out,
+-- or if reading failed, which a steady source does only for too many bytes; a prefix of the answers if writing failed;
+-- there is no other refusal
 abbrev pub WrittenAfter : Refusal → Streams → Type 0
 WrittenAfter (BadText line) s = AppliedToLine line s
 WrittenAfter NoMemory s = Keeps s.output.contents s.written.contents

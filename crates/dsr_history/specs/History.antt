@@ -1,5 +1,5 @@
--- Which requests act, and what each is answered. Values, requests and histories stand newest first: a place is the
--- number of older requests. A value is a list of requests, oldest first; the empty one is idle.
+-- Which requests act, and how each is answered. Values, requests and histories are listed newest first: a place is
+-- the number of older requests. A value is a list of requests, oldest first; the empty one is idle.
 use Rattle.std.specs.Prelude.{◌≡◌, ℕ, ◌<◌, Bool, true, not, ◌&&◌, ◌||◌, ◌==◌, nat_lt, if◌then◌else◌, List, [], ◌∷◌, ◌++◌, length, map, reverse, Option, None, Some}
 use Rattle.dsr_base.specs.Member.{In}
 use Rattle.dsr_request.specs.declared.op.Op.{Op}
@@ -32,7 +32,7 @@ acted values = acting (requests_of values)
 abbrev pub operations : List Request → List Op
 operations requests = map (λ r. r.op) requests
 
--- what the request at this place of the history is answered; none past the end
+-- the answer to the request at this place of the history; none past its end
 abbrev pub answer_at : List Request → ℕ → Option Answer
 answer_at [] place = None
 answer_at (r ∷ older) place = if length older == place then Some (answer_after (operations older) r.op) else answer_at older place
@@ -47,7 +47,7 @@ reply_in (r ∷ older) client =
 abbrev pub reply : List (List Request) → ℕ → Option Reply
 reply values client = reply_in (acted values) client
 
--- the request stands at this place of the history, and this is its answer
+-- the request is at this place of the history, and this is its answer
 pub record StandsAt (history : List Request) (place : ℕ) (request : Request) (answer : Answer) : Type 0 where
   pub newer : List Request
   pub older : List Request
@@ -55,7 +55,8 @@ pub record StandsAt (history : List Request) (place : ℕ) (request : Request) (
   pub place_is : place ≡ length older
   pub answer_is : answer ≡ answer_after (operations older) request.op
 
--- a reply to the client's request that stands at the place that it names: its number, and its answer there
+-- the reply is to a request of the client, at the place that it names: it has that request's number, and its
+-- answer there
 pub record IsReplyTo (history : List Request) (client : ℕ) (reply : Reply) : Type 0 where
   pub request : Request
   pub stands : StandsAt history reply.place request reply.answer

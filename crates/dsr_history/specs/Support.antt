@@ -1,3 +1,4 @@
--- What no public contract cites: the service that stands below the machine, and how a machine stands in its fields.
+-- What no public contract cites: the service on which the machine is built, and how a machine is stored in its
+-- fields.
 pub mod Machine
 pub mod Service

@@ -26,7 +26,8 @@ struct Run {
 }
 
 impl Run {
-    /// Lets the service process the request, as a value of its own, and writes the line that answers it.
+    /// Lets the service process the request, as a value of its own, and writes the line that answers it. `NoMemory` if
+    /// memory runs out.
     fn answer(&mut self, request: &Request) -> Result<(), Refusal>
         requires client { request.now.client < length self.old.service.replies }
         requires short { self.old.service.count < 2 ^ 39 }
@@ -44,14 +45,14 @@ impl Run {
                 self.answers.extend_from_slice(b"old\n")
             }
             Some(reply) => write_reply(&mut self.answers, &reply),
-            // A client has a reply after its own line, so there is always something to tell.
+            // A client has a reply after its own line, so this case never comes up.
             None => self.answers.extend_from_slice(b"\n"),
         };
         written.map_err(|_| Refusal::NoMemory)
     }
 }
 
-/// Puts the line that tells the reply at the end of the text. By hand, since `writeln!` took a fifth of an `apply`.
+/// Puts the line with the reply at the end of the text. Written by hand, since `writeln!` took a fifth of an `apply`.
 fn write_reply(text: &mut Vec<u8>, reply: &Reply) -> Result<(), AllocError>
     ensures { OnOk result (text.new.items ≡ text.old.items
         ++ (decimal reply.now.place ++ (codes " " ++ (answer_text reply.now.answer ++ 10 ∷ [])))) }
@@ -83,7 +84,7 @@ struct Line<'a> {
     after: &'a [u8],
 }
 
-/// The first line of the text; `None` where the text does not begin with the line of a request.
+/// Reads the first line of the text. `None` if the text does not begin with the line of a request.
 fn first_line(text: &[u8]) -> Option<Line<'_>>
     ensures found { IfSome result (λ line. text.now ≡ request_line line.request ++ line.after.now) }
     ensures request { IfSome result (λ line. IsRequest line.request) }
@@ -95,7 +96,8 @@ fn first_line(text: &[u8]) -> Option<Line<'_>>
 }
 
 impl Run {
-    /// Answers the lines of the text up to the first that is no request's, and returns that line's number, counted from 1.
+    /// Answers the lines of the text up to the first that is no request's, and returns that line's number, counted from
+    /// 1, if there is one.
     fn answer_lines(&mut self, text: &[u8]) -> Result<Option<u64>, Refusal>
         requires clients { length self.old.service.replies ≡ 32 }
         requires new { IsAfter self.old.service [] }
@@ -119,15 +121,15 @@ impl Run {
     }
 }
 
-/// What the lines of a text are answered with, up to the first that is no request's, and that line's number, counted
-/// from 1, where there is one.
+/// The answers to the lines of a text up to the first that is no request's, and that line's number, counted from 1, if
+/// there is one.
 #[derive(Drop)]
 struct Answered {
     answers: Vec<u8>,
     bad: Option<u64>,
 }
 
-/// Answers the lines of a text as a service does that has processed no request.
+/// Answers the lines of a text like a service that has processed no request. `NoMemory` if memory runs out.
 fn answer_text(alloc: Global, text: &[u8]) -> Result<Answered, Refusal>
     requires { length text.now < 2 ^ 39 }
     ensures all { IfOk result (λ answered. IfNone answered.bad (HasAnswered text.now answered.answers.items)) }
@@ -147,15 +149,15 @@ fn answer_text(alloc: Global, text: &[u8]) -> Result<Answered, Refusal>
     })
 }
 
-/// Reads lines of requests, `CLIENT NUMBER OPERATION`, and writes the line that answers each: the place and the
-/// answer of the reply that its client has after it, or `old` where that reply has a greater number. The directory
-/// is empty at first, and every line is one value of one request.
+/// Reads lines of requests, `CLIENT NUMBER OPERATION`, and writes the line that answers each: the place and the answer
+/// in the reply that its client has after it, or `old` if that reply has a greater number. The directory is empty at
+/// first, and every line is one value with one request.
 ///
 /// `BadText` names the first line, counted from 1, that is no request's; the lines before it are answered. After
-/// `NoMemory` and `ReadFailed` nothing was written, and after `WriteFailed` a prefix of the answers was. What was
-/// read is gone. On a steady source `ReadFailed` comes only for too many bytes, and `WriteFailed` neither where the
-/// sink's known room is enough nor, for up to `MOST_CALLS` bytes of answers, where the sink is steady. Each of the two
-/// is called at most `MOST_CALLS` times.
+/// `NoMemory` and `ReadFailed` nothing was written, and after `WriteFailed` a prefix of the answers was. What was read
+/// is dropped. If the source is steady, `ReadFailed` comes only for too many bytes. `WriteFailed` does not come if the
+/// sink's known room is enough, nor, for up to `MOST_CALLS` bytes of answers, if the sink is steady. Source and sink
+/// are each called at most `MOST_CALLS` times.
 pub fn run_apply<S: Source, K: Sink>(
     alloc: Global,
     source: &mut S,

@@ -8,23 +8,22 @@ ghost use Rattle.dsr_request.specs.declared.answer.Answer.{Answer};
 ghost use Rattle.dsr_ledger.specs.declared.reply.Reply.{Reply};
 ghost use Rattle.dsr_history.specs.History.{acted, answer_at, reply_in, IsLegal, StandsAt, IsReplyTo};
 
-/// The history only grows: where some values came first and newer ones after them, the history of all is the
-/// history of the first with newer requests, and each of its places keeps its answer.
+/// The history only grows: if newer values follow some values, the history of all is the history of the first values
+/// with newer requests, and each of its places keeps its answer.
 pub fn history_only_grows()
     ensures grows { (newer values : List (List Request)) → Extends (acted (newer ++ values)) (acted values) }
     ensures answers { (newer values : List (List Request)) (place : ℕ) → place < length (acted values)
         → answer_at (acted (newer ++ values)) place ≡ answer_at (acted values) place }
 {}
 
-/// Within each client the numbers of a history rise strictly, so none stands in it twice.
+/// Within each client the numbers of a history rise strictly, so none is in it twice.
 pub fn history_is_legal()
     ensures { (values : List (List Request)) → IsLegal (acted values) }
 {}
 
-/// What stands in a history: requests of the values alone. What stands at a place stays there as the history
-/// grows, and stood there before if the place did. A client's number stands at one place. A
-/// client's last reply is the answer to a request of that client, at the place where it stands: to the last one, which always has a
-/// reply. Only a client of whose requests none stands there has none.
+/// A history has requests from the values alone. A request stays at its place as the history grows, and was there before if the
+/// place was. A client's number is at one place alone. A client's last reply is the answer to its last request in the history, at
+/// that request's place. Only a client without a request there has no reply.
 pub fn requests_keep_their_places()
     ensures from_values { (values : List (List Request)) (request : Request) → In request (acted values)
         → (requests : List Request) × In requests values × In request requests }

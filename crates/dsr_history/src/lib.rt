@@ -1,4 +1,4 @@
-//! The sequential directory as a machine: which requests act, in which order, and what each is answered.
+//! The sequential directory as a machine: which requests act, in which order, and how each is answered.
 #![tactic(auto)]
 
 mod apply;

@@ -11,9 +11,8 @@ use dsr_request::{Answer, MOST_REQUESTS, Name, Request};
 use std::alloc::Global;
 use std::marker::Model;
 
-/// The sequential directory that processes values one after another, and keeps the history of the requests
-/// that acted, their answers, and the last reply of each client. It replays nothing: the directory is kept
-/// up to date.
+/// The sequential directory that processes values one after another. It stores the history of the requests that
+/// acted, their answers, and the last reply to each client. It replays nothing: the directory is kept up to date.
 #[derive(Drop)]
 pub struct Machine {
     service: Service,
@@ -34,8 +33,8 @@ impl Model for Machine {
 }
 
 impl Machine {
-    /// A machine that has accepted no value, for the clients of the shape. `NoMemory` where the memory for
-    /// its registers and replies is refused.
+    /// Creates a machine that has accepted no value, for the clients of the shape. `NoMemory` if the memory for its
+    /// registers and replies is refused.
     pub fn new(alloc: Global, shape: &Shape) -> Result<Machine, Refusal>
         ensures empty { IfOk result (λ machine. machine.history ≡ []) }
         ensures clients { IfOk result (λ machine. machine.clients ≡ shape.now.m) }
@@ -49,8 +48,8 @@ impl Machine {
         })
     }
 
-    /// Makes room for the next value: `accept_value` then allocates nothing. `NoMemory` where it is refused: then
-    /// nothing changed, but that there may be more room. It is not refused where there is room already.
+    /// Makes room for the next value: `accept_value` then allocates nothing. `NoMemory` if it is refused: then
+    /// nothing changes, except that there may be more room. It is not refused if there is room already.
     pub fn room(&mut self) -> Result<(), Refusal>
         ensures ok { OnOk result (8 ≤ self.new.room) }
         ensures has { 8 ≤ self.old.room → IsOk result }
@@ -66,8 +65,8 @@ impl Machine {
         Ok(())
     }
 
-    /// For how many more requests both lists have room. Where that is less than 8, `accept_value` makes more, however
-    /// few its requests are.
+    /// Returns for how many more requests both lists have room. If that is less than 8, `accept_value` makes more,
+    /// however few its requests are.
     pub fn spare(&self) -> usize
         ensures { result ≡ self.now.room }
     {
@@ -76,10 +75,10 @@ impl Machine {
         history.min(answers)
     }
 
-    /// Processes the requests of a value in the order of its list, and says how many of them acted; the empty
-    /// list is the idle value. Requires at most 8 requests, all of clients of the shape, and a history shorter
-    /// than 2^39. `NoMemory` where there was room for fewer than 8 requests and memory for more was refused: then
-    /// nothing changed, but that there may be more room. Otherwise no more room goes than that of the requests.
+    /// Processes the requests of a value in the order of its list, and returns how many of them acted; the empty list
+    /// is the idle value. Requires at most 8 requests, all of clients of the shape, and a history shorter than 2^39.
+    /// `NoMemory` if there was room for fewer than 8 requests and memory for more was refused: then nothing changes,
+    /// except that there may be more room. Otherwise the requests use up no more room than their own.
     pub fn accept_value(&mut self, requests: &[Request]) -> Result<u8, Refusal>
         requires few { length requests.now ≤ 8 }
         requires clients { All (λ r. r.client < self.old.clients) requests.now }
@@ -104,7 +103,7 @@ impl Machine {
         Ok(count)
     }
 
-    /// Lets the request act if it is to, and says whether it did.
+    /// Processes the request, and returns whether it acted.
     fn process(&mut self, request: &Request) -> bool
         requires room { 0 < self.old.room }
         requires client { request.now.client < self.old.clients }
@@ -122,7 +121,7 @@ impl Machine {
         true
     }
 
-    /// The client's last reply: to the last of its requests that acted.
+    /// Returns the client's last reply, to the last of its requests that acted; `None` if none did.
     pub fn kept(&self, client: ClientId) -> Option<Reply>
         ensures last { result ≡ reply_in self.now.history client }
         ensures stands { IfSome result (IsReplyTo self.now.history client) }
@@ -132,7 +131,7 @@ impl Machine {
         self.service.kept(client)
     }
 
-    /// The requests that acted, in their order.
+    /// Returns the requests that acted, in their order.
     pub fn history(&self) -> &[Request]
         ensures same { result.now ≡ reverse self.now.history }
         ensures acted { (values : List (List Request)) → StandsFor self.now values → result.now ≡ reverse (acted values) }
@@ -140,7 +139,7 @@ impl Machine {
         self.history.as_slice()
     }
 
-    /// What the request at this place of the history, counted from 0, was answered; `None` past its end.
+    /// Returns the answer to the request at this place of the history, counted from 0, or `None` past its end.
     pub fn answer_at(&self, place: u64) -> Option<Answer>
         ensures { result ≡ answer_at self.now.history place }
     {
@@ -151,7 +150,7 @@ impl Machine {
         }
     }
 
-    /// What the register holds after the whole history; `None` where it holds nothing.
+    /// Returns what the register holds after the whole history, or `None` if it holds nothing.
     pub fn get(&self, name: &Name) -> Option<u64>
         ensures { result ≡ value (operations self.now.history) name.now }
     {

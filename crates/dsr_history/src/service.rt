@@ -11,8 +11,8 @@ use dsr_request::{Answer, Name, Request};
 use std::alloc::Global;
 use std::marker::Model;
 
-/// What the answer to the next request depends on: the directory, the last reply of each client, and how many requests
-/// acted. It keeps no history, so all its memory is allocated when it is made.
+/// What the answer to the next request depends on: the directory, the last reply to each client, and how many requests
+/// acted. It stores no history, so all its memory is allocated when it is made.
 #[derive(Drop)]
 pub(crate) struct Service {
     directory: Directory,
@@ -29,7 +29,7 @@ impl Model for Service {
 }
 
 impl Service {
-    /// A service that has processed no request, for the clients of the shape. `NoMemory` where the memory for its
+    /// Creates a service that has processed no request, for the clients of the shape. `NoMemory` if the memory for its
     /// registers and replies is refused.
     pub(crate) fn new(alloc: Global, shape: &Shape) -> Result<Service, Refusal>
         ensures empty { IfOk result (λ service. IsAfter service []) }
@@ -45,7 +45,7 @@ impl Service {
         })
     }
 
-    /// Lets the request act if it is to, and then answers it. It allocates nothing. Requires a client of the shape,
+    /// Processes the request, and returns its answer if it acts. Allocates nothing. Requires a client of the shape,
     /// and that fewer than 2^40 requests acted.
     pub(crate) fn process(&mut self, request: &Request) -> Option<Answer>
         requires client { request.now.client < length self.old.replies }
@@ -78,14 +78,14 @@ impl Service {
         Some(answer)
     }
 
-    /// The client's last reply: to the last of its requests that acted.
+    /// Returns the client's last reply, to the last of its requests that acted; `None` if none did.
     pub(crate) fn kept(&self, client: ClientId) -> Option<Reply>
         ensures { (history : List Request) → IsAfter self.now history → result ≡ reply_in history client }
     {
         self.ledger.kept(client)
     }
 
-    /// What the register holds; `None` where it holds nothing.
+    /// Returns what the register holds, or `None` if it holds nothing.
     pub(crate) fn get(&self, name: &Name) -> Option<u64>
         ensures { (history : List Request) → IsAfter self.now history → result ≡ value (operations history) name.now }
     {

@@ -1,13 +1,13 @@
--- Texts of a header and then lines (this project): serve scripts and plays. Lines stand newest first: the last line is the first of the
--- list.
+-- Texts that are a header and then lines (this project): serve scripts and plays. Lines are listed newest first: the last line is the
+-- first of the list.
 use Rattle.std.specs.Prelude.{◌≡◌, ◌≢◌, ◌⊎◌, ℕ, ◌+◌, List, [], ◌∷◌, ◌++◌, length}
 use Rattle.dsr_names.specs.Shape.{Shape, IsAllowed}
 use Rattle.dsr_names.specs.declared.refusal.Refusal.{Refusal}
 use Rattle.dsr_names.specs.declared.refusal.Refusal.TheVariants.{BadShape, BadText, NoMemory}
 use Rattle.dsr_text.specs.Header.{BeginsWithHeader, HasNoHeader, HasBadShape}
 
--- a kind of text: its title, the text of a line without its line feed, the lines that a text can spell, and those that can follow
--- earlier lines in a text of a shape
+-- a kind of text: its title, the text of a line without its line feed, the lines that a text can write, and those that can follow
+-- earlier lines in a text with this shape
 pub record TextKind (Line : Type 0) : Type 1 where
   pub title : List ℕ
   pub line_text : Line → List ℕ
@@ -19,7 +19,7 @@ abbrev pub lines_text : {Line : Type 0} → TextKind Line → List Line → List
 lines_text kind [] = []
 lines_text kind (line ∷ earlier) = lines_text kind earlier ++ (kind.line_text line ++ 10 ∷ [])
 
--- a line that can be the next one: a text can spell it, and it can follow the earlier ones
+-- a line that can be the next one: a text can write it, and it can follow the earlier ones
 pub record IsNext {Line : Type 0} (kind : TextKind Line) (shape : Shape) (earlier : List Line) (line : Line) : Type 0 where
   pub is_line : kind.IsLine line
   pub follows : kind.CanFollow shape earlier line
@@ -29,19 +29,19 @@ abbrev pub AreLines : {Line : Type 0} → TextKind Line → Shape → List Line 
 AreLines kind shape [] = Unit {0}
 AreLines kind shape (line ∷ earlier) = IsNext kind shape earlier line × AreLines kind shape earlier
 
--- the text after a header of this shape is these lines, each of which can be the next one, and then the rest
+-- the text after a header with this shape is these lines, each of which can be the next one, and then the rest
 pub record BeginsWithLines {Line : Type 0} (kind : TextKind Line) (text : List ℕ) (shape : Shape) (lines : List Line) (rest : List ℕ)
     : Type 0 where
   pub each : AreLines kind shape lines
   pub cut : text ≡ lines_text kind lines ++ rest
 
--- no line that can be the next one stands at the beginning of the rest
+-- the rest does not begin with a line that can be the next one
 abbrev pub HasNoNext : {Line : Type 0} → TextKind Line → Shape → List Line → List ℕ → Type 0
 HasNoNext {Line} kind shape earlier rest =
     (line : Line) (after : List ℕ) → IsNext kind shape earlier line → rest ≡ (kind.line_text line ++ 10 ∷ []) ++ after → ⊥
 
--- the first bad line of the text after a header of this shape has this number, counted from 1 with the header: after good lines comes
--- a rest that is not empty, and begins with no line that can be the next one
+-- the first bad line of the text after a header with this shape has this number, counted from 1 with the header: after good lines
+-- comes a rest that is not empty, and does not begin with a line that can be the next one
 pub record IsBadAfter {Line : Type 0} (kind : TextKind Line) (shape : Shape) (text : List ℕ) (number : ℕ) : Type 0 where
   pub lines : List Line
   pub rest : List ℕ
@@ -58,12 +58,12 @@ pub record IsBadLater {Line : Type 0} (kind : TextKind Line) (text : List ℕ) (
   pub allowed : IsAllowed shape
   pub bad : IsBadAfter kind shape after number
 
--- the first bad line of the text has this number: line 1 where the text begins with no header, else a later one
+-- the first bad line of the text has this number: 1 if the text does not begin with a header, else that of a later line
 abbrev pub IsBadLine : {Line : Type 0} → TextKind Line → List ℕ → ℕ → Type 0
 IsBadLine kind text number = ((number ≡ 1) × HasNoHeader kind.title text) ⊎ IsBadLater kind text number
 
--- what each refusal says of the text: the header's shape is outside the limits, whatever follows it; which line is the first bad
--- one; nothing, where memory ran out; there is no other refusal
+-- what each refusal says about the text: the header's shape is outside the limits, whatever follows it; which line is the first
+-- bad one; nothing, if memory ran out; there is no other refusal
 abbrev pub IsTextRefusal : {Line : Type 0} → TextKind Line → List ℕ → Refusal → Type 0
 IsTextRefusal kind text BadShape = HasBadShape kind.title text
 IsTextRefusal kind text (BadText number) = IsBadLine kind text number

@@ -6,7 +6,7 @@ ghost use Rattle.dsr_text.specs.Header.{BeginsWithHeader, IsHeaderRefusal};
 use dsr_base::split_once;
 use dsr_names::{Refusal, Shape};
 
-/// The shape that a header spells, and the text after that line.
+/// The shape in a header, and the text after that line.
 #[derive(Clone, Copy, Debug)]
 pub struct Header<'a> {
     /// The shape, within the limits.
@@ -16,11 +16,11 @@ pub struct Header<'a> {
 }
 
 impl<'a> Header<'a> {
-    /// The same header once more. It goes through `clone`, so that a clone is the same header too.
+    /// Returns a copy. It goes through `clone`, so a clone equals its original too.
     pub fn copy(&self) -> Header<'a>
         ensures { result ≡ self.now }
     {
-        // by the type's name, since the borrow checker does not take `self.clone()` of a struct with a reference
+        // called by the type's name: the borrow checker does not take `self.clone()` for a struct with a reference
         match Header::clone(self) {
             Ok(header) => header,
             Err(_) => Header {
@@ -31,10 +31,11 @@ impl<'a> Header<'a> {
     }
 }
 
-/// The header of this title, as `dsr-serve 1`, at the beginning of the text. Requires a title without a line feed.
+/// Reads the header with this title, like `dsr-serve 1`, at the beginning of the text. Requires a title without a line
+/// feed.
 ///
-/// `BadShape` where the text begins with such a header, but of a shape outside the limits, whatever follows it; else `BadText`
-/// of line 1 where it does not begin with one: also where the header's line feed is missing, and where the text is empty.
+/// `BadShape` if the text begins with such a header, but its shape is outside the limits, whatever follows it; else `BadText`
+/// with line 1 if the text does not begin with one: also if the header's line feed is missing, or the text is empty.
 pub fn read_header<'a>(title: &[u8], text: &'a [u8]) -> Result<Header<'a>, Refusal>
     requires { IsAbsent 10 title.now }
     ensures read { IfOk result (λ header. BeginsWithHeader title.now text.now header.shape header.rest.now) }
@@ -58,7 +59,7 @@ pub fn read_header<'a>(title: &[u8], text: &'a [u8]) -> Result<Header<'a>, Refus
     }
 }
 
-/// What stands after the title and a space. `None` exactly where the line does not begin with them.
+/// Returns what follows the title and a space. `None` exactly if the line does not begin with them.
 fn after_title<'a>(title: &[u8], line: &'a [u8]) -> Option<&'a [u8]>
     ensures found { IfSome result (λ rest. line.now ≡ title.now ++ 32 ∷ rest.now) }
     ensures none { IfNone result ((rest : List ℕ) → line.now ≡ title.now ++ 32 ∷ rest → ⊥) }

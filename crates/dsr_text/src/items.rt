@@ -10,7 +10,7 @@ use dsr_names::Refusal;
 use std::alloc::Global;
 use std::fmt;
 
-/// What texts join to others of its kind by a mark.
+/// An item that texts join to others of its kind by a mark.
 pub trait Item: Drop + fmt::Display {
     // the items that have a text
     ghost is: { Self → Type 0 };
@@ -23,8 +23,8 @@ pub trait Item: Drop + fmt::Display {
     /// The byte that joins these texts.
     const MARK: u8;
 
-    /// The item whose text the bytes are. The inner `None` comes exactly where they are no such text. `NoMemory` where memory
-    /// runs out.
+    /// Reads the item whose text the bytes are. The inner `None` means exactly that they are no such text. `NoMemory` if
+    /// memory runs out.
     fn read(alloc: Global, bytes: &[u8]) -> Result<Option<Self>, Refusal>
         ensures read { IfOk result (λ item. Reads is text bytes.now item) }
         ensures refusal { IsOkUnless result Refusal.NoMemory };
@@ -37,8 +37,8 @@ pub trait Item: Drop + fmt::Display {
     ghost shown: { (x : Self) → Self.output x ≡ Some (text x) };
 }
 
-/// The items whose texts the bytes join: at least one, and at most `most`. The inner `None` comes exactly where they are no such
-/// text. `NoMemory` where memory runs out.
+/// Reads the items whose joined text the bytes are: at least one, and at most `most`. The inner `None` means exactly that they
+/// are no such text. `NoMemory` if memory runs out.
 pub fn read_items<T: Item>(
     alloc: Global,
     bytes: &[u8],
@@ -47,7 +47,7 @@ pub fn read_items<T: Item>(
     ensures read { IfOk result (λ items. Reads (AreFew T.is most) (joined T.MARK T.text) bytes.now (option_map (λ list. list.items) items)) }
     ensures refusal { IsOkUnless result Refusal.NoMemory }
 {
-    // a list of one item takes no more room than it
+    // a list with one item takes no more room than the item
     let mut items = Vec::with_capacity(alloc, 1)?;
     let mut rest = bytes;
     for _ in 0..most {
@@ -73,7 +73,7 @@ pub fn read_items<T: Item>(
     Ok(None)
 }
 
-/// Writes the items, each with their mark before it.
+/// Writes the items, each with the mark before it.
 pub fn write_more<T: Item, W: fmt::Write>(items: &[T], f: &mut fmt::Formatter<W>) -> fmt::Result
     ensures { DisplaysOnOk W.write_str_gives f.old result (Some (more_joined T.MARK T.text items.now)) f.new }
 {

@@ -1,4 +1,4 @@
-//! The lines of a text after its header, taken in one after the other.
+//! Takes in the lines of a text after its header, one after the other.
 
 ghost use Rattle.std.specs.Prelude.{◌≡◌, ◌↔◌, ◌∷◌, [], List, IfOk, IfErr, OnOk, IsTrue, IsOkUnless};
 ghost use Rattle.dsr_base.specs.Reads.{Reads};
@@ -11,7 +11,7 @@ use dsr_base::split_once;
 use dsr_names::Refusal;
 use std::alloc::Global;
 
-/// What takes in the lines of a text of one kind, in a text of its shape.
+/// What takes in the lines of a text, of one kind of texts and with one shape in its header.
 pub trait TakesLines {
     /// A line.
     type Line;
@@ -25,16 +25,16 @@ pub trait TakesLines {
     // what was taken in is what these lines give
     ghost gives: { Self → List Self.Line → Type 0 };
 
-    /// The line that the bytes spell, without its line feed. The inner `None` comes exactly where they spell none. What was taken in
-    /// stays; what reads later lines sooner may be kept. `NoMemory` where memory runs out.
+    /// Reads the line that the bytes are, without its line feed. The inner `None` means exactly that they are no line. What was
+    /// taken in stays; something that speeds up the reading of later lines may be stored. `NoMemory` if memory runs out.
     fn read_line(&mut self, alloc: Global, bytes: &[u8]) -> Result<Option<Self::Line>, Refusal>
         ensures read { IfOk result (λ line. Reads kind.IsLine kind.line_text bytes.now line) }
         ensures stays { (lines : List Self.Line) → gives self.old lines → gives self.new lines }
         ensures shape { shape self.new ≡ shape self.old }
         ensures refusal { IsOkUnless result Refusal.NoMemory };
 
-    /// Takes in what the line gives, if it can follow the lines that were taken in, and says whether it can. After a line that
-    /// cannot, what was taken in is of no use.
+    /// Takes in what the line gives, if it can follow the lines that were taken in, and returns whether it can. After a line
+    /// that cannot, what was taken in is of no use. `NoMemory` if memory runs out.
     fn take(&mut self, alloc: Global, line: Self::Line) -> Result<bool, Refusal>
         ensures taken { IfOk result (λ can. IsTrue can → (lines : List Self.Line) → gives self.old lines → gives self.new (line ∷ lines)) }
         ensures when { IfOk result (λ can. (lines : List Self.Line) → gives self.old lines → IsTrue can ↔ kind.CanFollow (shape self.old) lines line) }
@@ -43,7 +43,7 @@ pub trait TakesLines {
 }
 
 /// Takes in the lines after the header. Requires a kind of text whose lines have no line feed in them, and that nothing was taken in
-/// yet. `BadText` names the first bad line, counted from 1 with the header; `NoMemory` where memory runs out.
+/// yet. `BadText` names the first bad line, counted from 1 with the header; `NoMemory` if memory runs out.
 pub fn take_lines<T: TakesLines>(taker: &mut T, alloc: Global, text: &[u8]) -> Result<(), Refusal>
     requires clean { (line : T.Line) → T.kind.IsLine line → IsAbsent 10 (T.kind.line_text line) }
     requires none { T.gives taker.old [] }

@@ -1,4 +1,4 @@
--- A content that is kept as a shared list of its requests.
+-- A content that is stored as a shared list of its requests.
 use Rattle.std.specs.Prelude.{◌<◌, ◌≤◌, List, Option, None, Some, length}
 use Rattle.dsr_request.specs.Request.{Request}
 

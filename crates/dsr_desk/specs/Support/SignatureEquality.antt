@@ -1,4 +1,4 @@
--- When `==` holds of two signatures: exactly where they are equal.
+-- When `==` holds for two signatures: exactly if they are equal.
 use Rattle.std.specs.Prelude.{◌≡◌, Bool, ◌&&◌}
 use Rattle.std.specs.Bool.{Decides}
 use Rattle.std.proofs.lemmas.Bool.Decides.{Decides-and, Decides-like}
@@ -8,11 +8,11 @@ use Rattle.dsr_names.specs.Support.ActorEquality.{actor_eq, actor_eq-Decides}
 use Rattle.dsr_desk.specs.Support.StatementEquality.{statement_eq, statement_eq-Decides}
 use Rattle.dsr_desk.specs.contracts.keys.SignaturePartialEq.TheImpl.{ghosts}
 
--- whether `==` holds of two signatures
+-- whether `==` holds for two signatures
 abbrev pub signature_eq : Signature → Signature → Bool
 signature_eq = ghosts.eq
 
--- it holds exactly of equal ones
+-- it holds exactly for equal signatures
 pub signature_eq-Decides : (a b : Signature) → Decides (signature_eq a b) (a ≡ b)
 signature_eq-Decides a b =
     Decides-like (actor_eq a.signer b.signer && statement_eq a.statement b.statement) (λ e. ap₂ signed e.0 e.1)

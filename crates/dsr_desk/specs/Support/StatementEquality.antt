@@ -1,4 +1,4 @@
--- When `==` holds of two statements: exactly where they are equal.
+-- When `==` holds for two statements: exactly if they are equal.
 use Rattle.std.specs.Prelude.{◌≡◌, Bool, ◌&&◌}
 use Rattle.std.specs.Bool.{Decides}
 use Rattle.std.specs.Option.{option_eq}
@@ -11,11 +11,11 @@ use Rattle.dsr_desk.specs.declared.statement.Statement.{Statement}
 use Rattle.dsr_desk.specs.declared.statement.Statement.TheVariants.{Ask, Link}
 use Rattle.dsr_desk.specs.contracts.statement.StatementPartialEq.TheImpl.{ghosts}
 
--- whether `==` holds of two statements
+-- whether `==` holds for two statements
 abbrev pub statement_eq : Statement → Statement → Bool
 statement_eq = ghosts.eq
 
--- it holds exactly of equal ones
+-- it holds exactly for equal statements
 pub statement_eq-Decides : (a b : Statement) → Decides (statement_eq a b) (a ≡ b)
 statement_eq-Decides (Ask a) (Ask b) = Decides-like (request_eq a b) (λ e. cc) (λ e. cc) (request_eq-Decides a b)
 statement_eq-Decides (Ask a) (Link slot value before) = (λ e. cc, λ e. cc)

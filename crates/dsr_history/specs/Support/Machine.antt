@@ -1,4 +1,4 @@
--- A machine as contracts see it, and how its parts hold that.
+-- How the fields of a machine hold what contracts see of it.
 use Rattle.std.specs.Prelude.{◌≡◌, ◌-◌, min, List, [], ◌∷◌, length, reverse, vec_len, vec_capacity}
 use Rattle.dsr_request.specs.declared.answer.Answer.{Answer}
 use Rattle.dsr_register.specs.Values.{answer_after}
@@ -8,7 +8,7 @@ use Rattle.dsr_history.specs.Support.Service.{IsAfter}
 use Rattle.dsr_history.specs.declared.machine.Machine.TheInside.{Inside}
 use Rattle.dsr_history.specs.Machine.{Machine}
 
--- the answers along a history
+-- the answers to the requests of a history
 abbrev pub answers_of : List Request → List Answer
 answers_of [] = []
 answers_of (r ∷ older) = answer_after (operations older) r.op ∷ answers_of older
@@ -17,7 +17,7 @@ answers_of (r ∷ older) = answer_after (operations older) r.op ∷ answers_of o
 abbrev pub history_of : Inside → List Request
 history_of a = reverse a.history.items
 
--- the state that the fields stand for: there is room where both lists have it
+-- the state in these fields; the room is the smaller one of the two lists
 abbrev pub state_of : Inside → Machine
 state_of a =
     record {
@@ -26,7 +26,7 @@ state_of a =
       room = min (vec_capacity a.history - vec_len a.history) (vec_capacity a.answers - vec_len a.answers);
     }
 
--- the service stands after the history, and the answers are those along it
+-- the service is that after the history, and the answers are those to its requests
 pub record IsMachine (a : Inside) : Type 0 where
   pub service : IsAfter a.service (history_of a)
   pub answers : reverse a.answers.items ≡ answers_of (history_of a)

@@ -1,4 +1,4 @@
--- A service as contracts see it, and the history that it stands at the end of.
+-- A service as contracts see it, and the history that led to it.
 use Rattle.std.specs.Prelude.{◌≡◌, ℕ, List, Option, length}
 use Rattle.dsr_register.specs.Table.{StandsFor}
 use Rattle.dsr_ledger.specs.declared.reply.Reply.{Reply}
@@ -12,8 +12,8 @@ pub record Service : Type 0 where
   pub replies : List (Option Reply)
   pub count : ℕ
 
--- what this history leaves: the registers stand for its operations, the replies are its clients' last ones, and the count
--- is its length
+-- the service after this history: the registers represent its operations, the replies are its clients' last ones, and the
+-- count is its length
 pub record IsAfter (service : Service) (history : List Request) : Type 0 where
   pub registers : StandsFor service.registers (operations history)
   pub replies : (client : ℕ) → last_reply service.replies client ≡ reply_in history client
