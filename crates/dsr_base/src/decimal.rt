@@ -4,8 +4,8 @@ ghost use Rattle.std.specs.Fmt.{decimal};
 ghost use Rattle.std.specs.Str.Parse.{IsNumeral, digits_value};
 ghost use Rattle.dsr_base.specs.Reads.{Reads};
 
-/// Reads the number below 2^64 whose decimal the bytes are: no sign, and no leading zero unless it is
-/// `0`. `None` exactly if they are no such decimal.
+/// Reads the decimal of a number below 2^64: no sign, and no leading zero unless it is `0`. `None`
+/// exactly if the bytes are not such a decimal.
 pub fn read_decimal(bytes: &[u8]) -> Option<u64>
     ensures { Reads (λ (n : ℕ). n < 2 ^ 64) decimal bytes.now result }
 {

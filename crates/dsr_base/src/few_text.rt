@@ -8,8 +8,8 @@ use crate::token::Token;
 use std::fmt;
 
 impl<T: Token, const N: usize> Few<T, N> {
-    /// Reads the list whose text the bytes are: 1 to `N` tokens joined by their mark. `None` exactly if they
-    /// are no such text.
+    /// Reads a list's text: 1 to `N` tokens joined by their mark. `None` exactly if the bytes are not such a
+    /// text.
     pub fn read(bytes: &[u8]) -> Option<Self>
         ensures { Reads (AreFew T.is N) (joined T.MARK T.text) bytes.now result }
     {
@@ -42,7 +42,7 @@ impl<T: Token, const N: usize> fmt::Display for Few<T, N> {
     }
 }
 
-/// Reads the list of at most `most` items whose text the bytes are.
+/// Reads the text of a list of at most `most` items.
 fn read_joined<T: Token, const N: usize>(bytes: &[u8], most: usize) -> Option<Few<T, N>>
     requires { most ≤ N }
     ensures { Reads (AreFew T.is most) (joined T.MARK T.text) bytes.now result }

@@ -3,8 +3,8 @@ ghost use Rattle.dsr_base.specs.Split.{IsAbsent, IsFree, IsPart, is_inside_with}
 
 use memchr::memchr;
 
-/// Cuts at the first such byte: returns what is before it, and what is after it. `None` exactly if there
-/// is none.
+/// Cuts at the first such byte: returns what is before it, and what is after it. `None` exactly if the
+/// byte does not occur.
 pub fn split_once(bytes: &[u8], byte: u8) -> Option<(&[u8], &[u8])>
     ensures found { IfSome result (λ parts. bytes.now ≡ parts.0.now ++ byte ∷ parts.1.now) }
     ensures first { IfSome result (λ parts. IsAbsent byte parts.0.now) }
@@ -17,7 +17,7 @@ pub fn split_once(bytes: &[u8], byte: u8) -> Option<(&[u8], &[u8])>
 }
 
 /// Cuts at the first mark outside parentheses: returns what is before it, and what is after it. `None`
-/// exactly if there is no such mark. Parentheses are one level deep.
+/// exactly if no mark is outside them. Parentheses are one level deep.
 pub fn split_outside(bytes: &[u8], mark: u8) -> Option<(&[u8], &[u8])>
     ensures found { IfSome result (λ parts. bytes.now ≡ parts.0.now ++ mark ∷ parts.1.now) }
     ensures first { IfSome result (λ parts. IsPart mark parts.0.now) }

@@ -17,7 +17,7 @@ pub trait Token: Copy + fmt::Display {
     /// The byte that joins these tokens.
     const MARK: u8;
 
-    /// Reads the item whose token the bytes are. `None` exactly if they are no such token.
+    /// Reads an item's token. `None` exactly if the bytes are not one.
     fn read(bytes: &[u8]) -> Option<Self>
         ensures { Reads is text bytes.now result };
 

@@ -8,8 +8,8 @@ use crate::up_to::UpTo;
 use std::fmt;
 
 impl<T: Token, const N: usize> UpTo<T, N> {
-    /// Reads the list whose text the bytes are: `-` for the empty one, or 1 to `N` tokens joined by their mark.
-    /// `None` exactly if they are no such text.
+    /// Reads a list's text: `-` for the empty one, or 1 to `N` tokens joined by their mark. `None` exactly if
+    /// the bytes are not such a text.
     pub fn read(bytes: &[u8]) -> Option<Self>
         ensures { Reads (AreUpTo T.is N) (joined_or_dash T.MARK T.text) bytes.now result }
     {

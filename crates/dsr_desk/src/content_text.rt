@@ -7,8 +7,8 @@ use dsr_base::Exact;
 use dsr_request::Requests;
 use std::fmt;
 
-/// Reads the content whose token the bytes are: `idle`, or 1 to 8 requests joined by commas. The outer
-/// `None` means exactly that they are no such token.
+/// Reads a content's token: `idle`, or 1 to 8 requests joined by commas. The outer `None` means
+/// exactly that the bytes are not such a token.
 pub fn read_content(bytes: &[u8]) -> Option<Option<Requests>>
     ensures { Reads IsContent content_text bytes.now result }
 {

@@ -12,8 +12,8 @@ use dsr_request::Request;
 use std::fmt;
 
 impl Statement {
-    /// Reads the statement whose text the bytes are: a request, or slot (below 2^40), content and signers before
-    /// with slashes between them, like `0/c0#1:write:a:5/r1`. `None` exactly if they are no such text.
+    /// Reads a statement's text: a request, or slot (below 2^40), content and signers before with slashes
+    /// between them, like `0/c0#1:write:a:5/r1`. `None` exactly if the bytes are not such a text.
     pub fn read(bytes: &[u8]) -> Option<Statement>
         ensures { Reads IsStatement statement_text bytes.now result }
     {

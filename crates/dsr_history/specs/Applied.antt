@@ -64,8 +64,8 @@ pub record HasAnswered (text answers : List ℕ) : Type 0 where
   pub begins : BeginsWith text requests []
   pub answered : answers ≡ applied requests
 
--- the line with this number, counted from 1, is the first of the text that is no request's, and these are the answers
--- to the lines before it
+-- the line with this number, counted from 1, is the first of the text that is not a request's, and these are the
+-- answers to the lines before it
 pub record HasAnsweredTo (line : ℕ) (text answers : List ℕ) : Type 0 where
   pub requests : List Request
   pub rest : List ℕ

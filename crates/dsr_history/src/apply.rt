@@ -96,8 +96,8 @@ fn first_line(text: &[u8]) -> Option<Line<'_>>
 }
 
 impl Run {
-    /// Answers the lines of the text up to the first that is no request's, and returns that line's number, counted from
-    /// 1, if there is one.
+    /// Answers the lines of the text up to the first bad one, and returns its number, counted from 1, if there is one.
+    /// A line is bad unless it is a request's. `NoMemory` if memory runs out.
     fn answer_lines(&mut self, text: &[u8]) -> Result<Option<u64>, Refusal>
         requires clients { length self.old.service.replies ≡ 32 }
         requires new { IsAfter self.old.service [] }
@@ -121,8 +121,7 @@ impl Run {
     }
 }
 
-/// The answers to the lines of a text up to the first that is no request's, and that line's number, counted from 1, if
-/// there is one.
+/// The answers to the lines of a text up to the first bad one, and its number, counted from 1, if there is one.
 #[derive(Drop)]
 struct Answered {
     answers: Vec<u8>,
@@ -153,7 +152,7 @@ fn answer_text(alloc: Global, text: &[u8]) -> Result<Answered, Refusal>
 /// in the reply that its client has after it, or `old` if that reply has a greater number. The directory is empty at
 /// first, and every line is one value with one request.
 ///
-/// `BadText` names the first line, counted from 1, that is no request's; the lines before it are answered. After
+/// `BadText` names the first line, counted from 1, that is not a request's; the lines before it are answered. After
 /// `NoMemory` and `ReadFailed` nothing was written, and after `WriteFailed` a prefix of the answers was. What was read
 /// is dropped. If the source is steady, `ReadFailed` comes only for too many bytes. `WriteFailed` does not come if the
 /// sink's known room is enough, nor, for up to `MOST_CALLS` bytes of answers, if the sink is steady. Source and sink

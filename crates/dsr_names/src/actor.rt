@@ -46,7 +46,7 @@ impl ReplicaId {
         }
     }
 
-    /// Reads the replica whose token the bytes are, like `r0`. `None` exactly if they are no such token.
+    /// Reads a replica's token, like `r0`. `None` exactly if the bytes are not one.
     pub fn read(bytes: &[u8]) -> Option<ReplicaId>
         ensures { Reads (λ (r : ℕ). r < 16) replica_text bytes.now result }
     {
@@ -124,7 +124,7 @@ impl ClientId {
         }
     }
 
-    /// Reads the client whose token the bytes are, like `c0`. `None` exactly if they are no such token.
+    /// Reads a client's token, like `c0`. `None` exactly if the bytes are not one.
     pub fn read(bytes: &[u8]) -> Option<ClientId>
         ensures { Reads (λ (c : ℕ). c < 32) client_text bytes.now result }
     {
@@ -167,7 +167,7 @@ impl Exact for ClientId {
     ghost clones = { λ a b. Prim.search rules };
 }
 
-/// Whoever takes a step: a replica or a client.
+/// The one who takes a step: a replica or a client.
 #[derive(Clone, Copy, Debug, PartialEq, Eq)]
 pub enum Actor {
     /// A replica, loyal or a traitor.
@@ -177,8 +177,7 @@ pub enum Actor {
 }
 
 impl Actor {
-    /// Reads the actor whose token the bytes are, like `r0` or `c31`. `None` exactly if they are no such
-    /// token.
+    /// Reads an actor's token, like `r0` or `c31`. `None` exactly if the bytes are not one.
     pub fn read(bytes: &[u8]) -> Option<Actor>
         ensures { Reads IsNumbered actor_text bytes.now result }
     {

@@ -12,9 +12,9 @@ use dsr_base::split_once;
 use std::fmt;
 
 impl Shape {
-    /// Reads the shape whose token the bytes are, like `3 1 1 -` or `5 2 1 r0+r1`: n, f and m below 2^40, then
-    /// the traitors from r0 to r15 in ascending order, or a dash. `None` exactly if the bytes are no such
-    /// token; `BadShape` exactly if they are, but the shape is outside the limits.
+    /// Reads a shape's token, like `3 1 1 -` or `5 2 1 r0+r1`: n, f and m below 2^40, then the traitors from
+    /// r0 to r15 in ascending order, or a dash. `None` exactly if the bytes are not such a token; `BadShape`
+    /// exactly if they are one, but its shape is outside the limits.
     pub fn read(bytes: &[u8]) -> Option<Result<Shape, Refusal>>
         ensures spelled { IfSome result (IsShapeReading bytes.now) }
         ensures read { (shape : Shape) → IsSpelled shape → bytes.now ≡ shape_text shape → IsSomeAnd result (IsVerdict shape) }

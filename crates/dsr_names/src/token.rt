@@ -10,15 +10,15 @@ use std::fmt;
 /// 2^40: one more than the greatest number in any text, apart from a register's value.
 pub const NUMBER_END: u64 = 1_099_511_627_776;
 
-/// Reads the number below 2^40 whose token the bytes are. `None` exactly if they are no such token.
+/// Reads the token of a number below 2^40. `None` exactly if the bytes are not one.
 pub fn read_num(bytes: &[u8]) -> Option<u64>
     ensures { Reads (λ n. n < 2 ^ 40) decimal bytes.now result }
 {
     read_decimal(bytes).filter(|n| *n < NUMBER_END)
 }
 
-/// Reads the content of a register whose token the bytes are: `none`, or a number below 2^64. The
-/// outer `None` means exactly that they are no such token.
+/// Reads the token of a register's content: `none`, or a number below 2^64. The outer `None` means
+/// exactly that the bytes are not such a token.
 pub fn read_old(bytes: &[u8]) -> Option<Option<u64>>
     ensures { Reads IsOld old_text bytes.now result }
 {

@@ -26,7 +26,7 @@ pub enum Answer {
 }
 
 impl Answer {
-    /// Reads the answer whose text the bytes are. `None` exactly if they are no such text.
+    /// Reads an answer's text. `None` exactly if the bytes are not one.
     pub fn read(bytes: &[u8]) -> Option<Answer>
         ensures { Reads IsAnswer answer_text bytes.now result }
     {

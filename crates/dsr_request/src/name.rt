@@ -55,8 +55,8 @@ fn is_name(bytes: &[u8]) -> bool
 }
 
 impl Name {
-    /// Reads the name whose text the bytes are. `BadName` exactly if they are empty, more than 32,
-    /// or have a byte that no name has.
+    /// Reads a name's text. `BadName` exactly if the bytes are empty, more than 32, or have a byte
+    /// that no name has.
     pub fn read(bytes: &[u8]) -> Result<Name, Refusal>
         ensures ok { IfOk result (λ name. name ≡ bytes.now) }
         ensures when { IsOk result ↔ IsName bytes.now }

@@ -43,9 +43,8 @@ pub enum Op {
 }
 
 impl Op {
-    /// Reads the operation whose text the bytes are. Between its parts is the separator: a space,
-    /// as in `swap a none 1`, or a colon, as in `swap:a:none:1`. `None` exactly if the bytes are no
-    /// such text.
+    /// Reads an operation's text. Between its parts is the separator: a space, as in `swap a none
+    /// 1`, or a colon, as in `swap:a:none:1`. `None` exactly if the bytes are not such a text.
     pub fn read(bytes: &[u8], separator: u8) -> Option<Op>
         requires { (separator ≡ 32) ⊎ (separator ≡ 58) }
         ensures { Reads IsOp (op_text separator) bytes.now result }
@@ -129,7 +128,7 @@ fn read_operands(verb: &[u8], operands: &[u8], separator: u8) -> Option<Op>
     }
 }
 
-/// Reads the write whose operands the bytes are.
+/// Reads the operands of a write.
 fn read_write(operands: &[u8], separator: u8) -> Option<Op>
     requires { (separator ≡ 32) ⊎ (separator ≡ 58) }
     ensures { (op : Op) → (result ≡ Some op)
@@ -141,7 +140,7 @@ fn read_write(operands: &[u8], separator: u8) -> Option<Op>
     Some(Op::Write { name, value })
 }
 
-/// Reads the swap whose operands the bytes are.
+/// Reads the operands of a swap.
 fn read_swap(operands: &[u8], separator: u8) -> Option<Op>
     requires { (separator ≡ 32) ⊎ (separator ≡ 58) }
     ensures { (op : Op) → (result ≡ Some op)
@@ -155,7 +154,7 @@ fn read_swap(operands: &[u8], separator: u8) -> Option<Op>
     Some(Op::Swap { name, from, to })
 }
 
-/// Reads the name whose text the bytes are.
+/// Reads a name's text.
 fn read_name(bytes: &[u8]) -> Option<Name>
     ensures { Reads IsName (λ name. name) bytes.now result }
 {

@@ -14,16 +14,15 @@ use dsr_names::{Actor, ClientId, read_num};
 use std::fmt;
 
 impl Request {
-    /// Reads the request whose token the bytes are, like `c0#7:write:a:5`. `None` exactly if they are no such
-    /// token.
+    /// Reads a request's token, like `c0#7:write:a:5`. `None` exactly if the bytes are not one.
     pub fn read(bytes: &[u8]) -> Option<Request>
         ensures { Reads IsRequest request_token bytes.now result }
     {
         read_request(bytes, b'#', b':')
     }
 
-    /// Reads the request whose line the bytes are, without its line feed, like `c0 7 write a 5`. `None` exactly if
-    /// they are no such line.
+    /// Reads a request's line without its line feed, like `c0 7 write a 5`. `None` exactly if the bytes are not
+    /// one.
     pub fn read_line(bytes: &[u8]) -> Option<Request>
         ensures { Reads IsRequest (request_text 32 32) bytes.now result }
     {
@@ -42,8 +41,7 @@ impl fmt::Display for Request {
     }
 }
 
-/// Reads the request whose text the bytes are, with this mark after the client, and this separator between all
-/// other parts.
+/// Reads a request's text with this mark after the client, and this separator between all other parts.
 fn read_request(bytes: &[u8], mark: u8, separator: u8) -> Option<Request>
     requires mark { (mark ≡ 32) ⊎ (mark ≡ 35) }
     requires separator { (separator ≡ 32) ⊎ (separator ≡ 58) }
@@ -67,7 +65,7 @@ fn read_parts(client: &[u8], number: &[u8], op: &[u8], separator: u8) -> Option<
     Request::new(client, number, op).ok()
 }
 
-/// Reads the client whose token the bytes are.
+/// Reads a client's token.
 fn read_client(bytes: &[u8]) -> Option<ClientId>
     ensures { Reads (λ client. client < 32) (λ client. actor_text (Client client)) bytes.now result }
 {

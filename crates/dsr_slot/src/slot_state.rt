@@ -99,7 +99,8 @@ impl SlotState {
         })
     }
 
-    /// Returns the kept chains, at most two, in the order in which they were read. Without a first there is no second.
+    /// Returns the kept chains, at most two, in the order in which they were read; the second is `None` if the first
+    /// is.
     pub fn kept(&self) -> (Option<&Kept>, Option<&Kept>)
         ensures kept { self.now.kept ≡ option_to_list (option_map (λ k. k.now) result.0) ++ option_to_list (option_map (λ k. k.now) result.1) }
         ensures order { IsNone result.0 → IsNone result.1 }

@@ -26,6 +26,6 @@ pub record HasBadShape (title text : List ℕ) : Type 0 where
   pub begins : BeginsWithHeader title text shape rest
   pub outside : ¬ IsAllowed shape
 
--- what a refusal says about a header: its shape is outside the limits, or the first line is no header
+-- what a refusal says about a header: its shape is outside the limits, or the text begins with no header
 abbrev pub IsHeaderRefusal : List ℕ → List ℕ → Refusal → Type 0
 IsHeaderRefusal title text e = ((e ≡ BadShape) × HasBadShape title text) ⊎ ((e ≡ BadText 1) × HasNoHeader title text)

@@ -63,7 +63,7 @@ abbrev pub IsBadLine : {Line : Type 0} → TextKind Line → List ℕ → ℕ �
 IsBadLine kind text number = ((number ≡ 1) × HasNoHeader kind.title text) ⊎ IsBadLater kind text number
 
 -- what each refusal says about the text: the header's shape is outside the limits, whatever follows it; which line is the first
--- bad one; nothing, if memory ran out; there is no other refusal
+-- bad one; nothing, if memory ran out; no other refusal comes
 abbrev pub IsTextRefusal : {Line : Type 0} → TextKind Line → List ℕ → Refusal → Type 0
 IsTextRefusal kind text BadShape = HasBadShape kind.title text
 IsTextRefusal kind text (BadText number) = IsBadLine kind text number

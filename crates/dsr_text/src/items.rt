@@ -23,8 +23,7 @@ pub trait Item: Drop + fmt::Display {
     /// The byte that joins these texts.
     const MARK: u8;
 
-    /// Reads the item whose text the bytes are. The inner `None` means exactly that they are no such text. `NoMemory` if
-    /// memory runs out.
+    /// Reads an item's text. The inner `None` means exactly that the bytes are not one. `NoMemory` if memory runs out.
     fn read(alloc: Global, bytes: &[u8]) -> Result<Option<Self>, Refusal>
         ensures read { IfOk result (λ item. Reads is text bytes.now item) }
         ensures refusal { IsOkUnless result Refusal.NoMemory };
@@ -37,8 +36,8 @@ pub trait Item: Drop + fmt::Display {
     ghost shown: { (x : Self) → Self.output x ≡ Some (text x) };
 }
 
-/// Reads the items whose joined text the bytes are: at least one, and at most `most`. The inner `None` means exactly that they
-/// are no such text. `NoMemory` if memory runs out.
+/// Reads the joined text of at least one and at most `most` items. The inner `None` means exactly that the bytes are not such
+/// a text. `NoMemory` if memory runs out.
 pub fn read_items<T: Item>(
     alloc: Global,
     bytes: &[u8],

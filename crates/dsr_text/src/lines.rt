@@ -25,8 +25,8 @@ pub trait TakesLines {
     // what was taken in is what these lines give
     ghost gives: { Self → List Self.Line → Type 0 };
 
-    /// Reads the line that the bytes are, without its line feed. The inner `None` means exactly that they are no line. What was
-    /// taken in stays; something that speeds up the reading of later lines may be stored. `NoMemory` if memory runs out.
+    /// Reads a line's text, without its line feed. The inner `None` means exactly that the bytes are not one. What was taken in
+    /// stays; something that speeds up the reading of later lines may be stored. `NoMemory` if memory runs out.
     fn read_line(&mut self, alloc: Global, bytes: &[u8]) -> Result<Option<Self::Line>, Refusal>
         ensures read { IfOk result (λ line. Reads kind.IsLine kind.line_text bytes.now line) }
         ensures stays { (lines : List Self.Line) → gives self.old lines → gives self.new lines }
