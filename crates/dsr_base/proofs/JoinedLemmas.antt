@@ -124,7 +124,7 @@ module _ {X : Type 0} (is : X → Type 0) (text : X → List ℕ) (mark most : �
     λ h. (reads (x ∷ xs)).1 (record { some = omega arith; few = h.0.few; each = h.0.each }, h.1),
   )
 
--- ---- what stands in a joined text
+-- ---- what is in a joined text
 
 module _ {X : Type 0} (is : X → Type 0) (text : X → List ℕ) (mark : ℕ) where
   more_all : (P : ℕ → Type 0) → P mark → ((x : X) → is x → All P (text x)) → (xs : List X) → All is xs → All P (more_joined mark text xs)
@@ -133,7 +133,7 @@ module _ {X : Type 0} (is : X → Type 0) (text : X → List ℕ) (mark : ℕ) w
       All-cons P mark (text x ++ more_joined mark text xs) here
       (All-append P (text x) (more_joined mark text xs) (each x (All-head is x xs h)) (more_all P here each xs (All-tail is x xs h)))
 
-  -- what holds of the mark and of each token's bytes holds of all bytes
+  -- what holds for the mark and for each token's bytes holds for all bytes
   pub joined_all : (P : ℕ → Type 0) → P mark → ((x : X) → is x → All P (text x)) → (xs : List X) → All is xs → All P (joined mark text xs)
   joined_all P here each [] h = All-nil P
   joined_all P here each (x ∷ xs) h =

@@ -1,4 +1,4 @@
--- A byte that stands nowhere in a text, and the one way in which its first place cuts a text.
+-- A byte that is nowhere in a text, and the one way in which its first place cuts a text.
 use Rattle.std.proofs.Common.{◌≡◌, ◌≢◌, ℕ, ◌^◌, ◌<◌, List, [], ◌∷◌, ◌++◌, refl, arith}
 use Rattle.std.specs.Fmt.{decimal}
 use Rattle.std.proofs.lemmas.Fmt.{digits_decimal}
@@ -34,6 +34,6 @@ pub decimal_without_low : (byte n : ℕ) → byte < 48 → n < 2 ^ 64 → IsAbse
 decimal_without_low byte n low small =
     All-from_get_or (λ b. b ≢ byte) (decimal n) 0 (λ k inside e. let digit = digit_at (decimal n) k (digits_decimal own n small) inside in omega (arith, digit))
 
--- nor do those bytes after a letter
+-- a byte that a text lacks is also lacking in the text with a letter above the byte in front
 pub letter_then_without : (letter byte : ℕ) (bytes : List ℕ) → byte < letter → IsAbsent byte bytes → IsAbsent byte (letter ∷ bytes)
 letter_then_without letter byte bytes low others = All-cons (λ b. b ≢ byte) letter bytes (λ e. omega arith) others

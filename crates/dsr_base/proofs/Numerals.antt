@@ -14,7 +14,7 @@ use Rattle.dsr_base.specs.Reads.{Reads}
 pub own : IsNumeralModel (AllDigits 10) (digits_value 10)
 own = numerals_by_value (AllDigits 10) tells_digits
 
--- a byte that is no digit stands in no numeral
+-- a byte that is not a digit is in no numeral
 pub only_digits : (bs : List ℕ) (i : ℕ) → i < length bs → is_ascii_digit (get_or bs i 0) ≡ false → ¬ (IsNumeral 10 bs)
 only_digits bs i inside other h =
     let digit : IsInRange 48 57 (get_or bs i 0) = digit_at bs i h.1 inside in
@@ -28,7 +28,7 @@ further_digit bs i n inside digit all value =
     let small : digit_value (get_or bs i 0) < 10 = grind (arith, nat_tests) in
     (digits_more 10 bs i inside all small, rw (digits_value_more 10 bs i inside, worth, value))
 
--- where a front writes 2^64 or more, the whole does
+-- if a front writes 2^64 or more, the whole does
 pub too_large : (bs : List ℕ) (i n : ℕ) → 2 ^ 64 ≤ n → n ≤ digits_value 10 (take i bs) → ¬ (digits_value 10 bs < 2 ^ 64)
 too_large bs i n large front small =
     let whole = digits_value-take-le 10 bs i (omega arith) in
@@ -48,13 +48,13 @@ no_leading_zero bs (suc n) long first small e =
 decimal_of : (bs : List ℕ) → (get_or bs 0 0 ≡ 48 → length bs ≡ 1) → IsNumeral 10 bs → digits_value 10 bs < 2 ^ 64 → bs ≡ decimal (digits_value 10 bs)
 decimal_of bs single h small = sym (decimal-digits_value own bs h.1 h.0 single small)
 
--- where no zero stands before another digit, a zero in front stands alone
+-- if no zero precedes another digit, a zero in front is alone
 only_digit : (bs : List ℕ) → (1 < length bs → get_or bs 0 0 ≡ 48 → ⊥) → get_or bs 0 0 ≡ 48 → length bs ≡ 1
 only_digit [] apart first = cc
 only_digit (x ∷ []) apart first = refl
 only_digit (x ∷ y ∷ ys) apart first = absurd (apart (omega arith) first)
 
--- what reads digits, where no leading zero stands, reads exactly the decimals
+-- what reads digits, if there is no leading zero, reads exactly the decimals
 pub reads_decimals : (bs : List ℕ) (r : Option ℕ) → (1 < length bs → get_or bs 0 0 ≡ 48 → ⊥)
     → SomeIff r (IsNumeral 10 bs × (digits_value 10 bs < 2 ^ 64)) (digits_value 10 bs) → Reads (λ (n : ℕ). n < 2 ^ 64) decimal bs r
 reads_decimals bs None apart h n = (

@@ -1,4 +1,4 @@
--- Cuts at a mark that stands outside parentheses, and what such a mark can follow.
+-- Cuts at a mark that is outside parentheses, and what such a mark can follow.
 use Rattle.std.proofs.Common.{◌≡◌, ◌≢◌, ℕ, ◌+◌, ◌<◌, Bool, true, false, cond, eqb, List, [], ◌∷◌, ◌++◌, length, get_or, take, refl, sym, ◌∙◌, ap, subst, ◌≤◌, ◌^◌, arith, lit<}
 use Rattle.std.proofs.lemmas.Bool.{ne_eqb}
 use Rattle.std.proofs.lemmas.List.{take_more}
@@ -90,7 +90,7 @@ inside_within [] after h = refl
 inside_within (b ∷ bs) after h =
     ap (λ i. is_inside_after i (bs ++ after)) (inside_stays b (All-head (λ x. x ≢ 41) b bs h)) ∙ inside_within bs after (All-tail (λ x. x ≢ 41) b bs h)
 
--- what stands in a pair of parentheses, with the pair, is a part for each mark but `(`
+-- what is in a pair of parentheses, with the pair, is a part for each mark except `(`
 pub wrapped_part : (mark : ℕ) (within : List ℕ) → 40 ≢ mark → IsAbsent 41 within → IsPart mark (40 ∷ (within ++ 41 ∷ []))
 wrapped_part mark within other h =
     let no : true ≡ false → 41 ≢ mark = λ (e : true ≡ false). cc in
@@ -101,7 +101,7 @@ wrapped_part mark within other h =
 
 -- ---- a search
 
--- one more byte is no mark outside
+-- one more byte that is not a mark outside
 pub free_more : (mark : ℕ) (bytes : List ℕ) (i : ℕ) → i < length bytes → IsFree mark false (take i bytes)
     → (is_inside_after false (take i bytes) ≡ false → get_or bytes i 0 ≢ mark) → IsFree mark false (take (i + 1) bytes)
 free_more mark bytes i inside h other =

@@ -4,7 +4,7 @@ use Rattle.std.proofs.Math.ListN.{set, length-set}
 use Rattle.std.proofs.lemmas.List.{drop-replicate, drop_at, drop-set-lt, drop-drop, length-replicate}
 use Rattle.dsr_base.specs.Support.Padded.{IsPadded}
 
--- blanks stand after the items up to the array's end
+-- after the items there are blanks up to the array's end
 pub items_over_blanks : {X : Type 0} (n k : ℕ) (blank : X) (items : List X) → length items ≡ k → k ≤ n
     → IsPadded n blank (items ++ drop k (replicate n blank)) k
 items_over_blanks n k blank items e fits =

@@ -1,4 +1,5 @@
--- How many numbers below n pass a test: distinct ones that do are no more, lists of all of them are no shorter.
+-- The number of numbers below n that pass a test: distinct ones that do are no more, lists of all of them are
+-- no shorter.
 use Rattle.std.proofs.Common.{◌≡◌, ◌≢◌, ℕ, zero, suc, ◌+◌, ◌<◌, ◌≤◌, Bool, true, false, not, cond, eqb, List, [], ◌∷◌, length, get_or, ◌⊎◌, refl, ap, ap₂, sym, ◌∙◌, inl, inr, arith, eq-eqb}
 use Rattle.std.specs.Prelude.{All, AllPairs}
 use Rattle.std.proofs.lemmas.Bool.{cases_Bool, cases_eq, cond-true, cond-false, ne_eqb, true≢false}
@@ -6,7 +7,7 @@ use Rattle.std.proofs.lemmas.List.Elements.{All-nil, All-cons, All-head, All-tai
 use Rattle.dsr_base.specs.Bits.{count_below}
 use Rattle.dsr_base.specs.Member.{In, here, there}
 
--- the test, but for x, which does not pass
+-- the test, except for x, which does not pass
 but : (ℕ → Bool) → ℕ → ℕ → Bool
 but p x i = cond (eqb i x) false (p i)
 
@@ -64,7 +65,7 @@ all_or_one p (x ∷ xs) = elim (cases_Bool (p x)) [
   | inr fails ↦ inr (x, here refl, fails)
 ]
 
--- of distinct numbers below n, more than the numbers below n that pass a test, one fails it
+-- if distinct numbers below n are more than the numbers below n that pass a test, one of them fails it
 pub some_fails : (p : ℕ → Bool) (n : ℕ) (xs : List ℕ) → AllPairs (λ a b. a ≢ b) xs → All (λ x. x < n) xs → count_below p n < length xs
     → (x : ℕ) × In x xs × (p x ≡ false)
 some_fails p n xs apart below more = elim (all_or_one p xs) [
@@ -76,7 +77,7 @@ one_of_two : (b : Bool) → cond b 1 0 + cond (not b) 1 0 ≡ 1
 one_of_two true = refl
 one_of_two false = refl
 
--- of the numbers below n, those that pass a test and those that fail it are n together
+-- the numbers below n that pass a test and those that fail it are n together
 pub count_not : (p : ℕ → Bool) (n : ℕ) → count_below p n + count_below (λ k. not (p k)) n ≡ n
 count_not p zero = refl
 count_not p (suc n) = let before = count_not p n in let last = one_of_two (p n) in omega (arith, before, last)
@@ -119,7 +120,7 @@ in_others p x k xs passes listed = elim (cases_eq k x) [
     behind (here e) other = absurd (other (sym e))
     behind (there h) other = h
 
--- where each number below n that passes a test is listed, they are no more than the list is long
+-- if each number below n that passes a test is listed, they are no more than the list is long
 pub covered : (p : ℕ → Bool) (n : ℕ) (xs : List ℕ) → ((k : ℕ) → k < n → p k ≡ true → In k xs) → count_below p n ≤ length xs
 covered p n [] listed = let none = none_pass p n (λ k inside passes. elim (listed k inside passes) [ ]) in omega (arith, none)
 covered p n (x ∷ xs) listed =

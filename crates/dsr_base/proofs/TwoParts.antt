@@ -6,7 +6,7 @@ use Rattle.dsr_base.proofs.Marks.{not_absent, one_cut}
 use Rattle.dsr_base.proofs.Outside.{not_free, one_cut_outside}
 use Rattle.dsr_base.proofs.ReadsLemmas.{reads_none, reads_some, not_read, was_read, only_read}
 
--- what can stand before the mark, what a text with no such mark is, and that one cut of a text alone is at the mark
+-- what can precede the mark, what a text without such a mark is, and that only one cut of a text is at the mark
 pub record Cuts (mark : ℕ) : Type 1 where
   pub IsFront : List ℕ → Type 0
   pub HasNone : List ℕ → Type 0

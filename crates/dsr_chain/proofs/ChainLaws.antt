@@ -1,5 +1,5 @@
--- Laws of chains: how a proper one begins and grows, on which links its signatures stand, that its content gives its
--- value, and that a long one has a loyal signer.
+-- Laws of chains: how a proper one begins and grows, on which links its signatures are, that its content determines
+-- its value, and that a long one has a loyal signer.
 use Rattle.std.proofs.Common.{◌≡◌, ◌≢◌, ℕ, zero, suc, ◌<◌, ◌≤◌, true, false, List, [], ◌∷◌, ◌++◌, Some, map, length, take, get_or, ◌⊎◌, inl, inr, refl, ap, sym, ◌∙◌, subst, arith}
 use Rattle.std.specs.Prelude.{All, AllPairs, Any, slice_get}
 use Rattle.std.proofs.lemmas.Bool.{cases_Bool}
@@ -26,7 +26,7 @@ use Rattle.dsr_chain.proofs.ProperDecides.{at_head, in_rest, head_or_rest, none_
 
 -- ---- signers
 
--- the signer of a signature that stands in the list signed
+-- if a signature is in the list, its signer signed
 pub signer_in : (s : Signature) (signatures : List Signature) → In s signatures → Any (λ t. t.signer ≡ s.signer) signatures
 signer_in s [] h = elim h [ ]
 signer_in s (t ∷ rest) (here e) = at_head (λ u. u.signer ≡ s.signer) t rest (ap (λ u. u.signer) e)
@@ -73,9 +73,9 @@ started_proper shape slot value sender asked =
       asked = asked;
     }
 
--- ---- one signature more
+-- ---- one more signature
 
--- what stands in a list with one item more
+-- what is in a list with one more item
 pushed_at : {X : Type 0} (xs : List X) (y x : X) (place : ℕ) → slice_get (xs ++ y ∷ []) place ≡ Some x
     → ((slice_get xs place ≡ Some x) × (place ≤ length xs)) ⊎ ((y ≡ x) × (length xs ≡ place))
 pushed_at [] y x zero e = inr (same_Some y x e, refl)
@@ -108,7 +108,7 @@ extended_distinct signers a distinct fresh =
     all_pairs_push (λ x y. x ≢ y) signers a distinct
     (λ k d inside. λ e. fresh (k, get_or signers k d, inside, get_or_default signers k (get_or signers k d) d inside, e))
 
--- a proper chain that a replica of the shape signs, which had not signed it, is proper for the next round
+-- if a replica of the shape signs a proper chain that it had not signed, the chain is proper for the next round
 pub extended_proper : (shape : Shape) (slot r : ℕ) (chain : Chain) (a : Actor) → IsProper shape slot r chain → IsReplica shape a
     → ¬ Any (λ s. s.signer ≡ a) chain.signatures → IsProper shape slot (suc r) (extended chain a)
 extended_proper shape slot r chain a h replica fresh =
@@ -128,7 +128,7 @@ extended_proper shape slot r chain a h replica fresh =
       asked = h.asked;
     }
 
--- the signature that an extended chain has more is on the link after all signers before
+-- the last signature of an extended chain is on the link after all signers before
 pub own_place : (shape : Shape) (slot r : ℕ) (chain : Chain) (a : Actor) (s : Signature) → IsProper shape slot r chain
     → ¬ Any (λ t. t.signer ≡ a) chain.signatures → In s (extended chain a).signatures → s.signer ≡ a
     → s ≡ signed a (link_after slot chain.value (signers_of chain.signatures))
@@ -140,7 +140,7 @@ own_place shape slot r chain a s h fresh stands own =
           ∙ ap (λ k. signed a (link_after k chain.value (signers_of chain.signatures))) h.of_slot
     ]
 
--- a signature of an extended chain that isn't the new signer's stood in the chain before
+-- a signature of an extended chain that is not the new signer's was in the chain before
 pub other_place : (chain : Chain) (a : Actor) (s : Signature) → In s (extended chain a).signatures → s.signer ≢ a → In s chain.signatures
 other_place chain a s stands other =
     elim (In-append_cases s chain.signatures (signed a (link_after chain.slot chain.value (signers_of chain.signatures)) ∷ []) stands) [
@@ -154,12 +154,12 @@ other_place chain a s stands other =
 
 -- ---- links
 
--- links that are the same have the same parts
+-- equal links have equal parts
 pub link_parts : (slot slot' : ℕ) (v w : SlotValue) (xs ys : List Actor) → link_after slot v xs ≡ link_after slot' w ys
     → (slot ≡ slot') × (content v ≡ content w) × (xs ≡ ys)
 link_parts slot slot' v w xs ys e = (cc, cc, cc)
 
--- by its own signature the new signer tells the slot, the content and how many signed before
+-- the new signer's own signature determines the slot, the content and how many signed before
 pub own_before : (shape : Shape) (slot r : ℕ) (chain : Chain) (a : Actor) (s : Signature) (slot' : ℕ) (w : SlotValue) (before : List Actor)
     → IsProper shape slot r chain → ¬ Any (λ t. t.signer ≡ a) chain.signatures → In s (extended chain a).signatures → s.signer ≡ a
     → s.statement ≡ link_after slot' w before → (slot' ≡ slot) × (content w ≡ content chain.value) × (length before ≡ r)
@@ -175,7 +175,7 @@ pub record StandsOnLink (slot : ℕ) (value : SlotValue) (r : ℕ) (s : Signatur
   pub statement : s.statement ≡ link_after slot value before
   pub fewer : length before < r
 
--- each signature of a proper chain stands on a link of its slot and value, with fewer signers before than it has
+-- each signature of a proper chain is on a link of its slot and value, with fewer signers before than the chain has
 pub link_at : (shape : Shape) (slot r : ℕ) (chain : Chain) (s : Signature) → IsProper shape slot r chain → In s chain.signatures
     → StandsOnLink slot chain.value r s
 link_at shape slot r chain s h stands =
@@ -224,7 +224,7 @@ same_asked shape (x ∷ xs) (y ∷ ys) hx hy e =
     ∙ (ap (λ q. signed_by q (Client q.client)) requests ∙ sym (asked_is shape y (All-head (IsAsked shape) y ys hy))) in
     cc
 
--- values whose requests were asked, and are the same, are the same
+-- values with the same requests, all asked, are equal
 pub same_asked_value : (shape : Shape) (v w : SlotValue) → All (IsAsked shape) (signed_in v) → All (IsAsked shape) (signed_in w)
     → content v ≡ content w → v ≡ w
 same_asked_value shape Idle Idle hv hw e = refl
@@ -233,7 +233,7 @@ same_asked_value shape (Act xs) Idle hv hw e = cc
 same_asked_value shape (Act xs) (Act ys) hv hw e =
     ap Act (same_asked shape xs ys hv hw (same_Some (map (λ s. s.request) xs) (map (λ s. s.request) ys) e))
 
--- proper chains of one content have one value, since the signatures in it are the clients' on those requests
+-- proper chains with one content have one value, since the signatures in it are the clients' on those requests
 pub same_value : (shape : Shape) (slot r r' : ℕ) (c d : Chain) → IsProper shape slot r c → IsProper shape slot r' d
     → content c.value ≡ content d.value → c.value ≡ d.value
 same_value shape slot r r' c d hc hd e = same_asked_value shape c.value d.value hc.asked hd.asked e
@@ -304,7 +304,7 @@ numbers_apart shape actors replicas distinct i j d less inside same =
     (same_number shape (get_or actors i blank) (get_or actors j blank) (All-get_or (IsReplica shape) actors i blank first replicas)
     (All-get_or (IsReplica shape) actors j blank second replicas) numbers)
 
--- a chain with more signatures than there are traitors has a loyal replica's
+-- a chain with more signatures than there are traitors has a loyal replica's signature
 pub some_loyal : (shape : Shape) (slot : ℕ) (chain : Chain) → IsProper shape slot (suc shape.f) chain
     → count_below (is_traitor shape) shape.n ≤ shape.f → HasLoyalSigner shape chain.signatures
 some_loyal shape slot chain h few = elim (loyal_or_traitors shape chain.signatures h.replicas) [

@@ -1,4 +1,4 @@
--- Lists of signed requests with the same requests, whatever signatures stand beside them.
+-- Lists of signed requests with the same requests, whatever signatures are beside them.
 use Rattle.std.proofs.Common.{◌≡◌, ◌≤◌, ◌-◌, ◌↔◌, Bool, true, false, List, [], ◌∷◌, length, take, drop, get_or, map, arith, ap, ap₂, sym, ◌∙◌, refl, None, Some}
 use Rattle.std.specs.Prelude.{IsTrue}
 use Rattle.std.proofs.lemmas.Grind.{common_steps}
@@ -39,7 +39,7 @@ decided_by_first (a ∷ xs) (b ∷ ys) x y first some some_other x_is y_is tests
   λ e. let heads : a.request ≡ b.request = cc in tests.1 (ap (λ s. s.request) x_is ∙ (heads ∙ sym (ap (λ s. s.request) y_is))),
 )
 
--- what a content tells of the requests
+-- what a content says about the requests
 
 pub requests_of_content : (value : SlotValue) (them : List Request) → content value ≡ Some them → requests_in value ≡ them
 requests_of_content Idle them e = cc

@@ -1,4 +1,4 @@
--- A chain is proper exactly where no fault holds: every part of the definition can be decided.
+-- A chain is proper exactly if no fault holds: every part of the definition can be decided.
 use Rattle.std.proofs.Common.{◌≡◌, ◌≢◌, ℕ, ◌<◌, Bool, true, false, List, Some, None, Option, length, get_or, refl, ap, sym, ◌∙◌, subst, eqb, inl, inr, arith}
 use Rattle.std.specs.Prelude.{All, AllPairs, Any, slice_get}
 use Rattle.std.specs.Bool.{Decides}

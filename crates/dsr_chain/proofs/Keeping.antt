@@ -1,4 +1,5 @@
--- Signatures that a chain keeps in turn: their count and signers, that they fit, and what one more adds.
+-- Signatures that a chain stores in turn: their count and signers, that they fit, and what one more
+-- adds.
 use Rattle.std.proofs.Common.{◌≡◌, ◌↔◌, ◌≤◌, ℕ, Bool, List, Vec, Global, [], ◌∷◌, ◌++◌, length, take, inl, inr, ap, sym, ◌∙◌, subst}
 use Rattle.std.specs.Prelude.{Any, IsTrue}
 use Rattle.std.proofs.lemmas.List.{length-map}
@@ -17,7 +18,7 @@ use Rattle.dsr_chain.specs.declared.slot_value.SlotValue.{SlotValue}
 use Rattle.dsr_chain.proofs.ChainLaws.{signed_from_signers}
 use Rattle.dsr_chain.proofs.ProperDecides.{at_head, in_rest, head_or_rest, none_in_nil}
 
--- those who signed are their signers
+-- their signers are those of the links
 pub signers_in_turn : (links : Links) → signers_of (signatures_of links) ≡ links.signers
 signers_in_turn links = signers_signed links.slot links.content [] links.signers
 
@@ -25,7 +26,7 @@ signers_in_turn links = signers_signed links.slot links.content [] links.signers
 pub count_in_turn : (links : Links) → length (signatures_of links) ≡ length links.signers
 count_in_turn links = sym (length-map (signatures_of links) (λ s. s.signer)) ∙ ap length (signers_in_turn links)
 
--- none is on another statement than fits its place
+-- none is on a statement that does not fit its place
 pub fits_in_turn : (slot : ℕ) (value : SlotValue) (links : Links) → links.slot ≡ slot → links.content ≡ content value
     → HasMisfit (chain_of slot value (signatures_of links)) → ⊥
 fits_in_turn slot value links of_slot of_content misfit =
@@ -43,7 +44,7 @@ extended_in_turn slot value links a of_slot of_content =
     ∙ (ap (λ c. Link slot c links.signers) of_content ∙ ap (Link slot (content value)) (sym (signers_in_turn links))) in
     signed_push links.slot links.content [] links.signers a ∙ ap (λ statement. signatures_of links ++ signed a statement ∷ []) same
 
--- two of one slot and content are the same where the signers are
+-- those of two links with one slot and content are the same if the signers are
 pub same_in_turn : (ours theirs : Links) (test : Bool) → ours.slot ≡ theirs.slot → ours.content ≡ theirs.content
     → (IsTrue test ↔ (ours.signers ≡ theirs.signers)) → IsTrue test ↔ (signatures_of ours ≡ signatures_of theirs)
 same_in_turn ours theirs test one_slot one_content tests = (
@@ -60,7 +61,7 @@ signers_from_signed a (s ∷ rest) h = elim (head_or_rest (λ t. t.signer ≡ a)
   | inr later ↦ in_rest (λ b. b ≡ a) s.signer (signers_of rest) (signers_from_signed a rest later)
 ]
 
--- one is an actor's where the actor is among the signers
+-- one is an actor's if the actor is among the signers
 pub signed_by_signers : (a : Actor) (signatures : List Signature) (test : Bool)
     → (IsTrue test ↔ Any (λ b. b ≡ a) (signers_of signatures)) → IsTrue test ↔ Any (λ s. s.signer ≡ a) signatures
 signed_by_signers a signatures test tests = (
@@ -68,7 +69,8 @@ signed_by_signers a signatures test tests = (
   λ h. tests.1 (signers_from_signed a signatures h),
 )
 
--- ---- a chain whose signatures are kept in turn, and one whose are as they were given
+-- ---- a chain whose signatures are stored in turn, and one whose signatures are stored as they were
+-- given
 
 pub record InTurnOf (chain : Chain) (links : Links) : Type 0 where
   pub of_slot : links.slot ≡ chain.slot
@@ -104,7 +106,7 @@ never_misfits chain links h misfit =
     fits_in_turn chain.slot chain.value links h.of_slot h.of_content
     (subst (λ xs. HasMisfit (chain_of chain.slot chain.value xs)) (sym h.are) misfit)
 
--- the chain that is made of one more in turn
+-- the chain that is made with one more in turn
 pub made_extended : (chain made : Chain) (links : Links) (a : Actor) (slot : ℕ) (value : SlotValue) → InTurnOf chain links → slot ≡ chain.slot
     → value ≡ chain.value → made ≡ chain_of slot value (signatures_of (extended links a)) → made ≡ extended_chain chain a
 made_extended chain made links a slot value h slot_is value_is is =
@@ -114,7 +116,8 @@ made_extended chain made links a slot value h slot_is value_is is =
     ∙ (ap (chain_of chain.slot chain.value) (extended_in_turn chain.slot chain.value links a h.of_slot h.of_content)
     ∙ ap (λ xs. chain_of chain.slot chain.value (xs ++ signed a (link_after chain.slot chain.value (signers_of xs)) ∷ [])) h.are)))
 
--- chains of one slot and value of which one has a misfit do not have the same signatures
+-- if one of two chains with one slot and value has a misfit and the other has none, their signatures
+-- differ
 pub one_misfits : (chain other : Chain) (links : Links) → InTurnOf chain links → HasMisfit other → chain.slot ≡ other.slot → chain.value ≡ other.value
     → chain.signatures ≡ other.signatures → ⊥
 one_misfits chain other links h misfit slot value signatures =

@@ -1,4 +1,4 @@
--- What the tests of a chain decide: each is true exactly where its fact holds.
+-- What the tests of a chain decide: each is true exactly if its fact holds.
 use Rattle.std.proofs.Common.{◌≡◌, ◌≢◌, ℕ, zero, suc, Bool, not, ◌&&◌, ◌||◌, ◌==◌, nat_lt, List, [], ◌∷◌, ◌++◌, Some, None, Option, length, take, get_or, ◌⊎◌, inl, inr, refl, ap, sym, ◌∙◌, subst, arith, append_assoc, append-nil}
 use Rattle.std.specs.Prelude.{All, AllPairs, Any, slice_get}
 use Rattle.std.specs.Bool.{Decides}
@@ -23,7 +23,7 @@ use Rattle.dsr_chain.specs.ProperTest.{same_content, has_signed, is_signer, begi
 use Rattle.dsr_chain.specs.declared.signed_request.SignedRequest.{SignedRequest}
 use Rattle.dsr_chain.specs.declared.slot_value.SlotValue.{SlotValue}
 
--- ---- what holds of some element
+-- ---- what holds for some element
 
 pub none_in_nil : {X : Type 0} (P : X → Type 0) → Any P [] → ⊥
 none_in_nil P (k, x, inside, is, p) = omega (arith, inside)
@@ -38,7 +38,7 @@ pub head_or_rest : {X : Type 0} (P : X → Type 0) (x : X) (xs : List X) → Any
 head_or_rest P x xs (zero, y, inside, is, p) = inl (subst P (sym is) p)
 head_or_rest P x xs (suc k, y, inside, is, p) = inr (k, y, omega (arith, inside), is, p)
 
--- a test of some item decides whether one has the property, where the test of an item decides that
+-- a test of some item decides whether one has the property, if the test of an item decides that
 any-Decides : {X : Type 0} (p : X → Bool) (P : X → Type 0) → ((x : X) → Decides (p x) (P x)) → (xs : List X) → Decides (list_any p xs) (Any P xs)
 any-Decides p P each [] = (λ e. cc, λ h. absurd (none_in_nil P h))
 any-Decides p P each (x ∷ xs) =
@@ -154,7 +154,7 @@ seven a b c d e f g da db dc dd de df dg =
     (Decides-and c (d && (e && (f && g))) dc
     (Decides-and d (e && (f && g)) dd (Decides-and e (f && g) de (Decides-and f g df dg)))))
 
--- the test is true exactly of the proper chains
+-- the test is true exactly for proper chains
 pub is_proper-Decides : (shape : Shape) (slot round : ℕ) (chain : Chain) → Decides (is_proper shape slot round chain) (IsProper shape slot round chain)
 is_proper-Decides shape slot round chain =
     let signers = signers_of chain.signatures in

@@ -1,4 +1,4 @@
--- Values with the same signed requests are the same, and `==` of two values tells whether they are.
+-- Values with the same signed requests are equal, and `==` of two values decides whether they are.
 use Rattle.std.proofs.Common.{◌≡◌, List, [], ◌∷◌, refl, ap, sym, ◌∙◌}
 use Rattle.std.specs.Bool.{Decides}
 use Rattle.std.proofs.lemmas.Bool.Decides.{Decides-like}

@@ -1,4 +1,4 @@
--- When an actor stands twice in a list that begins with x.
+-- When an actor is twice in a list that begins with x.
 use Rattle.std.proofs.Common.{◌≡◌, ℕ, zero, suc, ◌<◌, ◌≤◌, ◌-◌, ◌↔◌, Bool, true, false, length, take, drop, get_or, subst, List, [], ◌∷◌, Some, arith, refl, ap, sym, ◌∙◌}
 use Rattle.std.specs.Prelude.{Any, IsTrue, slice_get}
 use Rattle.std.proofs.lemmas.Grind.{common_steps}
@@ -49,7 +49,7 @@ only_later x xs once h = places x xs h.first h.second h.signer h.apart h.at_firs
 rest_is : (y : Actor) (ys : List Actor) → take (length (y ∷ ys) - 1) (drop 1 (y ∷ ys)) ≡ ys
 rest_is y ys = grind (arith, common_steps)
 
--- the first signer stands among the others
+-- the first signer is among the others
 pub decided_by_first : (signers : List Actor) (x : Actor) (r : Bool) → 1 ≤ length signers → x ≡ get_or signers 0 x
     → (IsTrue r ↔ Any (λ a. a ≡ x) (take (length signers - 1) (drop 1 signers))) → r ≡ true → IsTrue r ↔ StandsTwice signers
 decided_by_first [] x r some is tests is_true = absurd (omega arith)
@@ -57,7 +57,7 @@ decided_by_first (y ∷ ys) x r some is tests is_true =
     let again : Any (λ a. a ≡ y) ys = subst (λ z. Any (λ a. a ≡ z) ys) is (subst (λ l. Any (λ a. a ≡ x) l) (rest_is y ys) (tests.0 is_true)) in
     (λ _. first_again y ys again, λ _. is_true)
 
--- the first signer does not stand among the others
+-- the first signer is not among the others
 pub decided_by_rest : (signers : List Actor) (x : Actor) (r later : Bool) → 1 ≤ length signers → x ≡ get_or signers 0 x
     → (IsTrue r ↔ Any (λ a. a ≡ x) (take (length signers - 1) (drop 1 signers))) → r ≡ false
     → (IsTrue later ↔ StandsTwice (take (length signers - 1) (drop 1 signers))) → IsTrue later ↔ StandsTwice signers

@@ -1,5 +1,5 @@
--- What stands behind each accepted reply, that one loyal replica gave it, and that a client that took the same reply from all
--- loyal replicas has accepted it.
+-- Facts behind each accepted reply: one loyal replica gave it, and a client that took the same reply from all loyal replicas
+-- has accepted it.
 use Rattle.std.proofs.Common.{◌≡◌, ℕ, ◌==◌, nat_lt, Bool, true, false, List, [], ◌∷◌, Option, None, Some, if◌then◌else◌, ◌⊎◌, inl, inr, refl, ap, sym, ◌∙◌, subst}
 use Rattle.std.specs.Option.{option_or}
 use Rattle.std.proofs.lemmas.Bool.Decides.{Decides-eqb}
@@ -29,7 +29,7 @@ module _ (shape : Shape) where
   asked_accepts None ask state = refl
   asked_accepts (Some other) ask state = refl
 
-  -- the reply that wins by a note, where none had won
+  -- the reply that wins by a note, if none won before
   pub new_winner : (o : Option AReply) → o ≡ None → (b : Bool) (reply w : AReply) → option_or o (if b then Some reply else None) ≡ Some w → reply ≡ w
   new_winner (Some r) none b reply w e = absurd (none-some r (sym none))
   new_winner None none true reply w e = same_Some reply w e
@@ -59,7 +59,7 @@ module _ (shape : Shape) where
       gave q (there later) =
           taken_later shape (Take (Replica p) (Reply reply)) older q w (h.noted (record { replica = q; reply = w }) later).1
 
-  -- something stands behind each of these replies
+  -- these facts hold for each of these replies
   abbrev pub AllAccepted : List Entry → List AReply → Type 0
   AllAccepted log replies = (w : AReply) → In w replies → WasAccepted shape log w
 
@@ -94,7 +94,7 @@ module _ (shape : Shape) where
   later_all : (entry : Entry) (older : List Entry) → AllAccepted older (accepted shape older) → AllAccepted (entry ∷ older) (accepted shape older)
   later_all entry older before w inside = accepted_later entry older w (before w inside)
 
-  -- each accepted reply was given by more than f replicas while its number was outstanding
+  -- more than f replicas gave each accepted reply while its number was outstanding
   pub was_accepted : (log : List Entry) → AllAccepted log (accepted shape log)
   was_accepted [] = λ w inside. elim inside [ ]
   was_accepted (Post (Client c) envelope ∷ older) = later_all (Post (Client c) envelope) older (was_accepted older)

@@ -1,4 +1,4 @@
--- Where the signatures in a client's posts are from: they are the client's own, in its asks.
+-- What the signatures in a client's posts come from: they are the client's own, in its asks.
 use Rattle.std.proofs.Common.{◌≡◌, ℕ, List, [], ◌∷◌, Option, None, Some, ap, sym, ◌∙◌, subst}
 use Rattle.std.specs.Option.{option_map}
 use Rattle.std.proofs.lemmas.Option.{none-some, same_Some}
@@ -49,7 +49,7 @@ module _ (shape : Shape) (me : ℕ) where
       let found = asked_in older loyal.0 to envelope later s carried in
       (found.0, found.1, there found.2, found.3)
 
-  -- each signature that a client posts is its own, and stands beside a request that it asked
+  -- each signature that a client posts is its own, and is beside a request that it asked
   pub client_posted : (log : List Entry) → IsClientLog shape me log → (to : Actor) (envelope : Envelope) → In (Post to envelope) log → (s : Signature)
       → Carries envelope s → WasAsked me log s
   client_posted log loyal to envelope h s carried =

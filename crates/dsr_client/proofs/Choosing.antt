@@ -1,4 +1,4 @@
--- What a client's choices ask for, and that the ask tells the choice.
+-- What a client's choices ask for, and that the ask shows the choice.
 use Rattle.std.proofs.Common.{◌≡◌, ℕ, List, Option, None, Some, refl, ap}
 use Rattle.std.specs.Option.{option_map}
 use Rattle.std.proofs.lemmas.Option.{none-some, same_Some}
@@ -43,13 +43,13 @@ module _ (me number : ℕ) where
   plain_beside (Some ask) = refl
 
 module _ (shape : Shape) (me : ℕ) (log : List Entry) where
-  -- the ask tells the choice
+  -- the ask shows the choice
   pub choice_told : (pick : Pick) (ask : SignedRequest) → ask_to shape me log pick ≡ Some (Ask ask) → pick ≡ told_choice (outstanding shape log) ask
   choice_told pick ask e =
       told_beside me (next_number shape log) (outstanding shape log) pick ask
       (same_ask (chosen_beside (outstanding shape log) me (next_number shape log) pick) ask e)
 
-  -- a new ask is of the operation of its choice
+  -- a new ask has the operation of its choice
   pub operation_told : (op : Op) (ask : SignedRequest) → ask_to shape me log (Begin op) ≡ Some (Ask ask) → ask_of me (next_number shape log) op ≡ ask
   operation_told op ask e =
       begun_beside me (next_number shape log) (outstanding shape log) op ask
@@ -65,6 +65,6 @@ module _ (shape : Shape) (me : ℕ) (log : List Entry) where
   pub plain_ask : ask_to shape me log Plain ≡ option_map Ask (outstanding shape log)
   plain_ask = ap (option_map Ask) (plain_beside me (next_number shape log) (outstanding shape log))
 
-  -- a new ask, where nothing is outstanding
+  -- a new ask, if nothing is outstanding
   pub new_ask : outstanding shape log ≡ None → (op : Op) → ask_to shape me log (Begin op) ≡ Some (Ask (ask_of me (next_number shape log) op))
   new_ask none op = ap (λ o. option_map Ask (chosen_beside o me (next_number shape log) (Begin op))) none

@@ -108,7 +108,7 @@ module _ (shape : Shape) where
   accept_cases (Take (Replica p) (Reply reply)) log = reply_cases p reply log
   accept_cases (Take (Replica p) (Seen front)) log = inl (same_state (Take (Replica p) (Seen front)) log refl)
 
-  -- where nothing is outstanding a take changes nothing
+  -- if nothing is outstanding, a take changes nothing
   pub take_quiet : (from : Actor) (envelope : Envelope) (log : List Entry) → outstanding shape log ≡ None
       → state_after shape (Take from envelope ∷ log) ≡ state_after shape log
   take_quiet (Client c) envelope log none = refl
@@ -118,7 +118,7 @@ module _ (shape : Shape) where
   take_quiet (Replica p) (Reply reply) log none = ap (λ o. replied_beside o shape p reply (state_after shape log)) none
   take_quiet (Replica p) (Seen front) log none = refl
 
-  -- an ask is the outstanding one, where nothing was
+  -- an ask is the outstanding one, if nothing was outstanding
   pub ask_begins : (q : ℕ) (ask : SignedRequest) (log : List Entry) → outstanding shape log ≡ None
       → outstanding shape (Post (Replica q) (Ask ask) ∷ log) ≡ Some ask
   ask_begins q ask log none = ap (λ o. (asked_beside o ask (state_after shape log)).outstanding) none
@@ -164,7 +164,7 @@ module _ (shape : Shape) where
       by_place before w h (here e) = (h.ask, was_posted shape older h.ask h.current, sym h.number ∙ ap (λ r. r.number) e)
       by_place before w h (there later) = before later
 
-  -- so its number is within the limits where all requests are
+  -- so its number is within the limits if those of all requests are
   pub accepted_below : (log : List Entry) → ((ask : SignedRequest) → WasPosted log ask → IsCount ask.request.number)
       → (reply : AReply) → In reply (accepted shape log) → IsCount reply.number
   accepted_below log below reply inside =

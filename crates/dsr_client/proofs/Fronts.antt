@@ -1,5 +1,5 @@
--- The seen front never falls, and is above the place of each accepted reply; only an accepted reply and what another client tells
--- raise it.
+-- The seen front never falls, and is above the place of each accepted reply; only an accepted reply and what another client
+-- reports raise it.
 use Rattle.std.proofs.Common.{◌≡◌, ℕ, suc, max, refl, ◌<◌, ◌≤◌, List, [], ◌∷◌, ◌++◌, ◌⊎◌, inl, inr, ap, ap₂, sym, subst, arith}
 use Rattle.dsr_base.specs.Growth.{Extends}
 use Rattle.dsr_base.specs.Member.{In, here, there}
@@ -26,7 +26,7 @@ front_grows (x ∷ newer) older = let before = front_grows newer older in omega 
 front_extends : (later earlier : List AReply) → Extends later earlier → front_of earlier ≤ front_of later
 front_extends later earlier grown = subst (λ l. front_of earlier ≤ front_of l) (sym grown.1) (front_grows grown.0 earlier)
 
--- a take of a front that a client tells, which moves what was told
+-- a take of a front that a client reports, which moves what is reported
 record Tells (entry : Entry) (older : List Entry) : Type 0 where
   pub client : ℕ
   pub front : ℕ
@@ -82,7 +82,7 @@ told_below (entry ∷ older) most below =
       | inr same ↦ omega (arith, rest, same)
     ]
 
--- the front is no more than what is above all accepted places, and not below what clients told
+-- the front is at most `most`, if each accepted place is below that and no client reported a greater front
 pub seen_below : (shape : Shape) (log : List Entry) (most : ℕ) → ((w : AReply) → In w (accepted shape log) → w.place < most)
     → ((c front : ℕ) → In (Take (Client c) (Seen front)) log → front ≤ most) → seen shape log ≤ most
 seen_below shape log most replies fronts =
@@ -92,7 +92,7 @@ seen_below shape log most replies fronts =
 
 -- ---- what moves the front
 
--- a front that a client tells
+-- a front that a client reports
 pub seen_told : (c front : ℕ) (shape : Shape) (log : List Entry) → seen shape (Take (Client c) (Seen front) ∷ log) ≡ max (seen shape log) front
 seen_told c front shape log = omega arith
 

@@ -1,4 +1,5 @@
--- The issue front of a number is what was seen just before the first ask of that number, and stays.
+-- The issue front of a number is the seen front just before the first ask with that number, and
+-- stays.
 use Rattle.std.proofs.Common.{◌≡◌, ℕ, ◌≤◌, ◌==◌, Bool, true, false, List, [], ◌∷◌, ◌++◌, Option, None, Some, if◌then◌else◌, inl, inr, refl, ap, sym, ◌∙◌, subst, arith}
 use Rattle.std.specs.Option.{option_or}
 use Rattle.std.proofs.lemmas.Bool.{true≢false}
@@ -69,7 +70,7 @@ module _ (shape : Shape) (number : ℕ) where
 
   -- ---- the first ask
 
-  -- at the first ask of the number the front is what was seen just before
+  -- at the first ask with the number the front is the seen front just before
   pub first_front : (log : List Entry) → IsUnasked number log → (q : ℕ) (ask : SignedRequest) → ask.request.number ≡ number
       → issue_front shape number (Post (Replica q) (Ask ask) ∷ log) ≡ Some (seen shape log)
   first_front log none q ask same =
@@ -87,7 +88,7 @@ module _ (shape : Shape) (number : ℕ) where
   front_stays log later front e grown =
       subst (λ l. issue_front shape number l ≡ Some front) (sym grown.1) (front_after grown.0 log front e)
 
-  -- ---- the front tells the first ask
+  -- ---- the front determines the first ask
 
   issued_later : (entry : Entry) (log : List Entry) (front : ℕ) → IsIssued shape number log front → IsIssued shape number (entry ∷ log) front
   issued_later entry log front h = record {
@@ -132,7 +133,7 @@ module _ (shape : Shape) (number : ℕ) where
       front_stays (Post (Replica h.replica) (Ask h.ask) ∷ h.older) log front
       (first_front h.older h.first h.replica h.ask h.is_number ∙ ap Some h.front_is) (h.newer, h.parts)
 
-  -- the front is no more than what is seen now
+  -- the front is no more than the seen front now
   seen_since : (newer log : List Entry) → seen shape log ≤ seen shape (newer ++ log)
   seen_since [] log = omega arith
   seen_since (entry ∷ newer) log =

@@ -1,6 +1,6 @@
--- What the crates above take from a client's log: what stands behind accepted replies, that they stay, that one loyal replica
--- gave each, that loyal replicas are enough, that they are numbered and each entry accepts at most one, one request under a number,
--- which choice an ask tells, what the issue fronts are, how the seen front grows, and that none of it depends on who is a traitor.
+-- What the crates above use of a client's log: the facts behind accepted replies, that they stay, that one loyal replica gave each,
+-- that loyal replicas are enough, that they are numbered and each entry accepts at most one, one request under a number, which
+-- choice an ask shows, what the issue fronts are, how the seen front grows, and that none of it depends on who is a traitor.
 pub use Rattle.dsr_client.proofs.Accepting.{was_accepted, loyal_gave}
 pub use Rattle.dsr_client.proofs.Answering.{accepted_grow, AgreeOn, answered}
 pub use Rattle.dsr_client.proofs.Asked.{posted_before, was_posted}

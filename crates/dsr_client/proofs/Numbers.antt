@@ -33,7 +33,7 @@ pub record IsNumbered (me : ℕ) (log : List Entry) (state : State) : Type 0 whe
   pub once : (q r : ℕ) (ask other : SignedRequest) → In (Post (Replica q) (Ask ask)) log → In (Post (Replica r) (Ask other)) log
       → ask.request.number ≡ other.request.number → ask ≡ other
 
--- an entry that is no ask to a replica adds none
+-- an entry that is not an ask to a replica adds none
 same_posts : (entry : Entry) (log : List Entry) → ((q : ℕ) (ask : SignedRequest) → entry ≡ Post (Replica q) (Ask ask) → ⊥)
     → (q : ℕ) (ask : SignedRequest) → In (Post (Replica q) (Ask ask)) (entry ∷ log) → In (Post (Replica q) (Ask ask)) log
 same_posts entry log none q ask (here e) = absurd (none q ask e)

@@ -72,7 +72,7 @@ module _ (shape : Shape) where
 
   -- ---- a reply
 
-  -- the state with one note more, where no reply has won by it
+  -- the state with one more note, if no reply has won by it
   noted_state : (p : ℕ) (reply : AReply) (older : List Entry) (ask : SignedRequest) → IsOpen older (state_after shape older) ask
       → reply.number ≡ ask.request.number → winner shape.f shape.n (record { replica = p; reply = reply } ∷ (state_after shape older).notes) ≡ None
       → IsOpen (Take (Replica p) (Reply reply) ∷ older) (with_note p reply (state_after shape older)) ask

@@ -1,4 +1,4 @@
--- Signatures in turn: who signed them, what one more adds, and on which link each stands.
+-- Signatures in turn: who signed them, what one more adds, and on which link each is.
 use Rattle.std.proofs.Common.{◌≡◌, ℕ, zero, suc, List, [], ◌∷◌, ◌++◌, Option, Some, length, take, map, get_or, ◌+◌, ◌<◌, ◌≤◌, refl, ap, sym, ◌∙◌, arith}
 use Rattle.std.specs.Prelude.{slice_get}
 use Rattle.std.proofs.Math.Seq.{take-suc}
@@ -16,7 +16,7 @@ pub signers_signed : (slot : ℕ) (content : Option (List Request)) (before sign
 signers_signed slot content before [] = refl
 signers_signed slot content before (a ∷ more) = ap (λ rest. a ∷ rest) (signers_signed slot content (before ++ a ∷ []) more)
 
--- one more stands at the end, on the link after all of them
+-- one more is at the end, on the link after all of them
 pub signed_push : (slot : ℕ) (content : Option (List Request)) (before signers : List Actor) (a : Actor)
     → signed_after slot content before (signers ++ a ∷ []) ≡ signed_after slot content before signers ++ signed a (Link slot content (before ++ signers)) ∷ []
 signed_push slot content before [] a = ap (λ b. signed a (Link slot content b) ∷ []) (sym (append-nil before))
@@ -35,7 +35,7 @@ signed_at slot content before (x ∷ more) (suc place) a is =
     signed_at slot content (before ++ x ∷ []) more place a is
     ∙ ap (λ b. Some (signed a (Link slot content b))) (append_assoc before (x ∷ []) (take place more))
 
--- the first k + 1 of a list are links, where the first k are, and the one after them stands on the link that follows
+-- the first k + 1 of a list are links, if the first k are, and the one after them is on the link that follows
 pub links_more : (slot : ℕ) (content : Option (List Request)) (signatures : List Signature) (before after : List Actor) (k : ℕ) (s : Signature)
     → after ≡ before ++ s.signer ∷ [] → s ≡ get_or signatures k s → k < length signatures → s.statement ≡ Link slot content before
     → signed_after slot content [] before ≡ take k signatures → signed_after slot content [] after ≡ take (k + 1) signatures

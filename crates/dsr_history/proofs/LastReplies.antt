@@ -1,4 +1,4 @@
--- That the last request of each client has a reply.
+-- The last request of each client has a reply.
 use Rattle.std.proofs.Common.{◌≡◌, ◌≢◌, ℕ, ◌<◌, ◌≤◌, ◌==◌, Bool, true, false, List, [], ◌∷◌, ◌++◌, length, None, Some, if◌then◌else◌, refl, ap, sym, ◌∙◌, arith}
 use Rattle.std.proofs.lemmas.Bool.{false_from_ne_true, false≢true}
 use Rattle.std.proofs.lemmas.Bool.Decides.{Decides-eqb}
@@ -28,7 +28,7 @@ reply_last_of [] older r none = own_step r older r.client refl
 reply_last_of (q ∷ newer) older r none =
     other_step q (newer ++ r ∷ older) r.client (none q (here refl)) ∙ reply_last_of newer older r (λ x inside. none x (there inside))
 
--- a client of whose requests none stands in a history has no reply
+-- a client without a request in a history has no reply
 pub reply_none : (history : List Request) (client : ℕ) → ((r : Request) → In r history → r.client ≢ client) → reply_in history client ≡ None
 reply_none [] client none = refl
 reply_none (r ∷ older) client none =
@@ -73,7 +73,7 @@ pub reply_some : (history : List Request) → IsLegal history → (r : Request) 
 reply_some [] legal r inside = elim inside [ ]
 reply_some (x ∷ older) legal r inside = reply_step x older r (reply_some older legal.1 r) legal.0 (x.client == r.client) refl inside
 
--- the last request of a client is replied to, at the place where it stands
+-- the last request of a client is replied to, at its place
 pub reply_last : (history : List Request) (place : ℕ) (r : Request) (answer : Answer) → (stands : StandsAt history place r answer)
     → ((q : Request) → In q stands.newer → q.client ≢ r.client)
     → reply_in history r.client ≡ Some (record { number = r.number; place = place; answer = answer })

@@ -7,7 +7,7 @@ use Rattle.dsr_request.specs.RequestText.{request_text, IsRequest}
 use Rattle.dsr_history.specs.Applied.{request_line, IsNoLine}
 use Rattle.dsr_request.specs.Support.RequestToken.{text_without}
 
--- no line feed stands in the text of a request
+-- no line feed is in the text of a request
 request_without : (request : Request) → IsRequest request → IsAbsent 10 (request_text 32 32 request)
 request_without request h =
     let apart : ◌≡◌ {A = ℕ} 32 10 → ⊥ = λ (e : ◌≡◌ {A = ℕ} 32 10). omega arith in
@@ -16,12 +16,12 @@ request_without request h =
 regrouped : (request : Request) (after : List ℕ) → request_line request ++ after ≡ request_text 32 32 request ++ 10 ∷ after
 regrouped request after = append_assoc (request_text 32 32 request) (10 ∷ []) after
 
--- where no line feed stands
+-- if there is no line feed
 pub no_feed : (text : List ℕ) → IsAbsent 10 text → IsNoLine text
 no_feed text whole request after h e =
     not_absent 10 (request_text 32 32 request) after (subst (IsAbsent 10) (e ∙ regrouped request after) whole)
 
--- where the first line is read as no request
+-- if the first line is read as no request
 pub no_request : (text line after : List ℕ) → text ≡ line ++ 10 ∷ after → IsAbsent 10 line
     → ((request : Request) → (◌≡◌ {A = Option Request} None (Some request)) ↔ (IsRequest request × (line ≡ request_text 32 32 request))) → IsNoLine text
 no_request text line after cut whole reads request rest h e =

@@ -46,7 +46,7 @@ falls_step true false rest number n t e h ih =
 falls_step false below true number n t e h ih = cc
 falls_step false below false number n t e h ih = ih refl
 
--- one that does not has no greater number
+-- one that does not rise has no greater number
 below_top : (request : Request) (older : List Request) → rises_above request older ≡ false → request.number ≤ top older request.client
 unfolding top
 below_top request [] h = cc
@@ -96,7 +96,7 @@ rises_cases : (b : Bool) (request : Request) (older : List Request) → b ≡ ri
 rises_cases true request older e h = sym e
 rises_cases false request older e h = absurd (let le : request.number ≤ top older request.client = below_top request older (sym e) in omega arith)
 
--- the ledger tells of each request whether it is to act
+-- the ledger says for each request whether it is to act
 pub rises_from_acts : (request : Request) (older : List Request) (kept : Option Reply) → kept ≡ reply_in (acting older) request.client → Acts kept request.number
     → rises_above request older ≡ true
 rises_from_acts request older kept is acts =

@@ -1,4 +1,4 @@
--- What stands at the places of a history.
+-- What is at the places of a history.
 use Rattle.std.proofs.Common.{◌≡◌, ℕ, ◌<◌, Bool, true, false, cond, nat_eq, List, [], ◌∷◌, ◌++◌, length, reverse, Option, None, Some, IfSome, refl, sym, ◌∙◌, ap, subst, arith, append_assoc, length-append, eq-eqb, inl, inr}
 use Rattle.std.proofs.lemmas.Bool.{ne_eqb}
 use Rattle.std.proofs.lemmas.List.{reverse-append}
@@ -13,7 +13,7 @@ use Rattle.dsr_ledger.specs.declared.reply.Reply.{Reply}
 use Rattle.dsr_base.specs.Growth.{Extends}
 use Rattle.dsr_history.specs.History.{requests_of, rises_above, acting, acted, operations, answer_at, reply_in, StandsAt, IsReplyTo, IsLegal}
 
--- what stands in a history was asked for
+-- what is in a history was asked for
 
 In-reverse : (q : Request) (rs : List Request) → In q (reverse rs) → In q rs
 In-reverse q [] h = h
@@ -40,11 +40,11 @@ In-requests q (v ∷ older) h =
       | inr rest ↦ let found = In-requests q older rest in (found.0, there found.1, found.2)
     ]
 
--- each request of the history stands in one of the values
+-- each request of the history is in one of the values
 pub In-acted : (q : Request) (values : List (List Request)) → In q (acted values) → (requests : List Request) × In requests values × In q requests
 In-acted q values h = In-requests q values (In-acting q (requests_of values) h)
 
--- what stands in the history stands at a place of it
+-- what is in the history is at a place of it
 pub In-stands : (q : Request) (h : List Request) → In q h → (place : ℕ) × (answer : Answer) × StandsAt h place q answer
 In-stands q [] inside = elim inside [ ]
 In-stands q (r ∷ older) (here e) = (
@@ -80,7 +80,7 @@ stands_answered h place q answer s =
     ap (λ xs. answer_at xs place) s.parts
     ∙ (ap (answer_at (s.newer ++ q ∷ s.older)) s.place_is ∙ (answer_past s.newer q s.older ∙ ap Some (sym s.answer_is)))
 
--- what stands stays where it stands
+-- what is at a place stays there
 pub stands_later : (later earlier : List Request) (place : ℕ) (q : Request) (answer : Answer) → Extends later earlier → StandsAt earlier place q answer → StandsAt later place q answer
 stands_later later earlier place q answer grew s =
     record {
@@ -102,14 +102,14 @@ before_parts (m ∷ more) earlier (n ∷ newer) older q e short =
     let tails : more ++ earlier ≡ newer ++ q ∷ older = cc in
     before_parts more earlier newer older q tails short
 
--- what stands below the earlier length stood there before
+-- what is at a place below the earlier length was there before
 pub stood_before : (later earlier : List Request) (place : ℕ) (q : Request) (answer : Answer) → Extends later earlier → place < length earlier
     → StandsAt later place q answer → StandsAt earlier place q answer
 stood_before later earlier place q answer grew below s =
     let found = before_parts grew.0 earlier s.newer s.older q (sym grew.1 ∙ s.parts) (omega (arith, s.place_is)) in
     record { newer = found.0; older = s.older; parts = found.1; place_is = s.place_is; answer_is = s.answer_is }
 
--- one client's number stands at one place alone
+-- one client's number is at one place alone
 
 one_part : (h newer older other before : List Request) (q r : Request) → IsLegal h → h ≡ newer ++ q ∷ older → h ≡ other ++ r ∷ before
     → q.client ≡ r.client → q.number ≡ r.number → (q ≡ r) × (older ≡ before)
@@ -142,7 +142,7 @@ stands_once h place other q r answer told legal s t client number =
       s.answer_is ∙ (ap (λ older. answer_after (operations older) q.op) same.1 ∙ (ap (λ y. answer_after (operations t.older) y.op) same.0 ∙ sym t.answer_is)),
     )
 
--- the last reply is what a request of its client is answered where it stands
+-- the last reply is the answer to a request of its client, at the request's place
 
 reply_step : (b : Bool) (r : Request) (older : List Request) (client : ℕ) → b ≡ nat_eq r.client client
     → ((reply : Reply) → reply_in older client ≡ Some reply → IsReplyTo older client reply)

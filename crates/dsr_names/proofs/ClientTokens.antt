@@ -1,4 +1,4 @@
--- A client is read where the actor that is read is one.
+-- A client is read if the actor that is read is one.
 use Rattle.std.proofs.Common.{◌≡◌, ℕ, ◌<◌, List, Option, None, Some}
 use Rattle.dsr_base.specs.Reads.{Reads}
 use Rattle.dsr_base.proofs.ReadsLemmas.{reads_none, reads_some, not_read, was_read, only_read}

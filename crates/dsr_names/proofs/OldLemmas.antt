@@ -1,4 +1,4 @@
--- `none` is no decimal, so that the token of what a register holds has one reading.
+-- `none` is not a decimal, so the token of what a register holds has one reading.
 use Rattle.std.proofs.Common.{◌≡◌, ℕ, subst, ◌<◌, ◌^◌, ◌↔◌, None, Some, Option, List, arith, refl, sym, ◌∙◌, codes}
 use Rattle.std.specs.Fmt.{decimal}
 use Rattle.std.specs.Str.Parse.{AllDigits}
@@ -6,7 +6,7 @@ use Rattle.std.proofs.lemmas.Fmt.{digits_decimal}
 use Rattle.dsr_base.proofs.Numerals.{own}
 use Rattle.dsr_names.specs.Token.{IsOld, old_text}
 
--- `none` is no number
+-- `none` is not a number
 pub none_is_no_number : (n : ℕ) → n < 2 ^ 64 → codes "none" ≡ decimal n → ⊥
 none_is_no_number n small e =
     let h : AllDigits 10 (decimal n) = digits_decimal own n small in

@@ -1,4 +1,4 @@
--- Sets of replicas as the bits of a number, as lists that rise, and as texts.
+-- Sets of replicas as the bits of a number, as ascending lists, and as texts.
 use Rattle.std.proofs.Common.{◌≡◌, ◌≢◌, ℕ, zero, suc, ◌+◌, ◌*◌, ◌%◌, ◌/◌, ◌^◌, ◌<◌, ◌≤◌, Bool, true, false, cond, eqb, List, [], ◌∷◌, ◌++◌, length, sym, ◌∙◌, ap, refl, Option, None, Some, add-one, arith, lit<, lit≤, bit_and, eq-eqb, length-append, le_refl}
 use Rattle.std.specs.Prelude.{All}
 use Rattle.std.specs.Int.{bit_at}
@@ -28,7 +28,7 @@ next_set bits i one =
     let set : eqb (bit_at bits i) 1 ≡ true = eq-eqb (bit_at bits i) 1 (sym (shr_and_one bits i) ∙ one) in
     rw (add-one i, set) refl
 
--- one whose bit is not set doesn't
+-- one whose bit is not set does not
 pub next_clear : (bits i : ℕ) → bit_and (bits / 2 ^ i) 1 ≢ 1 → numbers_below (is_bit_set bits) (i + 1) ≡ numbers_below (is_bit_set bits) i
 next_clear bits i other =
     let clear : eqb (bit_at bits i) 1 ≡ false = ne_eqb (bit_at bits i) 1 (λ e. other (shr_and_one bits i ∙ e)) in
@@ -106,7 +106,7 @@ no_list bytes reads =
 only_list : (bytes : List ℕ) (rs : List ℕ) (bits : ℕ) → ReadsList bytes (Some rs) → bytes ≡ replicas_text (replicas_of bits) → rs ≡ replicas_of bits
 only_list bytes rs bits reads e = only_read (AreUpTo (λ (r : ℕ). r < 16) 16) replicas_text bytes rs reads (replicas_of bits) (replicas_are bits) e
 
--- a list that is not that of its set is the text of none
+-- a list other than that of its set is the text of no set
 pub another_list : (bytes rs : List ℕ) → ReadsList bytes (Some rs) → (replicas_of (bits_with 0 rs) ≡ rs → ⊥) → ReadsSet bytes None
 another_list bytes rs reads other =
     reads_none (λ (bits : ℕ). bits < 2 ^ 16) (λ bits. replicas_text (replicas_of bits)) bytes

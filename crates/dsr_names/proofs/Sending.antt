@@ -1,7 +1,7 @@
 -- One more turn of a loop that sends a text to a sink whose room may be known.
 use Rattle.std.proofs.Common.{◌≡◌, ◌≢◌, ◌⊎◌, ℕ, ◌+◌, ◌-◌, ◌≤◌, Option, None, Some, Result, Ok, IfSome, arith, inl, inr, subst}
 
--- where there is room for all, the first turn sends all
+-- if there is room for all, the first turn sends all
 pub sends_all : (E : Type 0) (before now : Option ℕ) (sent count all rest : ℕ)
     → IfSome before (λ most. all ≤ most → (sent ≡ 0) ⊎ (sent ≡ all))
     → sent ≢ all → rest ≡ all - sent → (sent ≡ 0 → now ≡ before)

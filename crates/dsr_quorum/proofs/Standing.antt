@@ -1,4 +1,5 @@
--- A tally stands for one note more after the first reply of a replica was put to its place, and as it is where the replica had one.
+-- If a replica gives its first reply and the tally stores it, the tally represents one more note; if the replica gave
+-- one before, the tally does so unchanged.
 use Rattle.std.proofs.Common.{◌≡◌, ℕ, ◌<◌, ◌≤◌, ◌==◌, nat_lt, Bool, true, false, List, ◌∷◌, length, Option, None, Some, if◌then◌else◌, get_or, refl, ap, sym, ◌∙◌, arith}
 use Rattle.std.specs.Prelude.{slice_index_or, slice_set, is_some}
 use Rattle.std.specs.Option.{option_or}
@@ -14,7 +15,7 @@ use Rattle.dsr_quorum.specs.Tally.{Tally, StandsFor}
 use Rattle.dsr_quorum.specs.Votes.{Note, first_of, is_reply, votes, winner}
 use Rattle.dsr_quorum.proofs.Voting.{none_enough}
 
--- a replica that had a reply keeps it
+-- a replica that gave a reply keeps it as its first
 same_first : (note : Note) (notes : List Note) (first : Reply) → first_of note.replica notes ≡ Some first → (p : ℕ)
     → first_of p (note ∷ notes) ≡ first_of p notes
 same_first note notes first had p = by_replica (note.replica == p) ((Decides-eqb note.replica p).0)
@@ -57,7 +58,7 @@ winner_again f n note notes first had = by_winner (winner f n notes) refl
         let few = none_enough f n notes note.reply is in
         ap (λ b. if b then Some note.reply else None) (not_more f (votes n (note ∷ notes) note.reply) (omega (arith, same, few)))
 
--- a note of a replica that had a reply changes nothing
+-- a note of a replica that gave a reply before changes nothing
 pub stands_again : (tally : Tally) (note : Note) (notes : List Note) → note.replica < tally.n
     → is_some (get_or tally.firsts note.replica None) ≡ true → StandsFor tally notes → StandsFor tally (note ∷ notes)
 stands_again tally note notes inside had stands = record {

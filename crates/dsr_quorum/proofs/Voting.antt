@@ -15,7 +15,7 @@ use Rattle.dsr_quorum.specs.Votes.{Note, first_of, is_reply, votes, winner}
 
 -- ---- counting, over any tests
 
--- where more numbers pass the first test than the second, one passes the first and fails the second
+-- if more numbers pass the first test than the second, one passes the first and fails the second
 pub more_pass : (p q : ℕ → Bool) (n : ℕ) → count_below q n < count_below p n → (k : ℕ) × (k < n) × (p k ≡ true) × (q k ≡ false)
 more_pass p q zero more = absurd (omega (arith, more))
 more_pass p q (suc n) more =
@@ -31,7 +31,7 @@ more_pass p q (suc n) more =
     at_last below (inr no_p) other =
         let last_p : ◌≡◌ {A = ℕ} (cond (p n) 1 0) 0 = cond-false (p n) 1 0 no_p in below (omega (arith, more, last_p))
 
--- where each number that passes the first test passes the second, no more pass the first
+-- if each number that passes the first test passes the second, no more pass the first
 pub count_more : (p q : ℕ → Bool) (n : ℕ) → ((k : ℕ) → k < n → p k ≡ true → q k ≡ true) → count_below p n ≤ count_below q n
 count_more p q zero each = omega arith
 count_more p q (suc n) each =
@@ -53,7 +53,7 @@ vote_is reply (Some r) e = ap Some ((reply_eq-Decides r reply).0 e)
 pub is_vote : (reply : Reply) (given : Option Reply) → given ≡ Some reply → is_reply reply given ≡ true
 is_vote reply given e = subst (λ g. is_reply reply g ≡ true) (sym e) ((reply_eq-Decides reply reply).1 refl)
 
--- where a test holds of more than f replicas, it holds of a loyal one
+-- if a test holds for more than f replicas, it holds for a loyal one
 pub some_voter : (shape : Shape) (test : ℕ → Bool) → HasFewTraitors shape → shape.f < count_below test shape.n
     → (p : ℕ) × IsLoyal shape (Replica p) × (test p ≡ true)
 some_voter shape test few enough =
@@ -67,7 +67,7 @@ loyal_voter shape notes reply few enough =
     let found = some_voter shape (λ p. is_reply reply (first_of p notes)) few enough in
     (found.0, found.1, vote_is reply (first_of found.0 notes) found.2)
 
--- the replicas that are no traitors are more than f
+-- more than f replicas are not traitors, and their votes are enough
 pub loyal_enough : (shape : Shape) (notes : List Note) (reply : Reply) → HasFewTraitors shape → 2 * shape.f < shape.n
     → ((p : ℕ) → IsLoyal shape (Replica p) → first_of p notes ≡ Some reply) → shape.f < votes shape.n notes reply
 loyal_enough shape notes reply few most same =
@@ -164,7 +164,7 @@ none_enough f n (note ∷ older) reply e = by_older (none_enough f n older reply
         by_reply held (reply_eq note.reply reply) refl is
         (few f (votes n (note ∷ older) note.reply) (not_newly (nat_lt f (votes n (note ∷ older) note.reply)) note.reply e))
 
--- where all loyal replicas vote for one reply, it wins
+-- if all loyal replicas vote for one reply, it wins
 pub loyal_win : (shape : Shape) (notes : List Note) (reply : Reply) → HasFewTraitors shape → 2 * shape.f < shape.n
     → ((p : ℕ) → IsLoyal shape (Replica p) → first_of p notes ≡ Some reply) → winner shape.f shape.n notes ≡ Some reply
 loyal_win shape notes reply few most same = by_winner (winner shape.f shape.n notes) refl

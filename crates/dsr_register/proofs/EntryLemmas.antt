@@ -1,4 +1,4 @@
--- Entries of which some hold nothing, and the registers among them that hold a number.
+-- Entries, some of which hold nothing, and the registers among them that hold a number.
 use Rattle.std.proofs.Common.{◌≡◌, ℕ, ◌+◌, ◌<◌, Bool, true, false, cond, List, [], ◌∷◌, ◌++◌, length, filter, is_some, Option, None, Some, refl, sym, ◌∙◌, ap, subst, arith, zero, suc, ◌≤◌, append-nil, take, drop, get_or, slice_get, set, swap, ap₂, inl, inr, ◌⊎◌, eq-or-lt_of_le, length-set}
 use Rattle.std.specs.List.{IsDistinct, AllByRecursion, cons_option}
 use Rattle.std.specs.Map.{keys_of, values_of, lookup, set_value}
@@ -76,7 +76,7 @@ distinct_none : IsDistinct bytes_eq []
 unfolding IsDistinct
 distinct_none = tt
 
--- no register holds a number twice, where none has two entries
+-- no register holds a number twice, if none has two entries
 pub distinct_held : (es : Entries) → IsDistinct bytes_eq (keys_of es) → IsDistinct bytes_eq (keys_of (held_entries es))
 distinct_held [] d = distinct_none
 distinct_held (e ∷ es) d =
@@ -119,7 +119,7 @@ flatten_cond : (b : Bool) (after : Option ℕ) (found : Option (Option ℕ)) →
 flatten_cond true after found = refl
 flatten_cond false after found = refl
 
--- what follows where one entry changed
+-- what follows if one entry changed
 pub changes : (es fs : Entries) (name : List ℕ) (found : Option (Option ℕ)) (after : Option ℕ)
     → IsDistinct bytes_eq (keys_of es) → IsDistinct bytes_eq (keys_of fs) → lookup (bytes_eq name) es ≡ found
     → ((other : List ℕ) → lookup (bytes_eq other) fs ≡ cond (bytes_eq name other) (Some after) (lookup (bytes_eq other) es))
@@ -154,7 +154,7 @@ changes_push es fs name number d e is updates push =
     changes es fs name None (Some number) d e is updates
     (let count : length (held_entries fs) ≡ length (held_entries es) + 1 = ap (λ xs. length (held_entries xs)) push ∙ count_push es name number in omega arith)
 
--- none written over where there is none
+-- nothing is written over if there is no entry
 pub changes_nothing : (es fs : Entries) (name : List ℕ) → IsDistinct bytes_eq (keys_of es) → lookup (bytes_eq name) es ≡ None
     → fs ≡ es → Changes (held_entries es) (held_entries fs) name None None
 changes_nothing es fs name d absent same =
@@ -293,11 +293,11 @@ module _ (all now : Entries) (front place : ℕ) (held : Option ℕ) (d : List �
         le = omega (arith, h.le);
       }
 
--- at its end they stand at the front
+-- at its end they are at the front
 pub swept_all : (all now : Entries) (front place : ℕ) → IsSwept all now front place → place ≡ length all → take front now ≡ kept all
 swept_all all now front place h end = h.moved ∙ ap kept (take_all place all (omega (arith, end)))
 
--- and are as many as they were
+-- and there are as many as before
 pub swept_count : (all now : Entries) (front place : ℕ) → IsSwept all now front place → place ≡ length all → front ≡ length (held_entries all)
 swept_count all now front place h end =
     sym (length-take-le front now (omega (arith, h.le, h.len, end))) ∙ (ap length (swept_all all now front place h end) ∙ length_kept all)

@@ -1,4 +1,4 @@
--- Where the requests of a replica's history are from: each was asked, and the client's signature beside it was taken.
+-- What the requests of a replica's history come from: each was asked, and the client's signature beside it was taken.
 use Rattle.std.proofs.Common.{◌≡◌, ℕ, zero, suc, List, inl, inr, sym, subst}
 use Rattle.dsr_base.specs.Member.{In, here, there}
 use Rattle.dsr_base.proofs.MemberLemmas.{In-all}
@@ -27,7 +27,7 @@ of_slot of (suc slot) value (here e) = (slot, e)
 of_slot of (suc slot) value (there h) = of_slot of slot value h
 
 module _ (shape : Shape) (log : List Entry) where
-  -- a request of what is decided of a slot was asked, and its client's signature was taken
+  -- a request of what is decided for a slot was asked, and its client's signature was taken
   slot_source : (slot : ℕ) (s : SignedRequest) → In s (signed_in (slot_decided shape log slot)) → IsAsked shape s × WasTaken log s.signature
   slot_source slot s h = elim (decision_from (kept_after shape slot (slot_read shape log slot) (suc shape.f))) [
     | inl idle ↦ elim (subst (λ v. In s (signed_in v)) idle h) [ ]

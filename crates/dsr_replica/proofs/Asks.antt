@@ -1,4 +1,4 @@
--- Where held asks are from, and what may be proposed.
+-- What held asks come from, and what may be proposed.
 use Rattle.std.proofs.Common.{◌≡◌, ℕ, ◌==◌, ◌&&◌, Bool, true, false, List, [], ◌∷◌, length, Option, None, Some, if◌then◌else◌, ◌⊎◌, inl, inr, refl, ap, sym, ◌∙◌, subst, arith}
 use Rattle.std.specs.Prelude.{◌≢◌, All, AllPairs, map}
 use Rattle.std.proofs.Math.ListN.{get_or-map}
@@ -36,7 +36,7 @@ pub record IsOwnAsk (shape : Shape) (client : ℕ) (s : SignedRequest) : Type 0 
   pub client_is : s.request.client ≡ client
   pub asked : IsAsked shape s
 
--- what the test says
+-- what the test decides
 pub own_parts : (shape : Shape) (client : ℕ) (s : SignedRequest) → is_own_ask shape client s ≡ true → IsOwnAsk shape client s
 own_parts shape client s e =
     let parts = (Decides-and (s.request.client == client) (is_asked shape s) (Decides-eqb s.request.client client) (asked-Decides shape s)).0 e in

@@ -1,4 +1,5 @@
--- What a choice gives, by the replica and by its log, and that a replica stands for its log after a post; over plain variables.
+-- What a choice gives, by the replica and by its log, and that a replica represents its log after a post; over plain
+-- variables.
 use Rattle.std.proofs.Common.{◌≡◌, ℕ, zero, suc, ◌-◌, ◌<◌, ◌≤◌, ◌==◌, Bool, true, false, List, [], ◌∷◌, ◌++◌, length, Option, None, Some, if◌then◌else◌, inl, inr, refl, ap, ap₂, sym, ◌∙◌, subst, append_assoc, arith}
 use Rattle.std.specs.Prelude.{◌^◌, IsSome, slice_get, slice_index_or, take, drop}
 use Rattle.std.specs.Option.{option_map}
@@ -39,7 +40,7 @@ all_count asks (client ∷ more) found e =
     let parts = put_parts (ask_of asks client) (asks_of asks more) found e in
     sym (ap length parts.4) ∙ ap suc (all_count asks more parts.1 parts.3)
 
--- the ask of the first client and those of the others stand after what was there
+-- the ask of the first client and those of the others come after what was there
 pub added_more : (asks : List (Option SignedRequest)) (clients : List ℕ) (first : ℕ) (ask : SignedRequest) (before after all : List SignedRequest)
     → first ≡ slice_index_or clients 0 first → 1 ≤ length clients → Some ask ≡ ask_of asks first
     → ((more : List SignedRequest) → asks_of asks (take (length clients - 1) (drop 1 clients)) ≡ Some more → after ≡ (before ++ ask ∷ []) ++ more)
@@ -64,7 +65,7 @@ pub is_some : {A : Type 0} (o : Option A) → IsSome o → (v : A) × (o ≡ Som
 is_some None some = absurd (false≢true some)
 is_some (Some v) some = (v, refl)
 
--- nothing is there where nothing is
+-- there is nothing if there is not something
 pub is_none : {A : Type 0} (o : Option A) → (IsSome o → ⊥) → o ≡ None
 is_none None none = refl
 is_none (Some v) none = absurd (none refl)
@@ -111,7 +112,7 @@ some_unmapped : {A B : Type 0} (f : A → B) (o : Option A) → IsSome (option_m
 some_unmapped f None h = h
 some_unmapped f (Some x) h = refl
 
--- a post is allowed where there is such an envelope, below round 2^36
+-- a post is allowed if there is such an envelope, below round 2^36
 pub allowed_is : (r : Replica) (log : List Entry) (to : ℕ) (pick : Pick) → StandsFor r log
     → (Allows r to pick → IsSome (envelope_to r.shape r.me log to pick) × (rounds r.shape log < 2 ^ 36))
     × (IsSome (envelope_to r.shape r.me log to pick) × (rounds r.shape log < 2 ^ 36) → Allows r to pick)

@@ -1,4 +1,5 @@
--- How many envelopes a loyal replica has posted to each replica and taken from each, at each point of a round.
+-- The number of envelopes that a loyal replica has posted to each replica and taken from each, at each point
+-- of a round.
 use Rattle.std.proofs.Common.{◌≡◌, ℕ, suc, ◌-◌, ◌<◌, ◌≤◌, ◌==◌, nat_lt, Bool, true, false, List, [], ◌∷◌, length, Option, None, Some, if◌then◌else◌, refl, ap, sym, ◌∙◌, subst, arith}
 use Rattle.std.proofs.lemmas.Bool.Decides.{nat_tests, Decides-eqb}
 use Rattle.std.proofs.lemmas.Option.{none-some}

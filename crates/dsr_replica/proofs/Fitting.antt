@@ -42,7 +42,7 @@ use Rattle.dsr_replica.specs.Posts.{MayPropose, IsOfRound}
 use Rattle.dsr_replica.proofs.Posts.{none_part}
 use Rattle.dsr_replica.proofs.Sources.{taken_entry, in_some, in_part}
 
--- what holds of each item holds of all
+-- what holds for each item holds for all
 all_from : {A : Type 0} (P : A → Type 0) (xs : List A) → ((x : A) → In x xs → P x) → All P xs
 all_from P [] each = All-nil P
 all_from P (x ∷ xs) each = All-cons P x xs (each x (here refl)) (all_from P xs (λ y h. each y (there h)))
@@ -57,7 +57,7 @@ content_fits (Act batch) few some each = record {
   each = All-map IsRequest (λ (s : SignedRequest). s.request) batch (All-weaker IsSigned (λ s. IsRequest s.request) (λ s h. h.request) batch each);
 }
 
--- ---- how many chains a round's envelope has
+-- ---- the number of chains in a round's envelope
 
 filter_few : {A : Type 0} (test : A → Bool) (xs : List A) → length (filter test xs) ≤ length xs
 filter_few test [] = omega arith
@@ -83,7 +83,7 @@ none_later r b c = by_test (suc (suc r) == 1) refl
     by_test true e = let same = (Decides-eqb (suc (suc r)) 1).0 e in absurd (omega (arith, same))
     by_test false e = refl
 
--- of one slot at most two chains are posted in a round: what was kept, or what is started
+-- for one slot at most two chains are posted in a round: what was kept, or what is started
 part_few : (shape : Shape) (me : Actor) (log : List Entry) (slot : ℕ) (value : SlotValue) (r : ℕ)
     → length (posted shape slot me value (suc r) (slot_kept shape log slot r)) ≤ 2
 part_few shape me log slot value zero =

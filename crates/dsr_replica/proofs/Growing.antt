@@ -1,4 +1,5 @@
--- A log that goes on says the same of its earlier rounds, and its decided values grow by further ones.
+-- A log that goes on says the same about its earlier rounds, and its decided values grow by further
+-- ones.
 use Rattle.std.proofs.Common.{◌≡◌, ℕ, zero, suc, ◌+◌, ◌-◌, ◌<◌, ◌≤◌, ◌&&◌, not, nat_lt, Bool, true, false, List, [], ◌∷◌, ◌++◌, length, if◌then◌else◌, inl, inr, refl, ap, ap₂, sym, ◌∙◌, arith}
 use Rattle.std.specs.Prelude.{slice_get}
 use Rattle.std.proofs.lemmas.Bool.{cases_lt}
@@ -28,23 +29,23 @@ use Rattle.dsr_replica.proofs.Joining.{each_same, get_before_if}
 abbrev pub HasTaken : Shape → List Entry → ℕ → Type 0
 HasTaken shape log t = (p : ℕ) → p < shape.n → t ≤ length (taken_from (Replica p) log)
 
--- what was taken before stands at its place
+-- what was taken before is at its place
 taken_before : (a : Actor) (entry : Entry) (log : List Entry) (t : ℕ) → t < length (taken_from a log)
     → slice_get (taken_from a (entry ∷ log)) t ≡ slice_get (taken_from a log) t
 taken_before a (Post to envelope) log t before = refl
 taken_before a (Take from envelope) log t before = get_before_if (actor_eq from a) (taken_from a log) envelope t before
 
--- two lists that stand where a test holds are the same where they are the same then
+-- two lists, each used if a test holds, give the same if they are the same then
 guarded : (b : Bool) (x y : List Chain) → (b ≡ true → x ≡ y) → (if b then x else []) ≡ (if b then y else [])
 guarded true x y same = same refl
 guarded false x y same = refl
 
--- a slot of which something is posted in a round has begun by then
+-- if something is posted for a slot in a round, the slot has begun by then
 has_begun : (round first last : ℕ) → (not (nat_lt round first) && not (nat_lt last round)) ≡ true → first ≤ round
 has_begun round first last e = grind (arith, nat_tests)
 
 module _ (shape : Shape) (entry : Entry) (log : List Entry) where
-  -- what was read in a round of which all is taken stays the same
+  -- what was read in a round stays the same if all its envelopes are taken
   pub read_same : (t : ℕ) → HasTaken shape log (suc t) → read_in shape (entry ∷ log) t ≡ read_in shape log t
   read_same t taken =
       each_same shape.n (sent (entry ∷ log) t) (sent log t)
@@ -63,12 +64,12 @@ module _ (shape : Shape) (entry : Entry) (log : List Entry) where
       after_same shape slot (slot_read shape (entry ∷ log) slot) (slot_read shape log slot) r
       (λ round some inside. slot_read_same t slot round taken (omega (arith, within, inside)))
 
-  -- what is decided of a closed slot stays the same
+  -- what is decided for a closed slot stays the same
   pub decided_same : (t slot : ℕ) → HasTaken shape log t → last_round shape slot < t
       → slot_decided shape (entry ∷ log) slot ≡ slot_decided shape log slot
   decided_same t slot taken closed = ap decision (kept_same t slot (suc shape.f) taken (omega (arith, closed)))
 
-  -- what is posted of a slot in a round before which all was taken stays the same
+  -- what is posted for a slot in a round stays the same if all was taken before
   part_same : (t : ℕ) (me : Actor) (round : ℕ) (value : SlotValue) (slot : ℕ) → HasTaken shape log t → round ≤ t
       → slot_part shape me (entry ∷ log) round value slot ≡ slot_part shape me log round value slot
   part_same t me round value slot taken within =

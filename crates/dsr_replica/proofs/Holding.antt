@@ -1,4 +1,4 @@
--- What a take changes of the asks that are held.
+-- How a take changes the asks that are held.
 use Rattle.std.proofs.Common.{◌≡◌, ◌≢◌, ℕ, ◌<◌, ◌≤◌, ◌==◌, ◌&&◌, not, nat_lt, Bool, true, false, List, ◌∷◌, Option, None, Some, if◌then◌else◌, refl, ap, ap₂, ◌∙◌, arith}
 use Rattle.std.proofs.lemmas.Bool.{false_from_ne_true}
 use Rattle.std.proofs.lemmas.Bool.Decides.{Decides-eqb, nat_tests}
@@ -33,7 +33,7 @@ module _ (shape : Shape) (client : ℕ) where
       ap (λ b. if b then held_with shape client (held shape client log) envelope else held shape client log)
       ((Decides-eqb client client).1 refl)
 
-  -- its own ask of no smaller number is held from then on
+  -- its own ask with no smaller number is held from then on
   pub newer_held : (log : List Entry) (ask : SignedRequest) → ask.request.client ≡ client → IsAsked shape ask
       → ((before : SignedRequest) → held shape client log ≡ Some before → before.request.number ≤ ask.request.number)
       → held shape client (Take (Client client) (Ask ask) ∷ log) ≡ Some ask
@@ -53,7 +53,7 @@ module _ (shape : Shape) (client : ℕ) where
       neither true = refl
       neither false = refl
 
-  -- one of a smaller number is not
+  -- one with a smaller number is not
   pub older_dropped : (log : List Entry) (ask before : SignedRequest) → held shape client log ≡ Some before
       → ask.request.number < before.request.number → held shape client (Take (Client client) (Ask ask) ∷ log) ≡ held shape client log
   older_dropped log ask before is below =

@@ -1,4 +1,4 @@
--- The slots in flight, over plain lists: reading a chain changes that slot alone which it is of.
+-- The slots in flight, over plain lists: reading a chain changes the chain's own slot alone.
 use Rattle.std.proofs.Common.{◌≡◌, ℕ, zero, suc, ◌+◌, ◌<◌, ◌≤◌, List, [], ◌∷◌, length, map, refl, ap, ap₂, sym, ◌∙◌, subst, append_assoc, add-one, arith}
 use Rattle.std.specs.Prelude.{◌≢◌, Bool, true, false, All, nat_lt, ◌++◌, if◌then◌else◌, slice_index_or, slice_set}
 use Rattle.std.proofs.lemmas.Bool.Decides.{nat_tests}
@@ -16,11 +16,11 @@ use Rattle.dsr_slot.specs.SlotState.{SlotState, opened, with_chain, with_closed}
 use Rattle.dsr_slot.proofs.Lemmas.{skips_other_slots}
 use Rattle.dsr_replica.specs.Support.Flights.{AreInFlight, HasOpenRound, IsFirstLast, AreOf, with_chains, slot_post, posts_of, rest_of, going_on}
 
--- each of these slots after one more chain was read
+-- each of these slots after one more chain is read
 abbrev pub all_with : Chain → List SlotState → List SlotState
 all_with chain slots = map (λ s. with_chain s chain) slots
 
--- a chain of another slot changes nothing
+-- a chain for another slot changes nothing
 with_other : (s : SlotState) (chain : Chain) → chain.slot ≢ s.slot → with_chain s chain ≡ s
 with_other s chain other = ap (λ kept. record s { kept = kept }) (skips_other_slots s.shape s.slot (suc s.closed) s.kept chain other)
 
@@ -30,14 +30,14 @@ module _ (shape : Shape) (round : ℕ) (chain : Chain) where
   flies_on [] first h = h
   flies_on (s ∷ more) first h = (h.0, h.1, h.2, flies_on more (suc first) h.3)
 
-  -- a chain of an earlier slot changes none
+  -- a chain for an earlier slot changes none
   pub reads_earlier : (slots : List SlotState) (first : ℕ) → AreInFlight shape round slots first → chain.slot < first → all_with chain slots ≡ slots
   reads_earlier [] first h earlier = refl
   reads_earlier (s ∷ more) first h earlier =
       let slot = h.1 in
       ap₂ (λ x xs. x ∷ xs) (with_other s chain (λ e. omega (arith, earlier, slot, e))) (reads_earlier more (suc first) h.3 (omega (arith, earlier)))
 
-  -- nor does one of a later slot
+  -- nor does one for a later slot
   pub reads_later : (slots : List SlotState) (first place : ℕ) → AreInFlight shape round slots first → chain.slot ≡ first + place
       → length slots ≤ place → all_with chain slots ≡ slots
   reads_later [] first place h is later = refl
@@ -47,7 +47,7 @@ module _ (shape : Shape) (round : ℕ) (chain : Chain) where
       ap₂ (λ x xs. x ∷ xs) (with_other s chain (λ e. omega (arith, is, slot, e)))
       (reads_later more (suc first) place h.3 (omega (arith, is)) (omega (arith, later)))
 
-  -- a chain of the slot at a place changes that one
+  -- a chain for the slot at a place changes that one
   pub reads_at : (slots : List SlotState) (first place : ℕ) (d : SlotState) → AreInFlight shape round slots first → chain.slot ≡ first + place
       → place < length slots → slice_set slots place (with_chain (slice_index_or slots place d) chain) ≡ all_with chain slots
   reads_at [] first place d h is inside = absurd (omega (arith, inside))
@@ -59,7 +59,7 @@ module _ (shape : Shape) (round : ℕ) (chain : Chain) where
       (reads_at more (suc first) place d h.3 (omega (arith, is)) (omega (arith, inside)))
 
 module _ (shape : Shape) (round : ℕ) where
-  -- the slot at a place, and how many of its rounds are closed
+  -- the slot at a place, and the number of its closed rounds
   at_place : (slots : List SlotState) (first place : ℕ) (d : SlotState) → AreInFlight shape round slots first → place < length slots
       → ((slice_index_or slots place d).shape ≡ shape) × (first + place + (slice_index_or slots place d).closed ≡ round)
   at_place [] first place d h inside = absurd (omega (arith, inside))
@@ -97,7 +97,7 @@ pub all_none : (slots : List SlotState) → map (with_chains []) slots ≡ slots
 all_none [] = refl
 all_none (s ∷ more) = ap (λ xs. s ∷ xs) (all_none more)
 
--- reading one chain more
+-- reading one more chain
 pub all_more : (chains : List Chain) (chain : Chain) (slots : List SlotState)
     → all_with chain (map (with_chains chains) slots) ≡ map (with_chains (chains ++ chain ∷ [])) slots
 all_more chains chain [] = refl
@@ -181,7 +181,7 @@ module _ (shape : Shape) (round : ℕ) where
 
 -- ---- closing each slot, one after the other
 
--- the first slots, as many as the number says, with their rounds closed
+-- the slots, of which this number of first ones have their rounds closed
 abbrev pub first_closed : ℕ → List SlotState → List SlotState
 first_closed zero slots = slots
 first_closed (suc count) [] = []
@@ -215,7 +215,7 @@ next_flies shape round slots items h is =
 
 -- ---- what is posted
 
--- what is posted of one slot more
+-- what is posted for one more slot
 pub posts_more : (me : Actor) (value : SlotValue) (slots : List SlotState) (s : SlotState)
     → posts_of me value (slots ++ s ∷ []) ≡ posts_of me value slots ++ slot_post me value s
 posts_more me value [] s = append-nil (slot_post me value s)

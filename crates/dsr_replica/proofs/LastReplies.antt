@@ -1,4 +1,4 @@
--- That the last request of each client that acted has a reply.
+-- The last request of each client that acted has a reply.
 use Rattle.std.proofs.Common.{◌≡◌, ◌≢◌, ℕ, ◌≤◌, List, None, Some, ap, ◌∙◌}
 use Rattle.std.specs.Option.{option_map}
 use Rattle.dsr_base.specs.Member.{In}

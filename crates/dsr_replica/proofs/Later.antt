@@ -137,7 +137,7 @@ module _ (shape : Shape) (me : Actor) (some : 0 < shape.n) where
       found None e = absurd (none-some envelope e)
       found (Some r) e = (r, same_Some (Reply r) envelope e)
 
-  -- each signature that a loyal replica posts is its own, or stands in an envelope that it took before
+  -- each signature that a loyal replica posts is its own, or is in an envelope that it took before
   pub post_source : (log : List Entry) → IsLoyalLog shape me log → (to : Actor) (envelope : Envelope) → IsNext shape me log (Post to envelope)
       → (s : Signature) → Carries envelope s → (s.signer ≡ me) ⊎ WasTaken log s
   post_source log loyal (Client c) envelope next s carried =

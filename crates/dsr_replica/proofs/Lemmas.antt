@@ -1,6 +1,6 @@
--- What the crates above take from a replica's log: how many posts and takes it has, that a post that is due can be made, that the posts
--- of a round are equal and are its envelope by the log, where each chain and each signature in a post is from, that closed rounds,
--- kept chains and decided values stay, where held asks, requests and replies are from, what is within the limits, which choice an
+-- What the crates above use of a replica's log: the number of its posts and takes, that a post that is due can be made, that the posts
+-- of a round are equal and are its envelope by the log, what each chain and each signature in a post comes from, that closed rounds,
+-- kept chains and decided values stay, what held asks, requests and replies come from, what is within the limits, which choice an
 -- envelope shows, and that none of it depends on who is a traitor.
 pub use Rattle.dsr_replica.proofs.Acting.{acted_source}
 pub use Rattle.dsr_replica.proofs.Asks.{IsOwnAsk, WasHeld, held_from, AreHeld, all_held_from}

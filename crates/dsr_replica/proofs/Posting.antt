@@ -25,7 +25,7 @@ use Rattle.dsr_replica.proofs.Counting.{post_due, counts, all_taken}
 use Rattle.dsr_replica.proofs.Growing.{chains_same}
 use Rattle.dsr_replica.proofs.Joining.{get_if, get_more}
 
--- what a choice gives where a post is due
+-- what a choice gives if a post is due
 chosen_is : (b : Bool) (o : Option Envelope) (x : Envelope) → (if b then o else None) ≡ Some x → o ≡ Some x
 chosen_is true o x e = e
 chosen_is false o x e = absurd (none-some x e)
@@ -41,7 +41,7 @@ later_post shape me log q Plain envelope e = e
 later_post shape me log q (From clients) envelope e = absurd (none-some envelope e)
 later_post shape me log q (Begin op) envelope e = absurd (none-some envelope e)
 
--- where something stands in a list that grew by an item or did not: where it stood, or at the end
+-- an item of a list that grew by an item or did not: it is at its earlier place, or at the end
 more_if : {A : Type 0} {P : Type 0} (b : Bool) → (b ≡ true → P) → (xs : List A) (y : A) (place : ℕ) (x : A)
     → slice_get (if b then xs ++ y ∷ [] else xs) place ≡ Some x
     → (slice_get xs place ≡ Some x) ⊎ (P × (place ≡ length xs) × (y ≡ x))
@@ -49,7 +49,7 @@ more_if true holds xs y place x e = elim (get_more xs y place x e) [ inl old ↦
 more_if false holds xs y place x e = inl e
 
 module _ (shape : Shape) (me : Actor) (some : 0 < shape.n) where
-  -- how many posts there were to the replica to which one is due: one for each closed round
+  -- the number of posts to a replica to which one is due: one for each closed round
   none_yet : (log : List Entry) → IsLoyalLog shape me log → (q : ℕ) → due shape log ≡ PostTo q → q < shape.n
       → length (posted_to (Replica q) log) ≡ rounds shape log
   none_yet log loyal q is inside =

@@ -1,4 +1,5 @@
--- What is posted of the slots in flight is the round's list of chains by the log; over plain variables.
+-- What is posted for the slots in flight is the round's list of chains by the log, over plain
+-- variables.
 use Rattle.std.proofs.Common.{◌≡◌, ℕ, suc, ◌+◌, ◌-◌, ◌<◌, ◌≤◌, ◌&&◌, nat_lt, not, true, false, List, [], ◌∷◌, ◌++◌, length, if◌then◌else◌, refl, ap, sym, ◌∙◌, subst, append_assoc, arith}
 use Rattle.std.proofs.lemmas.Bool.Decides.{nat_tests}
 use Rattle.std.proofs.lemmas.List.{append-nil}
@@ -35,7 +36,7 @@ in_flight_test t first f closed is few = grind (arith, nat_tests)
 past_test : (t first last : ℕ) → last < t → (not (nat_lt t first) && not (nat_lt last t)) ≡ false
 past_test t first last over = grind (arith, nat_tests)
 
--- what is posted of a slot in flight, before anything is taken in the round
+-- what is posted for a slot in flight, before anything is taken in the round
 part_is : (s : SlotState) (log : List Entry) (t : ℕ) (me : Actor) (value : SlotValue)
     → ((p : ℕ) → p < s.shape.n → length (taken_from (ReplicaNumber p) log) ≡ t) → s.slot + s.closed ≡ t → HasOpenRound s
     → HasRead s (slot_read s.shape log s.slot) → slot_post me value s ≡ slot_part s.shape me log t value s.slot
@@ -52,7 +53,7 @@ part_is s log t me value all now few has =
     ∙ ap (λ b. if b then posted s.shape s.slot me value (suc (t - first)) (slot_kept s.shape log s.slot (t - first)) else [])
     (sym (in_flight_test t first s.shape.f s.closed here few)))
 
--- of a closed slot nothing is posted
+-- for a closed slot nothing is posted
 pub none_part : (shape : Shape) (me : Actor) (log : List Entry) (t : ℕ) (value : SlotValue) (slot : ℕ) → slot < closed_slots shape t
     → slot_part shape me log t value slot ≡ []
 none_part shape me log t value slot closed =

@@ -1,4 +1,4 @@
--- That held asks can be proposed, by the sender and by no one else.
+-- Held asks can be proposed, by the sender and by no one else.
 use Rattle.std.proofs.Common.{◌≡◌, ◌≢◌, ℕ, true, false, Bool, List, [], ◌∷◌, Option, None, Some, if◌then◌else◌, refl, ap, ap₂, ◌∙◌, subst}
 use Rattle.std.specs.Prelude.{IsSome, map}
 use Rattle.std.specs.Option.{option_map}
@@ -64,13 +64,13 @@ put_more (Some x) None some = absurd (false≢true some)
 put_more (Some x) (Some xs) some = refl
 
 module _ (shape : Shape) (log : List Entry) where
-  -- all are there where each is
+  -- all are there if each is
   pub each_held : (clients : List ℕ) → ((client : ℕ) → In client clients → IsSome (held shape client log)) → IsSome (all_held shape log clients)
   each_held [] each = refl
   each_held (client ∷ more) each =
       put_two (held shape client log) (all_held shape log more) (each client (here refl)) (each_held more (λ c inside. each c (there inside)))
 
-  -- and each is where all are
+  -- and each is there if all are
   pub held_each : (clients : List ℕ) → IsSome (all_held shape log clients) → (client : ℕ) → In client clients → IsSome (held shape client log)
   held_each [] some client inside = elim inside [ ]
   held_each (first ∷ more) some client (here e) =
@@ -78,7 +78,7 @@ module _ (shape : Shape) (log : List Entry) where
   held_each (first ∷ more) some client (there inside) =
       held_each more (put_more (held shape first log) (all_held shape log more) some) client inside
 
-  -- of one more client
+  -- for one more client
   order_more : (client : ℕ) (more : List ℕ) (asks : List SignedRequest)
       → ((rest : List SignedRequest) → all_held shape log more ≡ Some rest → map (λ c. held shape c log) more ≡ map Some rest)
       → (o : Option SignedRequest) (os : Option (List SignedRequest)) → held shape client log ≡ o → all_held shape log more ≡ os
@@ -88,7 +88,7 @@ module _ (shape : Shape) (log : List Entry) where
   order_more client more asks others (Some x) (Some xs) one rest put =
       ap₂ (λ y ys. y ∷ ys) one (others xs rest) ∙ ap (map Some) (same_Some (x ∷ xs) asks put)
 
-  -- they stand in the clients' order
+  -- they are in the clients' order
   pub held_in_order : (clients : List ℕ) (asks : List SignedRequest) → all_held shape log clients ≡ Some asks
       → map (λ client. held shape client log) clients ≡ map Some asks
   held_in_order [] asks e = ap (map Some) (same_Some [] asks e)

@@ -29,7 +29,7 @@ use Rattle.dsr_replica.proofs.Joining.{each_same, get_last}
 
 -- ---- lists of lists
 
--- one of the posters gave chains, and those from it on had given none: they stand at the end
+-- one of the posters gave chains, and no poster from it on gave any before: they are at the end
 one_more_each : (n p : ℕ) (given later : ℕ → List Chain) (chains : List Chain) → p < n
     → ((q : ℕ) → q ≢ p → q < n → later q ≡ given q) → later p ≡ chains → ((q : ℕ) → p ≤ q → q < n → given q ≡ [])
     → from_each n later ≡ from_each n given ++ chains
@@ -118,7 +118,7 @@ reads_take s log t p envelope counts is inside now has =
     ∙ (sym (fold-append step before (read_in s.shape log round) chains)
     ∙ ap₂ (λ kept xs. keep s.shape s.slot (suc s.closed) kept xs) (sym same) (sym read))
 
--- after its round is closed, where all envelopes of that round and none of the next are taken
+-- after its round is closed, if all envelopes of that round and none of the next are taken
 pub reads_closed : (s : SlotState) (log : List Entry) (t : ℕ) → ((p : ℕ) → p < s.shape.n → length (taken_from (Replica p) log) ≡ suc t)
     → s.slot + s.closed ≡ t → HasRead s (slot_read s.shape log s.slot) → HasRead (with_closed s) (slot_read s.shape log s.slot)
 reads_closed s log t all now has =
@@ -127,7 +127,7 @@ reads_closed s log t all now has =
     none_read s.shape log (first_round s.shape s.slot + suc s.closed) (λ p within. let count = all p within in omega (arith, count, begins, now)) in
     has ∙ sym (ap (keep s.shape s.slot (suc (suc s.closed)) (slot_kept s.shape log s.slot (suc s.closed))) none)
 
--- of a slot that begins nothing was read
+-- for a slot that begins nothing was read
 pub reads_opened : (shape : Shape) (log : List Entry) (slot : ℕ) → ((p : ℕ) → p < shape.n → length (taken_from (Replica p) log) ≤ slot)
     → HasRead (opened shape slot) (slot_read shape log slot)
 reads_opened shape log slot few =

@@ -1,4 +1,4 @@
--- The chain that a sender starts stands last in its envelope, so the envelope shows the choice by which it was made.
+-- The chain that a sender starts comes last in its envelope, so the envelope shows the choice by which it was made.
 use Rattle.std.proofs.Common.{◌≡◌, ℕ, zero, suc, ◌+◌, ◌-◌, ◌&&◌, not, nat_lt, Bool, true, false, List, [], ◌∷◌, ◌++◌, Option, None, Some, if◌then◌else◌, refl, ap, sym, ◌∙◌, subst, arith}
 use Rattle.std.specs.Prelude.{map}
 use Rattle.std.specs.Option.{option_map}
@@ -34,7 +34,7 @@ use Rattle.dsr_replica.proofs.Asks.{all_held_from}
 use Rattle.dsr_replica.proofs.Posting.{chosen_then}
 use Rattle.dsr_replica.proofs.Saying.{from_parts}
 
--- the value of a chain that stands last
+-- the value of a chain that comes last
 last_of : (value : SlotValue) (chains : List Chain) (chain : Chain) → last_value value (chains ++ chain ∷ []) ≡ chain.value
 last_of value [] chain = refl
 last_of value (first ∷ more) chain = last_of first.value more chain
@@ -64,7 +64,7 @@ module _ (shape : Shape) (me : Actor) (log : List Entry) where
         (begins (first_round shape t) shape.f start)
         ∙ (ap (λ k. posted shape t me value (suc k) (slot_kept shape log t k)) none ∙ first_post)
 
-    -- it stands last
+    -- it comes last
     pub own_last : chains_posted shape me log t value ≡ from_each t (slot_part shape me log t value) ++ started t value me ∷ []
     own_last = ap (λ chains. from_each t (slot_part shape me log t value) ++ chains) own_part
 
@@ -95,7 +95,7 @@ module _ (shape : Shape) (me : Actor) (log : List Entry) where
       let found = given_by (proposed shape me log pick) envelope (chosen_then shape me log 0 pick envelope e) in
       record { value = found.0; proposes = found.1; is = found.2 }
 
-  -- at the post to replica 0 a sender's own chain stands last, on the value that it proposes
+  -- at the post to replica 0 a sender's own chain comes last, on the value that it proposes
   pub sender_last : actor_eq me (sender_of shape (rounds shape log)) ≡ true → (pick : Pick) (envelope : Envelope)
       → envelope_to shape me log 0 pick ≡ Some envelope
       → (value : SlotValue) × (proposed shape me log pick ≡ Some value) × IsOwnLast shape me (rounds shape log) value envelope

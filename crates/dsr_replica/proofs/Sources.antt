@@ -1,5 +1,5 @@
--- What stands on a loyal replica's posts: each chain is its part of some slot's round and proper for it, and each signature is
--- its own or was taken before.
+-- What is on a loyal replica's posts: each chain is its part of some slot's round and proper for it, and each signature is its
+-- own or was taken before.
 use Rattle.std.proofs.Common.{◌≡◌, ℕ, zero, suc, ◌+◌, ◌-◌, ◌≤◌, ◌==◌, ◌&&◌, not, nat_lt, Bool, true, false, List, [], ◌∷◌, ◌++◌, Option, None, Some, if◌then◌else◌, ◌⊎◌, inl, inr, refl, ap, sym, subst, arith}
 use Rattle.std.specs.Prelude.{slice_get}
 use Rattle.std.proofs.lemmas.Bool.Decides.{nat_tests}
@@ -75,7 +75,7 @@ pub slot_taken : (shape : Shape) (log : List Entry) (slot r : ℕ) (chain : Chai
 slot_taken shape log slot zero chain s h on = elim h [ ]
 slot_taken shape log slot (suc r) chain s h on = read_taken shape log (first_round shape slot + r) chain s h on
 
--- ---- what is posted of one slot
+-- ---- what is posted for one slot
 
 module _ (shape : Shape) (me : Actor) (log : List Entry) where
   -- a signature on a chain of the replica's part is its own, or was taken

@@ -1,4 +1,4 @@
--- That a replica stands for its log, call by call, over plain variables.
+-- A replica represents its log, call by call, over plain variables.
 use Rattle.dsr_replica.proofs.Joining.{each_same}
 use Rattle.dsr_replica.specs.Support.Asks.{asks_with}
 use Rattle.dsr_replica.specs.Held.{held, held_with}
@@ -249,7 +249,7 @@ stands_last r log p envelope h stands is last =
       posted = λ none. absurd (omega (arith, none));
     }
 
--- that there is more room or less does not matter
+-- more room or less does not matter
 pub stands_with_room : (r : Replica) (log : List Entry) (requests places : ℕ) → StandsFor r log
     → StandsFor (record r { requests = requests; places = places }) log
 stands_with_room r log requests places stands =

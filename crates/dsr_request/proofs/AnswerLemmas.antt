@@ -1,4 +1,4 @@
--- The words of answers tell them apart.
+-- Answers with different words have different texts.
 use Rattle.std.proofs.Common.{◌≡◌, ℕ, ◌↔◌, nat_eq, get_or, false, List, ◌++◌, codes, Option, Some, refl, sym, ◌∙◌, ap}
 use Rattle.std.proofs.lemmas.List.{append_cancel_left}
 use Rattle.std.proofs.lemmas.Option.{same_Some}
@@ -23,7 +23,7 @@ token_after bytes word rest r old cut token = (
 abbrev ReadsAfter : List ℕ → List ℕ → Option ℕ → Type 0
 ReadsAfter bytes word old = (o : Option ℕ) → (Some old ≡ Some o) ↔ (IsOld o × (bytes ≡ word ++ old_text o))
 
--- the answer is the one that the bytes spell
+-- the answer is the one whose text the bytes are
 abbrev Reads : List ℕ → Answer → Answer → Type 0
 Reads bytes found a = (Some found ≡ Some a) ↔ (IsAnswer a × (bytes ≡ answer_text a))
 

@@ -29,7 +29,7 @@ pub record IsWriteOf (first second : List ℕ) (op : Op) : Type 0 where
   pub is_small : value < 2 ^ 64
   pub second_is : second ≡ decimal value
 
--- the operands spell this write
+-- the operands are those of this write
 abbrev pub SpellsWrite : ℕ → List ℕ → Op → Type 0
 SpellsWrite separator operands op = IsOp op × (verb_of op ≡ codes "write") × (operands ≡ operands_text separator op)
 
@@ -50,7 +50,7 @@ write_of separator operands first second s cut whole (Write name value) h =
 write_of separator operands first second s cut whole (Swap name from to) h = absurd (other_word (codes "swap") (codes "write") refl h.1)
 write_of separator operands first second s cut whole (Remove name) h = absurd (other_word (codes "remove") (codes "write") refl h.1)
 
--- operands without a separator spell no write
+-- operands without a separator are those of no write
 pub no_write : (separator : ℕ) (operands : List ℕ) → IsAbsent separator operands → (op : Op) → SpellsWrite separator operands op → ⊥
 no_write separator operands whole (Read name) h = other_word (codes "read") (codes "write") refl h.1
 no_write separator operands whole (Write name value) h =
@@ -90,7 +90,7 @@ pub record IsSwapOf (separator : ℕ) (first rest : List ℕ) (op : Op) : Type 0
   pub is_small : to < 2 ^ 64
   pub rest_is : rest ≡ old_text from ++ separator ∷ decimal to
 
--- the operands spell this swap
+-- the operands are those of this swap
 abbrev pub SpellsSwap : ℕ → List ℕ → Op → Type 0
 SpellsSwap separator operands op = IsOp op × (verb_of op ≡ codes "swap") × (operands ≡ operands_text separator op)
 
@@ -113,7 +113,7 @@ swap_of separator operands first rest s cut whole (Swap name from to) h =
     }
 swap_of separator operands first rest s cut whole (Remove name) h = absurd (other_word (codes "remove") (codes "swap") refl h.1)
 
--- operands without a separator spell no swap
+-- operands without a separator are those of no swap
 pub no_swap : (separator : ℕ) (operands : List ℕ) → IsAbsent separator operands → (op : Op) → SpellsSwap separator operands op → ⊥
 no_swap separator operands whole (Read name) h = other_word (codes "read") (codes "swap") refl h.1
 no_swap separator operands whole (Write name value) h = other_word (codes "write") (codes "swap") refl h.1
@@ -121,7 +121,7 @@ no_swap separator operands whole (Swap name from to) h =
     not_absent separator name (old_text from ++ separator ∷ decimal to) (subst (IsAbsent separator) h.2 whole)
 no_swap separator operands whole (Remove name) h = other_word (codes "remove") (codes "swap") refl h.1
 
--- the two values of a swap, where the rest is cut once more
+-- the two values of a swap, if the rest is cut once more
 pub values_of : (separator : ℕ) (first rest second third : List ℕ) → IsSeparator separator
     → rest ≡ second ++ separator ∷ third → IsAbsent separator second
     → (op : Op) → (w : IsSwapOf separator first rest op) → (second ≡ old_text w.from) × (third ≡ decimal w.to)
@@ -157,7 +157,7 @@ swap_by_parts separator operands first rest second third s cut whole cut_rest wh
       ap Some (swapped ∙ sym w.is_swap)),
 )
 
--- a text without a separator spells no operation
+-- a text without a separator is that of no operation
 pub no_op : (separator : ℕ) (bytes : List ℕ) (op : Op) → IsAbsent separator bytes → bytes ≡ op_text separator op → ⊥
 no_op separator bytes op whole e =
     not_absent separator (verb_of op) (operands_text separator op) (subst (IsAbsent separator) e whole)

@@ -60,7 +60,7 @@ client_without : (mark client : ℕ) → IsMark mark → client < 32 → IsAbsen
 client_without mark client m small =
     All-cons (λ b. b ≡ mark → ⊥) 99 (decimal client) (letter_is_no_mark mark m) (decimal_without mark client (mark_is_no_name_byte mark m) (omega arith))
 
--- a text without the mark spells no request
+-- a text without the mark is that of no request
 pub no_mark : (mark separator : ℕ) (bytes : List ℕ) (request : Request) → IsAbsent mark bytes → bytes ≡ request_text mark separator request → ⊥
 no_mark mark separator bytes request whole e =
     not_absent mark (actor_text (Client request.client)) (decimal request.number ++ separator ∷ op_text separator request.op) (subst (IsAbsent mark) e whole)
@@ -79,7 +79,7 @@ no_separator mark separator bytes client rest request m cut whole without h e =
     let parts = cut_client mark separator bytes client rest request m cut whole h e in
     not_absent separator (decimal request.number) (op_text separator request.op) (subst (IsAbsent separator) parts.1 without)
 
--- the parts that both cuts give, where they are read exactly
+-- the parts that both cuts give, if they are read exactly
 pub by_parts : (mark separator : ℕ) (bytes client rest number op : List ℕ) (r : Option Request) (request : Request) → IsMark mark → IsSeparator separator
     → bytes ≡ client ++ mark ∷ rest → IsAbsent mark client → rest ≡ number ++ separator ∷ op → IsAbsent separator number
     → (r ≡ Some request) ↔ (IsRequest request × (client ≡ actor_text (Client request.client)) × (number ≡ decimal request.number) × (op ≡ op_text separator request.op))

@@ -1,10 +1,10 @@
--- How many slots are closed, as a number, and which; and when slots begin.
+-- The number of closed slots, and which they are; and when slots begin.
 use Rattle.std.proofs.Common.{◌≡◌, ℕ, zero, suc, ◌+◌, ◌-◌, ◌<◌, ◌≤◌, ◌==◌, if◌then◌else◌, refl, ap, sym, ◌∙◌, arith}
 use Rattle.std.proofs.lemmas.Bool.Decides.{nat_tests}
 use Rattle.dsr_names.specs.Shape.{Shape, AgreeButForTraitors}
 use Rattle.dsr_rotation.specs.Calendar.{first_round, last_round, closed_slots}
 
--- one round later one slot more is closed, where the next slot's last round is this one
+-- one round later one more slot is closed, if the next slot's last round is this one
 next_count : (f c t : ℕ) → c ≡ t - f → (if c + f == t then suc c else c) ≡ suc t - f
 next_count f c t is_now = grind (arith, nat_tests)
 
@@ -14,7 +14,7 @@ unfolding closed_slots first_round
 closed_slots_count shape zero = omega arith
 closed_slots_count shape (suc t) = next_count shape.f (closed_slots shape t) t (closed_slots_count shape t)
 
--- a slot that is among the closed ones has its last round behind it
+-- a slot among the closed ones has its last round behind it
 pub closed_below : (shape : Shape) (slot t : ℕ) → slot < closed_slots shape t → last_round shape slot < t
 unfolding first_round
 closed_below shape slot t closed = let count = closed_slots_count shape t in omega (arith, count, closed)
@@ -31,12 +31,12 @@ closed_stays shape t later after =
     let count_later = closed_slots_count shape later in
     omega (arith, count, count_later, after)
 
--- a slot begins in the round of its number
+-- a slot begins in the round with its number
 pub begins_at : (shape : Shape) (slot : ℕ) → first_round shape slot ≡ slot
 unfolding first_round
 begins_at shape slot = refl
 
--- a slot begins no earlier than in the round of its number
+-- a slot begins no earlier than in the round with its number
 pub begins_no_earlier : (shape : Shape) (slot : ℕ) → slot ≤ first_round shape slot
 unfolding first_round
 begins_no_earlier shape slot = omega arith
@@ -51,7 +51,7 @@ pub begins_blind : (shape other : Shape) (slot : ℕ) → first_round shape slot
 unfolding first_round
 begins_blind shape other slot = refl
 
--- how many slots are closed does not depend on who is a traitor
+-- the number of closed slots does not depend on who is a traitor
 pub closed_blind : (shape other : Shape) → AgreeButForTraitors shape other → (t : ℕ) → closed_slots shape t ≡ closed_slots other t
 closed_blind shape other agree t =
     closed_slots_count shape t ∙ (ap (λ f. t - f) agree.most_traitors ∙ sym (closed_slots_count other t))

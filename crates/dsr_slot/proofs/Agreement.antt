@@ -40,12 +40,12 @@ none_of : (wanted : Option (List Request)) → ¬ Hears [] wanted
 none_of wanted (inl h) = elim h.1 [ ]
 none_of wanted (inr full) = omega (arith, full)
 
--- two contents that both are the one kept content are no two
+-- two contents that both are the one kept content do not differ
 not_two : (k l m : Kept) (rest : List Kept) → Apart (l ∷ m ∷ rest) → Hears (k ∷ []) (content_of l) → Hears (k ∷ []) (content_of m) → ⊥
 not_two k l m rest apart hears_first hears_second =
     apart.0 (m, here refl, sym (one_of m k hears_second) ∙ one_of l k hears_first)
 
--- each content of the first list is heard by the second
+-- the second list hears each content of the first
 abbrev AllHeard : List Kept → List Kept → Type 0
 AllHeard ks ls = (k : Kept) → In k ks → Hears ls (content_of k)
 
@@ -85,7 +85,7 @@ module _ (shape : Shape) (slot : ℕ) (value : SlotValue) (given : Exchange) (br
   abbrev Loyal : ℕ → Type 0
   Loyal p = IsLoyal shape (Replica p)
 
-  -- what a loyal replica posts it gives to every replica
+  -- a loyal replica gives to every replica what it posts
   gives : (r l q : ℕ) → r ≤ shape.f → Loyal l → q < shape.n → given (suc r) l q ≡ posts l r
   gives r l q within loyal inside = broadcast.loyal r l q within loyal inside
 
@@ -96,7 +96,7 @@ module _ (shape : Shape) (slot : ℕ) (value : SlotValue) (given : Exchange) (br
       (in_each c shape.n (λ i. given (suc r) i q) l loyal.0 (subst (In c) (sym (gives r l q within loyal loyal_too.0)) h))
       (post_proper shape slot (read_by shape given l) (Replica l) value loyal.0 broadcast.asked r c h) (suc shape.f) (omega (arith, within))
 
-  -- and hears the content of each link that it signed and posted, in whatever round
+  -- and hears the content of each link that it signed and posted, in any round
   posted_heard : (l q : ℕ) (carried : SlotValue) (before : List Actor) → Loyal l → Loyal q
       → WasPosted shape given l (signed (Replica l) (link_after slot carried before)) → Hears (kept q (suc shape.f)) (content carried)
   posted_heard l q carried before loyal loyal_too was =
@@ -104,7 +104,7 @@ module _ (shape : Shape) (slot : ℕ) (value : SlotValue) (given : Exchange) (br
       let own = post_own shape slot (read_by shape given l) (Replica l) value was.round was.chain carried before h was.signed in
       subst (Hears (kept q (suc shape.f))) (sym own.same) (post_heard was.round l q was.chain was.within loyal loyal_too h)
 
-  -- ---- each signature of a loyal replica on a proper chain was posted by it
+  -- ---- a loyal replica posted each signature of its own on a proper chain
 
   abbrev AllPosted : ℕ → Type 0
   AllPosted r =
@@ -158,7 +158,7 @@ module _ (shape : Shape) (slot : ℕ) (value : SlotValue) (given : Exchange) (br
 
   -- ---- agreement
 
-  -- the content of a proper chain that a loyal replica read, and that a loyal replica signed, is heard by all of them
+  -- if a loyal replica read a proper chain, and a loyal replica signed it, all loyal replicas hear its content
   signed_heard : (r p l q : ℕ) (c : Chain) (s : Signature) → r ≤ shape.f → Loyal p → Loyal l → Loyal q → In c (read_by shape given p (suc r))
       → IsProper shape slot (suc r) c → In s c.signatures → s.signer ≡ Replica l → Hears (kept q (suc shape.f)) (content c.value)
   signed_heard r p l q c s within loyal signer_loyal loyal_too h proper stands signer =
@@ -168,7 +168,7 @@ module _ (shape : Shape) (slot : ℕ) (value : SlotValue) (given : Exchange) (br
       posted_heard l q c.value on.before signer_loyal loyal_too
       (subst (WasPosted shape given l) is (all_posted r within p l c s loyal signer_loyal h proper stands signer))
 
-  -- what a loyal replica keeps is heard by every loyal replica: it relays it, or a loyal replica has signed it
+  -- every loyal replica hears what a loyal replica keeps: this one relays it, or a loyal replica has signed it
   heard : HasFewTraitors shape → (p q : ℕ) (k : Kept) → Loyal p → Loyal q → In k (kept p (suc shape.f)) → Hears (kept q (suc shape.f)) (content_of k)
   heard few p q k loyal loyal_too h =
       let was = after_from shape slot (read_by shape given p) (suc shape.f) k h in

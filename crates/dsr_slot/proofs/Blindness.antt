@@ -1,4 +1,4 @@
--- What a replica keeps, posts and decides of a slot does not depend on who is a traitor.
+-- What a replica keeps, posts and decides for a slot does not depend on who is a traitor.
 use Rattle.std.proofs.Common.{◌≡◌, ℕ, zero, suc, ◌&&◌, ◌==◌, not, nat_lt, List, [], ◌∷◌, ◌++◌, length, if◌then◌else◌, refl, ap, ◌∙◌}
 use Rattle.std.specs.Prelude.{fold}
 use Rattle.dsr_names.specs.Shape.{Shape, AgreeButForTraitors}

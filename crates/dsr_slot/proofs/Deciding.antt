@@ -29,7 +29,7 @@ decision_from [] = inl refl
 decision_from (k ∷ []) = inr (k, here refl, refl)
 decision_from (k ∷ l ∷ more) = inl refl
 
--- where the requests of each kept chain were asked, those of the decision were
+-- if the requests of each kept chain were asked, those of the decision were
 pub decision_asked : (shape : Shape) (kept : List Kept) → ((k : Kept) → In k kept → All (IsAsked shape) (signed_in k.chain.value))
     → All (IsAsked shape) (signed_in (decision kept))
 decision_asked shape [] asked = All-nil (IsAsked shape)

@@ -1,4 +1,4 @@
--- A chain is kept where its fate says so.
+-- A chain is kept if its fate says so.
 use Rattle.std.proofs.Common.{◌≡◌, ◌↔◌, ℕ, true, false, List, [], Option, length, ap, sym, ◌∙◌, subst, arith}
 use Rattle.std.specs.Prelude.{IsTrue}
 use Rattle.dsr_names.specs.Shape.{Shape}

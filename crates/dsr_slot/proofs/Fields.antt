@@ -1,4 +1,4 @@
--- That a slot's fields are in order after one more chain is kept, over plain variables.
+-- A slot's fields are in order after one more chain is kept, over plain variables.
 use Rattle.std.proofs.Common.{◌≡◌, ℕ, ◌+◌, ◌≤◌, true, Some, sym, ap, ◌∙◌}
 use Rattle.std.specs.Option.{is_some}
 use Rattle.std.proofs.lemmas.Bool.{false≢true}
@@ -14,7 +14,7 @@ news_kept : (a : Inside) (round : ℕ) (chain : Chain) → round ≤ a.shape.f +
 news_kept a round chain within news =
     record { within = within; proper = ((is_news-Decides a.shape a.slot round (slot_state_of a).kept chain).0 news).proper }
 
--- with news in the first place
+-- with news in the first field
 pub first_filled : (a : Inside) (round : ℕ) (chain : Chain) → IsSlotFields a → round ≤ a.shape.f + 1
     → is_news a.shape a.slot round (slot_state_of a).kept chain ≡ true → IsSlotFields (record a { first = Some (kept_in round chain) })
 first_filled a round chain h within news = record {
@@ -25,7 +25,7 @@ first_filled a round chain h within news = record {
   second = h.second;
 }
 
--- with news in the second place, where the first is taken
+-- with news in the second field, if the first is taken
 pub second_filled : (a : Inside) (round : ℕ) (chain : Chain) → IsSlotFields a → round ≤ a.shape.f + 1
     → is_news a.shape a.slot round (slot_state_of a).kept chain ≡ true → is_some a.first ≡ true
     → IsSlotFields (record a { second = Some (kept_in round chain) })

@@ -1,4 +1,4 @@
--- Lemmas of what a replica keeps and relays of a slot, over plain variables.
+-- Lemmas about what a replica keeps and relays for a slot, over plain variables.
 use Rattle.std.proofs.Common.{◌≡◌, ℕ, suc, ◌+◌, add-one, Bool, true, false, ◌&&◌, ◌||◌, not, List, [], ◌∷◌, ◌++◌, Option, Some, None, refl, sym, ◌∙◌, ap}
 use Rattle.std.specs.Prelude.{◌↔◌, IsTrue, if◌then◌else◌}
 use Rattle.std.specs.Bool.{Decides}
@@ -38,7 +38,7 @@ third_is_none true true = refl
 third_is_none true false = refl
 third_is_none false known = refl
 
--- beside a chain with another content it is news exactly where it is proper
+-- beside a chain with another content it is news exactly if it is proper
 pub news_beside_other : (shape : Shape) (slot round : ℕ) (k : Kept) (chain : Chain) (proper same : Bool)
     → proper ≡ is_proper shape slot round chain → (IsTrue same ↔ (content_of k ≡ content chain.value)) → same ≡ false
     → proper ≡ is_news shape slot round (k ∷ []) chain
@@ -90,7 +90,7 @@ keep_news : (shape : Shape) (slot round : ℕ) (kept : List Kept) (chain : Chain
     → kept ++ kept_in round chain ∷ [] ≡ keep_one shape slot round kept chain
 keep_news shape slot round kept chain news = sym (ap (λ b. if b then kept ++ kept_in round chain ∷ [] else kept) news)
 
--- news goes to the second place where the first is taken
+-- news goes to the second field if the first is taken
 pub news_comes_second : (shape : Shape) (slot round : ℕ) (first second : Option Kept) (chain : Chain)
     → is_news shape slot round (option_to_list first ++ option_to_list second) chain ≡ true → is_some first ≡ true
     → option_to_list first ++ kept_in round chain ∷ [] ≡ keep_one shape slot round (option_to_list first ++ option_to_list second) chain
@@ -101,7 +101,7 @@ news_comes_second shape slot round (Some k) (Some l) chain news taken =
 
 -- ---- what is relayed
 
--- of what was kept in the round before, all is relayed that is not signed yet
+-- what was kept in the round before and is not signed yet is relayed
 pub relays_unsigned : (me : Actor) (round : ℕ) (k : Kept) (signs : Bool) → k.round + 1 ≡ round → signs ≡ is_signer me k.chain
     → not signs ≡ is_relayed me round k
 relays_unsigned me round k signs next is =

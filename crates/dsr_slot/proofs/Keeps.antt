@@ -116,7 +116,7 @@ module _ (shape : Shape) (slot round : ℕ) where
     | inr none ↦ omega (arith, ap length none.1)
   ]
 
-  -- where a kept chain is from: a proper one among these
+  -- what a kept chain comes from: a proper chain among these
   pub record WasRead (chains : List Chain) (k : Kept) : Type 0 where
     pub round_is : k.round ≡ round
     pub read : In k.chain chains
@@ -231,7 +231,7 @@ module _ (shape : Shape) (slot round : ℕ) where
 -- ---- the rounds of the slot
 
 module _ (shape : Shape) (slot : ℕ) (read : ℕ → List Chain) where
-  -- where a kept chain is from: a proper one of an earlier round, kept since
+  -- what a kept chain comes from: a proper chain of an earlier round, kept since
   pub record WasKept (rounds : ℕ) (k : Kept) : Type 0 where
     pub before : ℕ
     pub earlier : before < rounds

@@ -1,4 +1,4 @@
--- What stands in a list that was filtered, mapped, or made of the lists of several posters.
+-- What is in a list that was filtered, mapped, or made of the lists of several posters.
 use Rattle.std.proofs.Common.{◌≡◌, ℕ, zero, suc, ◌<◌, Bool, true, false, List, [], ◌∷◌, map, if◌then◌else◌, ◌⊎◌, inl, inr, refl, ap, sym, ◌∙◌, subst, arith}
 use Rattle.std.specs.Prelude.{filter}
 use Rattle.std.specs.Bool.{Decides}
@@ -24,12 +24,12 @@ module _ {X : Type 0} where
   first_passes true x y ys passes e = here e
   first_passes false x y ys passes e = absurd cc
 
-  -- what stands in the rest stands behind the first item, whether that passes or not
+  -- what is in the rest is behind the first item, whether that passes or not
   past_first : (b : Bool) (x y : X) (ys : List X) → In x ys → In x (if b then y ∷ ys else ys)
   past_first true x y ys h = there h
   past_first false x y ys h = h
 
-  -- what stands behind or is the first item, which stands there only where it passes
+  -- an item is behind the first one or is the first one, and this only if it passes
   first_or_past : (b : Bool) (x y : X) (ys : List X) → In x (if b then y ∷ ys else ys) → ((y ≡ x) × (b ≡ true)) ⊎ In x ys
   first_or_past true x y ys (here e) = inl (e, refl)
   first_or_past true x y ys (there h) = inr h

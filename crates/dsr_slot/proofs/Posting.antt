@@ -1,5 +1,5 @@
--- What a loyal replica posts of a slot: where each chain of it is from, that each is proper for its round, and on which
--- link its own signature stands there.
+-- What a loyal replica posts for a slot: what each of its chains comes from, that each is proper for its round, and on
+-- which link its own signature is there.
 use Rattle.std.proofs.Common.{◌≡◌, ◌≢◌, ℕ, zero, suc, ◌<◌, List, [], ◌∷◌, length, ◌⊎◌, inl, inr, refl, ap, sym, ◌∙◌, subst, arith}
 use Rattle.std.specs.Prelude.{Any, All, filter, ◌&&◌, ◌==◌, not}
 use Rattle.std.specs.Bool.{Decides}
@@ -70,7 +70,8 @@ start_posted shape slot me value kept sender =
       | inr not_begun ↦ absurd (not_begun.0 (refl, sender))
     ])
 
--- where a posted chain is from: it extends one that was kept in the round before, or it is the one that the sender starts
+-- what a posted chain comes from: it extends one that was kept in the round before, or it is the one that the sender
+-- starts
 pub record IsRelay (me : Actor) (round : ℕ) (kept : List Kept) (c : Chain) : Type 0 where
   pub from : Kept
   pub kept_then : In from kept
@@ -112,7 +113,7 @@ module _ (shape : Shape) (slot : ℕ) (read : ℕ → List Chain) (me : Actor) (
   abbrev kept : ℕ → List Kept
   kept r = kept_after shape slot read r
 
-  -- what a relay was before: kept in the very round before, where it was read and proper
+  -- the chain of which a relay is made: kept in the very round before, in which it was read and proper
   pub record WasRelayed (r : ℕ) (c : Chain) : Type 0 where
     pub chain : Chain
     pub some : 0 < r
@@ -155,7 +156,8 @@ module _ (shape : Shape) (slot : ℕ) (read : ℕ → List Chain) (me : Actor) (
         (subst (IsProper shape slot 1) (ap (started slot value) (sym start.sender) ∙ start.is) first)
   ]
 
-  -- its own signature on what it posts is on a link of that content; on the link after no signers only where it starts
+  -- its own signature on what it posts is on a link of that content; on the link after no signers only if it starts the
+  -- chain
   pub record IsOwn (r : ℕ) (c : Chain) (carried : SlotValue) (before : List Actor) : Type 0 where
     pub same : content carried ≡ content c.value
     pub from_start : before ≡ [] → content carried ≡ content value
@@ -188,7 +190,7 @@ module _ (shape : Shape) (slot : ℕ) (read : ℕ → List Chain) (me : Actor) (
     | inr start ↦ start_own r c carried before start stands
   ]
 
-  -- another's signature on what it posts stood in a chain that it had read the round before, proper then
+  -- another's signature on what it posts was in a chain that it read in the round before, and that was proper then
   pub record StoodBefore (r : ℕ) (s : Signature) : Type 0 where
     pub before : ℕ
     pub next : suc before ≡ r

@@ -16,14 +16,14 @@ reads_on shape slot closed round kept chains read next here stands =
     let given : read (suc closed) ≡ chains = rw next at here in
     rw (next, stands, ← given)
 
--- a state that stands for what was read does so after one more round
+-- a state that represents what was read does so after one more round
 pub stands_on : (before after : SlotState) (round : ℕ) (chains : List Chain) (read : ℕ → List Chain)
     → after ≡ with_round before round chains → round ≡ before.closed + 1 → read round ≡ chains → StandsFor before read → StandsFor after read
 stands_on before after round chains read is next here stands =
     subst (λ (s : SlotState). StandsFor s read) (sym is)
     (reads_on before.shape before.slot before.closed round before.kept chains read (next ∙ add-one before.closed) here stands)
 
--- what is kept with one chain more, where that is read last
+-- what is kept with one more chain, if that is read last
 one_more_kept : (shape : Shape) (slot closed : ℕ) (chain : Chain) (earlier later : ℕ → List Chain)
     → IsOneChainMore earlier later (suc closed) chain
     → keep_one shape slot (suc closed) (kept_after shape slot earlier (suc closed)) chain ≡ kept_after shape slot later (suc closed)
@@ -35,7 +35,7 @@ one_more_kept shape slot closed chain earlier later more =
     sym (fold-append step before (earlier (suc closed)) (chain ∷ []))
     ∙ (ap (keep shape slot (suc closed) before) (sym more.last) ∙ ap (λ kept. keep shape slot (suc closed) kept (later (suc closed))) same)
 
--- a state that read one chain more has read what it had, and that chain
+-- a state that read one more chain has read what it had read before, and that chain
 pub reads_one : (before after : SlotState) (chain : Chain) (earlier later : ℕ → List Chain) → after ≡ with_chain before chain
     → IsOneChainMore earlier later (suc before.closed) chain → HasRead before earlier → HasRead after later
 reads_one before after chain earlier later is more stands =

@@ -36,12 +36,12 @@ module _ (title text : List ℕ) where
         (field_clean 32 title (shape_text shape) (lit< tt) titled (shape_clean shape h.spelled))
         (sym cut ∙ header_cut shape rest h)
 
-    -- where the line begins with another title
+    -- if the line begins with another title
     pub no_titled : ((token : List ℕ) → line ≡ title ++ 32 ∷ token → ⊥) → HasNoHeader title text
     no_titled none shape rest h = none (shape_text shape) (same_header shape rest h).0
 
     module _ (token : List ℕ) (found : line ≡ title ++ 32 ∷ token) where
-      -- the header whose shape the token spells
+      -- the header whose shape's text is the token
       pub made_header : (shape : Shape) → IsSpelled shape → token ≡ shape_text shape → BeginsWithHeader title text shape after
       made_header shape spelled is =
           record {
@@ -64,7 +64,7 @@ module _ (title text : List ℕ) where
 
 -- ---- a line that begins with the title and a space
 
--- it does not, where another text stands in the title's place
+-- it does not, if another text is in the title's place
 pub no_title : {X : Type 0} (title line : List ℕ) (r : Option X) → bytes_eq (take (length title) line) title ≡ false
     → IfNone r ((rest : List ℕ) → line ≡ title ++ 32 ∷ rest → ⊥)
 no_title title line None other = λ rest e.
@@ -76,7 +76,7 @@ first_and_rest : (rest : List ℕ) → 1 ≤ length rest → get_or rest 0 0 ≡
 first_and_rest [] some first = absurd (omega (arith, some))
 first_and_rest (b ∷ bs) some first = ap (λ x. x ∷ bs) first ∙ ap (λ xs. 32 ∷ xs) (sym (take_all (length (b ∷ bs) - 1) bs (omega arith)))
 
--- it does, where the title stands there and a space after it
+-- it does, if the title is there and a space after it
 pub titled : (title line rest : List ℕ) → 1 ≤ length rest → get_or rest 0 0 ≡ 32 → bytes_eq (take (length title) line) title ≡ true
     → rest ≡ drop (length title) line → line ≡ title ++ 32 ∷ take (length rest - 1) (drop 1 rest)
 titled title line rest some first same after =

@@ -1,4 +1,4 @@
--- Texts of joined items, read one after the other.
+-- Joined texts of items, read one item after the other.
 use Rattle.std.proofs.Common.{◌≡◌, ℕ, ◌+◌, ◌-◌, ◌<◌, List, [], ◌∷◌, ◌++◌, Option, None, Some, false, sym, subst, arith, append_assoc}
 use Rattle.dsr_base.specs.Reads.{Reads}
 use Rattle.dsr_base.specs.Split.{IsFree, IsPart}
@@ -6,7 +6,7 @@ use Rattle.dsr_base.specs.Joined.{joined, AreFew}
 use Rattle.dsr_base.proofs.ReadsLemmas.{reads_none}
 use Rattle.dsr_base.proofs.JoinedLemmas.{no_item, reads_alone, no_first, no_others, reads_led}
 
--- those that were read and these, where these are read
+-- those that were read and then these, if these are read
 abbrev pub after_those : {X : Type 0} → List X → Option (List X) → Option (List X)
 after_those done None = None
 after_those done (Some xs) = Some (done ++ xs)

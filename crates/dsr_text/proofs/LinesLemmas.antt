@@ -1,4 +1,4 @@
--- One more line of a text of a header and lines.
+-- One more line of a text that is a header and lines.
 use Rattle.std.proofs.Common.{Bool, List, None, Some, [], ap, append_assoc, arith, inl, inr, length, length-append, refl, subst, sym, true, ℕ, ◌++◌, ◌+◌, ◌<◌, ◌∙◌, ◌∷◌, ◌≡◌, ◌≢◌, ◌⊎◌}
 use Rattle.std.specs.Prelude.{◌==◌}
 use Rattle.std.proofs.lemmas.Bool.{eqb-true}
@@ -13,7 +13,7 @@ use Rattle.dsr_text.specs.Header.{BeginsWithHeader, IsHeaderRefusal, HasBadShape
 use Rattle.dsr_text.specs.Lines.{TextKind, lines_text, AreLines, IsNext, BeginsWithLines, HasNoNext, IsBadAfter, IsTextRefusal}
 use Rattle.dsr_text.specs.TakenLines.{HasTaken}
 
--- all lines of a text are these and more, which the rest spells
+-- all lines of a text are these and more, whose text is the rest
 pub record HasMore {Line : Type 0} (kind : TextKind Line) (lines : List Line) (rest : List ℕ) (all : List Line) : Type 0 where
   pub more : List Line
   pub same : all ≡ more ++ lines
@@ -35,7 +35,7 @@ record Oldest {Line : Type 0} (kind : TextKind Line) (more : List Line) : Type 0
   pub same : more ≡ later ++ first ∷ []
   pub text : lines_text kind more ≡ kind.line_text first ++ 10 ∷ lines_text kind later
 
--- where there is a rest, the first of those more lines can be the next one
+-- if there is a rest, the first of those other lines can be the next one
 record HasNext {Line : Type 0} (kind : TextKind Line) (shape : Shape) (lines : List Line) (rest : List ℕ) (all : List Line) : Type 0 where
   pub first : Line
   pub later : List Line
@@ -108,7 +108,7 @@ module _ {Line : Type 0} (kind : TextKind Line) where
   header_refused title text e same (inl h) = subst (IsTextRefusal kind text) (sym h.0) (subst (λ t. HasBadShape t text) same h.1)
   header_refused title text e same (inr h) = subst (IsTextRefusal kind text) (sym h.0) (inl (refl, subst (λ t. HasNoHeader t text) same h.1))
 
-  -- where one header is read, another one is that header, and lines after the other one are lines after it
+  -- if one header is read, another one is that header, and lines after the other one are lines after it
   module _ (title text after : List ℕ) (shape : Shape) (titled : title ≡ kind.title)
       (only : (other : Shape) (rest : List ℕ) → BeginsWithHeader title text other rest → (shape ≡ other) × (after ≡ rest))
       (other : Shape) (rest : List ℕ) (header : BeginsWithHeader kind.title text other rest) where
@@ -125,7 +125,7 @@ module _ {Line : Type 0} (kind : TextKind Line) where
   -- ---- what begins a rest
 
   module _ (clean : (line : Line) → kind.IsLine line → IsAbsent 10 (kind.line_text line)) (shape : Shape) where
-    -- with no line feed no line does
+    -- without a line feed no line is at its beginning
     pub no_feed : (lines : List Line) (rest : List ℕ) → IsAbsent 10 rest → HasNoNext kind shape lines rest
     no_feed lines rest whole line after next e = not_absent 10 (kind.line_text line) after (subst (IsAbsent 10) (e ∙ ended line after) whole)
 
@@ -133,12 +133,12 @@ module _ {Line : Type 0} (kind : TextKind Line) where
       first_is : (line : Line) (later : List ℕ) → kind.IsLine line → rest ≡ (kind.line_text line ++ 10 ∷ []) ++ later → bytes ≡ kind.line_text line
       first_is line later is e = (one_cut 10 bytes after (kind.line_text line) later whole (clean line is) (sym cut ∙ (e ∙ ended line later))).0
 
-      -- where the first line is read as none
+      -- if the first line is read as none
       pub none_read : Reads kind.IsLine kind.line_text bytes None → HasNoNext kind shape lines rest
       none_read reads line later next e =
           not_read kind.IsLine kind.line_text bytes reads line next.is_line (first_is line later next.is_line e)
 
-      -- where it is read as one that cannot follow
+      -- if it is read as one that cannot follow
       pub no_follower : (line : Line) → Reads kind.IsLine kind.line_text bytes (Some line) → (kind.CanFollow shape lines line → ⊥)
           → HasNoNext kind shape lines rest
       no_follower line reads cannot other later next e =
@@ -162,7 +162,7 @@ module _ {Line : Type 0} (kind : TextKind Line) where
         pub all_taken : rest ≡ [] → HasTaken kind shape Gives text
         all_taken e = record { lines = s.lines; begins = subst (BeginsWithLines kind text shape s.lines) e s.begins; gives = s.gives }
 
-        -- where no rest is left, no other lines are the text
+        -- if no rest is left, no other lines are the text
         pub only_lines : rest ≡ [] → (all : List Line) → AreLines kind shape all → text ≡ lines_text kind all → Gives all
         only_lines none all each e =
             let m = s.only all each e in
@@ -171,7 +171,7 @@ module _ {Line : Type 0} (kind : TextKind Line) where
               | inr o ↦ absurd (no_bytes (kind.line_text o.first) (lines_text kind o.later) (sym o.text ∙ (sym m.spelled ∙ none)))
             ]
 
-        -- where no line comes next, the next line is the first bad one
+        -- if no line comes next, the next line is the first bad one
         pub bad_after : rest ≢ [] → HasNoNext kind shape s.lines rest → IsBadAfter kind shape text (number + 1)
         bad_after some none =
             record { lines = s.lines; rest = rest; begins = s.begins; some = some; none = none; counted = omega (arith, s.counted) }

@@ -10,7 +10,7 @@ use Rattle.dsr_names.proofs.shape_text.read_field.Goals as goal
 pub returns-in_err-front-clause-read : goal.returns-in_err-front-clause-read
 returns-in_err-front-clause-read c n rest small e = absurd (not_absent 32 (decimal n) rest (subst (IsAbsent 32) e c.in_err-front.ensures.absent))
 
--- what stands before the space is the number's token
+-- what precedes the space is the number's token
 pub returns-in_err-number-clause-read : goal.returns-in_err-number-clause-read
 returns-in_err-number-clause-read c n rest small e =
     let same = field_cut c.args.bytes.now c.in_ok-front.front.now c.in_ok-front.rest.now n rest c.in_ok-front.ensures.found c.in_ok-front.ensures.first small e in

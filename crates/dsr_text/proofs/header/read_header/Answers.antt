@@ -3,7 +3,7 @@ use Rattle.dsr_names.specs.ShapeText.{IsVerdict}
 use Rattle.dsr_text.proofs.HeaderLemmas.{no_header_line, no_titled, same_header, same_token, made_header}
 use Rattle.dsr_text.proofs.header.read_header.Goals as goal
 
--- with no line feed there is no header
+-- without a line feed there is no header
 
 pub returns-in_default-clause-refused : goal.returns-in_default-clause-refused
 returns-in_default-clause-refused c = inr (refl, no_header_line c.args.title.now c.args.text.now c.in_default.ensures.absent)
@@ -12,7 +12,7 @@ pub returns-in_default-clause-when : goal.returns-in_default-clause-when
 returns-in_default-clause-when c shape rest h =
     absurd (no_header_line c.args.title.now c.args.text.now c.in_default.ensures.absent shape rest h)
 
--- nor where the first line begins with another title
+-- nor is there one if the first line begins with another title
 
 pub returns-in_default-after_title-clause-refused : goal.returns-in_default-after_title-clause-refused
 returns-in_default-after_title-clause-refused c = inr (
@@ -26,7 +26,7 @@ returns-in_default-after_title-clause-when c shape rest h =
     absurd (no_titled c.args.title.now c.args.text.now c.in-Some.line.now c.in-Some.rest.now c.requires c.in-Some.ensures.found c.in-Some.ensures.first
     c.in_default-after_title.ensures.none shape rest h)
 
--- nor where no shape stands after it
+-- nor is there one if no shape follows it
 
 pub returns-in-None-clause-refused : goal.returns-in-None-clause-refused
 returns-in-None-clause-refused c = inr (

@@ -3,7 +3,7 @@ use Rattle.std.proofs.lemmas.Bool.{false≢true}
 use Rattle.dsr_text.proofs.LinesLemmas.{no_feed, none_read, no_follower, bad_after, one_more, no_lines, only_lines, no_rest, shorter}
 use Rattle.dsr_text.proofs.lines.take_lines.Goals as goal
 
--- with no line feed in the rest, the text is no lines
+-- without a line feed in the rest, the text is not lines
 pub returns-in_default-clause-when : goal.returns-in_default-clause-when
 returns-in_default-clause-when g c all each e =
     let t = g.T.TakesLines in
@@ -13,7 +13,7 @@ returns-in_default-clause-when g c all each e =
     let none = no_feed t.kind c.requires.clean shape s.lines rest c.in_default.ensures.absent in
     absurd (no_lines t.kind c.requires.clean shape c.args.text.now (t.gives c.loop-rest.taker) rest c.loop-rest.number s (search rules) none all each e)
 
--- nor where a line is read as none: it is the first bad one
+-- nor is it if a line is read as none: that is the first bad one
 pub returns-in_default-2-clause-refused : goal.returns-in_default-2-clause-refused
 returns-in_default-2-clause-refused g c =
     let t = g.T.TakesLines in
@@ -36,7 +36,7 @@ returns-in_default-2-clause-when g c all each e =
     (rw c.in_default-2.is at c.in_ok-line.ensures.read) in
     absurd (no_lines t.kind c.requires.clean shape c.args.text.now (t.gives c.loop-rest.taker) rest c.loop-rest.number s (search rules) none all each e)
 
--- nor where one cannot follow: it is the first bad one
+-- nor is it if a line cannot follow: that is the first bad one
 pub returns-then-not-branch-clause-refused : goal.returns-then-not-branch-clause-refused
 returns-then-not-branch-clause-refused g c =
     let t = g.T.TakesLines in
@@ -89,7 +89,7 @@ loop-rest-preserved g c =
       omega (arith, less, c.loop-rest.invariant.2),
     )
 
--- where none is left, the text is no other lines
+-- if none is left, the text is no other lines
 pub returns-clause-only : goal.returns-clause-only
 returns-clause-only g c all each e =
     let t = g.T.TakesLines in

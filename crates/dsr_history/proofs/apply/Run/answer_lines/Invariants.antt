@@ -2,7 +2,7 @@ use Rattle.std.proofs.Common.{◌≡◌, ◌+◌, ◌≤◌, length}
 use Rattle.dsr_history.proofs.RunLemmas.{AnsweredSoFar}
 use Rattle.dsr_history.proofs.apply.Run.answer_lines.Given as goal
 
--- the lines before the rest are answered, and of each at most one request acted
+-- the lines before the rest are answered, and for each at most one request acted
 abbrev pub invariant-loop-rest : goal.invariant-loop-rest
 invariant-loop-rest l =
     AnsweredSoFar l.text l.rest l.count l.self.service l.self.answers.items

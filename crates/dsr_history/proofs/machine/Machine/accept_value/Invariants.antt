@@ -4,7 +4,8 @@ use Rattle.dsr_history.specs.History.{acting, requests_of}
 use Rattle.dsr_history.specs.Machine.{StandsFor}
 use Rattle.dsr_history.proofs.machine.Machine.accept_value.Given as goal
 
--- the requests so far are processed, those that acted are counted, and no room went but theirs, so it is enough for the rest
+-- the requests so far are processed, those that acted are counted, and they used no more room than their own, so it is
+-- enough for the rest
 abbrev pub invariant-loop-request : goal.invariant-loop-request
 invariant-loop-request l =
     ((values : List (List Request)) → StandsFor l.initial.self values → l.self.history ≡ acting (reverse (take l.request-index l.requests) ++ requests_of values))

@@ -6,7 +6,7 @@ use Rattle.dsr_replica.specs.Support.Flights.{slot_post, posts_of}
 use Rattle.dsr_replica.proofs.InFlight.{posts_more}
 use Rattle.dsr_replica.proofs.flights.Flights.posts.Goals as goal
 
--- what is posted of one slot more
+-- what is posted for one more slot
 pub loop-slot-preserved : goal.loop-slot-preserved
 loop-slot-preserved c =
     let me = c.args.key.now in

@@ -10,7 +10,7 @@ loop-chain-init c =
     let before = c.args.self.now in
     (tt, tt, ap (λ slots. record before { slots = slots }) (sym (all_none before.slots)), refl)
 
--- reading one chain more
+-- reading one more chain
 pub loop-chain-preserved : goal.loop-chain-preserved
 loop-chain-preserved c =
     let before = c.args.self.now in

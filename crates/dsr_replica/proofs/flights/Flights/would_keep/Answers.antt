@@ -8,7 +8,7 @@ use Rattle.dsr_replica.proofs.flights.Flights.would_keep.Goals as goal
 pub loop-chain-init : goal.loop-chain-init
 loop-chain-init c = all_none c.args.self.now.slots
 
--- one chain more that would not be kept
+-- one more chain that would not be kept
 pub loop-chain-preserved : goal.loop-chain-preserved
 loop-chain-preserved c =
     let slots = c.args.self.now.slots in
