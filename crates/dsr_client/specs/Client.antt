@@ -8,8 +8,8 @@ use Rattle.dsr_quorum.specs.Tally.{Tally, StandsFor as Counts}
 use Rattle.dsr_envelope.specs.declared.entry.Entry.{Entry}
 use Rattle.dsr_client.specs.State.{state_after, outstanding, accepted, seen}
 
--- who it is, the shape, what is outstanding, the number of accepted replies, the votes for replies to what is outstanding, and
--- the seen front
+-- its number and its shape, what is outstanding, the number of accepted replies, the votes for replies to what is outstanding,
+-- and the seen front
 pub record Client : Type 0 where
   pub me : ℕ
   pub shape : Shape

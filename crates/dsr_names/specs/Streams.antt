@@ -26,7 +26,7 @@ unknown_input = record { left = None; is_steady = ⊥; calls = 0 }
 abbrev pub unknown_output : Output
 unknown_output = record { contents = None; room = None; is_steady = ⊥; calls = 0 }
 
--- reading all of it may fail: if it is steady and what is left is known, only if that is too many bytes
+-- reading all of it may fail: if the source is steady and what is left is known, that is too many bytes
 abbrev pub CanFailToGive : Input → Type 0
 CanFailToGive input = input.is_steady → IfSome input.left (λ bytes. most_bytes < length bytes)
 
@@ -44,7 +44,7 @@ pub record SentPrefix (bytes : List ℕ) (before after : Output) : Type 0 where
   pub within : sent ≤ length bytes
   pub appended : Appends before.contents after.contents (take sent bytes)
 
--- all of the bytes went out, or a prefix of them and writing them may fail
+-- all of the bytes went out, or, if writing them may fail, a prefix of them
 abbrev pub Sent : List ℕ → Output → Output → Type 0
 Sent bytes before after = SentAll bytes before after ⊎ (SentPrefix bytes before after × CanFailToTake (length bytes) before)
 
@@ -55,6 +55,6 @@ pub record Streams : Type 1 where
   pub output : Output
   pub written : Output
 
--- these three
+-- the streams with these three
 abbrev pub streams : Input → Output → Output → Streams
 streams input output written = record { input = input; output = output; written = written }

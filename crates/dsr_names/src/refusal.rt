@@ -13,9 +13,9 @@ use std::fmt;
 pub enum Refusal {
     /// The replicas, traitors or clients of a shape are outside the limits.
     BadShape,
-    /// Not a register name.
+    /// A text is not a register name.
     BadName,
-    /// A request number of 0, or of 2^40 and more.
+    /// A request number is 0, or 2^40 or more.
     BadNumber,
     /// A request of this client is outstanding.
     Busy,
@@ -35,9 +35,9 @@ pub enum Refusal {
     Unanswered,
     /// Memory ran out.
     NoMemory,
-    /// The first line, counted from 1, that is not in the grammar.
+    /// `line`, counted from 1, is the first that is not in the grammar.
     BadText { line: u64 },
-    /// The lines before are a run, and this one, counted from 1, does not continue it.
+    /// The lines before `line`, counted from 1, are a run, and this one does not continue it.
     NotARun { line: u64 },
     /// No actor has this number: replicas are below 16, clients below 32; or it is not of the shape.
     NoActor,

@@ -3,8 +3,8 @@ use Rattle.std.specs.Prelude.{◌≡◌, ℕ, ◌<◌, List, Option, None, slice
 use Rattle.dsr_ledger.specs.declared.reply.Reply.{Reply}
 use Rattle.dsr_quorum.specs.Votes.{Note, first_of, winner}
 
--- the number of votes that are too few, the number of replicas, each replica's first reply, and the reply
--- that won
+-- the greatest number of votes that are too few, the number of replicas, each replica's first reply, and
+-- the reply that won
 pub record Tally : Type 0 where
   pub f : ℕ
   pub n : ℕ

@@ -21,7 +21,7 @@ use Rattle.dsr_replica.specs.Decided.{slot_read, decided_values}
 use Rattle.dsr_replica.specs.Held.{held, put_before}
 use Rattle.dsr_envelope.specs.Log.{posted_to, due}
 
--- who it is, and of which shape; what is due; the round in progress and the slots in flight in it; what was decided for the
+-- its actor and its shape; what is due; the round in progress and the slots in flight in it; what was decided for the
 -- closed slots, the latest first; what it proposes in the round; the asks that it holds, by client; and for how many more
 -- requests and values it has room
 pub record Replica : Type 0 where

@@ -23,7 +23,7 @@ abbrev pub from_each : ℕ → (ℕ → List Chain) → List Chain
 from_each zero given = []
 from_each (suc n) given = from_each n given ++ given n
 
--- what a replica reads in a round: what it was given, by the poster's number
+-- what a replica reads in a round: what each replica gave it, by the giver's number
 abbrev pub read_by : Shape → Exchange → ℕ → ℕ → List Chain
 read_by shape given taker round = from_each shape.n (λ poster. given round poster taker)
 

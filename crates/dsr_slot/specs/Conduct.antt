@@ -1,5 +1,5 @@
--- What a loyal replica posts of a slot in each of its rounds (Dolev and Strong 1983: a value that was extracted in round r
--- is passed on in round r+1, with one signature more).
+-- What a loyal replica posts for a slot in each of its rounds (Dolev and Strong 1983: a value that was extracted in round
+-- r is passed on in round r+1, with one signature more).
 use Rattle.std.specs.Prelude.{ℕ, suc, List, [], ◌∷◌, ◌++◌, Bool, ◌&&◌, ◌==◌, not, map, filter, if◌then◌else◌}
 use Rattle.dsr_names.specs.Shape.{Shape}
 use Rattle.dsr_names.specs.declared.actor.Actor.{Actor}

@@ -20,8 +20,8 @@ IsFateBeside kept wanted NotNew = is_kept wanted kept ≡ true
 IsFateBeside kept wanted OneTooMany = (is_kept wanted kept ≡ false) × (length kept ≡ 2)
 IsFateBeside kept wanted (Improper fault) = ⊥
 
--- what becomes of a chain that is read in this round of the slot beside those that are kept: it is not kept unless it
--- is proper
+-- what becomes of a chain that is read in this round of the slot beside those that are kept: its first fault if it is
+-- not proper, else what becomes of a proper one
 abbrev pub IsFate : Shape → ℕ → ℕ → List Kept → Chain → Fate → Type 0
 IsFate shape slot round kept chain First = IsProper shape slot round chain × IsFateBeside kept (content chain.value) First
 IsFate shape slot round kept chain Second = IsProper shape slot round chain × IsFateBeside kept (content chain.value) Second
@@ -29,7 +29,7 @@ IsFate shape slot round kept chain NotNew = IsProper shape slot round chain × I
 IsFate shape slot round kept chain OneTooMany = IsProper shape slot round chain × IsFateBeside kept (content chain.value) OneTooMany
 IsFate shape slot round kept chain (Improper fault) = IsFirstFault shape slot round chain fault
 
--- a chain of this fate is kept
+-- a chain with this fate is kept
 abbrev pub IsKeptSo : Fate → Type 0
 IsKeptSo First = Unit {0}
 IsKeptSo Second = Unit {0}

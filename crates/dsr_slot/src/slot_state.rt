@@ -49,7 +49,7 @@ impl SlotState {
         ensures opened { result ≡ opened shape.now slot }
         ensures stands { (read : ℕ → List Chain) → StandsFor result read }
     {
-        // that f is at most 7 is known from here on
+        // from here on the prover knows that f is at most 7
         let _f = shape.f();
         SlotState {
             shape: *shape,
