@@ -165,7 +165,7 @@ pub fn seen_fronts_only_grow()
         ⊎ (seen shape (entry ∷ log) ≡ seen shape log) }
 {}
 
-/// A client never looks at who is a traitor. Under two shapes that differ only in their traitors, it accepts and sees the
+/// A client never looks at who is a traitor. Under two shapes that differ at most in their traitors, it accepts and sees the
 /// same, and asks for the same; and the same logs are a client's.
 pub fn clients_are_blind()
     ensures accepted { (shape other : Shape) → AgreeButForTraitors shape other → (log : List Entry) → state_after shape log ≡ state_after other log }

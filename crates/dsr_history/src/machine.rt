@@ -78,7 +78,7 @@ impl Machine {
     /// Processes the requests of a value in the order of its list, and returns how many of them acted; the empty list
     /// is the idle value. Requires at most 8 requests, all of clients of the shape, and a history shorter than 2^39.
     /// `NoMemory` if there was room for fewer than 8 requests and memory for more was refused: then nothing changes,
-    /// except that there may be more room. Otherwise the requests use up no more room than their own.
+    /// except that there may be more room. Otherwise no more room is used up than the requests take.
     pub fn accept_value(&mut self, requests: &[Request]) -> Result<u8, Refusal>
         requires few { length requests.now ≤ 8 }
         requires clients { All (λ r. r.client < self.old.clients) requests.now }

@@ -113,7 +113,7 @@ pub fn limits_are_kept()
         → (request : Request) → In request (acted (decided_requests shape log)) → IsRequest request }
 {}
 
-/// A loyal replica never looks at who is a traitor. Under two shapes that differ only in their traitors, the same is due, kept,
+/// A loyal replica never looks at who is a traitor. Under two shapes that differ at most in their traitors, the same is due, kept,
 /// decided and held; the same envelopes are posted; and the same logs are loyal.
 pub fn conduct_is_blind()
     ensures due { (shape other : Shape) → AgreeButForTraitors shape other → (log : List Entry) → due shape log ≡ due other log }
@@ -169,8 +169,8 @@ pub fn own_asks_are_held()
 {}
 
 /// Held asks can be proposed in each round in which the replica is the sender, and in no other: if the post to replica 0 is due, there is
-/// an envelope with the asks held for the chosen clients, and the replica's own chain on them comes last. There is one exactly if an ask
-/// is held for each of these clients.
+/// an envelope with the asks held for the chosen clients, and the replica's own chain on them comes last. There are such asks exactly if
+/// one is held for each of these clients, and they are these, in the clients' order.
 pub fn held_asks_can_be_proposed()
     ensures sender { (shape : Shape) (me : Actor) (log : List Entry) (clients : List ℕ) (asks : List SignedRequest) → due shape log ≡ PostTo 0
         → me ≡ sender_of shape (rounds shape log) → all_held shape log clients ≡ Some asks

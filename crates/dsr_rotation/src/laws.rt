@@ -15,7 +15,7 @@ pub fn slots_close_in_turn()
     ensures in_order { (shape : Shape) (slot later : ℕ) → slot < later → first_round shape slot < first_round shape later }
 {}
 
-/// The calendar never looks at who is a traitor. Under two shapes that differ only in their traitors each slot
+/// The calendar never looks at who is a traitor. Under two shapes that differ at most in their traitors each slot
 /// begins in the same round, and as many slots are closed after as many rounds.
 pub fn calendar_is_blind()
     ensures begins { (shape other : Shape) → AgreeButForTraitors shape other

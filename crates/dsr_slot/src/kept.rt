@@ -8,7 +8,7 @@ use dsr_names::Refusal;
 pub struct Kept {
     /// The round of the slot in which it was read, counted from 1.
     pub round: u8,
-    /// The chain, proper for that round.
+    /// The chain. In the state of a slot it is proper for that round.
     pub chain: Chain,
 }
 

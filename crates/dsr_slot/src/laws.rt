@@ -20,11 +20,10 @@ ghost use Rattle.dsr_slot.specs.Kept.{CameFrom, Hears};
 /// Agreement and validity of the broadcast (Dolev and Strong 1983). Whatever the traitors give to whom in the f+1 rounds of a slot, if they are at most f, all
 /// loyal replicas decide the same; and if the sender is loyal they decide the value, however many are traitors. Three premises: each loyal replica gives every
 /// replica what its protocol asks for; a traitor gives a loyal replica's signature on a link of the slot only if that replica posted the signature; and each
-/// request of the value has beside it the signature on it of its client, a client of the shape.
+/// request of the value is signed by its client, a client of the shape.
 ///
-/// Whatever a replica reads, each request of what it decides has beside it the signature on it of its client, a client of
-/// the shape. And for every value whose requests have such signatures there is such an exchange: one in which traitors
-/// give nothing at all.
+/// Whatever a replica reads, each request of what it decides is signed by its client, a client of the shape. And for
+/// every value whose requests are signed so there is such an exchange: one in which traitors give nothing at all.
 pub fn agreement_and_validity()
     ensures agreement { (shape : Shape) (slot : ℕ) (value : SlotValue) (given : Exchange)
         → HasFewTraitors shape → IsBroadcast shape slot value given
@@ -40,7 +39,7 @@ pub fn agreement_and_validity()
         → (given : Exchange) × IsBroadcast shape slot value given × AreTraitorsSilent shape given }
 {}
 
-/// The rules never look at who is a traitor. Two shapes that differ only in their traitors give the same: what a
+/// The rules never look at who is a traitor. Two shapes that differ at most in their traitors give the same: what a
 /// replica keeps in the first rounds of a slot, whatever it reads; what it posts, whatever it has kept; and what it
 /// decides.
 pub fn rules_are_blind()

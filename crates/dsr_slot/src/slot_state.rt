@@ -193,7 +193,7 @@ impl SlotState {
     }
 
     /// Returns what is decided: the value of the kept chain if there is just one, else idle. `None` until round f+1 is
-    /// closed. Each request of the value has beside it the signature on it of its client, a client of the shape.
+    /// closed. Each request of the value is signed by its client, a client of the shape.
     pub fn decide(&self) -> Option<SlotValue>
         ensures decision { result ≡ decision_of self.now }
         ensures when { IsSome result ↔ (self.now.closed ≡ self.now.shape.f + 1) }
