@@ -1,4 +1,4 @@
--- How texts spell an envelope (this project): `empty`, `round 0 0/c0#1:write:a:5~c0/r0`, `ask c0#1:read:a~c0`, `reply 1 0 written`,
+-- How texts write an envelope (this project): `empty`, `round 0 0/c0#1:write:a:5~c0/r0`, `ask c0#1:read:a~c0`, `reply 1 0 written`,
 -- `seen 1`.
 use Rattle.std.specs.Prelude.{ℕ, List, ◌∷◌, ◌++◌, codes}
 use Rattle.std.specs.Fmt.{decimal}
@@ -22,7 +22,8 @@ envelope_text (Ask request) = codes "ask " ++ signed_text request
 envelope_text (Reply reply) = codes "reply " ++ reply_text reply
 envelope_text (Seen front) = codes "seen " ++ decimal front
 
--- an envelope that a text can spell: within the limits, with at most 32 chains, and with 1 to 8 requests in a value that is not idle
+-- an envelope that a text can write: within the limits, with 1 to 8 requests in a value that is not idle, and an answer that has a
+-- text
 abbrev pub IsSpelledEnvelope : Envelope → Type 0
 IsSpelledEnvelope Empty = Unit {0}
 IsSpelledEnvelope (Round round chains) = IsCount round × AreUpTo IsSpelledChain 32 chains

@@ -16,11 +16,11 @@ pub record Known : Type 0 where
 abbrev pub WasCarried : List Envelope → Signature → Type 0
 WasCarried envelopes s = (envelope : Envelope) × In envelope envelopes × Carries envelope s
 
--- known are the signatures that these envelopes carried, and no others
+-- the known signatures are exactly those that these envelopes carried
 abbrev pub StandFor : List Signature → List Envelope → Type 0
 StandFor known envelopes = (s : Signature) → In s known ↔ WasCarried envelopes s
 
--- the most signatures that the envelope can carry: 16 links and 8 requests a chain
+-- the most signatures that the envelope can carry: on each chain 16 links and 8 requests
 abbrev pub most_carried : Envelope → ℕ
 most_carried Empty = 0
 most_carried (Round round chains) = length chains * 24

@@ -1,5 +1,5 @@
--- Plain envelopes (this project): what texts could spell before values had lists of requests and registers could be removed. No value has
--- more than one request, nothing is removed, and the same holds of all that is signed.
+-- Plain envelopes (this project): what texts could write before values had lists of requests and registers could be removed. No value has
+-- more than one request, nothing is removed, and the same holds for all that is signed.
 use Rattle.std.specs.Prelude.{◌≤◌, List, All, length, Option, None, Some}
 use Rattle.dsr_request.specs.Request.{Request}
 use Rattle.dsr_request.specs.declared.op.Op.{Op}
@@ -22,7 +22,7 @@ IsPlainOp (Write name value) = Unit {0}
 IsPlainOp (Swap name from to) = Unit {0}
 IsPlainOp (Remove name) = ⊥
 
--- an answer that tells of no removal
+-- an answer that reports no removal
 abbrev pub IsPlainAnswer : Answer → Type 0
 IsPlainAnswer (Held old) = Unit {0}
 IsPlainAnswer Written = Unit {0}
@@ -35,12 +35,12 @@ IsPlainAnswer (Removed old) = ⊥
 abbrev pub IsPlainRequest : Request → Type 0
 IsPlainRequest request = IsPlainOp request.op
 
--- a content of at most one request, which removes nothing
+-- a content with at most one request, which removes nothing
 abbrev pub IsPlainContent : Option (List Request) → Type 0
 IsPlainContent None = Unit {0}
 IsPlainContent (Some requests) = (length requests ≤ 1) × All IsPlainRequest requests
 
--- a statement on such a request, or on a slot's content of this kind
+-- a statement with such a request, or such a content
 abbrev pub IsPlainStatement : Statement → Type 0
 IsPlainStatement (Ask request) = IsPlainRequest request
 IsPlainStatement (Link slot value before) = IsPlainContent value
@@ -53,7 +53,7 @@ IsPlainSignature s = IsPlainStatement s.statement
 abbrev pub IsPlainAsk : SignedRequest → Type 0
 IsPlainAsk ask = IsPlainRequest ask.request × IsPlainSignature ask.signature
 
--- a chain for at most one request, with such signatures alone
+-- a chain with a value of at most one request, and only such requests and signatures
 pub record IsPlainChain (chain : Chain) : Type 0 where
   pub content : IsPlainContent (content chain.value)
   pub requests : All IsPlainAsk (signed_in chain.value)

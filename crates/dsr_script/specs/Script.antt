@@ -1,4 +1,4 @@
--- Scripts as contracts see them, and which texts they are read from (this project).
+-- Scripts as contracts see them, and the texts from which they are read (this project).
 use Rattle.std.specs.Prelude.{◌≡◌, ℕ, List, [], get_or, Option}
 use Rattle.std.specs.Map.{lookup}
 use Rattle.dsr_names.specs.Shape.{Shape, IsAllowed}
@@ -23,15 +23,15 @@ pub record Script : Type 0 where
 abbrev pub ops_of : Script → ℕ → List Op
 ops_of script client = get_or script.ops client []
 
--- the place of these three
+-- the place with these three
 abbrev pub place_of : ℕ → ℕ → Actor → Place
 place_of from round to = record { from = from; round = round; to = to }
 
--- the draft at a place, where there is one
+-- the draft at a place, if there is one
 abbrev pub draft_at : Script → Place → Option Envelope
 draft_at script place = lookup (place_eq place) script.drafts
 
--- two scripts of which nobody can tell one from the other: of one shape, with the same operations of each client and the same drafts
+-- two scripts that nobody can tell apart: with one shape, the same operations for each client and the same drafts
 pub record SaysTheSame (script other : Script) : Type 0 where
   pub shape : script.shape ≡ other.shape
   pub ops : (client : ℕ) → ops_of script client ≡ ops_of other client
@@ -42,7 +42,7 @@ pub record Gives (lines : List ServeLine) (script : Script) : Type 0 where
   pub ops : (client : ℕ) → ops_of script client ≡ asked_by lines client
   pub drafts : (place : Place) → draft_at script place ≡ drafted_at lines place
 
--- the text spells a script: it is a header of the script's shape, which is allowed, and lines which give the script
+-- the text is that of the script: a header with the script's shape, which is allowed, and lines which give the script
 pub record Spells (text : List ℕ) (script : Script) : Type 0 where
   pub after : List ℕ
   pub header : BeginsWithHeader serve_scripts.title text script.shape after
@@ -51,6 +51,6 @@ pub record Spells (text : List ℕ) (script : Script) : Type 0 where
   pub begins : BeginsWithLines serve_scripts after script.shape lines []
   pub gives : Gives lines script
 
--- what each refusal says of the text
+-- what each refusal says about the text
 abbrev pub IsScriptRefusal : List ℕ → Refusal → Type 0
 IsScriptRefusal = IsTextRefusal serve_scripts

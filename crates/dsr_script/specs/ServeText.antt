@@ -1,5 +1,5 @@
--- How texts spell serve scripts (this project): a header `dsr-serve 1 n f m traitors`, then lines in any order, `ask C OPERATION` and
--- `script R ROUND TO ENVELOPE`. Lines stand newest first: the last line is the first of the list.
+-- How texts write serve scripts (this project): a header `dsr-serve 1 n f m traitors`, then lines in any order, `ask C OPERATION` and
+-- `script R ROUND TO ENVELOPE`. Lines are listed newest first: the last line is the first of the list.
 use Rattle.std.specs.Prelude.{◌≡◌, ℕ, ◌<◌, ◌^◌, true, nat_eq, if◌then◌else◌, List, [], ◌∷◌, ◌++◌, codes, Option, None, Some}
 use Rattle.std.specs.Fmt.{decimal}
 use Rattle.dsr_names.specs.Actor.{IsNumbered, actor_text, replica_text}
@@ -17,12 +17,12 @@ use Rattle.dsr_script.specs.Support.PlaceEquality.{place_eq}
 
 -- ---- one line
 
--- the word that a line begins with
+-- the word with which a line begins
 abbrev pub line_word : ServeLine → List ℕ
 line_word (Ask client op) = codes "ask"
 line_word (Post place envelope) = codes "script"
 
--- what stands after the word and a space: a client and its operation, or the traitor, the round, the other end and the envelope
+-- what follows the word and a space: a client and its operation, or the traitor, the round, the other end and the envelope
 abbrev pub line_rest : ServeLine → List ℕ
 line_rest (Ask client op) = actor_text (Client client) ++ 32 ∷ op_text 32 op
 line_rest (Post place envelope) =
@@ -32,14 +32,14 @@ line_rest (Post place envelope) =
 abbrev pub line_text : ServeLine → List ℕ
 line_text line = line_word line ++ 32 ∷ line_rest line
 
--- a line that a text can spell
+-- a line that a text can write
 abbrev pub IsLine : ServeLine → Type 0
 IsLine (Ask client op) = (client < 32) × IsOp op
 IsLine (Post place envelope) = (place.from < 16) × (place.round < 2 ^ 40) × IsNumbered place.to × IsSpelledEnvelope envelope
 
 -- ---- what lines give
 
--- the operations that lines ask of a client, in the order of the lines
+-- the operations that lines give to a client, in the order of the lines
 abbrev pub asked_by : List ServeLine → ℕ → List Op
 asked_by [] client = []
 asked_by (Ask of op ∷ earlier) client = if nat_eq of client then asked_by earlier client ++ op ∷ [] else asked_by earlier client
@@ -63,6 +63,6 @@ abbrev pub CanFollow : Shape → List ServeLine → ServeLine → Type 0
 CanFollow shape earlier (Ask client op) = IsActor shape (Client client)
 CanFollow shape earlier (Post place envelope) = IsTraitor shape place.from × IsActor shape place.to × (drafted_at earlier place ≡ None)
 
--- serve scripts, as texts of a header and lines
+-- serve scripts, as texts that are a header and lines
 abbrev pub serve_scripts : TextKind ServeLine
 serve_scripts = record { title = codes "dsr-serve 1"; line_text = line_text; IsLine = IsLine; CanFollow = CanFollow }

@@ -11,7 +11,8 @@ use dsr_names::{Actor, Refusal};
 use std::alloc::Global;
 use std::marker::Model;
 
-/// What a text says of a signature, in little room: another statement than fits the place is kept apart.
+/// What a text says about a signature, in little room: a statement other than the one that fits the place is behind a
+/// handle.
 #[derive(Drop)]
 pub(crate) struct Brief {
     signer: Actor,
@@ -29,7 +30,7 @@ impl Model for Brief {
 }
 
 impl Brief {
-    /// What is said, in little room. `NoMemory` where memory runs out.
+    /// Makes this from what a text says. `NoMemory` if memory runs out.
     pub(crate) fn of(alloc: Global, spelled: &Spelled) -> Result<Brief, Refusal>
         ensures same { IfOk result (λ brief. brief ≡ spelled.now) }
         ensures refusal { IsOkUnless result Refusal.NoMemory }
@@ -44,7 +45,7 @@ impl Brief {
         })
     }
 
-    /// What is said of this signer's signature on the statement that fits.
+    /// Makes what a text says about this signer's signature on the statement that fits.
     pub(crate) fn by(signer: Actor) -> Brief
         ensures { result ≡ short_form signer }
     {
@@ -54,14 +55,14 @@ impl Brief {
         }
     }
 
-    /// Who is to have signed.
+    /// Returns the signer.
     pub(crate) fn signer(&self) -> Actor
         ensures { result ≡ self.now.signer }
     {
         self.signer
     }
 
-    /// The other statement, where it is on another than fits.
+    /// Returns the other statement, if the signature is on one that does not fit.
     pub(crate) fn other(&self) -> Option<&Statement>
         ensures { option_map (λ s. s.now) result ≡ self.now.other }
     {
@@ -71,7 +72,7 @@ impl Brief {
         }
     }
 
-    /// What the signature says, at the place that this statement fits.
+    /// Returns what the signature says, at the place that this statement fits.
     pub(crate) fn said_in(&self, fitting: &Statement) -> Said
         ensures { result ≡ said_in fitting.now self.now }
     {
@@ -81,7 +82,8 @@ impl Brief {
         }
     }
 
-    /// Whether it is what a text says at the place that this statement fits: that it is no long form of that statement.
+    /// Tells whether a text says this at the place that this statement fits: whether it is not the long form of that
+    /// statement.
     pub(crate) fn is_said(&self, fitting: &Statement) -> bool
         ensures { IsTrue result ↔ (self.now ≡ spelled_at fitting.now (said_in fitting.now self.now)) }
     {

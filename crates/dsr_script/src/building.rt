@@ -21,9 +21,9 @@ use dsr_names::{Actor, Refusal};
 use dsr_request::Requests;
 use std::alloc::Global;
 
-/// The envelope that the draft describes. A signature by the holder of one of the keys is made; any other is taken from those that are
-/// known. `Forged` where one is neither by the holder of one of the keys nor known; `NoMemory` where memory runs out. What the draft
-/// describes is within the limits of envelopes, as it is of each draft.
+/// Makes the envelope that the draft describes. A signature by the holder of one of the keys is made; any other is taken from the
+/// known ones. `Forged` if one is neither by the holder of one of the keys nor known; `NoMemory` if memory runs out. What a draft
+/// describes is always within the limits of envelopes.
 pub fn build(alloc: Global, draft: &Draft, keys: &[Key], known: &Known) -> Result<Envelope, Refusal>
     ensures same { IfOk result (λ envelope. envelope ≡ draft.now) }
     ensures unforged { IfOk result (λ envelope. IsUnforged keys.now known.now.signatures envelope) }
@@ -37,7 +37,7 @@ pub fn build(alloc: Global, draft: &Draft, keys: &[Key], known: &Known) -> Resul
     }
 }
 
-/// The envelope that the plan describes, as `build` makes it.
+/// Makes the envelope that the plan describes, as `build` does.
 fn build_plan(alloc: Global, plan: &Plan, keys: &[Key], known: &Known) -> Result<Envelope, Refusal>
     ensures same { IfOk result (λ envelope. envelope ≡ described plan.now) }
     ensures unforged { IfOk result (λ envelope. IsUnforged keys.now known.now.signatures envelope) }
@@ -51,7 +51,7 @@ fn build_plan(alloc: Global, plan: &Plan, keys: &[Key], known: &Known) -> Result
     }
 }
 
-/// Whether each signature of the plan is by the holder of one of the keys, or is known.
+/// Tells whether each signature in the plan is by the holder of one of the keys, or is known.
 fn is_unforged(plan: &Plan, keys: &[Key], known: &Known) -> bool
     ensures { IsTrue result ↔ IsHeldEnvelope keys.now known.now.signatures (described plan.now) }
 {
@@ -62,7 +62,7 @@ fn is_unforged(plan: &Plan, keys: &[Key], known: &Known) -> bool
     }
 }
 
-/// The envelope that the plan describes, none of whose signatures is forged.
+/// Makes the envelope that the plan describes. Requires that none of its signatures is forged.
 fn envelope_of(alloc: Global, plan: &Plan, keys: &[Key], known: &Known) -> Result<Envelope, Refusal>
     requires { IsHeldEnvelope keys.now known.now.signatures (described plan.now) }
     ensures same { IfOk result (λ envelope. envelope ≡ described plan.now) }
@@ -82,7 +82,7 @@ fn envelope_of(alloc: Global, plan: &Plan, keys: &[Key], known: &Known) -> Resul
     })
 }
 
-/// Whether no signature of the chains is forged.
+/// Tells whether no signature in the chains is forged.
 fn are_chains_held(chains: &[SaidChain], keys: &[Key], known: &Known) -> bool
     ensures { IsTrue result ↔ All (IsHeldChain keys.now known.now.signatures) chains.now }
 {
@@ -94,7 +94,7 @@ fn are_chains_held(chains: &[SaidChain], keys: &[Key], known: &Known) -> bool
     true
 }
 
-/// Whether no signature of the chain is forged.
+/// Tells whether no signature in the chain is forged.
 fn is_chain_held(chain: &SaidChain, keys: &[Key], known: &Known) -> bool
     ensures { IsTrue result ↔ IsHeldChain keys.now known.now.signatures chain.now }
 {
@@ -103,7 +103,7 @@ fn is_chain_held(chain: &SaidChain, keys: &[Key], known: &Known) -> bool
         && chain.asks().iter().all(|ask| is_ask_held(ask, keys, known))
 }
 
-/// Whether none of the signatures is forged that are said in a chain of this slot and content.
+/// Tells whether none of these signatures, which are said in a chain with this slot and content, is forged.
 fn are_links_held(
     slot: u64,
     content: &Option<Requests>,
@@ -124,8 +124,8 @@ fn are_links_held(
     true
 }
 
-/// Whether the signature is not forged that is said after these signers in a chain of this slot and content. What is said in full takes
-/// much room, so it is made only where nobody holds the signer's key.
+/// Tells whether the signature that is said after these signers in a chain with this slot and content is not forged. What it says in
+/// full takes much room, so that is made only if none of the keys is the signer's.
 fn is_link_held(
     slot: u64,
     content: &Option<Requests>,
@@ -142,21 +142,21 @@ fn is_link_held(
             .is_some()
 }
 
-/// Whether the signature beside the request is not forged.
+/// Tells whether the signature beside the request is not forged.
 fn is_ask_held(ask: &SaidRequest, keys: &[Key], known: &Known) -> bool
     ensures { IsTrue result ↔ IsHeldRequest keys.now known.now.signatures ask.now }
 {
     key_of(keys, ask.brief().signer()).is_some() || known.find(&ask.said()).is_some()
 }
 
-/// Whether the signature is by the holder of one of the keys, or is known.
+/// Tells whether the signature is by the holder of one of the keys, or is known.
 pub(crate) fn is_held(said: &Said, keys: &[Key], known: &Known) -> bool
     ensures { IsTrue result ↔ IsHeldOrKnown keys.now known.now.signatures said.now }
 {
     key_of(keys, said.signer()).is_some() || known.find(said).is_some()
 }
 
-/// The key of this signer, where one of the keys is.
+/// Returns the key of this signer, if it is one of the keys.
 fn key_of(keys: &[Key], signer: Actor) -> Option<&Key>
     ensures signer { IfSome result (λ key. key.now ≡ signer) }
     ensures when { IsSome result ↔ Any (λ holder. holder ≡ signer) keys.now }
@@ -169,7 +169,7 @@ fn key_of(keys: &[Key], signer: Actor) -> Option<&Key>
     None
 }
 
-/// The chains that these describe.
+/// Makes the chains that these describe.
 fn chains_of(
     alloc: Global,
     said: &[SaidChain],
@@ -187,7 +187,7 @@ fn chains_of(
     Ok(chains)
 }
 
-/// The chain that this describes.
+/// Makes the chain that this describes.
 fn chain_of(alloc: Global, said: &SaidChain, keys: &[Key], known: &Known) -> Result<Chain, Refusal>
     requires { IsHeldChain keys.now known.now.signatures said.now }
     ensures same { IfOk result (λ chain. chain ≡ said.now) }
@@ -199,7 +199,7 @@ fn chain_of(alloc: Global, said: &SaidChain, keys: &[Key], known: &Known) -> Res
     Chain::of(alloc, said.slot(), value, signatures)
 }
 
-/// The value with the requests that these describe.
+/// Makes the value with the requests that these describe.
 fn value_of(
     alloc: Global,
     said: &[SaidRequest],
@@ -221,7 +221,7 @@ fn value_of(
     })
 }
 
-/// The signatures that are said in a chain of this slot and content.
+/// Makes the signatures that are said in a chain with this slot and content.
 fn signatures_of(
     alloc: Global,
     slot: u64,
@@ -246,7 +246,7 @@ fn signatures_of(
     Ok(signatures)
 }
 
-/// The signed request that this describes.
+/// Makes the signed request that this describes.
 fn request_of(said: &SaidRequest, keys: &[Key], known: &Known) -> SignedRequest
     requires { IsHeldOrKnown keys.now known.now.signatures said.now.signature }
     ensures { result ≡ said.now }
@@ -257,7 +257,7 @@ fn request_of(said: &SaidRequest, keys: &[Key], known: &Known) -> SignedRequest
     }
 }
 
-/// The signature that says this: made, where one of the keys is its signer's, and taken from those that are known where none is.
+/// Returns the signature that says this: made, if one of the keys is its signer's, else taken from the known ones.
 fn signature_of(said: &Said, keys: &[Key], known: &Known) -> Signature
     requires { IsHeldOrKnown keys.now known.now.signatures said.now }
     ensures { result ≡ said.now }

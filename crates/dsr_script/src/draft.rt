@@ -16,10 +16,10 @@ use std::alloc::Global;
 use std::marker::Model;
 use std::sync::Arc;
 
-/// An envelope as data: where an envelope has a signature, a draft has its signer and its statement alone. Only `build` makes an
-/// envelope of it. Each draft has a text, so it is within the limits of envelopes. Contracts see a draft as the envelope that it
-/// describes. A draft is never changed, so copies share what they hold. It takes little room: its cases are kept apart, and there are
-/// none where it is the draft of the empty envelope.
+/// An envelope as data: in place of each signature, a draft has only its signer and its statement. Only `build` makes an envelope
+/// from it. Each draft has a text, so it is within the limits of envelopes. Contracts see a draft as the envelope that it describes.
+/// A draft never changes, so copies share what they hold. It takes little room: its cases are behind a handle, and the draft of the
+/// empty envelope has none.
 #[derive(Drop)]
 pub struct Draft {
     plan: Option<Arc<Plan, Global>>,
@@ -41,14 +41,14 @@ impl Model for Draft {
 }
 
 impl Draft {
-    /// The draft of the empty envelope. It takes no memory.
+    /// Makes the draft of the empty envelope. It takes no memory.
     pub fn empty() -> Draft
         ensures { result ≡ Empty }
     {
         Draft { plan: None }
     }
 
-    /// The draft of an envelope, which is to be within the limits. `NoMemory` where memory runs out.
+    /// Makes the draft of an envelope. Requires that the envelope is within the limits. `NoMemory` if memory runs out.
     pub fn of(alloc: Global, envelope: &Envelope) -> Result<Draft, Refusal>
         requires { IsEnvelope envelope.now }
         ensures same { IfOk result (λ draft. draft ≡ envelope.now) }
@@ -74,7 +74,7 @@ impl Draft {
         Draft::of_plan(alloc, plan)
     }
 
-    /// The same draft once more. It shares what this one holds. `NoMemory` where one handle more is refused.
+    /// Returns a copy, which shares what this one holds. `NoMemory` if one more handle is refused.
     pub fn try_copy(&self) -> Result<Draft, Refusal>
         ensures same { IfOk result (λ draft. draft ≡ self.now) }
         ensures refusal { IsOkUnless result Refusal.NoMemory }
@@ -89,7 +89,7 @@ impl Draft {
         Ok(Draft { plan })
     }
 
-    /// The draft of these cases. `NoMemory` where memory runs out.
+    /// Makes the draft with these cases. `NoMemory` if memory runs out.
     pub(crate) fn of_plan(alloc: Global, plan: Plan) -> Result<Draft, Refusal>
         requires { IsSpelledEnvelope (described plan) }
         ensures same { IfOk result (λ draft. draft ≡ described plan) }
@@ -99,7 +99,7 @@ impl Draft {
         Ok(Draft { plan: Some(plan) })
     }
 
-    /// The cases of the draft, none where it is of the empty envelope.
+    /// Returns the cases of the draft, or `None` if it is of the empty envelope.
     pub(crate) fn plan(&self) -> Option<&Plan>
         ensures same { drafted (option_map (λ p. p.now) result) ≡ self.now }
         ensures spelled { IsSpelledEnvelope self.now }
@@ -112,7 +112,7 @@ impl Draft {
     }
 }
 
-/// That a text can spell the answer, as it can each in hand.
+/// Shows that a text can write the answer, as it can write every answer in a program.
 fn spell_answer(answer: Answer)
     ensures { IsAnswer answer }
 {

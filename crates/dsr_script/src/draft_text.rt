@@ -20,12 +20,12 @@ use dsr_text::{read_items, write_more};
 use std::alloc::Global;
 use std::fmt;
 
-/// The most chains of an envelope that a text spells.
+/// The most chains that a text of an envelope has.
 const MOST_CHAINS: usize = 32;
 
 impl Draft {
-    /// The draft that the bytes spell, as `round 0 0/c0#1:write:a:5~c0/r0`. The inner `None` comes exactly where they spell none.
-    /// `NoMemory` where memory runs out.
+    /// Reads a draft's text, like `round 0 0/c0#1:write:a:5~c0/r0`. The inner `None` means exactly that the bytes are not one.
+    /// `NoMemory` if memory runs out.
     pub fn read(alloc: Global, bytes: &[u8]) -> Result<Option<Draft>, Refusal>
         ensures read { IfOk result (λ draft. Reads IsSpelledEnvelope envelope_text bytes.now draft) }
         ensures refusal { IsOkUnless result Refusal.NoMemory }
@@ -40,7 +40,7 @@ impl Draft {
     }
 }
 
-/// What is written is the text of the envelope that the draft describes.
+/// Writes the text of the envelope that the draft describes.
 impl fmt::Display for Draft {
     ghost output = { λ draft. Some (envelope_text draft) };
 
@@ -63,7 +63,7 @@ impl fmt::Display for Draft {
     }
 }
 
-/// The cases of the draft that the bytes spell, where they are not those of the empty one.
+/// Reads the cases of a draft that is not the empty one.
 fn read_plan(alloc: Global, bytes: &[u8]) -> Result<Option<Plan>, Refusal>
     ensures read { bytes.now ≢ codes "empty"
         → IfOk result (λ plan. Reads IsSpelledEnvelope envelope_text bytes.now (option_map described plan)) }
@@ -82,7 +82,7 @@ fn read_plan(alloc: Global, bytes: &[u8]) -> Result<Option<Plan>, Refusal>
     }
 }
 
-/// The chains of a global round, whose text has these bytes after its word.
+/// Reads the chains of a global round, from the text after its word.
 fn read_round(alloc: Global, bytes: &[u8]) -> Result<Option<Plan>, Refusal>
     ensures read { IfOk result (λ plan. Reads IsSpelledEnvelope envelope_text (codes "round " ++ bytes.now) (option_map described plan)) }
     ensures refusal { IsOkUnless result Refusal.NoMemory }
@@ -96,7 +96,7 @@ fn read_round(alloc: Global, bytes: &[u8]) -> Result<Option<Plan>, Refusal>
     }
 }
 
-/// The chains of a global round, where there are both.
+/// Makes the chains of a global round from its parts, if both are there.
 fn round_of_parts(round: Option<u64>, chains: Option<Vec<SaidChain>>) -> Option<Plan>
     ensures { option_map described result ≡ option_map round_of (pair_of round (option_map (λ list. list.items) chains)) }
 {
@@ -109,7 +109,7 @@ fn round_of_parts(round: Option<u64>, chains: Option<Vec<SaidChain>>) -> Option<
     }
 }
 
-/// The request whose text has these bytes after its word.
+/// Reads a request, from the text after its word.
 fn read_ask(alloc: Global, bytes: &[u8]) -> Result<Option<Plan>, Refusal>
     ensures read { IfOk result (λ plan. Reads IsSpelledEnvelope envelope_text (codes "ask " ++ bytes.now) (option_map described plan)) }
     ensures refusal { IsOkUnless result Refusal.NoMemory }
@@ -120,7 +120,7 @@ fn read_ask(alloc: Global, bytes: &[u8]) -> Result<Option<Plan>, Refusal>
     }
 }
 
-/// The reply whose text has these bytes after its word.
+/// Reads a reply, from the text after its word.
 fn read_told(bytes: &[u8]) -> Option<Plan>
     ensures { Reads IsSpelledEnvelope envelope_text (codes "reply " ++ bytes.now) (option_map described result) }
 {
@@ -130,7 +130,7 @@ fn read_told(bytes: &[u8]) -> Option<Plan>
     }
 }
 
-/// The seen front whose text has these bytes after its word.
+/// Reads a seen front, from the text after its word.
 fn read_seen(bytes: &[u8]) -> Option<Plan>
     ensures { Reads IsSpelledEnvelope envelope_text (codes "seen " ++ bytes.now) (option_map described result) }
 {
@@ -140,7 +140,7 @@ fn read_seen(bytes: &[u8]) -> Option<Plan>
     }
 }
 
-/// The reply that the bytes spell, as `1 0 written`.
+/// Reads a reply's text, like `1 0 written`.
 fn read_reply(bytes: &[u8]) -> Option<Reply>
     ensures { Reads IsSpelledReply reply_text bytes.now result }
 {
@@ -155,7 +155,7 @@ fn read_reply(bytes: &[u8]) -> Option<Reply>
     }
 }
 
-/// The number of at least 1 and below 2^40 whose decimal the bytes are.
+/// Reads a decimal number that is at least 1 and below 2^40.
 fn read_number(bytes: &[u8]) -> Option<u64>
     ensures { Reads IsNumber decimal bytes.now result }
 {
@@ -165,7 +165,7 @@ fn read_number(bytes: &[u8]) -> Option<u64>
     }
 }
 
-/// The reply of these parts, where there are all.
+/// Makes the reply from its parts, if all are there.
 fn reply_of_parts(number: Option<u64>, place: Option<u64>, answer: Option<Answer>) -> Option<Reply>
     ensures { (x : AReply) → (result ≡ Some x) ↔ (pair_of number (pair_of place answer) ≡ Some (reply_parts x)) }
 {

@@ -1,4 +1,4 @@
-//! Which signature of a draft would be forged.
+//! Finds a signature in a draft that would be forged.
 
 ghost use Rattle.std.specs.Prelude.{◌≡◌, ◌+◌, ◌≤◌, length, map, IfSome, IfNone};
 ghost use Rattle.dsr_base.specs.Member.{In};
@@ -21,17 +21,18 @@ use dsr_desk::{Key, Signers, Statement};
 use dsr_names::Actor;
 use dsr_request::Requests;
 
-/// A signature that nobody may post who holds these keys and knows these signatures: who is said to have signed, and what.
+/// A signature that a holder of these keys who knows these signatures may not post: who is said to have signed, and what.
 #[derive(Clone, Copy, Debug)]
 pub struct Forged {
     /// The signer.
     pub signer: Actor,
-    /// What is said to be signed.
+    /// The statement that is said to be signed.
     pub statement: Statement,
 }
 
-/// A signature that the draft describes and for which `build` refuses it as forged: it is neither by the holder of one of the keys nor
-/// known. `None` exactly if there is none. (Of several, chains come in their order, and in each its links before its requests.)
+/// Returns a signature in the draft for which `build` refuses it as forged: it is neither by the holder of one of the keys nor known.
+/// `None` exactly if there is none. (Of several, the first is returned: chains come in their order, and in each its links before its
+/// requests.)
 pub fn forged_in(draft: &Draft, keys: &[Key], known: &Known) -> Option<Forged>
     ensures carried { IfSome result (λ forged. Carries draft.now (signed forged.signer forged.statement)) }
     ensures forged { IfSome result (λ forged. ¬ IsHeldOrKnown keys.now known.now.signatures (signed forged.signer forged.statement)) }
@@ -43,7 +44,7 @@ pub fn forged_in(draft: &Draft, keys: &[Key], known: &Known) -> Option<Forged>
     }
 }
 
-/// A forged signature of the plan.
+/// Returns a forged signature in the plan.
 fn forged_in_plan(plan: &Plan, keys: &[Key], known: &Known) -> Option<Forged>
     ensures carried { IfSome result (λ forged. Carries (described plan.now) (signed forged.signer forged.statement)) }
     ensures forged { IfSome result (λ forged. ¬ IsHeldOrKnown keys.now known.now.signatures (signed forged.signer forged.statement)) }
@@ -56,7 +57,7 @@ fn forged_in_plan(plan: &Plan, keys: &[Key], known: &Known) -> Option<Forged>
     }
 }
 
-/// A forged signature of the chains.
+/// Returns a forged signature in the chains.
 fn forged_in_chains(chains: &[SaidChain], keys: &[Key], known: &Known) -> Option<Forged>
     ensures carried { IfSome result (λ forged. IsOnOne chains.now (signed forged.signer forged.statement)) }
     ensures forged { IfSome result (λ forged. ¬ IsHeldOrKnown keys.now known.now.signatures (signed forged.signer forged.statement)) }
@@ -73,7 +74,7 @@ fn forged_in_chains(chains: &[SaidChain], keys: &[Key], known: &Known) -> Option
     }
 }
 
-/// A forged signature of the chain.
+/// Returns a forged signature in the chain.
 fn forged_in_chain(chain: &SaidChain, keys: &[Key], known: &Known) -> Option<Forged>
     ensures carried { IfSome result (λ forged. IsOn (signed forged.signer forged.statement) chain.now) }
     ensures forged { IfSome result (λ forged. ¬ IsHeldOrKnown keys.now known.now.signatures (signed forged.signer forged.statement)) }
@@ -93,7 +94,7 @@ fn forged_in_chain(chain: &SaidChain, keys: &[Key], known: &Known) -> Option<For
     forged_beside(chain.asks(), keys, known)
 }
 
-/// A forged signature among those that are said in a chain of this slot and content after these signers.
+/// Returns a forged signature among these, which are said in a chain with this slot and content after these signers.
 fn forged_link(
     slot: u64,
     content: &Option<Requests>,
@@ -121,7 +122,7 @@ fn forged_link(
     }
 }
 
-/// A forged signature among those beside these requests.
+/// Returns a forged signature among those beside these requests.
 fn forged_beside(asks: &[SaidRequest], keys: &[Key], known: &Known) -> Option<Forged>
     ensures carried { IfSome result (λ forged. In (signed forged.signer forged.statement) (map (λ r. r.signature) asks.now)) }
     ensures forged { IfSome result (λ forged. ¬ IsHeldOrKnown keys.now known.now.signatures (signed forged.signer forged.statement)) }
@@ -138,7 +139,7 @@ fn forged_beside(asks: &[SaidRequest], keys: &[Key], known: &Known) -> Option<Fo
     }
 }
 
-/// The signature beside the request, where it is forged.
+/// Returns the signature beside the request, if it is forged.
 fn forged_request(ask: &SaidRequest, keys: &[Key], known: &Known) -> Option<Forged>
     ensures carried { IfSome result (λ forged. ask.now.signature ≡ signed forged.signer forged.statement) }
     ensures forged { IfSome result (λ forged. ¬ IsHeldOrKnown keys.now known.now.signatures (signed forged.signer forged.statement)) }
@@ -147,7 +148,7 @@ fn forged_request(ask: &SaidRequest, keys: &[Key], known: &Known) -> Option<Forg
     forged_of(&ask.said(), keys, known)
 }
 
-/// The signature that is said, where it is forged.
+/// Returns the signature that is said, if it is forged.
 fn forged_of(said: &Said, keys: &[Key], known: &Known) -> Option<Forged>
     ensures carried { IfSome result (λ forged. said.now ≡ signed forged.signer forged.statement) }
     ensures forged { IfSome result (λ forged. ¬ IsHeldOrKnown keys.now known.now.signatures (signed forged.signer forged.statement)) }

@@ -45,7 +45,7 @@ impl Known {
     ghost use Rattle.dsr_envelope.specs.Envelope.{Carries};
     ghost use Rattle.dsr_script.specs.Known.{StandFor, most_carried};
 
-    /// No signature. It takes no memory.
+    /// Makes an empty set. It takes no memory.
     pub fn new(alloc: Global) -> Known
         ensures none { result.signatures ≡ [] }
     {
@@ -55,8 +55,8 @@ impl Known {
     }
 
     /// Adds the signatures that the envelope carries: those of its chains, those beside the requests of its chains' values, and
-    /// the one beside the request that is asked. `NoMemory` where memory runs out: then what is known stays the same. An
-    /// envelope of at most 32 chains takes no memory where there is room for it.
+    /// the one beside the request that it asks. `NoMemory` if memory runs out: then the known signatures stay the same. An
+    /// envelope with at most 32 chains takes no memory if there is room for it.
     pub fn learn(&mut self, envelope: &Envelope) -> Result<(), Refusal>
         ensures learned { (s : Signature)
             → OnOk result (In s self.new.signatures ↔ (In s self.old.signatures ⊎ Carries envelope.now s)) }
@@ -69,8 +69,8 @@ impl Known {
         self.take_in(envelope)
     }
 
-    /// Makes room for the signatures of one more envelope of at most 32 chains. `NoMemory` where memory runs out. What is known stays
-    /// the same.
+    /// Makes room for the signatures of one more envelope with at most 32 chains. `NoMemory` if memory runs out. The known signatures
+    /// stay the same.
     pub fn room(&mut self) -> Result<(), Refusal>
         ensures same { self.new.signatures ≡ self.old.signatures }
         ensures room { OnOk result (768 ≤ self.new.room) }
@@ -81,7 +81,7 @@ impl Known {
         self.reserve(MOST_CARRIED)
     }
 
-    /// The signature that says this, where it is known.
+    /// Returns the signature that says this, if it is known.
     pub(crate) fn find(&self, said: &Said) -> Option<Signature>
         ensures found { IfSome result (λ signature. signature ≡ said.now) }
         ensures when { IsSome result ↔ In said.now self.now.signatures }
@@ -93,7 +93,7 @@ impl Known {
         }
     }
 
-    /// Notes the signatures of the envelope, after there is room for all of them.
+    /// Notes the signatures of the envelope, after making room for all of them. `NoMemory` if memory runs out: then none is noted.
     fn take_in(&mut self, envelope: &Envelope) -> Result<(), Refusal>
         ensures noted { OnOk result (self.new.signatures ≡ noted_all self.old.signatures (carried envelope.now)) }
         ensures stays { OnErr result (self.new.signatures ≡ self.old.signatures) }
@@ -119,7 +119,7 @@ impl Known {
         }
     }
 
-    /// Makes room for this many more.
+    /// Makes room for `count` more signatures. `NoMemory` if memory runs out.
     fn reserve(&mut self, count: usize) -> Result<(), Refusal>
         ensures same { self.new.signatures ≡ self.old.signatures }
         ensures room { OnOk result (count ≤ self.new.room) }

@@ -1,5 +1,5 @@
-//! Envelopes as data: what a traitor is to post, and the one place that makes envelopes of it. What is posted is made of held keys
-//! and of signatures that were seen, so nobody's signature is forged.
+//! Envelopes as data: what a traitor is to post, and the only place that makes envelopes from it. It makes them with held keys and
+//! with signatures that were seen, so no signature is forged.
 #![tactic(auto)]
 
 mod brief;

@@ -21,7 +21,7 @@ impl Model for Ops {
 }
 
 impl Ops {
-    /// No operation. It takes no memory.
+    /// Makes an empty list. It takes no memory.
     pub(crate) fn new(alloc: Global) -> Ops
         ensures { result ≡ [] }
     {
@@ -30,7 +30,7 @@ impl Ops {
         }
     }
 
-    /// Adds the operation as the last one. `NoMemory` where memory runs out.
+    /// Adds the operation as the last one. `NoMemory` if memory runs out.
     pub(crate) fn push(&mut self, op: Op) -> Result<(), Refusal>
         ensures added { OnOk result (self.new ≡ self.old ++ op ∷ []) }
         ensures refusal { IsOkUnless result Refusal.NoMemory }
@@ -41,7 +41,7 @@ impl Ops {
         }
     }
 
-    /// The operations, in order.
+    /// Returns the operations, in order.
     pub(crate) fn as_slice(&self) -> &[Op]
         ensures { result.now ≡ self.now }
     {

@@ -1,14 +1,14 @@
 use dsr_names::{Actor, ReplicaId};
 use std::hash::{Hash, Hasher};
 
-/// Where a script has a draft: a traitor's post in a round to an actor.
+/// The place of a draft in a script: a traitor's post in a round to an actor.
 #[derive(Clone, Copy, Debug, PartialEq, Eq)]
 pub(crate) struct Place {
     /// The traitor that posts.
     pub(crate) from: ReplicaId,
     /// The round, counted from 0.
     pub(crate) round: u64,
-    /// The actor to whom it posts.
+    /// The actor to which it posts.
     pub(crate) to: Actor,
 }
 

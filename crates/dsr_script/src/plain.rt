@@ -1,4 +1,4 @@
-//! Whether a draft is plain: whether no value in it has more than one request, and nothing in it is removed.
+//! Tells whether a draft is plain: whether no value in it has more than one request, and nothing in it is removed.
 
 ghost use Rattle.std.specs.Prelude.{◌↔◌, All, IsTrue};
 ghost use Rattle.dsr_script.specs.Plain.{IsPlain, IsPlainChain, IsPlainAsk, IsPlainStatement, IsPlainContent, IsPlainRequest, IsPlainOp, IsPlainAnswer};
@@ -14,8 +14,8 @@ use dsr_desk::Statement;
 use dsr_request::{Answer, Op, Request, Requests};
 
 impl Draft {
-    /// Whether no value in the draft has more than one request, and nothing in it is removed or tells of a removal. What the
-    /// signatures in it are on counts too.
+    /// Tells whether no value in the draft has more than one request, and nothing in it is removed or reports a removal. The
+    /// statements of its signatures count too.
     pub fn is_plain(&self) -> bool
         ensures { IsTrue result ↔ IsPlain self.now }
     {
@@ -30,7 +30,7 @@ impl Draft {
     }
 }
 
-/// Whether the chain's value, and all that is signed on it, is plain.
+/// Tells whether the chain's value, and all that is signed on it, is plain.
 fn is_plain_chain(chain: &SaidChain) -> bool
     ensures { IsTrue result ↔ IsPlainChain chain.now }
 {
@@ -38,35 +38,35 @@ fn is_plain_chain(chain: &SaidChain) -> bool
     are_plain_parts(&content, chain.asks(), chain.links())
 }
 
-/// Whether the content, the requests and what is said of the signatures of a chain is plain.
+/// Tells whether the content, the requests and the other statements of a chain are plain.
 fn are_plain_parts(content: &Option<Requests>, asks: &[SaidRequest], links: &[Brief]) -> bool
     ensures { IsTrue result ↔ (IsPlainContent content.now × All IsPlainAsk asks.now × All IsPlainSaid links.now) }
 {
     is_plain_content(content) && are_plain_asks(asks) && are_plain_briefs(links)
 }
 
-/// Whether the requests, and what the signatures beside them are on, are plain.
+/// Tells whether the requests, and the statements of the signatures beside them, are plain.
 fn are_plain_asks(asks: &[SaidRequest]) -> bool
     ensures { IsTrue result ↔ All IsPlainAsk asks.now }
 {
     asks.iter().all(|ask| is_plain_ask(ask))
 }
 
-/// Whether the other statements than fit are plain.
+/// Tells whether the statements that do not fit are plain.
 fn are_plain_briefs(links: &[Brief]) -> bool
     ensures { IsTrue result ↔ All IsPlainSaid links.now }
 {
     links.iter().all(|link| is_plain_brief(link))
 }
 
-/// Whether the request, and what the signature beside it is on, is plain.
+/// Tells whether the request, and the statement of the signature beside it, is plain.
 fn is_plain_ask(ask: &SaidRequest) -> bool
     ensures { IsTrue result ↔ IsPlainAsk ask.now }
 {
     is_plain_request(&ask.request()) && is_plain_brief(ask.brief())
 }
 
-/// Whether another statement than fits is plain, where there is one.
+/// Tells whether a statement that does not fit is plain, if there is one.
 fn is_plain_brief(brief: &Brief) -> bool
     ensures { IsTrue result ↔ IsPlainSaid brief.now }
 {
@@ -76,7 +76,7 @@ fn is_plain_brief(brief: &Brief) -> bool
     }
 }
 
-/// Whether the statement is on what is plain.
+/// Tells whether the request or the content of the statement is plain.
 fn is_plain_statement(statement: &Statement) -> bool
     ensures { IsTrue result ↔ IsPlainStatement statement.now }
 {
@@ -86,7 +86,7 @@ fn is_plain_statement(statement: &Statement) -> bool
     }
 }
 
-/// Whether there is at most one request, and it removes nothing.
+/// Tells whether there is at most one request, and it removes nothing.
 fn is_plain_content(content: &Option<Requests>) -> bool
     ensures { IsTrue result ↔ IsPlainContent content.now }
 {
@@ -102,14 +102,14 @@ fn is_plain_content(content: &Option<Requests>) -> bool
     }
 }
 
-/// Whether the request removes nothing.
+/// Tells whether the request removes nothing.
 fn is_plain_request(request: &Request) -> bool
     ensures { IsTrue result ↔ IsPlainRequest request.now }
 {
     is_plain_op(&request.op())
 }
 
-/// Whether the operation removes nothing.
+/// Tells whether the operation removes nothing.
 fn is_plain_op(op: &Op) -> bool
     ensures { IsTrue result ↔ IsPlainOp op.now }
 {
@@ -119,7 +119,7 @@ fn is_plain_op(op: &Op) -> bool
     }
 }
 
-/// Whether the answer tells of no removal.
+/// Tells whether the answer reports no removal.
 fn is_plain_answer(answer: &Answer) -> bool
     ensures { IsTrue result ↔ IsPlainAnswer answer.now }
 {

@@ -2,7 +2,7 @@ use crate::said::SaidRequest;
 use crate::said_chain::SaidChains;
 use dsr_ledger::Reply;
 
-/// The cases of a draft, which are those of an envelope that is not empty.
+/// The cases of a draft: those of an envelope that is not empty.
 #[derive(Drop)]
 pub(crate) enum Plan {
     /// The chains of a global round.

@@ -19,7 +19,7 @@ use dsr_request::Request;
 use std::alloc::Global;
 use std::marker::Model;
 
-/// What a signature says: its signer and its statement. Anybody can make one, and it is no signature.
+/// What a signature says: its signer and its statement. Anybody can make one, and it is not a signature.
 #[derive(Clone, Copy, Debug, PartialEq, Eq)]
 pub(crate) struct Said {
     signer: Actor,
@@ -37,7 +37,7 @@ impl Model for Said {
 }
 
 impl Said {
-    /// What the signature says.
+    /// Returns what the signature says.
     pub(crate) fn of(signature: &Signature) -> Said
         ensures { result ≡ signature.now }
     {
@@ -47,7 +47,7 @@ impl Said {
         }
     }
 
-    /// What this signer's signature on the statement says.
+    /// Returns what this signer's signature on the statement says.
     pub(crate) fn by(signer: Actor, statement: &Statement) -> Said
         ensures { result ≡ signed signer statement.now }
     {
@@ -57,14 +57,14 @@ impl Said {
         }
     }
 
-    /// Who is to have signed.
+    /// Returns the signer.
     pub(crate) fn signer(&self) -> Actor
         ensures { result ≡ self.now.signer }
     {
         self.signer
     }
 
-    /// What is to be signed.
+    /// Returns the statement.
     pub(crate) fn statement(&self) -> &Statement
         ensures { result.now ≡ self.now.statement }
     {
@@ -72,7 +72,7 @@ impl Said {
     }
 }
 
-/// A request with what a text says of the signature beside it.
+/// A request with what a text says about the signature beside it.
 #[derive(Drop)]
 pub(crate) struct SaidRequest {
     request: Request,
@@ -95,7 +95,7 @@ impl Model for SaidRequest {
 }
 
 impl SaidRequest {
-    /// The request, and what is said of the signature beside it. `NoMemory` where memory runs out.
+    /// Makes this from the request and what the signature beside it says. `NoMemory` if memory runs out.
     pub(crate) fn of(alloc: Global, signed: &SignedRequest) -> Result<SaidRequest, Refusal>
         ensures same { IfOk result (λ said. said ≡ signed.now) }
         ensures refusal { IsOkUnless result Refusal.NoMemory }
@@ -109,8 +109,8 @@ impl SaidRequest {
         })
     }
 
-    /// The signed request that the bytes spell, as `c0#1:read:a~c0`. The inner `None` comes exactly where they spell none. `NoMemory`
-    /// where memory runs out.
+    /// Reads a signed request's text, like `c0#1:read:a~c0`. The inner `None` means exactly that the bytes are not one. `NoMemory` if
+    /// memory runs out.
     pub(crate) fn read(alloc: Global, bytes: &[u8]) -> Result<Option<SaidRequest>, Refusal>
         ensures read { IfOk result (λ ask. Reads IsSigned signed_text bytes.now ask) }
         ensures refusal { IsOkUnless result Refusal.NoMemory }
@@ -123,7 +123,8 @@ impl SaidRequest {
         }
     }
 
-    /// The request with what is said of the signature beside it, where there are both and a signature is said.
+    /// Makes this from both parts, if both are there and the second is not the long form of a signature on the request. `NoMemory` if
+    /// memory runs out.
     fn of_parts(
         alloc: Global,
         request: Option<Request>,
@@ -145,21 +146,21 @@ impl SaidRequest {
         }
     }
 
-    /// The request.
+    /// Returns the request.
     pub(crate) fn request(&self) -> Request
         ensures { result ≡ self.now.request }
     {
         self.request
     }
 
-    /// What the signature beside it says.
+    /// Returns what the signature beside it says.
     pub(crate) fn said(&self) -> Said
         ensures { result ≡ self.now.signature }
     {
         self.brief.said_in(&Statement::Ask(self.request))
     }
 
-    /// What a text says of the signature beside it.
+    /// Returns what a text says about the signature beside it.
     pub(crate) fn brief(&self) -> &Brief
         ensures { result.now ≡ spelled_at (Ask self.now.request) self.now.signature }
     {

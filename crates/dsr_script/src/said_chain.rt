@@ -18,7 +18,7 @@ use dsr_request::Requests;
 use std::alloc::Global;
 use std::marker::Model;
 
-/// A chain as data: at most 8 requests and at most 16 signatures, of which it has what a text says.
+/// A chain as data: at most 8 requests and at most 16 signatures, each as what a text says about it.
 #[derive(Drop)]
 pub(crate) struct SaidChain {
     slot: u64,
@@ -42,7 +42,7 @@ impl Model for SaidChain {
 impl SaidChain {
     ghost use Rattle.dsr_chain.specs.Content.{signed_in, content};
 
-    /// The chain as data. `NoMemory` where memory runs out.
+    /// Makes the chain as data. `NoMemory` if memory runs out.
     pub(crate) fn of(alloc: Global, chain: &Chain) -> Result<SaidChain, Refusal>
         requires { IsChain chain.now }
         ensures same { IfOk result (λ said. said ≡ chain.now) }
@@ -58,7 +58,7 @@ impl SaidChain {
         })
     }
 
-    /// The chain of these parts.
+    /// Makes the chain from its parts.
     pub(crate) fn of_parts(slot: u64, asks: Vec<SaidRequest>, links: Vec<Brief>) -> SaidChain
         requires { AreKept slot asks.items links.items }
         ensures { result ≡ chain_of slot (value_of asks.items) (said_by slot (content_in asks.items) [] links.items) }
@@ -66,14 +66,14 @@ impl SaidChain {
         SaidChain { slot, asks, links }
     }
 
-    /// The slot that the chain is for.
+    /// Returns the slot that the chain is for.
     pub(crate) fn slot(&self) -> u64
         ensures { result ≡ self.now.slot }
     {
         self.slot
     }
 
-    /// The signed requests of its value, none where that is idle.
+    /// Returns the signed requests of its value, none if that is idle.
     pub(crate) fn asks(&self) -> &[SaidRequest]
         ensures same { result.now ≡ signed_in self.now.value }
         ensures few { length (signed_in self.now.value) ≤ 8 }
@@ -82,7 +82,7 @@ impl SaidChain {
         self.asks.as_slice()
     }
 
-    /// What a text says of its signatures, in their order.
+    /// Returns what a text says about its signatures, in their order.
     pub(crate) fn links(&self) -> &[Brief]
         ensures said { said_by self.now.slot (content self.now.value) [] result.now ≡ self.now.signatures }
         ensures kept { result.now ≡ spelled_links self.now.slot (content self.now.value) [] self.now.signatures }
@@ -108,7 +108,7 @@ impl Model for SaidChains {
 }
 
 impl SaidChains {
-    /// The chains as data. `NoMemory` where memory runs out.
+    /// Makes the chains as data. `NoMemory` if memory runs out.
     pub(crate) fn of(alloc: Global, chains: &[Chain]) -> Result<SaidChains, Refusal>
         requires { All IsChain chains.now }
         ensures same { IfOk result (λ said. said ≡ chains.now) }
@@ -122,14 +122,14 @@ impl SaidChains {
         Ok(SaidChains { items })
     }
 
-    /// The chains of this list.
+    /// Makes this from a list of chains.
     pub(crate) fn of_vec(items: Vec<SaidChain>) -> SaidChains
         ensures { result ≡ items.items }
     {
         SaidChains { items }
     }
 
-    /// The chains in their order.
+    /// Returns the chains, in their order.
     pub(crate) fn as_slice(&self) -> &[SaidChain]
         ensures { result.now ≡ self.now }
     {
@@ -137,7 +137,7 @@ impl SaidChains {
     }
 }
 
-/// What a text says of the chain's signatures.
+/// Returns what a text says about the chain's signatures. `NoMemory` if memory runs out.
 fn links_of(alloc: Global, chain: &Chain) -> Result<Vec<Brief>, Refusal>
     ensures same { IfOk result (λ links. links.items ≡ spelled_links chain.now.slot (content chain.now.value) [] chain.now.signatures) }
     ensures refusal { IsOkUnless result Refusal.NoMemory }
@@ -149,7 +149,7 @@ fn links_of(alloc: Global, chain: &Chain) -> Result<Vec<Brief>, Refusal>
     }
 }
 
-/// What a text says of signatures by these, each on the link that fits its place.
+/// Returns what a text says about signatures by `signers`, each on the link that fits its place.
 fn links_by(alloc: Global, signers: &[Actor]) -> Result<Vec<Brief>, Refusal>
     ensures same { IfOk result (λ links. links.items ≡ map short_form signers.now) }
     ensures refusal { IsOkUnless result Refusal.NoMemory }
@@ -161,7 +161,7 @@ fn links_by(alloc: Global, signers: &[Actor]) -> Result<Vec<Brief>, Refusal>
     Ok(links)
 }
 
-/// What a text says of the chain's signatures, each compared with the link that fits its place.
+/// Returns what a text says about the chain's signatures, comparing each with the link that fits its place.
 fn links_compared(alloc: Global, chain: &Chain) -> Result<Vec<Brief>, Refusal>
     ensures same { IfOk result (λ links. links.items ≡ spelled_links chain.now.slot (content chain.now.value) [] chain.now.signatures) }
     ensures refusal { IsOkUnless result Refusal.NoMemory }
@@ -182,7 +182,7 @@ fn links_compared(alloc: Global, chain: &Chain) -> Result<Vec<Brief>, Refusal>
     Ok(links)
 }
 
-/// The statement that fits in a chain of this slot and content, after these signers.
+/// Makes the statement that fits in a chain with this slot and content, after these signers.
 pub(crate) fn link_at(slot: u64, content: &Option<Requests>, before: Signers) -> Statement
     ensures { result ≡ Link slot content.now before }
 {
@@ -193,7 +193,7 @@ pub(crate) fn link_at(slot: u64, content: &Option<Requests>, before: Signers) ->
     }
 }
 
-/// These requests, with what the signatures beside them say.
+/// Makes these requests as data, with what the signatures beside them say.
 fn said_requests(alloc: Global, signed: &[SignedRequest]) -> Result<Vec<SaidRequest>, Refusal>
     ensures same { IfOk result (λ said. said.items ≡ signed.now) }
     ensures refusal { IsOkUnless result Refusal.NoMemory }

@@ -1,4 +1,4 @@
-//! How the parts of drafts are written.
+//! Writes the parts of drafts.
 
 ghost use Rattle.std.specs.Prelude.{Some};
 ghost use Rattle.std.specs.Fmt.{DisplaysOnOk};
@@ -47,7 +47,7 @@ impl fmt::Display for SaidChain {
     }
 }
 
-/// Writes the value with these requests: `idle` where there is none.
+/// Writes the value with these requests: `idle` if there are none.
 fn write_value<W: fmt::Write>(asks: &[SaidRequest], f: &mut fmt::Formatter<W>) -> fmt::Result
     ensures { DisplaysOnOk W.write_str_gives f.old result (Some (value_text (value_of asks.now))) f.new }
 {
@@ -60,7 +60,7 @@ fn write_value<W: fmt::Write>(asks: &[SaidRequest], f: &mut fmt::Formatter<W>) -
     }
 }
 
-/// Writes what is said of the signatures of a chain: a dash where there is none.
+/// Writes what a text says about the signatures of a chain: a dash if there are none.
 fn write_links<W: fmt::Write>(links: &[Brief], f: &mut fmt::Formatter<W>) -> fmt::Result
     ensures { DisplaysOnOk W.write_str_gives f.old result (Some (joined_or_dash 43 spelled_text links.now)) f.new }
 {

@@ -1,5 +1,5 @@
-//! The hash by which a signature is found. All that it says goes in: a traitor can spell any number of signatures that differ in one
-//! part alone, and each must still be found at once.
+//! Hashes a signature, so that it can be found. Everything that it says is hashed: a traitor can write any number of signatures that
+//! differ in only one part, and each must still be found at once.
 
 ghost use Rattle.std.specs.Prelude.{◌≡◌, fold, flat_map};
 ghost use Rattle.dsr_script.specs.Support.SaidHash.{actor_fed, op_fed, request_fed, sought_fed, sought_fed_alike};

@@ -1,4 +1,4 @@
-//! How the parts of drafts are read.
+//! Reads the parts of drafts.
 
 ghost use Rattle.std.specs.Prelude.{◌≡◌, refl, ◌↔◌, ◌≤◌, [], Some, length, IfOk, IfSome, IsTrue, IsOkUnless};
 ghost use Rattle.std.specs.Option.{option_map};
@@ -26,7 +26,7 @@ use dsr_request::{MOST_REQUESTS, Request, Requests};
 use dsr_text::{Item, read_items};
 use std::alloc::Global;
 
-/// What is said of signatures is joined by plus signs.
+/// Texts join what they say about signatures by plus signs.
 impl Item for Brief {
     ghost is = { IsSpelled };
 
@@ -50,7 +50,7 @@ impl Item for Brief {
     ghost shown = { λ _. refl };
 }
 
-/// Signed requests are joined by commas.
+/// Texts join signed requests by commas.
 impl Item for SaidRequest {
     ghost is = { IsSigned };
 
@@ -93,8 +93,8 @@ impl Item for SaidChain {
 }
 
 impl SaidChain {
-    /// The chain that the bytes spell, as `0/c0#1:write:a:5~c0/r0`. The inner `None` comes exactly where they spell none. `NoMemory`
-    /// where memory runs out.
+    /// Reads a chain's text, like `0/c0#1:write:a:5~c0/r0`. The inner `None` means exactly that the bytes are not one. `NoMemory` if
+    /// memory runs out.
     pub(crate) fn read(alloc: Global, bytes: &[u8]) -> Result<Option<SaidChain>, Refusal>
         ensures read { IfOk result (λ chain. Reads IsSpelledChain chain_text bytes.now chain) }
         ensures refusal { IsOkUnless result Refusal.NoMemory }
@@ -111,7 +111,7 @@ impl SaidChain {
     }
 }
 
-/// The chain of these parts, where there are all and its signatures are said of those.
+/// Makes the chain from its parts, if all are there and no link is the long form of what fits its place.
 fn chain_of_parts(
     alloc: Global,
     slot: Option<u64>,
@@ -137,7 +137,7 @@ fn chain_of_parts(
     }
 }
 
-/// The signed requests of the value that the bytes spell: `idle`, or 1 to 8 joined by commas.
+/// Reads the signed requests of a value: `idle`, or 1 to 8 joined by commas.
 fn read_value(alloc: Global, bytes: &[u8]) -> Result<Option<Vec<SaidRequest>>, Refusal>
     ensures read { IfOk result (λ asks. Reads IsValue value_text bytes.now (option_map (λ list. value_of list.items) asks)) }
     ensures few { IfOk result (λ asks. IfSome asks (λ list. length list.items ≤ 8)) }
@@ -149,7 +149,7 @@ fn read_value(alloc: Global, bytes: &[u8]) -> Result<Option<Vec<SaidRequest>>, R
     read_items(alloc, bytes, MOST_REQUESTS)
 }
 
-/// What the bytes say of a chain's signatures: `-` for none, or at most 16 joined by plus signs.
+/// Reads what a text says about a chain's signatures: `-` for none, or at most 16 joined by plus signs.
 fn read_links(alloc: Global, bytes: &[u8]) -> Result<Option<Vec<Brief>>, Refusal>
     ensures read { IfOk result (λ links. Reads (AreUpTo IsSpelled 16) (joined_or_dash 43 spelled_text) bytes.now (option_map (λ list. list.items) links)) }
     ensures few { IfOk result (λ links. IfSome links (λ list. length list.items ≤ 16)) }
@@ -161,7 +161,7 @@ fn read_links(alloc: Global, bytes: &[u8]) -> Result<Option<Vec<Brief>>, Refusal
     read_items(alloc, bytes, MOST_SIGNERS)
 }
 
-/// Whether these are said of signatures of a chain of this slot and content: that none is the long form of what fits its place.
+/// Tells whether a text says these about signatures of a chain with this slot and content: whether none is the long form of what fits its place.
 fn are_links(slot: u64, content: &Option<Requests>, links: &[Brief]) -> bool
     requires { length links.now ≤ 16 }
     ensures { IsTrue result ↔ (links.now ≡ spelled_links slot content.now [] (said_by slot content.now [] links.now)) }
@@ -176,7 +176,7 @@ fn are_links(slot: u64, content: &Option<Requests>, links: &[Brief]) -> bool
     true
 }
 
-/// The requests without what is said of the signatures beside them, or `None` where there are none.
+/// Returns the requests without the signatures beside them, or `None` if there are none.
 pub(crate) fn content_of(asks: &[SaidRequest]) -> Option<Requests>
     requires { length asks.now ≤ 8 }
     ensures { result ≡ content_in asks.now }

@@ -1,4 +1,4 @@
-//! When two drafts describe one envelope.
+//! Tells whether two drafts describe one envelope.
 
 ghost use Rattle.std.specs.Prelude.{◌≡◌, ◌↔◌, IsTrue};
 ghost use Rattle.dsr_script.specs.Support.Described.{described};
@@ -9,15 +9,15 @@ use crate::plan::Plan;
 use crate::said::SaidRequest;
 use crate::said_chain::SaidChain;
 
-/// What can be compared with another of its kind.
+/// A type whose values can be compared.
 pub(crate) trait Same {
-    /// Whether both are the same.
+    /// Tells whether both are equal.
     fn same(&self, other: &Self) -> bool
         ensures { IsTrue result ↔ (self.now ≡ other.now) };
 }
 
 impl Draft {
-    /// Whether two drafts describe the same envelope.
+    /// Tells whether two drafts describe the same envelope.
     pub fn same(&self, other: &Draft) -> bool
         ensures { IsTrue result ↔ (self.now ≡ other.now) }
     {
@@ -29,7 +29,7 @@ impl Draft {
     }
 }
 
-/// Whether two drafts of these cases describe the same envelope.
+/// Tells whether two drafts with these cases describe the same envelope.
 fn are_same_plans(ours: &Plan, theirs: &Plan) -> bool
     ensures { IsTrue result ↔ (described ours.now ≡ described theirs.now) }
 {
@@ -73,7 +73,7 @@ impl Same for Brief {
     }
 }
 
-/// Whether two lists have the same items in the same order.
+/// Tells whether two lists have the same items in the same order.
 fn are_same<T: Same>(ours: &[T], theirs: &[T]) -> bool
     ensures { IsTrue result ↔ (ours.now ≡ theirs.now) }
 {

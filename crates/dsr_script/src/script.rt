@@ -39,12 +39,12 @@ impl Model for Script {
 }
 
 impl Script {
-    /// The script that the text spells: a header `dsr-serve 1 SHAPE`, then lines `ask CLIENT OPERATION` and `script TRAITOR ROUND ACTOR
-    /// ENVELOPE`, in any order.
+    /// Reads a script: a header `dsr-serve 1 SHAPE`, then lines `ask CLIENT OPERATION` and `script TRAITOR ROUND ACTOR ENVELOPE`, in any
+    /// order.
     ///
-    /// `BadShape` where the header's shape is outside the limits, whatever follows it. `BadText` names the first bad line, counted
-    /// from 1: one that is not so spelled, that has no line feed, whose client or actor is not of the shape, whose traitor is no traitor
-    /// of the shape, or that is the second for the same traitor, round and actor. `NoMemory` where memory runs out.
+    /// `BadShape` if the header's shape is outside the limits, whatever follows it. `BadText` names the first bad line, counted from 1:
+    /// a line that is not written so, that has no line feed, whose client or actor is not of the shape, whose traitor is not a traitor
+    /// of the shape, or that is the second for the same traitor, round and actor. `NoMemory` if memory runs out.
     pub fn read(alloc: Global, text: &[u8]) -> Result<Script, Refusal>
         ensures script { IfOk result (Spells text.now) }
         ensures refused { IfErr result (IsScriptRefusal text.now) }
@@ -63,14 +63,14 @@ impl Script {
         }
     }
 
-    /// The shape.
+    /// Returns the shape.
     pub fn shape(&self) -> Shape
         ensures { result ≡ self.now.shape }
     {
         self.shape
     }
 
-    /// The operations of the client, in the order in which it asks for them; none for a client outside the shape.
+    /// Returns the operations of the client, in the order in which it asks for them; none for a client outside the shape.
     pub fn ops(&self, client: ClientId) -> &[Op]
         ensures { result.now ≡ ops_of self.now client }
     {
@@ -80,14 +80,14 @@ impl Script {
         }
     }
 
-    /// What the traitor is to post to the actor in this round, counted from 0, where the script says so.
+    /// Returns what the traitor is to post to the actor in this round, counted from 0, if the script says it.
     pub fn draft(&self, from: ReplicaId, round: u64, to: Actor) -> Option<&Draft>
         ensures { option_map (λ d. d.now) result ≡ draft_at self.now (place_of from round to) }
     {
         self.drafts.get(&Place { from, round, to })
     }
 
-    /// A script of this shape, without operations and drafts.
+    /// Makes a script of this shape, without operations and drafts. `NoMemory` if memory runs out.
     fn new(alloc: Global, shape: Shape) -> Result<Script, Refusal>
         ensures shape { IfOk result (λ script. script.shape ≡ shape) }
         ensures none { IfOk result (Gives []) }
@@ -104,8 +104,8 @@ impl Script {
         })
     }
 
-    /// Takes in what the line gives, if it can follow the lines that were taken in, and says whether it can. After a line that
-    /// cannot, the script is of no use.
+    /// Takes in what the line gives, if it can follow the lines that were taken in, and returns whether it can. After a line
+    /// that cannot, the script is of no use.
     fn take(&mut self, line: ServeLine) -> Result<bool, Refusal>
         ensures taken { IfOk result (λ can. IsTrue can → (lines : List ServeLine) → Gives lines self.old → Gives (line ∷ lines) self.new) }
         ensures when { IfOk result (λ can. (lines : List ServeLine) → Gives lines self.old → IsTrue can ↔ CanFollow self.old.shape lines line) }
@@ -118,7 +118,7 @@ impl Script {
         }
     }
 
-    /// Adds the operation to those of the client, and says whether the client is of the shape.
+    /// Adds the operation to those of the client, and returns whether the client is of the shape.
     fn take_op(&mut self, client: ClientId, op: Op) -> Result<bool, Refusal>
         ensures when { IfOk result (λ can. IsTrue can ↔ client < self.old.shape.m) }
         ensures taken { IfOk result (λ can. IsTrue can → (other : ℕ) → ops_of self.new other
@@ -135,8 +135,8 @@ impl Script {
         Ok(true)
     }
 
-    /// Files the draft under its place, and says whether it may stand there: a traitor's draft to an actor of the shape, the first
-    /// for its place.
+    /// Stores the draft under its place, and returns whether the script may have it there: a traitor's draft to an actor of the
+    /// shape, the first for its place.
     fn take_draft(&mut self, place: Place, draft: Draft) -> Result<bool, Refusal>
         ensures when { IfOk result (λ can. IsTrue can
             ↔ (IsTraitor self.old.shape place.from × IsActor self.old.shape place.to × (draft_at self.old place ≡ None))) }
@@ -191,7 +191,7 @@ impl TakesLines for Reading {
     }
 }
 
-/// Whether the replica is one of the shape, and a traitor.
+/// Tells whether the replica is one of the shape, and a traitor.
 fn is_traitor(shape: &Shape, replica: ReplicaId) -> bool
     ensures { IsTrue result ↔ IsTraitor shape.now replica }
 {

@@ -19,25 +19,25 @@ use std::alloc::Global;
 /// A line of a serve script.
 #[derive(Drop)]
 pub(crate) enum ServeLine {
-    /// What a client asks next.
+    /// The next operation that a client asks for.
     Ask {
         /// The client.
         client: ClientId,
         /// The operation.
         op: Op,
     },
-    /// What a traitor posts.
+    /// A traitor's post.
     Post {
         /// The traitor, the round and the other end.
         place: Place,
-        /// What it posts there.
+        /// The envelope that it posts there.
         draft: Draft,
     },
 }
 
 impl ServeLine {
-    /// The line that the bytes spell, without its line feed. The inner `None` comes exactly where they spell none. `NoMemory` where
-    /// memory runs out.
+    /// Reads a line's text, without its line feed. The inner `None` means exactly that the bytes are not one. `NoMemory` if memory
+    /// runs out.
     pub(crate) fn read(alloc: Global, bytes: &[u8]) -> Result<Option<ServeLine>, Refusal>
         ensures read { IfOk result (λ line. Reads IsLine line_text bytes.now line) }
         ensures refusal { IsOkUnless result Refusal.NoMemory }
@@ -61,7 +61,7 @@ impl ServeLine {
     }
 }
 
-/// The line of this client and this operation.
+/// Makes the line with this client and operation.
 fn ask_line(fields: (ClientId, Op)) -> ServeLine
     ensures { result ≡ Ask fields.0 fields.1 }
 {
@@ -69,7 +69,7 @@ fn ask_line(fields: (ClientId, Op)) -> ServeLine
     ServeLine::Ask { client, op }
 }
 
-/// The line of this traitor, this round, this other end and this draft.
+/// Makes the line with this traitor, round, other end and draft.
 fn draft_line(fields: (ReplicaId, (u64, (Actor, Draft)))) -> ServeLine
     ensures { result ≡ Post (place_of fields.0 fields.1.0 fields.1.1.0) fields.1.1.1 }
 {
@@ -78,7 +78,7 @@ fn draft_line(fields: (ReplicaId, (u64, (Actor, Draft)))) -> ServeLine
     ServeLine::Post { place, draft }
 }
 
-/// The client and its operation that the bytes spell.
+/// Reads the client and its operation.
 fn read_ask(bytes: &[u8]) -> Option<(ClientId, Op)>
     ensures { Reads (λ p. (p.0 < 32) × IsOp p.1) (λ p. actor_text (Client p.0) ++ 32 ∷ op_text 32 p.1) bytes.now result }
 {
@@ -88,7 +88,7 @@ fn read_ask(bytes: &[u8]) -> Option<(ClientId, Op)>
     Some((client, op))
 }
 
-/// The traitor, the round, the other end and the draft that the bytes spell.
+/// Reads the traitor, the round, the other end and the draft.
 fn read_script(
     alloc: Global,
     bytes: &[u8],
@@ -109,7 +109,7 @@ fn read_script(
     }
 }
 
-/// The round, the other end and the draft that the bytes spell.
+/// Reads the round, the other end and the draft.
 fn read_round(alloc: Global, bytes: &[u8]) -> Result<Option<(u64, (Actor, Draft))>, Refusal>
     ensures read { IfOk result (Reads (λ p. (p.0 < 2 ^ 40) × (IsNumbered p.1.0 × IsSpelledEnvelope p.1.1))
         (λ p. decimal p.0 ++ 32 ∷ (actor_text p.1.0 ++ 32 ∷ envelope_text p.1.1)) bytes.now) }
@@ -127,7 +127,7 @@ fn read_round(alloc: Global, bytes: &[u8]) -> Result<Option<(u64, (Actor, Draft)
     }
 }
 
-/// The other end and the draft that the bytes spell.
+/// Reads the other end and the draft.
 fn read_end(alloc: Global, bytes: &[u8]) -> Result<Option<(Actor, Draft)>, Refusal>
     ensures read { IfOk result (Reads (λ p. IsNumbered p.0 × IsSpelledEnvelope p.1)
         (λ p. actor_text p.0 ++ 32 ∷ envelope_text p.1) bytes.now) }

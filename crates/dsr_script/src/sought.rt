@@ -5,8 +5,8 @@ use crate::said::Said;
 use dsr_desk::{Signature, Statement};
 use dsr_names::Actor;
 
-/// A key of a set of signatures: a signature that was seen, or, to look one up, what it says. Two keys are equal where both say the same, so
-/// the one finds the other.
+/// A key in a set of signatures: a signature that was seen, or, to look one up, what it says. Two keys are equal if both say the same, so
+/// either finds the other.
 #[derive(Drop)]
 pub(crate) enum Sought {
     /// A signature.
@@ -16,7 +16,7 @@ pub(crate) enum Sought {
 }
 
 impl Sought {
-    /// Who signed, or is to have signed.
+    /// Returns the actor that signed, or is said to have signed.
     pub(crate) fn signer(&self) -> Actor
         ensures { result ≡ (said_of self.now).signer }
     {
@@ -26,7 +26,7 @@ impl Sought {
         }
     }
 
-    /// What was signed, or is to be signed.
+    /// Returns the statement that was signed, or is said to be signed.
     pub(crate) fn statement(&self) -> &Statement
         ensures { result.now ≡ (said_of self.now).statement }
     {

@@ -14,7 +14,7 @@ use dsr_desk::Statement;
 use dsr_names::Actor;
 use std::marker::Model;
 
-/// What a text says of a signature: its signer, and its statement where that is another one than fits the place.
+/// What a text says about a signature: its signer, and its statement if that is not the one that fits the place.
 #[derive(Clone, Copy, Debug)]
 pub(crate) struct Spelled {
     signer: Actor,
@@ -32,7 +32,8 @@ impl Model for Spelled {
 }
 
 impl Spelled {
-    /// What the bytes say, as `r0` or `r0(0/idle/r1)`. `None` exactly where they say nothing of a signature.
+    /// Reads what a text says about a signature, like `r0` or `r0(0/idle/r1)`. `None` exactly if the bytes are
+    /// not such a text.
     pub(crate) fn read(bytes: &[u8]) -> Option<Spelled>
         ensures { Reads IsSpelled spelled_text bytes.now result }
     {
@@ -42,7 +43,7 @@ impl Spelled {
         }
     }
 
-    /// What a text says of the signature at the place that this statement fits.
+    /// Returns what a text says about the signature at the place that this statement fits.
     pub(crate) fn at(said: &Said, fitting: &Statement) -> Spelled
         ensures { result ≡ spelled_at fitting.now said.now }
     {
@@ -52,14 +53,14 @@ impl Spelled {
         }
     }
 
-    /// The signer.
+    /// Returns the signer.
     pub(crate) fn signer(&self) -> Actor
         ensures { result ≡ self.now.signer }
     {
         self.signer
     }
 
-    /// The other statement, where it is on another than fits.
+    /// Returns the other statement, if the signature is on one that does not fit.
     pub(crate) fn other(&self) -> Option<Statement>
         ensures { result ≡ self.now.other }
     {
@@ -67,7 +68,7 @@ impl Spelled {
     }
 }
 
-/// The statement, where it is another one than this.
+/// Returns the statement, if it is not the one that fits.
 fn other_than(statement: &Statement, fitting: &Statement) -> Option<Statement>
     ensures { result ≡ (if statement_eq statement.now fitting.now then None else Some statement.now) }
 {
@@ -78,7 +79,7 @@ fn other_than(statement: &Statement, fitting: &Statement) -> Option<Statement>
     }
 }
 
-/// The statement that the bytes spell with a closing parenthesis after it.
+/// Reads a statement with a closing parenthesis after it.
 fn read_closed(bytes: &[u8]) -> Option<Statement>
     ensures { Reads IsStatement closed_text bytes.now result }
 {
@@ -88,7 +89,7 @@ fn read_closed(bytes: &[u8]) -> Option<Statement>
     }
 }
 
-/// What is said of this signer's signature on the statement that fits.
+/// Makes what a text says about this signer's signature on the statement that fits.
 fn short_form_of(signer: Option<Actor>) -> Option<Spelled>
     ensures { result ≡ option_map short_form signer }
 {
@@ -101,7 +102,7 @@ fn short_form_of(signer: Option<Actor>) -> Option<Spelled>
     }
 }
 
-/// What is said of this signer's signature on this other statement.
+/// Makes what a text says about this signer's signature on this other statement.
 fn long_form_of(signer: Option<Actor>, other: Option<Statement>) -> Option<Spelled>
     ensures { result ≡ option_map long_form (pair_of signer other) }
 {

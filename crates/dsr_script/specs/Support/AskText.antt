@@ -17,11 +17,11 @@ use Rattle.dsr_script.specs.SignatureText.{Spelled, spelled_at, spelled_text}
 use Rattle.dsr_script.specs.ChainText.{signed_text}
 use Rattle.dsr_script.specs.Support.SpelledText.{IsSpelled, IsOther, spelled_part}
 
--- the request, and what is said of the signature beside it
+-- the request, and what a text says about the signature beside it
 abbrev pub ask_parts : SignedRequest → Request × Spelled
 ask_parts x = (x.request, spelled_at (Ask x.request) x.signature)
 
--- the signed request of these two
+-- the signed request with these two
 abbrev pub ask_of : Request → Signature → SignedRequest
 ask_of request signature = record { request = request; signature = signature }
 
@@ -29,11 +29,11 @@ other_kind : (b : Bool) (s : Signature) → IsStatement s.statement → IsOther 
 other_kind true s h = tt
 other_kind false s h = h
 
--- what is said of a signature within the limits can be said
+-- what is said about a signature within the limits can be said
 pub said_kind : (fitting : Statement) (s : Signature) → IsSignature s → IsSpelled (spelled_at fitting s)
 said_kind fitting s h = record { signer = h.signer; other = other_kind (statement_eq s.statement fitting) s h.statement }
 
--- a signed request is a part for each mark below the digits that requests do not have, but `(`
+-- a signed request is a part for each mark below the digits that requests do not have, except `(`
 pub ask_part : (mark : ℕ) → mark < 48 → 40 ≢ mark → is_name_byte mark ≡ false → (35 ≡ mark → ⊥) → (x : SignedRequest) → IsSigned x → IsPart mark (signed_text x)
 ask_part mark low apart other no_mark x h =
     let no_open : ◌≡◌ {A = ℕ} 35 40 → ⊥ = λ (e : ◌≡◌ {A = ℕ} 35 40). omega arith in

@@ -28,12 +28,12 @@ carried (Seen front) = []
 abbrev pub IsHeldRequest : List Actor → List Signature → SignedRequest → Type 0
 IsHeldRequest holders known ask = IsHeldOrKnown holders known ask.signature
 
--- each signature on the chain is
+-- each signature on the chain is by the holder of one of the keys, or is known
 pub record IsHeldChain (holders : List Actor) (known : List Signature) (chain : Chain) : Type 0 where
   pub links : All (IsHeldOrKnown holders known) chain.signatures
   pub asks : All (IsHeldRequest holders known) (signed_in chain.value)
 
--- each signature of the envelope is
+-- each signature that the envelope carries is by the holder of one of the keys, or is known
 abbrev pub IsHeldEnvelope : List Actor → List Signature → Envelope → Type 0
 IsHeldEnvelope holders known Empty = Unit {0}
 IsHeldEnvelope holders known (Round round chains) = All (IsHeldChain holders known) chains

@@ -22,14 +22,14 @@ use Rattle.dsr_script.specs.ChainText.{spelled_links, signed_text, value_text, l
 use Rattle.dsr_script.specs.Support.AskText.{ask_part, said_kind}
 use Rattle.dsr_script.specs.Support.SpelledText.{IsSpelled, spelled_part}
 
--- the slot, the value, and what is said of the signatures
+-- the slot, the value, and what a text says about the signatures
 abbrev pub chain_parts : Chain → ℕ × (SlotValue × List Spelled)
 chain_parts x = (x.slot, (x.value, spelled_links x.slot (content x.value) [] x.signatures))
 
 idle_without : (byte : ℕ) → byte < 48 → IsAbsent byte (codes "idle")
 idle_without byte low = search (rules, arith)
 
--- a value is a part for each mark below the digits that requests do not have, but `(` and the comma
+-- a value is a part for each mark below the digits that requests do not have, except `(` and the comma
 pub value_part : (mark : ℕ) → mark < 48 → 40 ≢ mark → (35 ≡ mark → ⊥) → (44 ≡ mark → ⊥) → is_name_byte mark ≡ false → (value : SlotValue) → IsValue value
     → IsPart mark (value_text value)
 value_part mark low apart no_mark no_comma other Idle h = plain_part mark (codes "idle") (idle_without mark low) (idle_without 40 (lit< tt))

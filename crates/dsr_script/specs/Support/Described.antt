@@ -12,7 +12,7 @@ described (Ask request) = envelope.Ask request
 described (Reply reply) = envelope.Reply reply
 described (Seen front) = envelope.Seen front
 
--- the same of a draft, which has no cases where it is of the empty envelope
+-- the same for a draft, which has no cases if it is of the empty envelope
 abbrev pub drafted : Option Plan → Envelope
 drafted None = envelope.Empty
 drafted (Some plan) = described plan

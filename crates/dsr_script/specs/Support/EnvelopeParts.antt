@@ -11,7 +11,7 @@ use Rattle.dsr_envelope.specs.declared.envelope.Envelope.{Envelope}
 use Rattle.dsr_envelope.specs.declared.envelope.Envelope.TheVariants as envelope
 use Rattle.dsr_script.specs.ChainText.{chain_text, IsSpelledChain}
 
--- a reply that a text can spell
+-- a reply that a text can write
 abbrev pub IsSpelledReply : Reply → Type 0
 IsSpelledReply reply = IsReply reply × IsAnswer reply.answer
 
@@ -23,7 +23,7 @@ IsNumber n = (0 < n) × IsCount n
 abbrev pub reply_parts : Reply → ℕ × (ℕ × Answer)
 reply_parts reply = (reply.number, (reply.place, reply.answer))
 
--- the number of a round, and chains that a text can spell
+-- the number of a round, and chains that a text can write
 abbrev pub IsRound : ℕ × List Chain → Type 0
 IsRound p = IsCount p.0 × AreUpTo IsSpelledChain 32 p.1
 
@@ -31,6 +31,6 @@ IsRound p = IsCount p.0 × AreUpTo IsSpelledChain 32 p.1
 abbrev pub round_text : ℕ × List Chain → List ℕ
 round_text p = decimal p.0 ++ more_joined 32 chain_text p.1
 
--- the envelope of both
+-- the envelope with both
 abbrev pub round_of : ℕ × List Chain → Envelope
 round_of p = envelope.Round p.0 p.1

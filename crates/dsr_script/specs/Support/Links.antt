@@ -1,4 +1,4 @@
--- The signatures that are said.
+-- The signatures that texts describe.
 use Rattle.std.specs.Prelude.{◌≡◌, ℕ, ◌≤◌, List, [], ◌∷◌, ◌++◌, length, Option, unwrap_or}
 use Rattle.dsr_names.specs.declared.actor.Actor.{Actor}
 use Rattle.dsr_request.specs.Request.{Request}
@@ -10,16 +10,16 @@ use Rattle.dsr_chain.specs.declared.signed_request.SignedRequest.{SignedRequest}
 use Rattle.dsr_script.specs.ChainText.{spelled_links}
 use Rattle.dsr_script.specs.SignatureText.{Spelled}
 
--- the signature that is said at a place which this statement fits
+-- the signature that is said at a place that this statement fits
 abbrev pub said_in : Statement → Spelled → Signature
 said_in fitting x = signed x.signer (unwrap_or x.other fitting)
 
--- those that are said in a chain of this slot and content, after these signers
+-- those that are said in a chain with this slot and content, after these signers
 abbrev pub said_by : ℕ → Option (List Request) → List Actor → List Spelled → List Signature
 said_by slot value before [] = []
 said_by slot value before (x ∷ xs) = said_in (Link slot value before) x ∷ said_by slot value (before ++ x.signer ∷ []) xs
 
--- what a chain keeps of this slot, these requests and these links: at most 8 and at most 16, and no long form of what fits
+-- what a chain as data has: at most 8 requests, at most 16 links, and no long form of what fits
 pub record AreKept (slot : ℕ) (asks : List SignedRequest) (links : List Spelled) : Type 0 where
   pub few_requests : length asks ≤ 8
   pub few_links : length links ≤ 16

@@ -4,7 +4,7 @@ use Rattle.dsr_desk.specs.Signature.{Signature}
 use Rattle.dsr_chain.specs.declared.signed_request.SignedRequest.{SignedRequest}
 use Rattle.dsr_script.specs.Support.SaidEquality.{said_eq}
 
--- these signatures and this one: as they are where it stands among them, with it at the end where not
+-- these signatures and this one: unchanged if it is among them, else with it at the end
 abbrev pub noted : List Signature → Signature → List Signature
 noted [] s = s ∷ []
 noted (x ∷ xs) s = if said_eq s x then x ∷ xs else x ∷ noted xs s

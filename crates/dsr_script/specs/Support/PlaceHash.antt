@@ -1,4 +1,5 @@
--- What of a place of a draft is hashed: the traitor's number, the round, and the other end, a client's number from 16 on.
+-- What is hashed for a place of a draft: the traitor's number, the round, and the other end, where a client's number
+-- counts from 16.
 use Rattle.std.specs.Prelude.{◌≡◌, true, ◌+◌, ◌++◌}
 use Rattle.std.specs.Hash as fed
 use Rattle.std.proofs.Common.{ap}
@@ -16,6 +17,6 @@ end_fed (Client c) = fed.u8 (c + 16)
 abbrev pub place_fed : Place → fed.HashWrites
 place_fed place = fed.u8 place.from ++ (fed.u64 place.round ++ end_fed place.to)
 
--- of equal ones the same
+-- equal ones are hashed alike
 pub place_fed_alike : (a b : Place) → place_eq a b ≡ true → place_fed a ≡ place_fed b
 place_fed_alike a b h = ap place_fed ((place_eq-Decides a b).0 h)

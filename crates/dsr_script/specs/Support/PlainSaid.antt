@@ -1,8 +1,8 @@
--- What is said of signatures on plain statements.
+-- What texts say about signatures on plain statements.
 use Rattle.std.specs.Prelude.{IfSome}
 use Rattle.dsr_script.specs.Plain.{IsPlainStatement}
 use Rattle.dsr_script.specs.SignatureText.{Spelled}
 
--- the other statement is plain, where it is on another than fits
+-- the other statement is plain, if there is one
 abbrev pub IsPlainSaid : Spelled → Type 0
 IsPlainSaid said = IfSome said.other IsPlainStatement

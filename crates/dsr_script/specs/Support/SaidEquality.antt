@@ -1,4 +1,4 @@
--- When `==` holds of what two signatures say: exactly where the signatures are equal.
+-- When `==` holds for what two signatures say: exactly if the signatures are equal.
 use Rattle.std.specs.Prelude.{◌≡◌, Bool, ◌&&◌}
 use Rattle.std.specs.Bool.{Decides}
 use Rattle.std.proofs.lemmas.Bool.Decides.{Decides-and, Decides-like}
@@ -8,11 +8,11 @@ use Rattle.dsr_names.specs.Support.ActorEquality.{actor_eq, actor_eq-Decides}
 use Rattle.dsr_desk.specs.Support.StatementEquality.{statement_eq, statement_eq-Decides}
 use Rattle.dsr_script.specs.contracts.said.SaidPartialEq.TheImpl.{ghosts}
 
--- whether `==` holds of what two signatures say
+-- whether `==` holds for what two signatures say
 abbrev pub said_eq : Signature → Signature → Bool
 said_eq = ghosts.eq
 
--- it holds exactly of equal ones
+-- it holds exactly for equal ones
 pub said_eq-Decides : (a b : Signature) → Decides (said_eq a b) (a ≡ b)
 said_eq-Decides a b =
     Decides-like (actor_eq a.signer b.signer && statement_eq a.statement b.statement) (λ e. ap₂ signed e.0 e.1)

@@ -1,4 +1,4 @@
--- What of a signature is hashed: its signer, and all of its statement.
+-- What is hashed for a signature: its signer, and all of its statement.
 use Rattle.std.specs.Prelude.{◌≡◌, Option, None, Some, List, [], true, ◌++◌, ◌+◌, flat_map}
 use Rattle.std.specs.Hash as fed
 use Rattle.std.proofs.Common.{ap}
@@ -49,10 +49,10 @@ statement_fed (Link slot value before) = fed.u64 slot ++ (content_fed value ++ f
 abbrev pub said_fed : Signature → fed.HashWrites
 said_fed s = actor_fed s.signer ++ statement_fed s.statement
 
--- the same of what is looked for
+-- the same for what is looked up
 abbrev pub sought_fed : Sought → fed.HashWrites
 sought_fed sought = said_fed (said_of sought)
 
--- of equal ones the same
+-- equal ones are hashed alike
 pub sought_fed_alike : (a b : Sought) → sought_eq a b ≡ true → sought_fed a ≡ sought_fed b
 sought_fed_alike a b h = ap said_fed ((said_eq-Decides (said_of a) (said_of b)).0 h)

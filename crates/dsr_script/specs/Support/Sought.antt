@@ -1,4 +1,4 @@
--- What a signature is found by among those that were seen.
+-- The key by which a signature is found among those that were seen.
 use Rattle.std.specs.Prelude.{◌≡◌, Bool}
 use Rattle.std.specs.Bool.{Decides}
 use Rattle.std.specs.Cmp.{IsEquivalence, IsPartialEquivalence, both_ways, partial_equiv_from_equiv}
@@ -23,7 +23,7 @@ IsSeen (Asked said) = ⊥
 abbrev pub sought_eq : Sought → Sought → Bool
 sought_eq = on said_of said_eq
 
--- it holds exactly where both say the same
+-- it holds exactly if both say the same
 pub sought_eq-Decides : (a b : Sought) → Decides (sought_eq a b) (said_of a ≡ said_of b)
 sought_eq-Decides a b = said_eq-Decides (said_of a) (said_of b)
 

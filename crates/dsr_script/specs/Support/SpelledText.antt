@@ -1,4 +1,4 @@
--- What texts say of signatures: which of it they can say, and why it can be joined to more.
+-- What texts say about signatures: what they can say, and why it can be joined to more.
 use Rattle.std.proofs.Common.{◌≡◌, ◌≢◌, ℕ, ◌<◌, List, [], ◌∷◌, ◌++◌, Option, None, Some, refl, arith, lit<, rules}
 use Rattle.std.proofs.lemmas.List.Elements.{All-cons, All-append}
 use Rattle.std.specs.Fmt.{decimal}
@@ -19,12 +19,12 @@ use Rattle.dsr_desk.specs.declared.statement.Statement.{Statement}
 use Rattle.dsr_desk.specs.declared.statement.Statement.TheVariants.{Ask, Link}
 use Rattle.dsr_script.specs.SignatureText.{Spelled, spelled_text, other_text}
 
--- another statement that a text can spell, or none
+-- another statement that a text can write, or none
 abbrev pub IsOther : Option Statement → Type 0
 IsOther None = Unit {0}
 IsOther (Some statement) = IsStatement statement
 
--- what a text can say of a signature
+-- what a text can say about a signature
 pub record IsSpelled (s : Spelled) : Type 0 where
   pub signer : IsNumbered s.signer
   pub other : IsOther s.other
@@ -33,15 +33,15 @@ pub record IsSpelled (s : Spelled) : Type 0 where
 abbrev pub closed_text : Statement → List ℕ
 closed_text statement = statement_text statement ++ 41 ∷ []
 
--- what is said of this signer's signature on the statement that fits
+-- what a text says about this signer's signature on the statement that fits
 abbrev pub short_form : Actor → Spelled
 short_form signer = record { signer = signer; other = None }
 
--- what is said of this signer's signature on this other statement
+-- what a text says about this signer's signature on this other statement
 abbrev pub long_form : Actor × Statement → Spelled
 long_form p = record { signer = p.0; other = Some p.1 }
 
--- both, where there are both
+-- both, if both are there
 abbrev pub pair_of : {A B : Type 0} → Option A → Option B → Option (A × B)
 pair_of None b = None
 pair_of (Some a) None = None
@@ -94,7 +94,7 @@ other_part : (mark : ℕ) → 40 ≢ mark → (other : Option Statement) → IsO
 other_part mark apart None h = record { free = tt; closed = refl }
 other_part mark apart (Some statement) h = wrapped_part mark (statement_text statement) apart (no_close_in_statement statement h)
 
--- what is said of a signature is a part for each mark below the digits but `(`
+-- what a text says about a signature is a part for each mark below the digits, except `(`
 pub spelled_part : (mark : ℕ) → mark < 48 → 40 ≢ mark → (s : Spelled) → IsSpelled s → IsPart mark (spelled_text s)
 spelled_part mark low apart s h =
     part_append mark (actor_text s.signer) (other_text s.other) (actor_part mark low s.signer h.signer) (other_part mark apart s.other h.other)
