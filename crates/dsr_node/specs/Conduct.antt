@@ -1,4 +1,4 @@
--- The conduct of one actor, by its own log: what it posts by a choice, what it cannot take yet, and its role (this project).
+-- The protocol of one actor, by its own log: what it posts by a choice, what it cannot take yet, and its role (this project).
 use Rattle.std.specs.Prelude.{◌≡◌, ℕ, ◌^◌, ◌==◌, ◌&&◌, not, nat_lt, Bool, true, false, List, ◌∷◌, Option, None, Some, if◌then◌else◌}
 use Rattle.dsr_names.specs.Shape.{Shape, is_traitor}
 use Rattle.dsr_names.specs.declared.actor.Actor.{Actor}
@@ -17,7 +17,7 @@ use Rattle.dsr_client.specs.Conduct.{next_number, ask_to}
 
 -- ---- posts and takes
 
--- the envelope of a loyal actor's post to another, by its log and its choice; none where it posts none
+-- the envelope that a loyal actor posts to another, by its log and its choice; none if it does not post one
 abbrev pub post_of : Shape → List Entry → Actor → Actor → Pick → Option Envelope
 post_of shape log (Replica p) (Replica q) pick = envelope_to shape (Replica p) log q pick
 post_of shape log (Replica p) (Client c) Plain = reply_to shape log c
@@ -26,7 +26,7 @@ post_of shape log (Replica p) (Client c) (Begin op) = None
 post_of shape log (Client c) (Replica q) pick = ask_to shape c log pick
 post_of shape log (Client c) (Client d) pick = None
 
--- whether a counter of the actor would pass its limit by the post: a replica's round, or the number of a client's new request
+-- whether the post would take a counter of the actor past its limit: a replica's round, or the number of a client's new request
 abbrev pub is_exhausted : Shape → List Entry → Actor → Actor → Pick → Bool
 is_exhausted shape log (Replica p) (Replica q) pick = not (nat_lt (rounds shape log) (2 ^ 36))
 is_exhausted shape log (Replica p) (Client c) pick = false
@@ -39,7 +39,7 @@ abbrev pub takes_from : Due → ℕ → Bool
 takes_from (PostTo q) p = false
 takes_from (TakeFrom q) p = q == p
 
--- whether a loyal replica's take from a replica is not due; every other take is
+-- whether this is a loyal replica's take from a replica, and not due
 abbrev pub is_undue : Shape → List Entry → Actor → Actor → Bool
 is_undue shape log (Replica p) (Replica q) = if is_traitor shape p then false else not (takes_from (due shape log) q)
 is_undue shape log (Replica p) (Client c) = false
@@ -47,12 +47,12 @@ is_undue shape log (Client c) from = false
 
 -- ---- roles
 
--- whether it is an actor of the shape
+-- whether the actor is one of the shape
 abbrev pub is_actor : Shape → Actor → Bool
 is_actor shape (Replica p) = nat_lt p shape.n
 is_actor shape (Client c) = nat_lt c shape.m
 
--- whether it is a traitor
+-- whether the actor is a traitor
 abbrev pub is_traitor_of : Shape → Actor → Bool
 is_traitor_of shape (Replica p) = is_traitor shape p
 is_traitor_of shape (Client c) = false
@@ -69,19 +69,19 @@ is_own_client (Replica p) to = false
 is_own_client (Client c) (Replica q) = false
 is_own_client (Client c) (Client d) = c == d
 
--- whether they are two clients
+-- whether both are clients, and not the same one
 abbrev pub are_two_clients : Actor → Actor → Bool
 are_two_clients a b = are_clients a b && not (is_own_client a b)
 
 -- ---- choices and replies
 
--- the operation of a choice is one that a text can spell
+-- the operation of a choice, if it has one, has a text
 abbrev pub HasSpelledOp : Pick → Type 0
 HasSpelledOp Plain = Unit {0}
 HasSpelledOp (From clients) = Unit {0}
 HasSpelledOp (Begin op) = IsOp op
 
--- what a client accepted later is what it had accepted, with this reply after that where there is one; replies stand newest first
+-- the later list is the earlier one, with this reply added if there is one; replies are listed newest first
 abbrev pub AcceptsBy : Option AReply → List AReply → List AReply → Type 0
 AcceptsBy None later earlier = later ≡ earlier
 AcceptsBy (Some reply) later earlier = later ≡ reply ∷ earlier

@@ -1,4 +1,4 @@
--- How an actor of any kind stands for its log, and what it may do by it (this project).
+-- How an actor of any kind represents its log, and what it may do by it (this project).
 use Rattle.std.specs.Prelude.{◌≡◌, ◌≢◌, ℕ, ◌<◌, true, false, List, ◌∷◌, Option, None, Some, reverse, if◌then◌else◌}
 use Rattle.std.specs.Option.{is_none, option_map}
 use Rattle.dsr_names.specs.Shape.{Shape, is_traitor, IsActor}
@@ -23,14 +23,14 @@ use Rattle.dsr_node.specs.Customer.{Customer}
 use Rattle.dsr_node.specs.declared.node.Node.{Node}
 use Rattle.dsr_node.specs.declared.node.Node.TheVariants.{Loyal, Traitor, Client}
 
--- the replica is this loyal one, and stands for the log
+-- the replica is this loyal one, and represents the log
 pub record PlaysReplica (shape : Shape) (p : ℕ) (log : List Entry) (r : Replica) : Type 0 where
   pub honest : is_traitor shape p ≡ false
   pub me : r.me ≡ ReplicaNumber p
   pub shape_is : r.shape ≡ shape
   pub stands : StandsFor r log
 
--- the client is this one, stands for the log, and has noted what it accepted
+-- the client is this one, represents the log, and has noted what it accepted
 pub record PlaysClient (shape : Shape) (c : ℕ) (log : List Entry) (x : Customer) : Type 0 where
   pub me : x.client.me ≡ c
   pub shape_is : x.client.shape ≡ shape
@@ -46,14 +46,14 @@ Plays shape (ClientNumber c) log (Loyal r) = ⊥
 Plays shape (ClientNumber c) log Traitor = ⊥
 Plays shape (ClientNumber c) log (Client x) = PlaysClient shape c log x
 
--- what the actor's conduct refuses a post with; none where it makes the post
+-- the refusal of a post; none if the protocol allows the post
 abbrev pub post_refusal : Shape → List Entry → Actor → Actor → Pick → Option Refusal
 post_refusal shape log me to pick =
     if is_none (post_of shape log me to pick) then Some NotDue
     else if is_exhausted shape log me to pick then Some Exhausted
     else None
 
--- a loyal replica or a client: an actor that has a conduct to keep
+-- a loyal replica or a client: an actor that keeps a protocol
 abbrev pub IsHonest : Node → Type 0
 IsHonest (Loyal r) = Unit {0}
 IsHonest Traitor = ⊥
@@ -65,7 +65,7 @@ IsClient (Loyal r) = ⊥
 IsClient Traitor = ⊥
 IsClient (Client x) = Unit {0}
 
--- the node may post to this actor by this choice: it plays an actor that is no traitor, over a log by which nothing refuses the post
+-- the node may post to this actor by this choice: it plays an actor that is not a traitor, over a log by which nothing refuses the post
 pub record CanPost (node : Node) (to : Actor) (pick : Pick) : Type 0 where
   pub shape : Shape
   pub me : Actor
@@ -94,7 +94,7 @@ HasRoomToTake (Loyal r) = HasRoom r
 HasRoomToTake Traitor = Unit {0}
 HasRoomToTake (Client x) = 0 < x.room
 
--- the reply that a take has the actor accept, if it has
+-- the reply that the actor accepts with a take, if any
 abbrev pub TakesReply : Shape → Actor → List Entry → Actor → Envelope → Option AReply → Type 0
 TakesReply shape (ReplicaNumber p) log from envelope reply = reply ≡ None
 TakesReply shape (ClientNumber c) log from envelope reply = AcceptsBy reply (accepted shape (Take from envelope ∷ log)) (accepted shape log)
@@ -104,7 +104,7 @@ abbrev pub IsReplicaNumber : Actor → Type 0
 IsReplicaNumber (ReplicaNumber p) = Unit {0}
 IsReplicaNumber (ClientNumber c) = ⊥
 
--- the envelope is an ask of the number that is outstanding with the client
+-- the envelope is an ask with the number of the client's outstanding request
 abbrev pub IsOutstandingAsk : Shape → List Entry → Envelope → Type 0
 IsOutstandingAsk shape log envelope =
     (ask : SignedRequest) × (envelope ≡ Ask ask) × (option_map (λ current. current.request.number) (outstanding shape log) ≡ Some ask.request.number)

@@ -17,7 +17,7 @@ use dsr_request::Op;
 use std::alloc::Global;
 use std::marker::Model;
 
-/// A client, and the replies that it accepted, in their order.
+/// A client, and the replies that it accepted, in the order of acceptance.
 #[derive(Drop)]
 pub struct Customer {
     client: Client,
@@ -34,7 +34,7 @@ impl Model for Customer {
 }
 
 impl Customer {
-    /// The client, before it accepted a reply.
+    /// Starts with a client that has accepted no reply.
     pub fn new(alloc: Global, client: Client) -> Customer
         ensures same { result.client ≡ client }
         ensures none { result.accepted ≡ [] }
@@ -45,21 +45,21 @@ impl Customer {
         }
     }
 
-    /// The client.
+    /// Returns the client.
     pub fn client(&self) -> &Client
         ensures { result.now ≡ self.now.client }
     {
         &self.client
     }
 
-    /// The replies that it accepted, in their order.
+    /// Returns the replies that it accepted, in the order of acceptance.
     pub fn accepted(&self) -> &[Reply]
         ensures { result.now ≡ self.now.accepted }
     {
         self.accepted.as_slice()
     }
 
-    /// Begins a request of this operation. Requires that it may.
+    /// Begins a request with this operation. Requires that the client may begin one.
     pub fn begin(&mut self, op: Op)
         requires { MayBegin self.old.client }
         ensures me { self.new.client.me ≡ self.old.client.me }
@@ -73,8 +73,8 @@ impl Customer {
         };
     }
 
-    /// Makes room for one more accepted reply. `NoMemory` where it is refused: then nothing changed but the room. It is not refused where
-    /// there is room already.
+    /// Makes room for one more accepted reply. `NoMemory` if that is refused: then nothing changes but the room. If there is room
+    /// already, it cannot fail.
     pub fn room(&mut self) -> Result<(), Refusal>
         ensures same { self.new ≡ record self.old { room = self.new.room } }
         ensures room { OnOk result (0 < self.new.room) }
@@ -90,8 +90,8 @@ impl Customer {
         }
     }
 
-    /// Takes the envelope, and returns the reply that is accepted by it. Requires that it comes from another actor of the shape, is
-    /// within the limits, and that there is room for one more reply.
+    /// Takes the envelope, and returns the reply that the client accepts with it, if any. Requires that the envelope comes from
+    /// another actor of the shape and is within the limits, and that there is room for one more reply.
     pub fn taken(&mut self, from: Actor, envelope: Envelope) -> Option<Reply>
         requires actor { IsActor self.old.client.shape from }
         requires other { from ≢ ClientNumber self.old.client.me }

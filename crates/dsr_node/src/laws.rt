@@ -1,4 +1,4 @@
-//! What follows for one actor from its own log. Laws, as the contracts of functions that do nothing.
+//! What follows for one actor from its own log. Laws, as contracts of functions that do nothing.
 
 ghost use Rattle.std.specs.Prelude.{◌≡◌, ℕ, ◌<◌, ◌^◌, false, List, None, Some};
 ghost use Rattle.dsr_names.specs.Shape.{Shape, is_traitor, IsActor, AgreeButForTraitors};
@@ -16,8 +16,9 @@ ghost use Rattle.dsr_client.specs.Conduct.{IsNext as IsNextOfClient};
 ghost use Rattle.dsr_client.specs.State.{outstanding};
 ghost use Rattle.dsr_node.specs.Conduct.{post_of, is_exhausted, is_undue, is_traitor_of, HasSpelledOp};
 
-/// What a choice gives keeps the conduct: a loyal replica's post is one that it may make next, in a round below 2^36 where it goes to a
-/// replica; so is a client's, and its new request is within the limits. A take that is not undue keeps it too.
+/// A choice keeps the protocol. What a loyal replica or a client posts by it to an actor of the shape may be its next post. If nothing
+/// is exhausted, a replica's post to a replica is in a round below 2^36, and a client's new request is within the limits. A loyal
+/// replica's take that is not undue keeps the protocol too.
 pub fn choices_keep_conduct()
     ensures replicas { (shape : Shape) (log : List Entry) (p : ℕ) (to : Actor) (pick : Pick) (envelope : Envelope)
         → IsActor shape to → IsPick pick → post_of shape log (Replica p) to pick ≡ Some envelope → IsNext shape (Replica p) log (Post to envelope) }
@@ -33,7 +34,8 @@ pub fn choices_keep_conduct()
         → IsNext shape (Replica p) log (Take from envelope) }
 {}
 
-/// What an actor posts by a choice does not depend on who the traitors are.
+/// What an actor posts by a choice, and whether a counter is exhausted, does not depend on who the traitors are; nor does whether a take is undue,
+/// for an actor that is a traitor under both shapes or under neither.
 pub fn choices_are_blind()
     ensures posts { (shape other : Shape) → AgreeButForTraitors shape other → (log : List Entry) (from to : Actor) (pick : Pick)
         → post_of shape log from to pick ≡ post_of other log from to pick }

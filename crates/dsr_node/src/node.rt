@@ -23,8 +23,8 @@ use dsr_replica::Replica;
 use dsr_request::Op;
 use std::alloc::Global;
 
-/// One actor over its own log. A loyal actor is a real replica or client; a traitor posts what it likes, as far as it forges nothing,
-/// so there is no code of it.
+/// One actor with its own log. A loyal actor is a real replica or client; a traitor posts what it likes as long as it forges nothing,
+/// so there is no code for it.
 #[derive(Drop)]
 pub enum Node {
     /// A loyal replica.
@@ -36,8 +36,9 @@ pub enum Node {
 }
 
 impl Node {
-    /// What its conduct refuses a post to this actor by this choice with, if it does: `NotDue` where it has no such post now, else
-    /// `Exhausted` where a counter would pass its limit. It allocates nothing. Requires that it is no traitor.
+    /// Returns the refusal of a post to this actor by this choice, or `None` if it may be made: `NotDue` if the protocol has no
+    /// such post now, else `Exhausted` if a counter would pass its limit. Allocates nothing. Requires that the node is not a
+    /// traitor.
     pub fn refusal(&self, to: Actor, pick: Pick) -> Option<Refusal>
         requires { IsHonest self.now }
         ensures same { (shape : Shape) (me : Actor) (log : List Entry) → Plays shape me log self.now
@@ -50,7 +51,7 @@ impl Node {
         }
     }
 
-    /// The envelope that it posts to this actor by this choice. `NoMemory` where memory runs out. Requires that nothing refuses the post.
+    /// Makes the envelope that it posts to this actor by this choice. `NoMemory` if memory runs out. Requires that nothing refuses the post.
     pub fn envelope_for(&self, alloc: Global, to: Actor, pick: Pick) -> Result<Envelope, Refusal>
         requires { CanPost self.now to pick }
         ensures given { (shape : Shape) (me : Actor) (log : List Entry) → Plays shape me log self.now
@@ -85,8 +86,8 @@ impl Node {
         }
     }
 
-    /// Makes room for what it may take. `NoMemory` where it is refused: then nothing changed, but that there may be more room. It is not
-    /// refused where there is room already.
+    /// Makes room for what it may take. `NoMemory` if that is refused: then nothing changes, except that there may be more room. If
+    /// there is room already, it cannot fail.
     pub fn room(&mut self) -> Result<(), Refusal>
         ensures plays { (shape : Shape) (me : Actor) (log : List Entry) → Plays shape me log self.old → Plays shape me log self.new }
         ensures room { OnOk result (HasRoomToTake self.new) }
@@ -101,7 +102,7 @@ impl Node {
         }
     }
 
-    /// Whether a take from this actor is one of a loyal replica from a replica, and not due.
+    /// Tells whether this is a loyal replica, the other actor is a replica, and a take from it is not due.
     pub fn is_undue(&self, from: Actor) -> bool
         ensures { (shape : Shape) (me : Actor) (log : List Entry) → Plays shape me log self.now → result ≡ is_undue shape log me from }
     {
@@ -111,9 +112,9 @@ impl Node {
         }
     }
 
-    /// Takes the envelope, which is lent, from this actor, and returns the reply that a client accepts by it. It makes room for it, and
-    /// copies the envelope only where something of it may be kept; the copy shares its chains or its request. Requires that it may take it.
-    /// `NoMemory` where memory runs out or one handle more is refused: then nothing changed, but that there may be more room.
+    /// Takes the envelope, which is lent, from this actor, and returns the reply that a client accepts with it, if any. It makes room for
+    /// it, and copies the envelope only if something in it may be stored; the copy shares its chains or its request. Requires that the node
+    /// may take it. `NoMemory` if memory runs out or one more handle is refused: then nothing changes, except that there may be more room.
     pub fn take(
         &mut self,
         alloc: Global,
@@ -137,8 +138,8 @@ impl Node {
         Ok(self.taken(*from, copy))
     }
 
-    /// Takes the envelope from this actor where nothing of it would be kept, and returns whether it did; where something may be, nothing
-    /// changed. Requires that it can take it.
+    /// Takes the envelope from this actor if nothing in it would be stored, and returns whether it did; if something may be, nothing
+    /// changes. Requires that the node can take it.
     fn passed_over(&mut self, from: Actor, envelope: &Envelope) -> bool
         requires { CanTake self.old from envelope.now }
         ensures plays { IsTrue result → (shape : Shape) (me : Actor) (log : List Entry) → Plays shape me log self.old
@@ -157,7 +158,7 @@ impl Node {
         }
     }
 
-    /// Takes the envelope from this actor, and returns the reply that a client accepts by it. Requires that it can.
+    /// Takes the envelope from this actor, and returns the reply that a client accepts with it, if any. Requires that the node can take it.
     pub fn taken(&mut self, from: Actor, envelope: Envelope) -> Option<Reply>
         requires { CanTake self.old from envelope }
         ensures plays { (shape : Shape) (me : Actor) (log : List Entry) → Plays shape me log self.old
@@ -178,7 +179,7 @@ impl Node {
         }
     }
 
-    /// The loyal replica, where it is one.
+    /// Returns the loyal replica, if the node is one.
     pub fn replica(&self) -> Option<&Replica>
         ensures loyal { (shape : Shape) (p : ℕ) (log : List Entry) → Plays shape (ReplicaNumber p) log self.now
             → IfSome result (λ replica. PlaysReplica shape p log replica.now) }
@@ -191,7 +192,7 @@ impl Node {
         }
     }
 
-    /// The client. Requires a client.
+    /// Returns the client. Requires that the node is one.
     pub fn client(&self) -> &Client
         requires { IsClient self.now }
         ensures { (shape : Shape) (c : ℕ) (log : List Entry) → Plays shape (ClientNumber c) log self.now
@@ -203,7 +204,7 @@ impl Node {
         }
     }
 
-    /// A client's seen front. Requires a client.
+    /// Returns a client's seen front. Requires that the node is a client.
     pub fn seen(&self) -> u64
         requires { IsClient self.now }
         ensures { (shape : Shape) (c : ℕ) (log : List Entry) → Plays shape (ClientNumber c) log self.now → result ≡ seen shape log }
@@ -214,7 +215,7 @@ impl Node {
         }
     }
 
-    /// The number of the request that is outstanding with a client. Requires a client.
+    /// Returns the number of a client's outstanding request, if there is one. Requires that the node is a client.
     pub fn outstanding(&self) -> Option<u64>
         requires { IsClient self.now }
         ensures { (shape : Shape) (c : ℕ) (log : List Entry) → Plays shape (ClientNumber c) log self.now
@@ -226,7 +227,7 @@ impl Node {
         }
     }
 
-    /// Whether the envelope is an ask of the number that is outstanding with a client. Requires a client.
+    /// Tells whether the envelope is an ask with the number of a client's outstanding request. Requires that the node is a client.
     pub fn has_outstanding(&self, envelope: &Envelope) -> bool
         requires { IsClient self.now }
         ensures { (shape : Shape) (c : ℕ) (log : List Entry) → Plays shape (ClientNumber c) log self.now
@@ -240,7 +241,7 @@ impl Node {
         }
     }
 
-    /// The replies that a client accepted, in their order. Requires a client.
+    /// Returns the replies that a client accepted, in the order of acceptance. Requires that the node is a client.
     pub fn accepted(&self) -> &[Reply]
         requires { IsClient self.now }
         ensures { (shape : Shape) (c : ℕ) (log : List Entry) → Plays shape (ClientNumber c) log self.now
@@ -253,7 +254,7 @@ impl Node {
     }
 }
 
-/// What a loyal replica's conduct refuses a post to this actor by this choice with, if it does.
+/// Returns the refusal of a loyal replica's post to this actor by this choice, if there is one.
 fn replica_refusal(replica: &Replica, to: Actor, pick: Pick) -> Option<Refusal>
     ensures same { (p : ℕ) (log : List Entry) → replica.now.me ≡ ReplicaNumber p → StandsFor replica.now log
         → result ≡ post_refusal replica.now.shape log (ReplicaNumber p) to pick }
@@ -270,7 +271,7 @@ fn replica_refusal(replica: &Replica, to: Actor, pick: Pick) -> Option<Refusal>
     }
 }
 
-/// What a loyal replica's conduct refuses a post to this replica by this choice with, if it does.
+/// Returns the refusal of a loyal replica's post to this replica by this choice, if there is one.
 fn round_refusal(replica: &Replica, to: ReplicaId, pick: Pick) -> Option<Refusal>
     ensures same { (p : ℕ) (log : List Entry) → replica.now.me ≡ ReplicaNumber p → StandsFor replica.now log
         → result ≡ post_refusal replica.now.shape log (ReplicaNumber p) (ReplicaNumber to) pick }
@@ -279,7 +280,7 @@ fn round_refusal(replica: &Replica, to: ReplicaId, pick: Pick) -> Option<Refusal
     replica.refusal(to, pick)
 }
 
-/// What a client's conduct refuses a post to this actor by this choice with, if it does.
+/// Returns the refusal of a client's post to this actor by this choice, if there is one.
 fn client_refusal(client: &Client, to: Actor, pick: Pick) -> Option<Refusal>
     ensures same { (log : List Entry) → StandsForClient client.now log
         → result ≡ post_refusal client.now.shape log (ClientNumber client.now.me) to pick }
@@ -297,7 +298,7 @@ fn client_refusal(client: &Client, to: Actor, pick: Pick) -> Option<Refusal>
     }
 }
 
-/// What a client refuses to begin a request of this operation with, if it does.
+/// Returns the refusal to begin a client's request with this operation, if there is one.
 fn begin_refusal(client: &Client, to: Actor, op: Op) -> Option<Refusal>
     requires { IsReplicaNumber to }
     ensures same { (log : List Entry) → StandsForClient client.now log
@@ -312,7 +313,7 @@ fn begin_refusal(client: &Client, to: Actor, op: Op) -> Option<Refusal>
     }
 }
 
-/// The envelope that a loyal replica posts to this actor by this choice.
+/// Makes the envelope that a loyal replica posts to this actor by this choice.
 fn replica_envelope(
     alloc: Global,
     replica: &Replica,
@@ -333,7 +334,7 @@ fn replica_envelope(
     }
 }
 
-/// The envelope that a client posts to this actor by this choice.
+/// Makes the envelope that a client posts to this actor by this choice.
 fn client_envelope(
     alloc: Global,
     client: &Client,
@@ -357,7 +358,7 @@ fn client_envelope(
     }
 }
 
-/// Whether the take from this replica is due.
+/// Tells whether the take from this replica is due.
 fn takes_from(due: Due, replica: ReplicaId) -> bool
     ensures { result ≡ takes_from due replica }
 {

@@ -1,4 +1,4 @@
--- What the laws of agreement say of logs and runs (Dolev and Strong 1983).
+-- What the laws of agreement say about logs and runs (Dolev and Strong 1983).
 use Rattle.std.specs.Prelude.{◌≡◌, ◌⊎◌, ℕ, ◌<◌, ◌≤◌, List, ◌∷◌, Some, length, slice_get}
 use Rattle.dsr_base.specs.Growth.{Extends}
 use Rattle.dsr_base.specs.Member.{In}
@@ -30,27 +30,27 @@ pub record HasProposed (shape : Shape) (me : Actor) (log : List Entry) (slot : �
   pub posted : slice_get (posted_to (Replica to) log) (first_round shape slot) ≡ Some envelope
   pub start : In (started slot value me) (chains_for (first_round shape slot) envelope)
 
--- the links of the slot that posts of the log carry with the actor's signature are at most so many different ones
+-- the links of the slot that posts of the log carry with the actor's signature are at most `most` distinct ones
 pub record HasFewLinks (me : Actor) (log : List Entry) (slot most : ℕ) : Type 0 where
   pub links : List Statement
   pub few : length links ≤ most
   pub all : (s : Signature) → HasPosted log s → s.signer ≡ me → IsLinkOf slot s.statement → In s.statement links
 
--- two loyal replicas agree: of the values that they decided, latest first, one list is the other with later values before it, and each
--- slot that both have closed they decided alike
+-- two loyal replicas agree: of the values that they decided, latest first, one list is the other with later values before it; and if
+-- both have closed a slot, they decided it alike
 pub record AgreeAt (shape : Shape) (run : List Step) (p q : ℕ) : Type 0 where
   pub lists : Extends (decided_at shape (log_of run) p) (decided_at shape (log_of run) q)
       ⊎ Extends (decided_at shape (log_of run) q) (decided_at shape (log_of run) p)
   pub slots : (slot : ℕ) → slot < closed_slots shape (rounds shape (log_of run (Replica p))) → slot < closed_slots shape (rounds shape (log_of run (Replica q)))
       → slot_decided shape (log_of run (Replica p)) slot ≡ slot_decided shape (log_of run (Replica q)) slot
 
--- a closed slot of a loyal sender is decided as the value that its sender posted, which there is, and which is the only one
+-- a closed slot of a loyal sender is decided as the value that its sender posted: there is such a value, and only one
 pub record IsValidAt (shape : Shape) (run : List Step) (slot p : ℕ) : Type 0 where
   pub decided : (value : SlotValue) → HasProposed shape (sender_of shape slot) (log_of run (sender_of shape slot)) slot value
       → slot_decided shape (log_of run (Replica p)) slot ≡ value
   pub proposed : HasProposed shape (sender_of shape slot) (log_of run (sender_of shape slot)) slot (slot_decided shape (log_of run (Replica p)) slot)
 
--- no signature is forged: each one that a step carries, or that was taken or posted, is by a traitor or stands in what its signer has
+-- no signature is forged: each one that a step carries, or that was taken or posted, is by a traitor or is in what its signer has
 -- posted by then
 pub record HasNoForgery (shape : Shape) (run : List Step) : Type 0 where
   pub steps : (older : List Step) (step : Step) → Extends run (step ∷ older) → (s : Signature) → Carries (envelope_of step.1) s
@@ -58,8 +58,8 @@ pub record HasNoForgery (shape : Shape) (run : List Step) : Type 0 where
   pub taken : (a : Actor) (s : Signature) → WasTaken (log_of run a) s → IsMadeOrPosted shape (log_of run) s
   pub posted : (a : Actor) (s : Signature) → HasPosted (log_of run a) s → IsMadeOrPosted shape (log_of run) s
 
--- agreement in a run: loyal replicas agree, closed slots of loyal senders are decided as those proposed, nobody forges, and a loyal
--- replica signs at most two links of a slot, and at most one where the sender is loyal
+-- agreement in a run: loyal replicas agree, closed slots of loyal senders are decided as proposed, nobody forges, and a loyal
+-- replica signs at most two links of a slot, and at most one if the sender is loyal
 pub record HasAgreement (shape : Shape) (run : List Step) : Type 0 where
   pub agree : (p q : ℕ) → IsLoyal shape (Replica p) → IsLoyal shape (Replica q) → AgreeAt shape run p q
   pub valid : (slot p : ℕ) → IsLoyal shape (sender_of shape slot) → IsLoyal shape (Replica p)

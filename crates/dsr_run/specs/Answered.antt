@@ -15,8 +15,8 @@ use Rattle.dsr_run.specs.Eager.{IsEager}
 use Rattle.dsr_run.specs.Run.{IsRun}
 use Rattle.dsr_run.specs.Step.{Step, Logs, log_of}
 
--- an eager replica holds the ask since it had closed t rounds: at some moment at which a loyal replica had closed t rounds it held the
--- ask of the ask's client, and from then on it was eager
+-- an eager replica holds the ask since it had closed t rounds: at some moment a loyal replica had closed t rounds and held the ask of
+-- the ask's client, and from then on it was eager
 pub record IsHeldEagerly (shape : Shape) (logs : Logs) (ask : SignedRequest) (t : ℕ) : Type 0 where
   pub replica : ℕ
   pub loyal : IsLoyal shape (Replica replica)
@@ -27,7 +27,7 @@ pub record IsHeldEagerly (shape : Shape) (logs : Logs) (ask : SignedRequest) (t 
   pub holds : held shape ask.request.client base ≡ Some ask
   pub eager : IsEager shape (Replica replica) base added
 
--- in how many slots of its own an eager replica proposes each of m clients that waits, 8 clients in a slot
+-- in how many slots of its own an eager replica proposes each of m clients that wait, 8 clients in a slot
 abbrev pub turns : ℕ → ℕ
 turns m = div_ceil m 8
 
@@ -36,7 +36,7 @@ turns m = div_ceil m 8
 abbrev pub rounds_to_act : Shape → ℕ
 rounds_to_act shape = shape.n * turns shape.m + shape.f + 1
 
--- the request has acted at the replica of this log: it stands in what this one has processed
+-- the request has acted at the replica of this log: it is in what this one has processed
 abbrev pub HasActed : Shape → List Entry → Request → Type 0
 HasActed shape log request = In request (acted (decided_requests shape log))
 

@@ -18,31 +18,32 @@ use Rattle.dsr_replica.specs.Conduct.{envelope_with}
 use Rattle.dsr_replica.specs.Decided.{decided_requests}
 use Rattle.dsr_replica.specs.Held.{held, all_held}
 
--- whether the held ask would act after the client's last reply, that is, has a greater number; not if none is held, and always if there
--- is no reply
+-- whether the held ask would act after the client's last reply: whether it has a greater number; never if no ask is held, and always if
+-- one is and there is no reply
 abbrev pub is_newer : Option SignedRequest → Option Reply → Bool
 is_newer None last = false
 is_newer (Some ask) None = true
 is_newer (Some ask) (Some last) = nat_lt last.number ask.request.number
 
--- whether the client waits at the replica of this log: the request held of it would act after what the closed slots decided (one that
--- is in an open slot still waits)
+-- whether the client waits at the replica of this log: its held request would act after what the closed slots decided (a client whose
+-- request is in an open slot still waits)
 abbrev pub is_waiting : Shape → List Entry → ℕ → Bool
 is_waiting shape log client = is_newer (held shape client log) (reply (decided_requests shape log) client)
 
--- the clients whose requests are in the first of these chains that is of this slot
+-- the clients whose requests are in the first of these chains that belongs to this slot
 abbrev pub clients_in : ℕ → List Chain → List ℕ
 clients_in slot [] = []
 clients_in slot (chain ∷ more) =
     if chain.slot == slot then map (λ ask. ask.request.client) (signed_in chain.value) else clients_in slot more
 
--- the first of a list, or this where there is none
+-- the first client of a list, or `other` if the list is empty
 abbrev pub first_or : Option ℕ → List ℕ → Option ℕ
 first_or other [] = other
 first_or other (client ∷ more) = Some client
 
--- the last client that the loyal replica of this log proposed, in a slot of its own; none if it proposed none. (It is read from its
--- chains of slots in the rounds in which these begin: there a loyal replica posts no other's.)
+-- the last client that the loyal replica of this log proposed, in a slot of its own; none if it proposed none. (It is read from the
+-- chains that it posts for a slot in the round in which that slot begins: in that round a loyal replica posts one only as the
+-- slot's sender.)
 abbrev pub last_proposed : Shape → List Entry → Option ℕ
 last_proposed shape [] = None
 last_proposed shape (Post (Replica zero) envelope ∷ older) =
@@ -55,7 +56,7 @@ last_proposed shape (Take from envelope ∷ older) = last_proposed shape older
 abbrev pub next_client : ℕ → ℕ → ℕ
 next_client m client = if nat_lt (suc client) m then suc client else 0
 
--- as many of the m clients as `count` says, in turn, beginning with this one
+-- `count` of the m clients, in turn, beginning with this one
 abbrev pub in_turn : ℕ → ℕ → ℕ → List ℕ
 in_turn m zero client = []
 in_turn m (suc count) client = client ∷ in_turn m count (next_client m client)
@@ -69,7 +70,7 @@ first_in_turn m (Some client) = next_client m client
 abbrev pub next_proposed : Shape → List Entry → List ℕ
 next_proposed shape log = take 8 (filter (is_waiting shape log) (in_turn shape.m shape.m (first_in_turn shape.m (last_proposed shape log))))
 
--- the envelope begins the replica's own slot, where one begins, with the requests of these clients; idle where nobody waits
+-- the envelope begins the replica's own slot, if one begins, with the requests of these clients; idle if nobody waits
 abbrev pub ProposesNext : Shape → Actor → List Entry → Envelope → Type 0
 ProposesNext shape me log envelope = me ≡ sender_of shape (rounds shape log) → (asks : List SignedRequest)
     × (all_held shape log (next_proposed shape log) ≡ Some asks) × (envelope ≡ envelope_with shape me log (value_of asks))

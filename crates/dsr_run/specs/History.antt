@@ -27,13 +27,12 @@ decided_at shape logs replica = decided_values shape (logs (Replica replica))
 abbrev pub longer : {A : Type 0} → List A → List A → List A
 longer xs ys = if nat_lt (length ys) (length xs) then xs else ys
 
--- what was decided by that loyal replica of the first ones, as many as the number says, which has the most slots closed; nothing
--- where all of them are traitors
+-- the values decided by the loyal replica below this number with the most closed slots; none if all of them are traitors
 abbrev pub most_decided : Shape → Logs → ℕ → List SlotValue
 most_decided shape logs zero = []
 most_decided shape logs (suc p) =
     if is_traitor shape p then most_decided shape logs p else longer (decided_at shape logs p) (most_decided shape logs p)
 
--- the history: the requests that acted, by the loyal replica with the most closed slots; the latest first
+-- the history: the requests that acted, at the loyal replica with the most closed slots; the latest first
 abbrev pub history : Shape → Logs → List Request
 history shape logs = acted (map requests_in (most_decided shape logs shape.n))

@@ -1,4 +1,4 @@
--- What traitors may sign with and send on where they are told at once what loyal actors post (this project).
+-- What traitors may sign with and send on if what loyal actors post is known to them at once (this project).
 use Rattle.std.specs.Prelude.{◌≡◌, ◌↔◌, ℕ, List, Any}
 use Rattle.dsr_base.specs.Member.{In}
 use Rattle.dsr_names.specs.Shape.{Shape, IsLoyal}
@@ -12,11 +12,12 @@ use Rattle.dsr_run.specs.Step.{Logs}
 abbrev pub AreKeys : Shape → List Actor → Type 0
 AreKeys shape keys = (a : Actor) → Any (λ holder. holder ≡ a) keys ↔ IsTraitor shape a
 
--- what is known is what loyal actors have posted
+-- the known signatures are those that the posts of loyal actors carry
 pub record KnowsPosts (shape : Shape) (logs : Logs) (known : List Signature) : Type 0 where
   pub from : (s : Signature) → In s known → (a : Actor) × IsLoyal shape a × HasPosted (logs a) s
   pub all : (s : Signature) (a : Actor) → IsLoyal shape a → HasPosted (logs a) s → In s known
 
--- where there is a traitor, what is known is what loyal actors have posted; for nobody else it is needed
+-- if there is a traitor, the known signatures are those that the posts of loyal actors carry; without
+-- traitors this asks for nothing
 abbrev pub KnowsAll : Shape → Logs → List Signature → Type 0
 KnowsAll shape logs known = (p : ℕ) → IsTraitor shape (Replica p) → KnowsPosts shape logs known

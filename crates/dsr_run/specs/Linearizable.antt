@@ -38,8 +38,8 @@ pub record Precedes (shape : Shape) (run : List Step) (first second : Request) :
   pub not_yet : ¬ IsInvoked (log_of moment) second
 
 -- an order of requests, newest first, linearizes the run (Herlihy and Wing 1990): each request in it was invoked; the numbers of each
--- client rise in it, so none stands there twice; each request that has a response stands there, at the reply's place, with the answer
--- of one directory that processes these requests one after another; and all that precede a request in real time stand before it
+-- client rise in it, so none is in it twice; each request that has a response is in it, at the reply's place, with the answer of one
+-- directory that processes these requests one after another; and all that precede a request in real time are before it
 pub record IsLinearization (shape : Shape) (run : List Step) (order : List Request) : Type 0 where
   pub invoked : (request : Request) → In request order → IsInvoked (log_of run) request
   pub in_turn : IsLegal order
@@ -52,12 +52,12 @@ abbrev pub IsLinearizable : Shape → List Step → Type 0
 IsLinearizable shape run = (order : List Request) × IsLinearization shape run order
 
 -- runs of the shape are strongly linearizable (Golab, Higham and Woelfel 2011): one function gives each run an order that linearizes
--- it, and a run that goes on the same order with newer requests
+-- it, and a longer run the same order with newer requests
 pub record AreStronglyLinearizable (shape : Shape) : Type 0 where
   pub order : List Step → List Request
   pub each : (run : List Step) → IsRun shape run → IsLinearization shape run (order run)
   pub grows : (run earlier : List Step) → IsRun shape run → Extends run earlier → Extends (order run) (order earlier)
 
--- an order linearizes logs if it linearizes every run that has these logs, in whichever order its steps came about (this project)
+-- an order linearizes logs if it linearizes every run that has these logs, whatever the order of its steps (this project)
 abbrev pub LinearizesLogs : Shape → Logs → List Request → Type 0
 LinearizesLogs shape logs order = (run : List Step) → IsRun shape run → ((a : Actor) → log_of run a ≡ logs a) → IsLinearization shape run order

@@ -1,5 +1,5 @@
 -- Which steps an actor may take, as far as its own log shows it (this project). With the one box that a step uses, that is enough for
--- the step of a run: nobody has to look at another's log.
+-- a step in a run: nobody has to look at another's log.
 use Rattle.std.specs.Prelude.{◌≡◌, ◌⊎◌, suc, ◌<◌, ◌^◌, true, false, List, None, length}
 use Rattle.dsr_names.specs.Shape.{Shape, is_traitor}
 use Rattle.dsr_names.specs.declared.actor.Actor.{Actor}
@@ -17,18 +17,18 @@ use Rattle.dsr_client.specs.Conduct.{IsNext as IsNextOfClient}
 use Rattle.dsr_client.specs.State.{outstanding}
 use Rattle.dsr_run.specs.Run.{KeepsRounds}
 
--- an entry keeps the conduct of its actor, as its log shows it: that of a loyal replica, or of a client; a traitor's is free
+-- an entry keeps the protocol of its actor, as its log shows it: that of a loyal replica, or of a client; a traitor is free
 abbrev pub KeepsOwn : Shape → Actor → List Entry → Entry → Type 0
 KeepsOwn shape (Replica p) log entry = is_traitor shape p ≡ false → IsNext shape (Replica p) log entry × KeepsRounds shape log entry
 KeepsOwn shape (Client c) log entry = IsNextOfClient shape c log entry
 
--- what the conduct leaves open in a post is within the limits of envelopes: all that a traitor posts, and a client's new request
+-- what the protocol leaves open in a post is within the limits of envelopes: all that a traitor posts, and a client's new request
 abbrev pub FitsWhereFree : Shape → Actor → List Entry → Actor → Envelope → Type 0
 FitsWhereFree shape (Replica p) log to envelope = is_traitor shape p ≡ true → IsEnvelope envelope
 FitsWhereFree shape (Client c) log (Replica q) envelope = outstanding shape log ≡ None → IsEnvelope envelope
 FitsWhereFree shape (Client c) log (Client d) envelope = Unit {0}
 
--- a traitor that holds its own key alone: each signature that it posts is its own, or stands in an envelope that it took
+-- a traitor that holds only its own key: each signature that it posts is its own, or is in an envelope that it took
 abbrev pub ForgesNone : Shape → Actor → List Entry → Envelope → Type 0
 ForgesNone shape (Replica p) log envelope =
     is_traitor shape p ≡ true → (s : Signature) → Carries envelope s → (s.signer ≡ Replica p) ⊎ WasTaken log s
@@ -40,6 +40,6 @@ pub record MayPost (shape : Shape) (me : Actor) (log : List Entry) (to : Actor) 
   pub fits : FitsWhereFree shape me log to envelope
   pub forges : ForgesNone shape me log envelope
 
--- it may post to this actor once more: fewer than 2^40 posts will stand in the box
+-- it may post to this actor once more: with that post the box will have fewer than 2^40
 abbrev pub HasPostsLeft : List Entry → Actor → Type 0
 HasPostsLeft log to = suc (length (posted_to to log)) < 2 ^ 40

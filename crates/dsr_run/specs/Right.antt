@@ -1,4 +1,4 @@
--- When all that clients were told is right (Schneider 1990: the replies are those of one machine that processes the requests one
+-- When all that clients accepted is right (Schneider 1990: the replies are those of one machine that processes the requests one
 -- after another; that a place is not before what the client had seen is this project's).
 use Rattle.std.specs.Prelude.{◌≡◌, ℕ, ◌<◌, ◌≤◌, ◌==◌, Bool, false, List, [], ◌∷◌, ◌++◌, Option, None, Some, if◌then◌else◌}
 use Rattle.std.specs.Option.{option_or}
@@ -19,7 +19,7 @@ use Rattle.dsr_client.specs.Issue.{issue_front}
 use Rattle.dsr_run.specs.History.{accepted_by, history}
 use Rattle.dsr_run.specs.Step.{Step, log_of}
 
--- a client's accepted reply is right: at its place in the history stands the very request that the client posted under its number,
+-- a client's accepted reply is right: at its place in the history is the very request that the client posted under its number,
 -- with this answer there; and the place is not before the issue front
 pub record IsRightReply (shape : Shape) (history : List Request) (log : List Entry) (reply : AReply) : Type 0 where
   pub replica : ℕ
@@ -31,7 +31,7 @@ pub record IsRightReply (shape : Shape) (history : List Request) (log : List Ent
   pub issued : issue_front shape reply.number log ≡ Some front
   pub not_before : front ≤ reply.place
 
--- a client took, while its request of this number was outstanding, a reply to it from each loyal replica
+-- a client took, while its request with this number was outstanding, a reply to it from each loyal replica
 pub record TookAllReplies (shape : Shape) (log : List Entry) (number : ℕ) : Type 0 where
   pub older : List Entry
   pub newer : List Entry
@@ -45,8 +45,8 @@ pub record TookAllReplies (shape : Shape) (log : List Entry) (number : ℕ) : Ty
 abbrev pub HasReplyTo : ℕ → List AReply → Type 0
 HasReplyTo number replies = (reply : AReply) × In reply replies × (reply.number ≡ number)
 
--- a run is right where each reply that a client accepted is right; no number of a client stands twice in the history; and the history
--- has only grown since any earlier time of the run
+-- a run is right if each reply that a client accepted is right, no number of a client is in the history twice, and the history has
+-- only grown since any earlier time of the run
 pub record IsRight (shape : Shape) (run : List Step) : Type 0 where
   pub replies : (c : ℕ) → c < shape.m → (reply : AReply) → In reply (accepted_by shape (log_of run) c)
       → IsRightReply shape (history shape (log_of run)) (log_of run (Client c)) reply

@@ -26,8 +26,8 @@ abbrev pub envelope_of : Entry → Envelope
 envelope_of (Post to envelope) = envelope
 envelope_of (Take from envelope) = envelope
 
--- each actor has a box to each actor, which holds at most one envelope: a post finds it empty, as all that was posted there was
--- taken; and what is taken is what it holds, the one envelope that was posted there and not taken (the premise on rounds)
+-- each actor has a box to each actor, which holds at most one envelope: a post finds it empty, since all that was posted there
+-- was taken; and what is taken is what it holds, the one envelope that was posted there and not taken (the premise on rounds)
 abbrev pub KeepsBox : Logs → Actor → Entry → Type 0
 KeepsBox logs actor (Post to envelope) = posted_to to (logs actor) ≡ taken_from actor (logs to)
 KeepsBox logs actor (Take from envelope) = posted_to actor (logs from) ≡ taken_from from (logs actor) ++ envelope ∷ []
@@ -44,24 +44,24 @@ pub record HasPosted (log : List Entry) (s : Signature) : Type 0 where
   pub posted : In (Post to envelope) log
   pub carried : Carries envelope s
 
--- a signature that can be sent: a traitor made it, as traitors lend each other their keys, or its signer has posted it (Dolev and
--- Strong 1983)
+-- a signature that can be sent: a traitor made it, since traitors lend each other their keys, or its signer has posted it (Dolev
+-- and Strong 1983)
 abbrev pub IsMadeOrPosted : Shape → Logs → Signature → Type 0
 IsMadeOrPosted shape logs s = IsTraitor shape s.signer ⊎ HasPosted (logs s.signer) s
 
--- a traitor posts anything in which nothing is forged, and takes anything: each signature of what it posts, on a chain, beside a
+-- a traitor posts anything in which nothing is forged, and takes anything: each signature in what it posts, on a chain, beside a
 -- request of a chain's value, or beside a request that is asked, can be sent
 abbrev pub ForgesNothing : Shape → Logs → Entry → Type 0
 ForgesNothing shape logs (Post to envelope) = (s : Signature) → Carries envelope s → IsMadeOrPosted shape logs s
 ForgesNothing shape logs (Take from envelope) = Unit {0}
 
--- a loyal replica posts to replicas in rounds below 2^36 alone
+-- a loyal replica posts to replicas only in rounds below 2^36
 abbrev pub KeepsRounds : Shape → List Entry → Entry → Type 0
 KeepsRounds shape log (Post (Replica q) envelope) = rounds shape log < 2 ^ 36
 KeepsRounds shape log (Post (Client c) envelope) = Unit {0}
 KeepsRounds shape log (Take from envelope) = Unit {0}
 
--- the conduct of the actor: that of a loyal replica, of a traitor, or of a client
+-- the protocol of the actor: that of a loyal replica, of a traitor, or of a client
 abbrev pub KeepsConduct : Shape → Logs → Actor → Entry → Type 0
 KeepsConduct shape logs (Replica p) entry =
     (is_traitor shape p ≡ false → IsNext shape (Replica p) (logs (Replica p)) entry × KeepsRounds shape (logs (Replica p)) entry)
@@ -73,7 +73,7 @@ abbrev pub KeepsLimits : Logs → Actor → Entry → Type 0
 KeepsLimits logs actor (Post to envelope) = IsEnvelope envelope × (suc (length (posted_to to (logs actor))) < 2 ^ 40)
 KeepsLimits logs actor (Take from envelope) = Unit {0}
 
--- a step that may be next, with these logs: of actors of the shape, by the boxes, within the limits, and by its actor's conduct
+-- a step that may be next, with these logs: between actors of the shape, by the boxes, within the limits, and by its actor's protocol
 pub record IsNextStep (shape : Shape) (logs : Logs) (step : Step) : Type 0 where
   pub actor : IsActor shape step.0
   pub other : IsActor shape (other_of step.1)
@@ -81,7 +81,7 @@ pub record IsNextStep (shape : Shape) (logs : Logs) (step : Step) : Type 0 where
   pub limits : KeepsLimits logs step.0 step.1
   pub conduct : KeepsConduct shape logs step.0 step.1
 
--- a run: steps each of which might be next, from empty logs on
+-- a run: from empty logs on, steps each of which might be next
 abbrev pub IsRun : Shape → List Step → Type 0
 IsRun shape [] = Unit {0}
 IsRun shape (step ∷ older) = IsRun shape older × IsNextStep shape (log_of older) step

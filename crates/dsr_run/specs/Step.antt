@@ -12,11 +12,11 @@ Step = Actor × Entry
 abbrev pub Logs : Type 0
 Logs = Actor → List Entry
 
--- the logs after one step more: the entry is put before the log of its actor
+-- the logs after one more step: the entry is put before the log of its actor
 abbrev pub with_step : Step → Logs → Logs
 with_step (actor, entry) logs a = if actor_eq actor a then entry ∷ logs a else logs a
 
--- the log of each actor after these steps; steps and logs stand newest first
+-- the log of each actor after these steps; steps and logs are listed newest first
 abbrev pub log_of : List Step → Logs
 log_of [] a = []
 log_of (step ∷ older) a = with_step step (log_of older) a

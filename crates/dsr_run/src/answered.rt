@@ -1,5 +1,5 @@
 //! Bounded response: a request that an eager loyal replica holds acts within a stated number of closed rounds, and one more envelope
-//! from each loyal replica then answers its client. Laws of runs, as the contracts of functions that do nothing.
+//! from each loyal replica then answers its client. Laws of runs, as contracts of functions that do nothing.
 
 ghost use Rattle.std.specs.Prelude.{◌≡◌, ℕ, ◌+◌, ◌*◌, ◌<◌, ◌≤◌, List};
 ghost use Rattle.dsr_base.specs.Growth.{Extends};
@@ -28,10 +28,9 @@ pub fn loyal_replicas_may_be_eager()
 {}
 
 /// Held requests act, if at most f replicas are traitors. Let a loyal replica hold a client's request when it has closed t rounds, and let
-/// it be eager from then on: it begins each slot of its own with the requests of the first 8 clients that wait, in turn. Then the
-/// request has acted at each loyal replica that has closed t + n * turns(m) + f + 1 rounds. No other replica need propose anything,
-/// and traitors do what they like. Nothing says that rounds close. What holds of a run holds of its logs, in whatever order its
-/// steps came about.
+/// it be eager from then on: it begins each slot of its own with the requests of the first 8 clients that wait, in turn. Then the request
+/// has acted at each loyal replica that has closed t + n * turns(m) + f + 1 rounds. No other replica need propose anything, and traitors
+/// do what they like. Nothing says that rounds close. What holds for a run holds for its logs, whatever the order of its steps.
 pub fn eager_replicas_answer()
     ensures runs { (shape : Shape) → HasFewTraitors shape → ActsWithin shape (rounds_to_act shape) }
     ensures logs { (shape : Shape) (logs : Logs) → HasFewTraitors shape → AreLogs shape logs

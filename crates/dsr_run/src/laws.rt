@@ -1,4 +1,4 @@
-//! The laws of runs, as the contracts of functions that do nothing.
+//! The laws of runs, as contracts of functions that do nothing.
 
 ghost use Rattle.std.specs.Prelude.{◌≡◌, ◌⊎◌, ℕ, ◌^◌, ◌<◌, ◌≤◌, List, [], ◌∷◌, ◌++◌, Some, length};
 ghost use Rattle.dsr_base.specs.Growth.{Extends};
@@ -30,7 +30,7 @@ ghost use Rattle.dsr_run.specs.Run.{IsRun, IsNextStep, AreLogs, HasPosted, IsMad
 ghost use Rattle.dsr_run.specs.Step.{Step, Logs, with_step, log_of};
 
 /// In a run the log of each loyal replica is a loyal one, and that of each client a client's; only actors of the shape have entries,
-/// all with actors of the shape; and at each earlier time it was a run.
+/// and only with actors of the shape; and at each earlier time the run was one too.
 pub fn runs_keep_conduct()
     ensures replicas { (shape : Shape) (run : List Step) → IsRun shape run → (p : ℕ) → IsLoyal shape (Replica p)
         → IsLoyalLog shape (Replica p) (log_of run (Replica p)) }
@@ -40,8 +40,8 @@ pub fn runs_keep_conduct()
     ensures earlier { (shape : Shape) (run earlier : List Step) → IsRun shape run → Extends run earlier → IsRun shape earlier }
 {}
 
-/// The logs of a run: empty logs are the logs of one, and so are the logs of a run with a step more that may be next. Which step may be
-/// next is a matter of the logs alone, not of the order in which they came about.
+/// The logs of a run: empty logs are those of one, and so are the logs of a run with one more step that may be next. Whether a step may
+/// be next depends only on the logs, not on the order in which they came about.
 pub fn runs_go_on()
     ensures empty { (shape : Shape) → AreLogs shape (λ a. []) }
     ensures step { (shape : Shape) (logs : Logs) (step : Step) → AreLogs shape logs → IsNextStep shape logs step
@@ -59,8 +59,8 @@ pub fn boxes_hold_one_envelope()
 {}
 
 /// Nobody's signature is forged in a run: each signature that a step carries, on a chain, beside a request of a chain's value, or
-/// beside a request that is asked, is by a traitor of the shape, or stands in what its signer posted, in that step or earlier. So a
-/// traitor forges nothing that sends on what it took, or what anybody posted.
+/// beside a request that is asked, is by a traitor of the shape, or is in what its signer posted, in that step or earlier. So a
+/// traitor that sends on what it took, or what anybody posted, forges nothing.
 pub fn no_signature_is_forged()
     ensures steps { (shape : Shape) (run older : List Step) (step : Step) → IsRun shape run → Extends run (step ∷ older)
         → (s : Signature) → Carries (envelope_of step.1) s → IsMadeOrPosted shape (log_of (step ∷ older)) s }
@@ -70,9 +70,9 @@ pub fn no_signature_is_forged()
         → IsMadeOrPosted shape (log_of run) s }
 {}
 
-/// Agreement: where at most f replicas are traitors, of the values that two loyal replicas have decided one list is a prefix of the
-/// other. Values stand latest first, so one list is the other with later values before it. Each slot that both have closed they
-/// decided alike.
+/// Agreement: if at most f replicas are traitors, the values that one of two loyal replicas has decided are a prefix of those that
+/// the other has decided. Values are listed latest first, so one list is the other with later values before it. If both have closed
+/// a slot, they decided it alike.
 pub fn loyal_replicas_agree()
     ensures lists { (shape : Shape) (run : List Step) → HasFewTraitors shape → IsRun shape run
         → (p q : ℕ) → IsLoyal shape (Replica p) → IsLoyal shape (Replica q)
@@ -86,7 +86,7 @@ pub fn loyal_replicas_agree()
 
 /// Validity: a slot of a loyal sender, closed at a loyal replica, is decided as the value that the sender posted, however many are
 /// traitors. That is the value for which the sender's envelope of the slot's first round has the chain that it starts; there is
-/// one, and no other.
+/// exactly one.
 pub fn loyal_senders_values_are_decided()
     ensures decided { (shape : Shape) (run : List Step) → IsRun shape run → (slot : ℕ) → IsLoyal shape (sender_of shape slot)
         → (p : ℕ) → IsLoyal shape (Replica p) → slot < closed_slots shape (rounds shape (log_of run (Replica p)))
@@ -97,7 +97,7 @@ pub fn loyal_senders_values_are_decided()
         → HasProposed shape (sender_of shape slot) (log_of run (sender_of shape slot)) slot (slot_decided shape (log_of run (Replica p)) slot) }
 {}
 
-/// What a loyal replica posts carries its signature on at most two different links of one slot, and on at most one where the
+/// What a loyal replica posts carries its signature on at most two different links of one slot, and on at most one if the
 /// slot's sender is loyal, however many are traitors.
 pub fn loyal_replicas_sign_few_links()
     ensures two { (shape : Shape) (run : List Step) → IsRun shape run → (slot : ℕ) → (p : ℕ) → IsLoyal shape (Replica p)
@@ -106,14 +106,14 @@ pub fn loyal_replicas_sign_few_links()
         → IsLoyal shape (sender_of shape slot) → HasFewLinks (Replica p) (log_of run (Replica p)) slot 1 }
 {}
 
-/// Agreement, validity, no forgery and few signatures in one: every run has them where at most f replicas are traitors.
+/// Agreement, validity, no forgery and few signatures in one: every run has them, if at most f replicas are traitors.
 pub fn runs_agree()
     ensures { (shape : Shape) (run : List Step) → HasFewTraitors shape → IsRun shape run → HasAgreement shape run }
 {}
 
-/// One history: where at most f replicas are traitors, what each loyal replica has processed is a prefix of the history, and the
-/// history is what one of them has processed, or empty. It only grows, by time and by logs that go on; and within each client the
-/// numbers in it rise strictly, whatever the logs.
+/// One history: if at most f replicas are traitors, what each loyal replica has processed is a prefix of the history, and the
+/// history is what one of them has processed, or empty. It only grows, with time and with logs that go on; and the numbers of
+/// each client in it rise strictly, whatever the logs.
 pub fn history_only_grows()
     ensures each { (shape : Shape) (run : List Step) → HasFewTraitors shape → IsRun shape run → (p : ℕ) → IsLoyal shape (Replica p)
         → Extends (history shape (log_of run)) (acted (decided_requests shape (log_of run (Replica p)))) }
@@ -127,8 +127,8 @@ pub fn history_only_grows()
 {}
 
 /// The limits hold in a run: all that is posted or taken is within them, a loyal replica closes at most 2^36 rounds, and the history
-/// has at most 2^39 requests. And what a loyal replica may post next is within the limits of envelopes, where the shape is within
-/// those of shapes; so is what a client asks again.
+/// has at most 2^39 requests. And what a loyal replica may post next is within the limits of envelopes, if the shape is within those
+/// of shapes; so is what a client asks again.
 pub fn limits_are_kept_in_runs()
     ensures posted { (shape : Shape) (run : List Step) → IsRun shape run → (a to : Actor) (envelope : Envelope)
         → In (Post to envelope) (log_of run a) → IsEnvelope envelope }

@@ -1,4 +1,5 @@
-//! Runs: what replicas, clients and traitors do together. What a run is, its history, and the laws that join its logs; no code.
+//! Runs: what replicas, clients and traitors do together. What a run is, its history, and the laws that connect its logs; no
+//! code.
 #![tactic(auto)]
 
 mod answered;

@@ -1,5 +1,5 @@
-//! That an actor's own log and the box that it uses are enough for its next step, and the laws of runs over logs alone. Laws, as the
-//! contracts of functions that do nothing.
+//! An actor's own log and the box that it uses determine its next step; and the laws of runs, for logs alone. Laws, as contracts of
+//! functions that do nothing.
 
 ghost use Rattle.std.specs.Prelude.{◌≡◌, ◌⊎◌, ◌↔◌, ℕ, ◌<◌, ◌≤◌, ◌^◌, List, [], ◌∷◌, ◌++◌, length};
 ghost use Rattle.dsr_base.specs.Growth.{Extends};
@@ -25,9 +25,10 @@ ghost use Rattle.dsr_run.specs.Right.{IsRightReply};
 ghost use Rattle.dsr_run.specs.Run.{IsRun, IsNextStep, AreLogs, IsMadeOrPosted, IsTraitor, ForgesNothing};
 ghost use Rattle.dsr_run.specs.Step.{Step, Logs, log_of};
 
-/// What an actor may do next is a matter of its own log and of the one box that it uses: a post that its own log allows, into a box
-/// whose posted envelopes are all taken, may be next in the run; so may a take that its own log allows, from a box with one envelope
-/// more. What such a box holds is within the limits. Who is no actor of the shape has done nothing.
+/// What an actor may do next depends only on its own log and on the one box that it uses: in an allowed shape, a post that its own
+/// log allows, into a box whose posted envelopes are all taken and which gets fewer than 2^40 of them, may be next in the run; so
+/// may a take that its own log allows, from a box that holds an envelope. What such a box holds is within the limits. An actor that
+/// is not of the shape has done nothing.
 pub fn own_logs_are_enough()
     ensures post { (shape : Shape) (logs : Logs) (me to : Actor) (envelope : Envelope) → IsAllowed shape → AreLogs shape logs
         → IsActor shape me → IsActor shape to → MayPost shape me (logs me) to envelope → HasPostsLeft (logs me) to
@@ -40,9 +41,10 @@ pub fn own_logs_are_enough()
     ensures outside { (shape : Shape) (logs : Logs) → AreLogs shape logs → (a : Actor) → ¬ IsActor shape a → logs a ≡ [] }
 {}
 
-/// What holds of runs holds of their logs, in whatever order the steps came about: of logs of a run, where at most f replicas are
-/// traitors, loyal replicas agree, and each reply that a client accepted is right by their history; each log keeps its actor's conduct;
-/// each box is empty or holds one envelope; what was taken is not forged. The history is one of the logs alone.
+/// What holds for runs holds for their logs, whatever the order of the steps. For logs of a run, if at most f replicas are traitors,
+/// loyal replicas agree, and each reply that a client accepted is right by their history. However many are traitors, each log keeps its
+/// actor's protocol, each box is empty or holds one envelope, and what was taken is not forged. The history depends on the logs alone,
+/// and the numbers of each client rise in it.
 pub fn logs_are_right()
     ensures agreement { (shape : Shape) (logs : Logs) → HasFewTraitors shape → AreLogs shape logs
         → (p q : ℕ) → IsLoyal shape (Replica p) → IsLoyal shape (Replica q)
@@ -61,9 +63,9 @@ pub fn logs_are_right()
     ensures legal { (shape : Shape) (logs : Logs) → IsLegal (history shape logs) }
 {}
 
-/// The counters of logs of a run stay within the limits: fewer than 2^40 envelopes are posted in a box, and the history has at most 2^39
-/// requests. Where at most f replicas are traitors, no client has seen more than the history has, and accepted replies have numbers below
-/// 2^40.
+/// The counters of logs of a run stay within the limits: fewer than 2^40 envelopes are posted into a box, and the history has at most
+/// 2^39 requests. If at most f replicas are traitors, no client has seen more than the history has, and accepted replies have numbers
+/// below 2^40.
 pub fn counters_are_kept()
     ensures posts { (shape : Shape) (logs : Logs) → AreLogs shape logs → (a b : Actor) → length (posted_to b (logs a)) < 2 ^ 40 }
     ensures seen { (shape : Shape) (logs : Logs) → HasFewTraitors shape → AreLogs shape logs → (c : ℕ)
@@ -73,9 +75,9 @@ pub fn counters_are_kept()
         → In reply (accepted_by shape logs c) → reply.number < 2 ^ 40 }
 {}
 
-/// What is known of loyal actors' posts grows by what a loyal actor posts, and by nothing else: with each post of a loyal actor what it
-/// carries is known too, and any other step makes nothing known. It decides what is forged: in a run a post forges nothing exactly where
-/// each signature that it carries is by a traitor, or known.
+/// The known signatures of loyal actors' posts grow by what a loyal actor posts, and by nothing else: with each post of a loyal actor
+/// the signatures that it carries become known, and any other step makes nothing known. They decide what is forged: in a run a post
+/// forges nothing exactly if each signature that it carries is by a traitor, or known.
 pub fn posts_are_known()
     ensures posted { (shape : Shape) (older : List Step) (known new : List Signature) (a to : Actor) (envelope : Envelope)
         → KnowsPosts shape (log_of older) known → IsLoyal shape a → ((s : Signature) → In s new ↔ (In s known ⊎ Carries envelope s))
