@@ -1,4 +1,4 @@
--- Who does what an event says, and its spelling (this project).
+-- Who does what an event says, and its text (this project).
 use Rattle.dsr_names.specs.declared.actor.Actor.{Actor}
 use Rattle.dsr_play.specs.PlayText.{IsPlayLine}
 use Rattle.dsr_play.specs.declared.event.Event.{Event}
@@ -12,6 +12,6 @@ actor_of (Plant from to draft) = from
 actor_of (Take at from) = at
 actor_of (Tell from to) = from
 
--- an event that a text can spell, as a line of a play
+-- an event that a text can write, as a line of a play
 abbrev pub IsSpelledEvent : Event → Type 0
 IsSpelledEvent event = IsPlayLine (One event)

@@ -1,4 +1,4 @@
--- Plays as contracts see them, and which texts they are read from (this project).
+-- Plays as contracts see them, and the texts from which they are read (this project).
 use Rattle.std.specs.Prelude.{◌≡◌, ℕ, List, []}
 use Rattle.dsr_names.specs.Shape.{Shape, IsAllowed}
 use Rattle.dsr_names.specs.declared.refusal.Refusal.{Refusal}
@@ -8,12 +8,13 @@ use Rattle.dsr_play.specs.declared.event.Event.{Event}
 use Rattle.dsr_play.specs.declared.play_line.PlayLine.{PlayLine}
 use Rattle.dsr_play.specs.PlayText.{all_events, plays}
 
--- a shape, and the events that are to happen in a world of that shape, in their order
+-- a shape, and the events that are to happen in a world of that shape, in order
 pub record Play : Type 0 where
   pub shape : Shape
   pub events : List Event
 
--- the text spells a play: it is a header of the play's shape, which is allowed, and lines which stand for the play's events
+-- the text is that of the play: a header with the play's shape, which is allowed, and lines which represent the play's
+-- events
 pub record Spells (text : List ℕ) (play : Play) : Type 0 where
   pub after : List ℕ
   pub header : BeginsWithHeader plays.title text play.shape after
@@ -22,6 +23,6 @@ pub record Spells (text : List ℕ) (play : Play) : Type 0 where
   pub begins : BeginsWithLines plays after play.shape lines []
   pub events : play.events ≡ all_events play.shape lines
 
--- what each refusal says of the text
+-- what each refusal says about the text
 abbrev pub IsPlayRefusal : List ℕ → Refusal → Type 0
 IsPlayRefusal = IsTextRefusal plays

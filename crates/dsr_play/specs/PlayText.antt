@@ -1,5 +1,5 @@
--- How texts spell plays (this project): a header `dsr-play 1 n f m traitors`, then lines, each of which stands for one event or for
--- several. Lines stand newest first: the last line is the first of the list.
+-- How texts write plays (this project): a header `dsr-play 1 n f m traitors`, then lines, each of which represents one event or
+-- several. Lines are listed newest first: the last line is the first of the list.
 use Rattle.std.specs.Prelude.{ℕ, zero, suc, ◌<◌, ◌≤◌, ◌==◌, if◌then◌else◌, All, List, [], ◌∷◌, ◌++◌, length, codes}
 use Rattle.dsr_base.specs.Joined.{joined}
 use Rattle.dsr_names.specs.Actor.{IsNumbered, actor_text, client_text, replica_text}
@@ -19,7 +19,7 @@ use Rattle.dsr_play.specs.declared.play_line.PlayLine.TheVariants.{One, Posts, P
 
 -- ---- one line
 
--- the word that a line begins with
+-- the word with which a line begins
 abbrev pub line_word : PlayLine → List ℕ
 line_word (One (Post from to pick)) = codes "post"
 line_word (One (Plant from to envelope)) = codes "plant"
@@ -34,7 +34,7 @@ line_word (Asks by pick) = codes "asks"
 line_word (Hears from) = codes "hears"
 line_word (Replies to) = codes "replies"
 
--- a choice as it stands after an actor: nothing, ` from c0+c1` or ` begin write a 5`
+-- a choice as it is written after an actor: nothing, ` from c0+c1` or ` begin write a 5`
 abbrev pub pick_text : Pick → List ℕ
 pick_text Plain = []
 pick_text (From clients) = codes " from " ++ joined 43 client_text clients
@@ -44,7 +44,7 @@ pick_text (Begin op) = codes " begin " ++ op_text 32 op
 abbrev pub ends_text : Actor → Actor → List ℕ
 ends_text a b = actor_text a ++ 32 ∷ actor_text b
 
--- what stands after the word and a space
+-- what follows the word and a space
 abbrev pub line_rest : PlayLine → List ℕ
 line_rest (One (Post from to pick)) = actor_text from ++ 32 ∷ (actor_text to ++ pick_text pick)
 line_rest (One (Plant from to envelope)) = actor_text from ++ 32 ∷ (actor_text to ++ 32 ∷ envelope_text envelope)
@@ -63,7 +63,7 @@ line_rest (Replies to) = client_text to
 abbrev pub line_text : PlayLine → List ℕ
 line_text line = line_word line ++ 32 ∷ line_rest line
 
--- a choice that a text can spell
+-- a choice that a text can write
 abbrev pub IsSpelledPick : Pick → Type 0
 IsSpelledPick Plain = Unit {0}
 IsSpelledPick (From clients) = IsClients clients × All (λ (c : ℕ). c < 32) clients
@@ -81,7 +81,7 @@ IsClientPick Plain = Unit {0}
 IsClientPick (From clients) = ⊥
 IsClientPick (Begin op) = Unit {0}
 
--- a line that a text can spell
+-- a line that a text can write
 abbrev pub IsPlayLine : PlayLine → Type 0
 IsPlayLine (One (Post from to pick)) = IsNumbered from × IsNumbered to × IsSpelledPick pick
 IsPlayLine (One (Plant from to envelope)) = IsNumbered from × IsNumbered to × IsSpelledEnvelope envelope
@@ -103,11 +103,11 @@ abbrev pub with_each : ℕ → (ℕ → List Event) → List Event
 with_each zero events_with = []
 with_each (suc q) events_with = with_each q events_with ++ events_with q
 
--- the same of the loyal replicas of a shape alone
+-- the same for only the loyal replicas of a shape
 abbrev pub with_each_loyal : Shape → (ℕ → List Event) → List Event
 with_each_loyal shape events_with = with_each shape.n (λ p. if is_traitor shape p then [] else events_with p)
 
--- the choice of the post to a replica: the one to r0 has it, the others are plain
+-- the choice of the post to a replica: the post to r0 has `pick`, the others are plain
 abbrev pub pick_for : Pick → ℕ → Pick
 pick_for pick q = if q == 0 then pick else Plain
 
@@ -119,7 +119,7 @@ posts_by shape by pick = with_each shape.n (λ q. Post by (Replica q) (pick_for 
 abbrev pub takes_at : Shape → Actor → List Event
 takes_at shape at = with_each shape.n (λ q. Take at (Replica q) ∷ [])
 
--- the events that a line stands for, in their order
+-- the events that a line represents, in order
 abbrev pub events_of : Shape → PlayLine → List Event
 events_of shape (One event) = event ∷ []
 events_of shape (Posts by pick) = posts_by shape (Replica by) pick
@@ -133,15 +133,15 @@ events_of shape (Replies to) = with_each_loyal shape (λ p. Post (Replica p) (Cl
 
 -- ---- lines after each other
 
--- the events that lines stand for, in their order
+-- the events that lines represent, in order
 abbrev pub all_events : Shape → List PlayLine → List Event
 all_events shape [] = []
 all_events shape (line ∷ earlier) = all_events shape earlier ++ events_of shape line
 
--- a line that can follow these: with its events, the events are at most 1,000,000
+-- a line that can follow these: with its events, there are at most 1,000,000
 abbrev pub CanFollow : Shape → List PlayLine → PlayLine → Type 0
 CanFollow shape earlier line = length (all_events shape (line ∷ earlier)) ≤ 1000000
 
--- plays, as texts of a header and lines
+-- plays, as texts that are a header and lines
 abbrev pub plays : TextKind PlayLine
 plays = record { title = codes "dsr-play 1"; line_text = line_text; IsLine = IsPlayLine; CanFollow = CanFollow }

@@ -1,2 +1,2 @@
--- What private readers of plays promise.
+-- What private readers of plays guarantee.
 pub mod PlayParts

@@ -6,7 +6,8 @@ use dsr_names::Refusal;
 use std::alloc::Global;
 use std::marker::Model;
 
-/// What a post chooses, in little room: another choice than the plain one is kept apart. Contracts see it as that `Pick`.
+/// The choice of a post, in little room: a choice that is not the plain one is behind a handle. Contracts see it as that
+/// `Pick`.
 #[derive(Drop)]
 pub struct Choice {
     other: Option<Box<Pick, Global>>,
@@ -24,14 +25,14 @@ impl Model for Choice {
 }
 
 impl Choice {
-    /// Nothing in particular. It takes no memory.
+    /// Makes the plain choice. It takes no memory.
     pub fn plain() -> Choice
         ensures { result ≡ Plain }
     {
         Choice { other: None }
     }
 
-    /// The choice, in little room. `NoMemory` where memory runs out: a plain one takes none.
+    /// Puts the choice in little room. `NoMemory` if memory runs out: a plain choice takes none.
     pub fn of(alloc: Global, pick: Pick) -> Result<Choice, Refusal>
         ensures made { IfOk result (λ choice. choice ≡ pick) }
         ensures plain { pick ≡ Plain → IsOk result }
@@ -46,7 +47,7 @@ impl Choice {
         }
     }
 
-    /// What is chosen.
+    /// Returns the choice.
     pub fn pick(&self) -> Pick
         ensures { result ≡ self.now }
     {

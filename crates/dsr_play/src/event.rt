@@ -2,39 +2,40 @@ use crate::choice::Choice;
 use dsr_names::Actor;
 use dsr_script::Draft;
 
-/// One thing that is to happen in a world. It takes little room, since a play can have a million: whatever is large is kept apart.
+/// An event: something that is to happen in a world. It takes little room, since a play can have a million: what is large is
+/// behind a handle.
 #[derive(Drop)]
 pub enum Event {
-    /// A loyal actor posts what its conduct has it post.
+    /// A loyal actor posts what its protocol asks for.
     Post {
-        /// Who posts.
+        /// The actor that posts.
         from: Actor,
-        /// To whom.
+        /// The actor to which it posts.
         to: Actor,
-        /// What it chooses, where its conduct leaves a choice.
+        /// What it chooses, if its protocol leaves a choice.
         pick: Choice,
     },
     /// A traitor posts an envelope of its own.
     Plant {
-        /// Who posts.
+        /// The actor that posts.
         from: Actor,
-        /// To whom.
+        /// The actor to which it posts.
         to: Actor,
-        /// What it posts.
+        /// The envelope that it posts.
         draft: Draft,
     },
     /// An actor takes the envelope that another one posted to it.
     Take {
-        /// Who takes.
+        /// The actor that takes.
         at: Actor,
-        /// From whom.
+        /// The actor from which it takes.
         from: Actor,
     },
-    /// A client tells another one its seen front.
+    /// A client posts its seen front to another.
     Tell {
-        /// Who tells.
+        /// The client that posts.
         from: Actor,
-        /// To whom.
+        /// The client to which it posts.
         to: Actor,
     },
 }

@@ -1,4 +1,5 @@
-//! The law that each event can be written in a play: the contract of a function that does nothing.
+//! The law that each event can be written in a play, as the contract of a function that does
+//! nothing.
 
 ghost use Rattle.std.specs.Prelude.{◌<◌, All, ℕ};
 ghost use Rattle.dsr_names.specs.Actor.{IsNumbered};
@@ -10,7 +11,7 @@ use dsr_envelope::Pick;
 use dsr_names::{Actor, ClientId};
 use dsr_script::each_draft_has_a_text;
 
-/// Each event can be spelled, as a line of a play.
+/// Each event can be written, as a line of a play.
 pub fn each_event_has_a_line(event: &Event)
     ensures { IsSpelledEvent event.now }
 {
@@ -36,7 +37,7 @@ pub fn each_event_has_a_line(event: &Event)
     }
 }
 
-/// That the actor has a number that texts can name, as each has.
+/// Shows that the actor has a number that texts can name, as every actor has.
 fn number_actor(actor: &Actor)
     ensures { IsNumbered actor.now }
 {
@@ -50,7 +51,7 @@ fn number_actor(actor: &Actor)
     }
 }
 
-/// That a text can spell the choice, as it can each.
+/// Shows that a text can write the choice, as it can write every choice.
 fn spell_pick(pick: &Pick)
     ensures { IsSpelledPick pick.now }
 {
@@ -63,7 +64,7 @@ fn spell_pick(pick: &Pick)
     }
 }
 
-/// That the clients have numbers below 32, as each has.
+/// Shows that the clients have numbers below 32, as every client has.
 fn number_clients(clients: &[ClientId])
     ensures { All (λ (c : ℕ). c < 32) clients.now }
 {

@@ -1,4 +1,4 @@
-//! Plays: events, which are what is to happen in a world, and the texts that spell them.
+//! Plays: events, which are what is to happen in a world, and the texts that write them.
 #![tactic(auto)]
 
 mod choice;

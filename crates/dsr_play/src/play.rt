@@ -13,7 +13,7 @@ use std::marker::Model;
 /// The most events of a play.
 pub const MOST_EVENTS: usize = 1_000_000;
 
-/// What is to happen in one world: its shape, and the events in their order.
+/// What is to happen in one world: its shape, and the events, in order.
 #[derive(Drop)]
 pub struct Play {
     shape: Shape,
@@ -32,10 +32,10 @@ impl Model for Play {
 }
 
 impl Play {
-    /// The play that the text spells: a header `dsr-play 1 SHAPE`, then lines, each of which stands for one event or for several.
+    /// Reads a play: a header `dsr-play 1 SHAPE`, then lines, each of which represents one event or several.
     ///
-    /// `BadShape` where the header's shape is outside the limits, whatever follows it. `BadText` names the first bad line, counted
-    /// from 1: one that is not so spelled, that has no line feed, or with which the events are more than 1,000,000. `NoMemory` where
+    /// `BadShape` if the header's shape is outside the limits, whatever follows it. `BadText` names the first bad line, counted from
+    /// 1: a line that is not written so, that has no line feed, or with which the events are more than 1,000,000. `NoMemory` if
     /// memory runs out.
     pub fn read(alloc: Global, text: &[u8]) -> Result<Play, Refusal>
         ensures play { IfOk result (Spells text.now) }
@@ -57,14 +57,14 @@ impl Play {
         }
     }
 
-    /// The shape.
+    /// Returns the shape.
     pub fn shape(&self) -> Shape
         ensures { result ≡ self.now.shape }
     {
         self.shape
     }
 
-    /// The events, in their order, at most 1,000,000 of them.
+    /// Returns the events, in order: at most 1,000,000.
     pub fn events(&self) -> &[Event]
         ensures same { result.now ≡ self.now.events }
         ensures few { length result.now ≤ 1000000 }
@@ -89,7 +89,7 @@ impl Model for Reading {
 }
 
 impl Reading {
-    /// The play. Requires that its events are at most 1,000,000.
+    /// Returns the play. Requires that its events are at most 1,000,000.
     fn into_play(self) -> Play
         requires { length self.events ≤ 1000000 }
         ensures { result ≡ self }
@@ -100,8 +100,8 @@ impl Reading {
         }
     }
 
-    /// Takes in the events that the line stands for, and says whether the events are then at most 1,000,000. Where they are more,
-    /// what was read is of no use.
+    /// Takes in the events that the line represents, and returns whether the events are then at most 1,000,000. If they are more,
+    /// what was read is of no use. `NoMemory` if memory runs out.
     fn add(&mut self, alloc: Global, line: PlayLine) -> Result<bool, Refusal>
         ensures taken { OnOk result (self.new.events ≡ self.old.events ++ events_of self.old.shape line) }
         ensures when { IfOk result (λ can. IsTrue can ↔ length (self.old.events ++ events_of self.old.shape line) ≤ 1000000) }

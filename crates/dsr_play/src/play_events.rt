@@ -12,8 +12,7 @@ use dsr_names::{Actor, Refusal, ReplicaId, Shape};
 use dsr_script::Draft;
 use std::alloc::Global;
 
-/// Adds the events that the line stands for, in their order. After `NoMemory`, where memory runs out, some of them may have been
-/// added.
+/// Adds the events that the line represents, in order. `NoMemory` if memory runs out: then some of them may have been added.
 pub(crate) fn add_events(
     alloc: Global,
     shape: &Shape,
@@ -42,7 +41,7 @@ pub(crate) fn add_events(
     }
 }
 
-/// Adds the event.
+/// Adds the event. `NoMemory` if memory runs out.
 fn add(event: Event, events: &mut Vec<Event>) -> Result<(), Refusal>
     ensures added { OnOk result (events.new.items ≡ events.old.items ++ event ∷ []) }
     ensures refusal { IsOkUnless result Refusal.NoMemory }
@@ -53,7 +52,7 @@ fn add(event: Event, events: &mut Vec<Event>) -> Result<(), Refusal>
     }
 }
 
-/// The replica of this number, which is below 16.
+/// Returns the replica with this number. Requires that it is below 16.
 fn replica_of(number: u8) -> Actor
     requires { number < 16 }
     ensures { result ≡ Replica number }
@@ -64,7 +63,7 @@ fn replica_of(number: u8) -> Actor
     }
 }
 
-/// The choice of the post to the replica of this number: the one to replica 0 has it, the others are plain.
+/// Returns the choice of the post to the replica with this number: the post to replica 0 has `pick`, the others are plain.
 fn pick_for(pick: &Pick, number: u8) -> Pick
     ensures { result ≡ pick_for pick.now number }
 {
@@ -110,7 +109,7 @@ fn add_all_posts(alloc: Global, shape: &Shape, events: &mut Vec<Event>) -> Resul
     Ok(())
 }
 
-/// Adds the actor's plants of this draft for each replica.
+/// Adds the actor's plants: the draft, for each replica.
 fn add_plants(
     alloc: Global,
     shape: &Shape,

@@ -22,51 +22,51 @@ use std::alloc::Global;
 pub(crate) enum PlayLine {
     /// One event.
     One(Event),
-    /// Posts of a replica to each replica.
+    /// A replica's posts to each replica.
     Posts {
-        /// Who posts.
+        /// The replica that posts.
         by: ReplicaId,
-        /// What it chooses at its post to replica 0.
+        /// What it chooses for its post to replica 0.
         pick: Pick,
     },
-    /// Posts of each loyal replica to each replica.
+    /// The posts of each loyal replica to each replica.
     PostsAll,
     /// An envelope that a replica plants for each replica.
     Plants {
-        /// Who posts.
+        /// The replica that posts.
         by: ReplicaId,
-        /// What it posts.
+        /// The envelope that it posts.
         draft: Draft,
     },
-    /// Takes of an actor from each replica.
+    /// An actor's takes from each replica.
     Takes {
-        /// Who takes.
+        /// The actor that takes.
         at: Actor,
     },
-    /// Takes of each replica from each replica.
+    /// The takes of each replica from each replica.
     TakesAll,
-    /// Posts of a client to each replica.
+    /// A client's posts to each replica.
     Asks {
-        /// Who posts.
+        /// The client that posts.
         by: ClientId,
-        /// What it chooses at its post to replica 0.
+        /// What it chooses for its post to replica 0.
         pick: Pick,
     },
-    /// Takes of each replica from a client.
+    /// The takes of each replica from a client.
     Hears {
-        /// From whom.
+        /// The client from which they take.
         from: ClientId,
     },
-    /// Posts of each loyal replica to a client.
+    /// The posts of each loyal replica to a client.
     Replies {
-        /// To whom.
+        /// The client to which they post.
         to: ClientId,
     },
 }
 
 impl PlayLine {
-    /// The line that the bytes spell, without its line feed. The inner `None` comes exactly where they spell none. `NoMemory` where
-    /// memory runs out.
+    /// Reads a line's text, without its line feed. The inner `None` means exactly that the bytes are not one. `NoMemory` if memory
+    /// runs out.
     pub(crate) fn read(alloc: Global, bytes: &[u8]) -> Result<Option<PlayLine>, Refusal>
         ensures read { IfOk result (λ line. Reads IsPlayLine line_text bytes.now line) }
         ensures refusal { IsOkUnless result Refusal.NoMemory }
@@ -78,7 +78,7 @@ impl PlayLine {
     }
 }
 
-/// The line that begins with this word, and goes on with these bytes after a space.
+/// Reads the line that begins with this word, from the text after the word and a space.
 fn read_rest(alloc: Global, word: &[u8], rest: &[u8]) -> Result<Option<PlayLine>, Refusal>
     ensures read { IfOk result (λ line. Reads (IsLineOf word.now) line_rest rest.now line) }
     ensures refusal { IsOkUnless result Refusal.NoMemory }
@@ -108,7 +108,7 @@ fn read_rest(alloc: Global, word: &[u8], rest: &[u8]) -> Result<Option<PlayLine>
     }
 }
 
-/// The post whose line has these bytes after its word.
+/// Reads a post, from the text after the line's word.
 fn read_post(alloc: Global, rest: &[u8]) -> Result<Option<PlayLine>, Refusal>
     ensures read { IfOk result (Reads (IsLineOf (codes "post")) line_rest rest.now) }
     ensures refusal { IsOkUnless result Refusal.NoMemory }
@@ -117,7 +117,7 @@ fn read_post(alloc: Global, rest: &[u8]) -> Result<Option<PlayLine>, Refusal>
     Ok(line)
 }
 
-/// The line of this post, where there is one.
+/// Makes the line with this post, if there is one. `NoMemory` if memory runs out.
 fn post_line(
     alloc: Global,
     posted: Option<(Actor, (Actor, Pick))>,
@@ -134,7 +134,7 @@ fn post_line(
     }
 }
 
-/// The planted envelope whose line has these bytes after its word.
+/// Reads a planted envelope, from the text after the line's word.
 fn read_plant(alloc: Global, rest: &[u8]) -> Result<Option<PlayLine>, Refusal>
     ensures read { IfOk result (Reads (IsLineOf (codes "plant")) line_rest rest.now) }
     ensures refusal { IsOkUnless result Refusal.NoMemory }
@@ -143,7 +143,7 @@ fn read_plant(alloc: Global, rest: &[u8]) -> Result<Option<PlayLine>, Refusal>
     Ok(plant_line(planted))
 }
 
-/// The line of this planted envelope, where there is one.
+/// Makes the line with this planted envelope, if there is one.
 fn plant_line(planted: Option<(Actor, (Actor, Draft))>) -> Option<PlayLine>
     ensures { result ≡ plant_line planted }
 {
@@ -153,14 +153,14 @@ fn plant_line(planted: Option<(Actor, (Actor, Draft))>) -> Option<PlayLine>
     }
 }
 
-/// The take whose line has these bytes after its word.
+/// Reads a take, from the text after the line's word.
 fn read_take(rest: &[u8]) -> Option<PlayLine>
     ensures { Reads (IsLineOf (codes "take")) line_rest rest.now result }
 {
     take_line(read_ends(rest))
 }
 
-/// The line of a take by the first actor from the other, where there are both.
+/// Makes the line with a take by the first actor from the other, if both are there.
 fn take_line(ends: Option<(Actor, Actor)>) -> Option<PlayLine>
     ensures { result ≡ take_line ends }
 {
@@ -170,14 +170,14 @@ fn take_line(ends: Option<(Actor, Actor)>) -> Option<PlayLine>
     }
 }
 
-/// The front that is told, whose line has these bytes after its word.
+/// Reads the post of a seen front, from the text after the line's word.
 fn read_tell(rest: &[u8]) -> Option<PlayLine>
     ensures { Reads (IsLineOf (codes "tell")) line_rest rest.now result }
 {
     tell_line(read_ends(rest))
 }
 
-/// The line by which the first actor tells the other, where there are both.
+/// Makes the line by which the first actor posts its seen front to the other, if both are there.
 fn tell_line(ends: Option<(Actor, Actor)>) -> Option<PlayLine>
     ensures { result ≡ tell_line ends }
 {
@@ -187,7 +187,7 @@ fn tell_line(ends: Option<(Actor, Actor)>) -> Option<PlayLine>
     }
 }
 
-/// The posts of replicas whose line has these bytes after its word.
+/// Reads the posts of replicas, from the text after the line's word.
 fn read_posts(rest: &[u8]) -> Option<PlayLine>
     ensures { Reads (IsLineOf (codes "posts")) line_rest rest.now result }
 {
@@ -198,7 +198,7 @@ fn read_posts(rest: &[u8]) -> Option<PlayLine>
     }
 }
 
-/// The posts of this replica with this choice, where it is a replica and can choose so.
+/// Makes the line with the posts of this replica with this choice, if it is a replica and can choose so.
 fn posts_line(choice: Option<(Actor, Pick)>) -> Option<PlayLine>
     ensures { result ≡ posts_line choice }
 {
@@ -209,7 +209,7 @@ fn posts_line(choice: Option<(Actor, Pick)>) -> Option<PlayLine>
     }
 }
 
-/// The posts of this replica with this choice, where a replica can choose so.
+/// Makes the line with the posts of this replica with this choice, if a replica can choose so.
 fn replicas_line(by: ReplicaId, pick: Pick) -> Option<PlayLine>
     ensures { result ≡ posts_line (Some (Replica by, pick)) }
 {
@@ -220,7 +220,7 @@ fn replicas_line(by: ReplicaId, pick: Pick) -> Option<PlayLine>
     }
 }
 
-/// The envelope planted for each replica, whose line has these bytes after its word.
+/// Reads an envelope planted for each replica, from the text after the line's word.
 fn read_plants(alloc: Global, rest: &[u8]) -> Result<Option<PlayLine>, Refusal>
     ensures read { IfOk result (Reads (IsLineOf (codes "plants")) line_rest rest.now) }
     ensures refusal { IsOkUnless result Refusal.NoMemory }
@@ -229,7 +229,7 @@ fn read_plants(alloc: Global, rest: &[u8]) -> Result<Option<PlayLine>, Refusal>
     Ok(plants_line(planted))
 }
 
-/// The line of this envelope planted for each replica, where there is one.
+/// Makes the line with this envelope planted for each replica, if there is one.
 fn plants_line(planted: Option<(ReplicaId, Draft)>) -> Option<PlayLine>
     ensures { result ≡ plants_line planted }
 {
@@ -239,7 +239,7 @@ fn plants_line(planted: Option<(ReplicaId, Draft)>) -> Option<PlayLine>
     }
 }
 
-/// The takes from replicas whose line has these bytes after its word.
+/// Reads takes from replicas, from the text after the line's word.
 fn read_takes(rest: &[u8]) -> Option<PlayLine>
     ensures { Reads (IsLineOf (codes "takes")) line_rest rest.now result }
 {
@@ -250,14 +250,14 @@ fn read_takes(rest: &[u8]) -> Option<PlayLine>
     }
 }
 
-/// The posts of a client whose line has these bytes after its word.
+/// Reads the posts of a client, from the text after the line's word.
 fn read_asks(rest: &[u8]) -> Option<PlayLine>
     ensures { Reads (IsLineOf (codes "asks")) line_rest rest.now result }
 {
     asks_line(read_choice(rest))
 }
 
-/// The posts of this client with this choice, where it is a client and can choose so.
+/// Makes the line with the posts of this client with this choice, if it is a client and can choose so.
 fn asks_line(choice: Option<(Actor, Pick)>) -> Option<PlayLine>
     ensures { result ≡ asks_line choice }
 {
@@ -268,7 +268,7 @@ fn asks_line(choice: Option<(Actor, Pick)>) -> Option<PlayLine>
     }
 }
 
-/// The posts of this client with this choice, where a client can choose so.
+/// Makes the line with the posts of this client with this choice, if a client can choose so.
 fn clients_line(by: ClientId, pick: Pick) -> Option<PlayLine>
     ensures { result ≡ asks_line (Some (Client by, pick)) }
 {
@@ -279,21 +279,21 @@ fn clients_line(by: ClientId, pick: Pick) -> Option<PlayLine>
     }
 }
 
-/// The takes from a client whose line has these bytes after its word.
+/// Reads takes from a client, from the text after the line's word.
 fn read_hears(rest: &[u8]) -> Option<PlayLine>
     ensures { Reads (IsLineOf (codes "hears")) line_rest rest.now result }
 {
     ClientId::read(rest).map(|from| PlayLine::Hears { from })
 }
 
-/// The posts to a client whose line has these bytes after its word.
+/// Reads posts to a client, from the text after the line's word.
 fn read_replies(rest: &[u8]) -> Option<PlayLine>
     ensures { Reads (IsLineOf (codes "replies")) line_rest rest.now result }
 {
     ClientId::read(rest).map(|to| PlayLine::Replies { to })
 }
 
-/// The two actors that the bytes spell.
+/// Reads two actors.
 fn read_ends(bytes: &[u8]) -> Option<(Actor, Actor)>
     ensures { Reads AreEnds two_text bytes.now result }
 {
@@ -303,7 +303,7 @@ fn read_ends(bytes: &[u8]) -> Option<(Actor, Actor)>
     }
 }
 
-/// Who posts, to whom, and with which choice.
+/// Reads who posts, to whom, and with which choice.
 fn read_posted(bytes: &[u8]) -> Option<(Actor, (Actor, Pick))>
     ensures { Reads IsPosted posted_text bytes.now result }
 {
@@ -313,7 +313,7 @@ fn read_posted(bytes: &[u8]) -> Option<(Actor, (Actor, Pick))>
     }
 }
 
-/// Both, where there are both.
+/// Returns both, if both are there.
 fn posted(from: Option<Actor>, choice: Option<(Actor, Pick)>) -> Option<(Actor, (Actor, Pick))>
     ensures { result ≡ option_zip from choice }
 {
@@ -322,7 +322,7 @@ fn posted(from: Option<Actor>, choice: Option<(Actor, Pick)>) -> Option<(Actor, 
     Some((from, choice))
 }
 
-/// An actor, and the choice that is spelled after it.
+/// Reads an actor, and the choice that is written after it.
 fn read_choice(bytes: &[u8]) -> Option<(Actor, Pick)>
     ensures { Reads IsChoice choice_text bytes.now result }
 {
@@ -332,7 +332,7 @@ fn read_choice(bytes: &[u8]) -> Option<(Actor, Pick)>
     }
 }
 
-/// Both, where there are both.
+/// Returns both, if both are there.
 fn chosen(actor: Option<Actor>, pick: Option<Pick>) -> Option<(Actor, Pick)>
     ensures { result ≡ option_zip actor pick }
 {
@@ -341,7 +341,7 @@ fn chosen(actor: Option<Actor>, pick: Option<Pick>) -> Option<(Actor, Pick)>
     Some((actor, pick))
 }
 
-/// The choice that the bytes spell, as `from c0+c1` or `begin write a 5`.
+/// Reads a choice that is not plain, like `from c0+c1` or `begin write a 5`.
 fn read_pick(bytes: &[u8]) -> Option<Pick>
     ensures { Reads IsSaidPick said_pick bytes.now result }
 {
@@ -359,7 +359,7 @@ fn read_pick(bytes: &[u8]) -> Option<Pick>
     }
 }
 
-/// The clients that the bytes spell, as `c0+c1`.
+/// Reads clients, like `c0+c1`.
 fn read_clients(bytes: &[u8]) -> Option<Clients>
     ensures { Reads AreSpelledClients clients_text bytes.now result }
 {
@@ -367,7 +367,7 @@ fn read_clients(bytes: &[u8]) -> Option<Clients>
     Clients::of(list.as_slice())
 }
 
-/// Who plants, for whom, and which envelope.
+/// Reads who plants, for whom, and which envelope.
 fn read_planted(alloc: Global, bytes: &[u8]) -> Result<Option<(Actor, (Actor, Draft))>, Refusal>
     ensures read { IfOk result (Reads IsPlanted planted_text bytes.now) }
     ensures refusal { IsOkUnless result Refusal.NoMemory }
@@ -378,7 +378,7 @@ fn read_planted(alloc: Global, bytes: &[u8]) -> Result<Option<(Actor, (Actor, Dr
     }
 }
 
-/// For whom an envelope is planted, and the envelope.
+/// Reads for whom an envelope is planted, and the envelope.
 fn read_end(alloc: Global, bytes: &[u8]) -> Result<Option<(Actor, Draft)>, Refusal>
     ensures read { IfOk result (Reads IsEnd end_text bytes.now) }
     ensures refusal { IsOkUnless result Refusal.NoMemory }
@@ -389,7 +389,7 @@ fn read_end(alloc: Global, bytes: &[u8]) -> Result<Option<(Actor, Draft)>, Refus
     }
 }
 
-/// The replica that plants an envelope for each replica, and the envelope.
+/// Reads the replica that plants an envelope for each replica, and the envelope.
 fn read_planted_for_all(alloc: Global, bytes: &[u8]) -> Result<Option<(ReplicaId, Draft)>, Refusal>
     ensures read { IfOk result (Reads IsPlantedForAll planted_for_all_text bytes.now) }
     ensures refusal { IsOkUnless result Refusal.NoMemory }

@@ -1,4 +1,4 @@
--- What an event is refused with, and the step that it is where nothing refuses it (this project).
+-- The refusal of an event, and the step that it is if nothing refuses it (this project).
 use Rattle.std.specs.Prelude.{◌≡◌, ◌⊎◌, suc, ◌^◌, ◌&&◌, ◌||◌, not, nat_lt, Bool, List, [], ◌∷◌, Option, None, Some, length, slice_get, if◌then◌else◌}
 use Rattle.std.specs.Option.{option_map, is_none}
 use Rattle.dsr_names.specs.Shape.{Shape}
@@ -28,14 +28,14 @@ in_box logs from to = slice_get (posted_to to (logs from)) (length (taken_from f
 abbrev pub is_full : Logs → Actor → Actor → Bool
 is_full logs from to = nat_lt (length (taken_from from (logs to))) (length (posted_to to (logs from)))
 
--- whether as many envelopes were posted in the box as a box may have
+-- whether as many envelopes were posted into the box as a box may have
 abbrev pub is_used_up : Logs → Actor → Actor → Bool
 is_used_up logs from to = not (nat_lt (suc (length (posted_to to (logs from)))) (2 ^ 40))
 
 -- ---- refusals
 
--- what an event is refused with, in this order, each with the test under which it is; beside these only `Forged` and `NoMemory`,
--- after all of them
+-- the refusals of an event in their order, each with the test under which it comes; besides these only `Forged` and `NoMemory`
+-- come, after all of them
 abbrev pub refusals : Shape → Logs → Event → List (Bool × Refusal)
 refusals shape logs (Post from to pick) =
     (not (is_actor shape from && is_actor shape to), NoActor)
@@ -68,7 +68,7 @@ abbrev pub first_of : List (Bool × Refusal) → Option Refusal
 first_of [] = None
 first_of (row ∷ rest) = if row.0 then Some row.1 else first_of rest
 
--- the refusal of an event; none where it is refused by none of these tests
+-- the refusal of an event; none if it passes all of these tests
 abbrev pub refusal_of : Shape → Logs → Event → Option Refusal
 refusal_of shape logs event = first_of (refusals shape logs event)
 
@@ -82,26 +82,26 @@ step_of shape logs (Tell (Replica p) to) = None
 
 -- ---- replies
 
--- the reply that a step has a client accept, if it has: what the client accepted grew by it
+-- the reply that a client accepts with a step, if any: what the client accepted grew by it
 abbrev pub Answers : Shape → Logs → Logs → Step → Option AReply → Type 0
 Answers shape later earlier (Replica p, entry) reply = reply ≡ None
 Answers shape later earlier (Client c, entry) reply = AcceptsBy reply (accepted_by shape later c) (accepted_by shape earlier c)
 
--- the run went on by the step that the event is, and this is the reply that was accepted by it
+-- the run went on by the step that the event is, and this is the reply that was accepted with it
 pub record HasDone (shape : Shape) (later earlier : List Step) (event : Event) (reply : Option AReply) : Type 0 where
   pub step : Step
   pub is_event : step_of shape (log_of earlier) event ≡ Some step
   pub went_on : later ≡ step ∷ earlier
   pub answers : Answers shape (log_of later) (log_of earlier) step reply
 
--- what a traitor is to post has a forged signature; in no other event can one be
+-- what a traitor is to post has a forged signature; in no other event can there be one
 abbrev pub IsForged : Shape → Logs → Event → Type 0
 IsForged shape logs (Post from to pick) = ⊥
 IsForged shape logs (Plant from to draft) = ¬ ForgesNothing shape logs (PostEntry to draft)
 IsForged shape logs (Take at from) = ⊥
 IsForged shape logs (Tell from to) = ⊥
 
--- nothing refuses it but a forged signature
+-- only a forged signature refuses it
 abbrev pub IsForgedAtLast : Shape → Logs → Event → Type 0
 IsForgedAtLast shape logs event = (refusal_of shape logs event ≡ None) × IsForged shape logs event
 
@@ -109,7 +109,7 @@ IsForgedAtLast shape logs event = (refusal_of shape logs event ≡ None) × IsFo
 abbrev pub MayBeDone : Shape → Logs → Event → Type 0
 MayBeDone shape logs event = (refusal_of shape logs event ≡ None) × (¬ IsForged shape logs event)
 
--- the event is refused with this: by the tests in their order; else as forged; else as out of memory
+-- the event is refused with this: by the tests in their order; else as forged; else because memory ran out
 abbrev pub IsRefusedBy : Shape → Logs → Event → Refusal → Type 0
 IsRefusedBy shape logs event refusal =
     (refusal_of shape logs event ≡ Some refusal)

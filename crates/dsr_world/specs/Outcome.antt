@@ -1,4 +1,4 @@
--- What becomes of a list of events (this project).
+-- The outcome of a list of events (this project).
 use Rattle.std.specs.Prelude.{◌≡◌, ℕ, suc, ◌+◌, List, [], ◌∷◌, Option, None, Some}
 use Rattle.dsr_names.specs.Shape.{Shape}
 use Rattle.dsr_names.specs.declared.refusal.Refusal.{Refusal}
@@ -9,13 +9,13 @@ use Rattle.dsr_world.specs.declared.run_end.RunEnd.{RunEnd}
 use Rattle.dsr_world.specs.Event.{HasDone, IsRefusedBy, MayBeDone}
 use Rattle.dsr_run.specs.Step.{Step, log_of}
 
--- what became of an event: it was done, or it was refused with this and nothing changed
+-- the outcome of an event: it was done, or it was refused with this and nothing changed
 abbrev pub IsOutcome : Shape → (later earlier : List Step) → Event → Option Refusal → Type 0
 IsOutcome shape later earlier event None =
     MayBeDone shape (log_of earlier) event × ((reply : Option AReply) × HasDone shape later earlier event reply)
 IsOutcome shape later earlier event (Some refusal) = (later ≡ earlier) × IsRefusedBy shape (log_of earlier) event refusal
 
--- what became of each of the events in turn, each on the logs then reached
+-- the outcomes of the events in turn, each with the logs that were reached
 abbrev pub AreOutcomes : Shape → (later earlier : List Step) → List Event → List (Option Refusal) → Type 0
 AreOutcomes shape later earlier [] [] = later ≡ earlier
 AreOutcomes shape later earlier [] (outcome ∷ outcomes) = ⊥
@@ -35,7 +35,7 @@ refused_in [] = 0
 refused_in (None ∷ rest) = refused_in rest
 refused_in (Some refusal ∷ rest) = suc (refused_in rest)
 
--- 1 where memory ran out, else 0
+-- 1 if memory ran out, else 0
 abbrev pub starved_by : Refusal → ℕ
 starved_by NoMemory = 1
 starved_by other = 0
@@ -46,7 +46,7 @@ starved_in [] = 0
 starved_in (None ∷ rest) = starved_in rest
 starved_in (Some refusal ∷ rest) = starved_by refusal + starved_in rest
 
--- the first refusal, with the index of its event, where the first event has this index
+-- the first refusal, with the index of its event, if the first event has this index
 abbrev pub first_from : ℕ → List (Option Refusal) → Option (ℕ × Refusal)
 first_from index [] = None
 first_from index (None ∷ rest) = first_from (suc index) rest

@@ -8,8 +8,8 @@ ghost use Rattle.dsr_play.specs.declared.event.Event.{Event};
 ghost use Rattle.dsr_run.specs.Step.{Logs};
 ghost use Rattle.dsr_world.specs.Event.{step_of, refusal_of};
 
-/// Under two shapes that agree in all but who the traitors are, and whatever the logs, an event is the same step; and, forgery aside, it
-/// is refused alike where its actor is a traitor under both or under neither.
+/// Under two shapes that differ at most in their traitors, and whatever the logs, an event is the same step. And, forgery aside, it is
+/// refused alike if its actor is a traitor under both or under neither.
 pub fn events_are_blind()
     ensures events { (shape other : Shape) → AgreeButForTraitors shape other → (logs : Logs) (event : Event)
         → step_of shape logs event ≡ step_of other logs event }

@@ -7,17 +7,17 @@ use dsr_envelope::{Envelope, Letter};
 use dsr_names::{Actor, Refusal};
 use std::alloc::Global;
 
-/// Two letters that share one envelope: for the poster's entry, and for the box.
+/// Two letters that share one envelope: one for the poster's entry, one for the box.
 #[derive(Drop)]
 pub(crate) struct Letters {
-    /// For the entry of the poster's log.
+    /// The letter for the entry in the poster's log.
     pub(crate) kept: Letter,
-    /// For the box.
+    /// The letter for the box.
     pub(crate) sent: Letter,
 }
 
 impl Letters {
-    /// The envelope as two letters. `NoMemory` where memory runs out.
+    /// Makes two letters that share the envelope. `NoMemory` if memory runs out.
     pub(crate) fn of(alloc: Global, envelope: Envelope) -> Result<Letters, Refusal>
         ensures kept { IfOk result (λ letters. letters.kept ≡ envelope) }
         ensures sent { IfOk result (λ letters. letters.sent ≡ envelope) }
@@ -28,7 +28,7 @@ impl Letters {
         Ok(Letters { kept, sent })
     }
 
-    /// A letter that was posted already, as two letters. `NoMemory` where one handle more is refused.
+    /// Makes two letters from a letter that was posted already. `NoMemory` if one more handle is refused.
     pub(crate) fn again(letter: &Letter) -> Result<Letters, Refusal>
         ensures kept { IfOk result (λ letters. letters.kept ≡ letter.now) }
         ensures sent { IfOk result (λ letters. letters.sent ≡ letter.now) }
@@ -40,7 +40,7 @@ impl Letters {
     }
 }
 
-/// For so many actors, that no letter is kept. `NoMemory` where memory runs out.
+/// Returns `count` entries, all `None`: no letter is stored. `NoMemory` if memory runs out.
 pub(crate) fn no_letters(alloc: Global, count: usize) -> Result<Vec<Option<Letter>>, Refusal>
     ensures count { IfOk result (λ letters. length letters.items ≡ count) }
     ensures none { IfOk result (λ letters. (place : ℕ) → slice_index_or letters.items place None ≡ None) }
@@ -53,7 +53,8 @@ pub(crate) fn no_letters(alloc: Global, count: usize) -> Result<Vec<Option<Lette
     Ok(letters)
 }
 
-/// The letter of a post that is kept, once more: what is posted to replica 0. `NoMemory` where one handle more is refused.
+/// Returns a copy of the letter if it is to be stored: if it is posted to replica 0. `NoMemory` if one more handle is
+/// refused.
 pub(crate) fn kept_of(to: &Actor, letter: &Letter) -> Result<Option<Letter>, Refusal>
     ensures kept { IfOk result (λ kept. kept ≡ kept_of to.now letter.now) }
     ensures refusal { IsOkUnless result Refusal.NoMemory }
@@ -64,7 +65,7 @@ pub(crate) fn kept_of(to: &Actor, letter: &Letter) -> Result<Option<Letter>, Ref
     }
 }
 
-/// Keeps the letter of a post at its poster's place, where it is to be kept.
+/// Stores the letter of a post at its poster's place, if there is one to store.
 pub(crate) fn keep_letter(letters: &mut Vec<Option<Letter>>, place: usize, letter: Option<Letter>)
     requires { place < length letters.old.items }
     ensures { letters.new.items ≡ with_letter place letter letters.old.items }
@@ -74,7 +75,7 @@ pub(crate) fn keep_letter(letters: &mut Vec<Option<Letter>>, place: usize, lette
     }
 }
 
-/// The envelope in the box from one actor to another. Requires that it holds one.
+/// Returns the envelope in the box from one actor to another. Requires that the box holds one.
 pub(crate) fn lent(boxes: &Boxes<Letter>, from: usize, to: usize) -> &Envelope
     requires inside { from < length boxes.now }
     requires row { to < length (row_of boxes.now from) }

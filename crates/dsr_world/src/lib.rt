@@ -1,4 +1,4 @@
-//! A world: a node for each actor of a shape, a box from each to each, and the steps that events make of them, which are a run.
+//! A world: a node for each actor of a shape, a box from each to each, and the steps that events make, which are a run.
 #![tactic(auto)]
 
 mod blind;

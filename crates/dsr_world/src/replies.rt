@@ -6,15 +6,15 @@ use dsr_envelope::{Envelope, Letter};
 use dsr_names::{Actor, Refusal};
 use std::alloc::Global;
 
-/// The letter that was last made for a post to each client, if one was. All loyal replicas give a client the same reply, so the next one
-/// to post it posts this letter again. Nothing rests on what is kept here: a letter is posted again only where it is the same.
+/// The letter that was last made for a post to each client, if there was one. All loyal replicas give a client the same reply, so the
+/// next one to post it posts this letter again. Nothing depends on what is stored here: a letter is posted again only if it is the same.
 #[derive(Drop)]
 pub(crate) struct Replies {
     last: Vec<Option<Letter>>,
 }
 
 impl Replies {
-    /// For so many clients, none. `NoMemory` where memory runs out.
+    /// Creates an empty cache for `clients` clients. `NoMemory` if memory runs out.
     pub(crate) fn for_clients(alloc: Global, clients: u8) -> Result<Replies, Refusal>
         ensures refusal { IsOkUnless result Refusal.NoMemory }
     {
@@ -22,8 +22,8 @@ impl Replies {
         Ok(Replies { last })
     }
 
-    /// The envelope as two letters to this actor: where the last one to it holds the same, that letter. `NoMemory` where memory runs
-    /// out or one handle more is refused.
+    /// Makes two letters for this actor: copies of the last one to it, if that holds the same envelope. `NoMemory` if memory runs
+    /// out or one more handle is refused.
     pub(crate) fn letters_of(
         &self,
         alloc: Global,
@@ -40,8 +40,8 @@ impl Replies {
         }
     }
 
-    /// Notes the letter of a post, where it is one to a client. `NoMemory` where one handle more is refused, and never of a post to a
-    /// replica.
+    /// Notes the letter of a post to a client; a post to a replica is not noted. `NoMemory` if one more handle is refused, which only
+    /// a post to a client needs.
     pub(crate) fn note(&mut self, to: &Actor, letter: &Letter) -> Result<(), Refusal>
         ensures refusal { IsOkUnless result Refusal.NoMemory }
         ensures replica { IsReplicaNumber to.now → IsOk result }
@@ -55,7 +55,7 @@ impl Replies {
         Ok(())
     }
 
-    /// The last letter to this actor, where it is a client, and the letter holds this envelope.
+    /// Returns the last letter to this actor, if it is a client, and the letter holds this envelope.
     fn same_before(&self, to: &Actor, envelope: &Envelope) -> Option<&Letter>
         ensures { IfSome result (λ letter. letter.now ≡ envelope.now) }
     {

@@ -13,14 +13,14 @@ pub struct RunEnd {
     pub done: u64,
     /// How many events were refused.
     pub refused: u64,
-    /// How many of the refused ones were so because memory ran out.
+    /// How many of the refused ones were refused because memory ran out.
     pub starved: u64,
-    /// The first refusal, with the index of its event, from 0.
+    /// The first refusal, with the index of its event, counted from 0.
     pub first: Option<(u64, Refusal)>,
 }
 
 impl RunEnd {
-    /// The end of no events.
+    /// Makes the end of an empty list of events.
     pub(crate) fn new() -> RunEnd
         ensures { Counts [] result }
     {
@@ -32,7 +32,7 @@ impl RunEnd {
         }
     }
 
-    /// The end with one event more, and what that was refused with, if it was.
+    /// Adds one more event, with its refusal if there was one.
     pub(crate) fn with(self, outcome: Option<Refusal>) -> RunEnd
         requires few { self.done + self.refused < 18446744073709551615 }
         requires starved { self.starved ≤ self.refused }
@@ -56,7 +56,7 @@ impl RunEnd {
     }
 }
 
-/// 1 where memory ran out, else 0.
+/// Returns 1 if memory ran out, else 0.
 fn starved_by(refusal: Refusal) -> u64
     ensures same { result ≡ starved_by refusal }
     ensures small { result ≤ 1 }

@@ -53,7 +53,7 @@ use std::alloc::Global;
 use std::marker::Model;
 
 /// All actors of a shape, the boxes between them, and every step that they have taken: a run. A loyal actor is a real replica or
-/// client; a traitor posts whatever forges nothing.
+/// client; a traitor posts anything that forges nothing.
 #[derive(Drop)]
 pub struct World {
     shape: Shape,
@@ -61,7 +61,7 @@ pub struct World {
     boxes: Boxes<Letter>,
     keys: Vec<Key>,
     known: Known,
-    /// The letter that each loyal actor last posted to replica 0, at the actor's place, if it is kept.
+    /// The letter that each loyal actor last posted to replica 0, at the actor's place, if it is stored.
     letters: Vec<Option<Letter>>,
     replies: Replies,
     entries: Vec<(Actor, Entry)>,
@@ -79,7 +79,7 @@ impl Model for World {
 }
 
 impl World {
-    /// The world of this shape before any step. `NoMemory` where memory runs out.
+    /// Makes the world of this shape before any step. `NoMemory` if memory runs out.
     pub fn open(alloc: Global, shape: Shape) -> Result<World, Refusal>
         ensures shape { IfOk result (λ world. world.shape ≡ shape) }
         ensures empty { IfOk result (λ world. world.run ≡ []) }
@@ -109,14 +109,14 @@ impl World {
         })
     }
 
-    /// The shape.
+    /// Returns the shape.
     pub fn shape(&self) -> &Shape
         ensures { result.now ≡ self.now.shape }
     {
         &self.shape
     }
 
-    /// The steps of its run: who took each, and the entry of that actor's log.
+    /// Returns the steps of its run, in order: who took each, and the entry of that actor's log.
     pub fn entries(&self) -> &[(Actor, Entry)]
         ensures same { result.now ≡ reverse self.now.run }
         ensures run { IsRun self.now.shape self.now.run }
@@ -124,7 +124,7 @@ impl World {
         self.entries.as_slice()
     }
 
-    /// The replies that a client accepted, in their order. `NoActor` where it is no client of the shape.
+    /// Returns the replies that a client accepted, in the order of acceptance. `NoActor` if it is not a client of the shape.
     pub fn accepted(&self, client: ClientId) -> Result<&[Reply], Refusal>
         ensures same { IfOk result (λ replies. replies.now ≡ reverse (accepted_by self.now.shape (log_of self.now.run) client)) }
         ensures when { IsOk result ↔ client < self.now.shape.m }
@@ -140,7 +140,7 @@ impl World {
         Ok(self.nodes[self.shape.place(&Actor::Client(client))].accepted())
     }
 
-    /// A client's seen front, which is at most the length of the history. `NoActor` where it is no client of the shape.
+    /// Returns a client's seen front, which is at most the length of the history. `NoActor` if it is not a client of the shape.
     pub fn seen(&self, client: ClientId) -> Result<u64, Refusal>
         ensures same { IfOk result (λ front. front ≡ seen_by self.now.shape (log_of self.now.run) client) }
         ensures within { IfOk result (λ front. front ≤ length (history self.now.shape (log_of self.now.run))) }
@@ -153,7 +153,7 @@ impl World {
         Ok(self.nodes[self.shape.place(&Actor::Client(client))].seen())
     }
 
-    /// A loyal replica. `NoActor` where it is no replica of the shape, `WrongRole` where it is a traitor.
+    /// Returns a loyal replica. `NoActor` if it is not a replica of the shape, `WrongRole` if it is a traitor.
     pub fn replica(&self, replica: ReplicaId) -> Result<&Replica, Refusal>
         ensures plays { IfOk result (λ loyal. PlaysReplica self.now.shape replica (log_of self.now.run (ReplicaNumber replica)) loyal.now) }
         ensures when { IsOk result ↔ IsLoyal self.now.shape (ReplicaNumber replica) }
@@ -169,7 +169,7 @@ impl World {
         }
     }
 
-    /// A client. `NoActor` where it is no client of the shape.
+    /// Returns a client. `NoActor` if it is not a client of the shape.
     pub fn client(&self, client: ClientId) -> Result<&Client, Refusal>
         ensures stands { IfOk result (λ c. StandsForClient c.now (log_of self.now.run (ClientNumber client))) }
         ensures me { IfOk result (λ c. c.now.me ≡ client) }
@@ -183,7 +183,7 @@ impl World {
         Ok(self.nodes[self.shape.place(&Actor::Client(client))].client())
     }
 
-    /// The letter in the box from one actor to another: the first that was posted there and not taken. Requires two actors of the shape.
+    /// Returns the letter in the box from one actor to another: the first that was posted there and not taken. Requires two actors of the shape.
     pub fn in_box(&self, from: &Actor, to: &Actor) -> Option<&Letter>
         requires from { IsActor self.now.shape from.now }
         requires to { IsActor self.now.shape to.now }
@@ -193,7 +193,7 @@ impl World {
         self.boxes.item(poster, taker)
     }
 
-    /// How many envelopes were posted in the box from one actor to another. Requires two actors of the shape.
+    /// Returns how many envelopes were posted into the box from one actor to another. Requires two actors of the shape.
     pub fn posts(&self, from: &Actor, to: &Actor) -> u64
         requires from { IsActor self.now.shape from.now }
         requires to { IsActor self.now.shape to.now }
@@ -203,8 +203,9 @@ impl World {
         self.boxes.posts(poster, taker)
     }
 
-    /// A signature of the draft for which a traitor's post of it is refused as forged, by now: it is no traitor's, and its signer has not
-    /// posted it. `None` exactly if there is none. In a shape without a traitor nothing is promised, as nothing is known there of posts.
+    /// Returns a signature in the draft for which a traitor's post of it would be refused as forged now: the signature is not a
+    /// traitor's, and its signer has not posted it. `None` exactly if there is none. In a shape without traitors the answer says nothing
+    /// about forgery, since there posts are not noted.
     pub fn forged_in(&self, draft: &Draft) -> Option<Forged>
         ensures carried { IfSome result (λ forged. Carries draft.now (signed forged.signer forged.statement)) }
         ensures forged { (p : ℕ) → IsTraitor self.now.shape (ReplicaNumber p)
@@ -215,8 +216,8 @@ impl World {
         forged_in(draft, self.keys.as_slice(), &self.known)
     }
 
-    /// What a loyal replica decided of its closed slots, by their numbers. `NoActor` where it is no replica of the shape, `WrongRole`
-    /// where it is a traitor.
+    /// Returns what a loyal replica decided for its closed slots, in the order of the slots. `NoActor` if it is not a replica of the
+    /// shape, `WrongRole` if it is a traitor.
     pub fn decided(&self, replica: ReplicaId) -> Result<&[Decision], Refusal>
         ensures same { IfOk result (λ values. values.now ≡ reverse (decided_at self.now.shape (log_of self.now.run) replica)) }
         ensures when { IsOk result ↔ IsLoyal self.now.shape (ReplicaNumber replica) }
@@ -229,7 +230,7 @@ impl World {
         }
     }
 
-    /// The history: the requests that acted, in their order, by the loyal replica with the most closed slots.
+    /// Returns the history: the requests that acted, in order, at the loyal replica with the most closed slots.
     pub fn history(&self) -> &[Request]
         ensures same { result.now ≡ reverse (history self.now.shape (log_of self.now.run)) }
         ensures linearizes { IsLinearization self.now.shape self.now.run (reverse result.now) }
@@ -251,12 +252,12 @@ impl World {
         history
     }
 
-    /// Makes the event happen, and returns the reply that a client accepts by it.
+    /// Makes the event happen, and returns the reply that a client accepts with it, if any.
     ///
-    /// Refused with the first of these that holds: `NoActor` where an actor is not one of the shape; `WrongRole` where it is not the
-    /// actor's part; `NotDue` where the actor's conduct has no such step now; `Exhausted` where a counter would pass its limit;
-    /// `BoxFull` or `BoxEmpty`; `Forged` where a traitor's envelope has a signature that is neither a traitor's nor posted by its
-    /// signer; `NoMemory` where memory runs out. After each of them the world is as before.
+    /// Refused with the first of these that holds: `NoActor` if an actor is not one of the shape; `WrongRole` if this is not the
+    /// actor's part; `NotDue` if the actor's protocol has no such step now; `Exhausted` if a counter would pass its limit; `BoxFull`
+    /// or `BoxEmpty` if the box of a post is full, or that of a take empty; `Forged` if a traitor's envelope has a signature that is
+    /// neither a traitor's nor posted by its signer; `NoMemory` if memory runs out. After each of them the world is as before.
     pub fn step(&mut self, alloc: Global, event: &Event) -> Result<Option<Reply>, Refusal>
         ensures done { IfOk result (HasDone self.old.shape self.new.run self.old.run event.now) }
         ensures refused { (refusal : Refusal) → refusal_of self.old.shape (log_of self.old.run) event.now ≡ Some refusal → result ≡ Err refusal }
@@ -273,8 +274,8 @@ impl World {
         }
     }
 
-    /// Makes each of the events happen in turn, refused ones left out, and returns how many were done and refused. An event for which
-    /// memory runs out is refused with `NoMemory`, and counted in `starved` too.
+    /// Makes each of the events happen in turn, skipping refused ones, and returns how many were done and refused. If memory runs out
+    /// for an event, it is refused with `NoMemory`, and counted in `starved` too.
     pub fn run(&mut self, alloc: Global, events: &[Event]) -> RunEnd
         ensures ended { HasEnded self.old.shape self.new.run self.old.run events.now result }
         ensures all { result.done + result.refused ≡ length events.now }
@@ -295,7 +296,7 @@ impl World {
         end
     }
 
-    /// Has a loyal actor post.
+    /// Makes a loyal actor post.
     fn post(
         &mut self,
         alloc: Global,
@@ -335,9 +336,9 @@ impl World {
         Ok(None)
     }
 
-    /// The letters of a loyal actor's post, which nothing refuses. What a replica posts to replica 0 it posts as the same letter to the
-    /// others of the round, and what a client asks replica 0 it asks the others by the same letter. `NoMemory` where memory runs out or
-    /// one handle more is refused.
+    /// Makes the letters of a loyal actor's post, which nothing refuses. What a replica posts to replica 0 it posts as the same letter
+    /// to the others in that round, and a client's ask of replica 0 goes to the others as the same letter. `NoMemory` if memory runs
+    /// out or one more handle is refused.
     fn letters_for(
         &self,
         alloc: Global,
@@ -360,8 +361,8 @@ impl World {
         self.replies.letters_of(alloc, to, envelope)
     }
 
-    /// The letter that a loyal actor has posted to replica 0 already, where it posts it again: a replica's of the round in progress, to
-    /// another replica, or a client's ask of the outstanding request.
+    /// Returns the letter that a loyal actor has already posted to replica 0, if it posts that again: a replica's in the round in
+    /// progress, to another replica, or a client's ask with the outstanding request.
     fn posted_before(&self, from: &Actor, to: &Actor, pick: &Pick) -> Option<&Letter>
         requires { refusal_of self.now.shape (log_of self.now.run) (Post from.now to.now pick.now) ≡ None }
         ensures { IfSome result (λ letter. post_of self.now.shape (log_of self.now.run from.now) from.now to.now pick.now ≡ Some letter.now) }
@@ -375,7 +376,7 @@ impl World {
         }
     }
 
-    /// The ask that a client has posted to replica 0 already, where its request is outstanding still.
+    /// Returns the ask that a client has already posted to replica 0, if its request is still outstanding.
     fn asked_before(&self, client: ClientId) -> Option<&Letter>
         requires { client < self.now.shape.m }
         ensures { IfSome result (λ letter. ask_to self.now.shape client (log_of self.now.run (ClientNumber client)) Plain ≡ Some letter.now) }
@@ -389,7 +390,7 @@ impl World {
         }
     }
 
-    /// Has an actor take.
+    /// Makes an actor take.
     fn take(&mut self, alloc: Global, at: &Actor, from: &Actor) -> Result<Option<Reply>, Refusal>
         ensures done { IfOk result (HasDone self.old.shape self.new.run self.old.run (Take at.now from.now)) }
         ensures refused { (refusal : Refusal)
@@ -420,7 +421,7 @@ impl World {
         Ok(reply)
     }
 
-    /// Has a client tell another one its seen front.
+    /// Makes a client post its seen front to another.
     fn tell(&mut self, alloc: Global, from: &Actor, to: &Actor) -> Result<Option<Reply>, Refusal>
         ensures done { IfOk result (HasDone self.old.shape self.new.run self.old.run (Tell from.now to.now)) }
         ensures refused { (refusal : Refusal)
@@ -448,7 +449,7 @@ impl World {
         Ok(None)
     }
 
-    /// Has a traitor post. It is kept out of `step`, whose frame it would make ten times as large.
+    /// Makes a traitor post. It is separate from `step`, whose frame it would make ten times as large.
     #[inline(never)]
     fn plant(
         &mut self,
@@ -479,7 +480,7 @@ impl World {
         Ok(None)
     }
 
-    /// The envelope that a traitor is to post, in which nothing is forged.
+    /// Makes the envelope that a traitor is to post. The refusals are those of `step`.
     fn unforged(
         &self,
         alloc: Global,
@@ -506,7 +507,7 @@ impl World {
         }
     }
 
-    /// What a post of a loyal actor is refused with, if it is.
+    /// Returns the refusal of a loyal actor's post, if there is one.
     fn post_refusal(&self, from: &Actor, to: &Actor, pick: &Pick) -> Option<Refusal>
         ensures { result ≡ refusal_of self.now.shape (log_of self.now.run) (Post from.now to.now pick.now) }
     {
@@ -523,7 +524,7 @@ impl World {
         }
     }
 
-    /// What a post of a traitor is refused with before its signatures are looked at, if it is.
+    /// Returns the refusal of a traitor's post before its signatures are looked at, if there is one.
     fn plant_refusal(&self, from: &Actor, to: &Actor, _draft: &Draft) -> Option<Refusal>
         ensures { result ≡ refusal_of self.now.shape (log_of self.now.run) (Plant from.now to.now _draft.now) }
     {
@@ -536,7 +537,7 @@ impl World {
         self.box_refusal(from, to)
     }
 
-    /// What a take is refused with, if it is.
+    /// Returns the refusal of a take, if there is one.
     fn take_refusal(&self, at: &Actor, from: &Actor) -> Option<Refusal>
         ensures { result ≡ refusal_of self.now.shape (log_of self.now.run) (Take at.now from.now) }
     {
@@ -556,7 +557,7 @@ impl World {
         None
     }
 
-    /// What it is refused with that an actor tells another its seen front, if it is.
+    /// Returns the refusal of an actor's post of its seen front to another, if there is one.
     fn tell_refusal(&self, from: &Actor, to: &Actor) -> Option<Refusal>
         ensures { result ≡ refusal_of self.now.shape (log_of self.now.run) (Tell from.now to.now) }
     {
@@ -569,7 +570,7 @@ impl World {
         self.box_refusal(from, to)
     }
 
-    /// What the box from one actor to another refuses a post with, if it does.
+    /// Returns the refusal of a post by the box from one actor to another, if there is one.
     fn box_refusal(&self, from: &Actor, to: &Actor) -> Option<Refusal>
         requires from { IsActor self.now.shape from.now }
         requires to { IsActor self.now.shape to.now }
@@ -587,7 +588,7 @@ impl World {
         None
     }
 
-    /// Whether the box from one actor to another holds an envelope.
+    /// Tells whether the box from one actor to another holds an envelope.
     fn is_full(&self, from: &Actor, to: &Actor) -> bool
         requires from { IsActor self.now.shape from.now }
         requires to { IsActor self.now.shape to.now }
@@ -598,7 +599,7 @@ impl World {
             .is_some()
     }
 
-    /// Whether both are actors of the shape.
+    /// Tells whether both are actors of the shape.
     fn are_actors(&self, one: &Actor, other: &Actor) -> bool
         ensures same { result ≡ (is_actor self.now.shape one.now && is_actor self.now.shape other.now) }
         ensures one { IsTrue result → IsActor self.now.shape one.now }
@@ -608,7 +609,7 @@ impl World {
     }
 }
 
-/// Whether an actor of the shape is a traitor.
+/// Tells whether an actor of the shape is a traitor.
 fn is_traitor(shape: &Shape, actor: &Actor) -> bool
     requires { IsActor shape.now actor.now }
     ensures { result ≡ is_traitor_of shape.now actor.now }
@@ -616,7 +617,7 @@ fn is_traitor(shape: &Shape, actor: &Actor) -> bool
     !shape.is_loyal(*actor)
 }
 
-/// Whether both are clients.
+/// Tells whether both are clients.
 fn are_clients(one: &Actor, other: &Actor) -> bool
     ensures { result ≡ are_clients one.now other.now }
 {
@@ -626,7 +627,7 @@ fn are_clients(one: &Actor, other: &Actor) -> bool
     }
 }
 
-/// Whether both are one client.
+/// Tells whether both are one client.
 fn is_own_client(one: &Actor, other: &Actor) -> bool
     ensures { result ≡ is_own_client one.now other.now }
 {
@@ -636,7 +637,7 @@ fn is_own_client(one: &Actor, other: &Actor) -> bool
     }
 }
 
-/// Looks at the choice, from which on it is known that it can be made.
+/// Looks at the choice: from then on it is known that it is an allowed one.
 fn look_at(pick: &Pick)
     ensures pick { IsPick pick.now }
     ensures spelled { HasSpelledOp pick.now }
@@ -652,7 +653,7 @@ fn look_at(pick: &Pick)
     }
 }
 
-/// Makes room for one more entry. `NoMemory` where it is refused, which it is not where there is room already.
+/// Makes room for one more entry. `NoMemory` if that is refused; if there is room already, it cannot fail.
 fn make_room(entries: &mut Vec<(Actor, Entry)>) -> Result<(), Refusal>
     ensures same { entries.new.items ≡ entries.old.items }
     ensures room { OnOk result (vec_len entries.new < vec_capacity entries.new) }
@@ -668,7 +669,7 @@ fn make_room(entries: &mut Vec<(Actor, Entry)>) -> Result<(), Refusal>
     }
 }
 
-/// Adds a post to the entries, which have room for it.
+/// Adds a post to the entries. Requires room for it.
 fn log_post(entries: &mut Vec<(Actor, Entry)>, from: &Actor, to: &Actor, envelope: Letter)
     requires { vec_len entries.old < vec_capacity entries.old }
     ensures { reverse entries.new.items ≡ (from.now, PostEntry to.now envelope) ∷ reverse entries.old.items }
@@ -676,8 +677,8 @@ fn log_post(entries: &mut Vec<(Actor, Entry)>, from: &Actor, to: &Actor, envelop
     entries.push_reserved((*from, Entry::Post { to: *to, envelope }));
 }
 
-/// Has the signatures of a loyal actor's post be known, where there are traitors who could send them on. `NoMemory` where memory
-/// runs out: then nothing changed.
+/// Notes the signatures of a loyal actor's post as known, if there are traitors that could send them on. `NoMemory` if memory
+/// runs out: then nothing changes.
 fn learn(known: &mut Known, keys: &[Key], envelope: &Envelope) -> Result<(), Refusal>
     ensures learned { (holder : Actor) → Any (λ h. h ≡ holder) keys.now → (s : Signature)
         → OnOk result (In s known.new.signatures ↔ (In s known.old.signatures ⊎ Carries envelope.now s)) }
@@ -691,7 +692,7 @@ fn learn(known: &mut Known, keys: &[Key], envelope: &Envelope) -> Result<(), Ref
     }
 }
 
-/// The node of a replica of the shape, and its key where it is a traitor. `NoMemory` where memory runs out. Requires that its key was not
+/// Makes the node of a replica of the shape, and its key if it is a traitor. `NoMemory` if memory runs out. Requires that its key was not
 /// taken.
 fn replica_node(
     alloc: Global,
@@ -721,7 +722,7 @@ fn replica_node(
     }
 }
 
-/// The node of a client of the shape, whose key was not taken.
+/// Makes the node of a client of the shape. Requires that its key was not taken.
 fn client_node(alloc: Global, shape: &Shape, keys: &mut Keys, number: u8) -> Node
     requires inside { number < shape.now.m }
     requires keys { keys.old.shape ≡ shape.now }
@@ -738,7 +739,7 @@ fn client_node(alloc: Global, shape: &Shape, keys: &mut Keys, number: u8) -> Nod
     Node::Client(Customer::new(alloc, Client::new(key, shape)))
 }
 
-/// Keeps the key, where there is one. `NoMemory` where memory runs out.
+/// Adds the key, if there is one. `NoMemory` if memory runs out.
 fn keep(keys: &mut Vec<Key>, key: Option<Key>) -> Result<(), Refusal>
     ensures kept { OnOk result (keys.new.items ≡ keys.old.items ++ option_to_list key) }
     ensures refusal { IsOkUnless result Refusal.NoMemory }

@@ -1,4 +1,4 @@
--- The parts of the lines of plays, and how they are spelled. No public contract cites this: it serves the private functions that read them.
+-- The parts of the lines of plays, and how they are written. No public contract cites this: it serves the private functions that read them.
 use Rattle.std.specs.Prelude.{◌≡◌, ℕ, ◌<◌, All, List, [], ◌∷◌, ◌++◌, codes, Option, None, Some}
 use Rattle.std.specs.Option.{option_map}
 use Rattle.dsr_base.specs.Joined.{joined}
@@ -16,7 +16,7 @@ use Rattle.dsr_play.specs.declared.play_line.PlayLine.{PlayLine}
 use Rattle.dsr_play.specs.declared.play_line.PlayLine.TheVariants.{One, Posts, Plants, Asks}
 use Rattle.dsr_play.specs.PlayText.{line_word, IsPlayLine, IsSpelledPick, pick_text}
 
--- a line that a text can spell and that begins with this word
+-- a line that a text can write and that begins with this word
 abbrev pub IsLineOf : List ℕ → PlayLine → Type 0
 IsLineOf word line = IsPlayLine line × (line_word line ≡ word)
 
@@ -34,7 +34,7 @@ AreSpelledClients clients = IsClients clients × All (λ (c : ℕ). c < 32) clie
 abbrev pub clients_text : List ℕ → List ℕ
 clients_text clients = joined 43 client_text clients
 
--- a choice that is no plain one
+-- a choice that is not the plain one
 abbrev pub IsSaidPick : Pick → Type 0
 IsSaidPick Plain = ⊥
 IsSaidPick (From clients) = AreSpelledClients clients
@@ -80,7 +80,7 @@ IsPlantedForAll p = (p.0 < 16) × IsSpelledEnvelope p.1
 abbrev pub planted_for_all_text : ℕ × Envelope → List ℕ
 planted_for_all_text p = replica_text p.0 ++ 32 ∷ envelope_text p.1
 
--- the lines of a post, a planted envelope, a take, a told front, and an envelope planted for each replica, where there is one
+-- the lines with a post, a planted envelope, a take, the post of a seen front, and an envelope planted for each replica, if there is one
 abbrev pub post_line : Option (Actor × (Actor × Pick)) → Option PlayLine
 post_line posted = option_map (λ p. One (Post p.0 p.1.0 p.1.1)) posted
 

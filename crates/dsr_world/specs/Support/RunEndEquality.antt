@@ -1,4 +1,4 @@
--- When `==` holds of two ends of events: exactly where they are equal.
+-- When `==` holds for two ends of events: exactly if they are equal.
 use Rattle.std.specs.Prelude.{◌≡◌, ℕ, Bool, ◌&&◌, Option}
 use Rattle.std.specs.Bool.{Decides}
 use Rattle.std.specs.Option.{option_eq}
@@ -10,7 +10,7 @@ use Rattle.dsr_names.specs.contracts.refusal.RefusalPartialEq.TheImpl.{ghosts as
 use Rattle.dsr_world.specs.declared.run_end.RunEnd.{RunEnd}
 use Rattle.dsr_world.specs.contracts.run_end.RunEndPartialEq.TheImpl.{ghosts}
 
--- whether `==` holds of two indices with refusals
+-- whether `==` holds for two indices with refusals
 abbrev indexed_eq : ℕ × Refusal → ℕ × Refusal → Bool
 indexed_eq (i, e) (j, d) = eqb i j && of_refusals.eq e d
 
@@ -26,7 +26,7 @@ indexed_eq-Decides (i, e) (j, d) =
 abbrev ends : ℕ → ℕ → ℕ → Option (ℕ × Refusal) → RunEnd
 ends done refused starved first = record { done = done; refused = refused; starved = starved; first = first }
 
--- it holds exactly of equal ones
+-- it holds exactly for equal ones
 pub run_end_eq-Decides : (a b : RunEnd) → Decides (ghosts.eq a b) (a ≡ b)
 run_end_eq-Decides a b =
     Decides-like (eqb a.done b.done && (eqb a.refused b.refused && (eqb a.starved b.starved && option_eq indexed_eq a.first b.first)))
