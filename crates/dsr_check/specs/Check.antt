@@ -1,11 +1,11 @@
--- What the checker's answer says of a recorded run (this project).
+-- What the checker's answer says about a recorded run (this project).
 use Rattle.std.specs.Prelude.{◌≡◌, ◌+◌, ◌++◌, ◌∷◌, ℕ, List, length}
 use Rattle.dsr_names.specs.Shape.{Shape}
 use Rattle.dsr_run.specs.Run.{IsRun, IsNextStep}
 use Rattle.dsr_run.specs.Step.{Step, log_of}
 
--- the first step that makes the recorded steps no run stands at this line of the transcript, whose header is line 1: those before it are a
--- run, and it may not be next
+-- the first recorded step that may not be next is at this line of the transcript, whose header is line 1: the steps before it are a run,
+-- and it does not continue that
 pub record IsFirstBad (shape : Shape) (recorded : List Step) (line : ℕ) : Type 0 where
   pub before : List Step
   pub step : Step

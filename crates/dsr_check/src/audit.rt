@@ -27,7 +27,7 @@ use dsr_record::{NotedEntry, NotedStep};
 use dsr_script::{Draft, Known, build};
 use std::alloc::Global;
 
-/// All actors of a shape and the boxes between them, as the steps have left them that were followed so far: a run.
+/// All actors of a shape and the boxes between them, as the steps followed so far, which are a run, have left them.
 #[derive(Drop)]
 pub(crate) struct Audit<'a> {
     /// The shape.
@@ -36,18 +36,18 @@ pub(crate) struct Audit<'a> {
     pub(crate) parties: Vec<Party>,
     /// The boxes between them.
     pub(crate) boxes: Boxes<Held<'a>>,
-    /// A key of each actor: a notary's, with which envelopes are made of data.
+    /// A key for each actor: those of a notary, with which envelopes are made from data.
     pub(crate) notary: Vec<Key>,
     /// The traitors' keys.
     pub(crate) keys: Vec<Key>,
-    /// What traitors know of the signatures of loyal actors.
+    /// The signatures of loyal actors that traitors know.
     pub(crate) known: Known,
-    /// What each actor last posted to replica 0, at its place: a loyal replica posts it to the others of the round too.
+    /// The envelope that each actor last posted to replica 0, at its place: a loyal replica posts it to the others in that round too.
     pub(crate) firsts: Vec<Option<Held<'a>>>,
 }
 
 impl<'a> Audit<'a> {
-    /// The audit of this shape before any step. `NoMemory` where memory runs out.
+    /// Makes the audit of this shape before any step. `NoMemory` if memory runs out.
     pub(crate) fn open(alloc: Global, shape: Shape) -> Result<Audit<'a>, Refusal>
         ensures shape { IfOk result (λ audit. audit.shape ≡ shape) }
         ensures stands { IfOk result (λ audit. StandsFor audit []) }
@@ -69,7 +69,7 @@ impl<'a> Audit<'a> {
         })
     }
 
-    /// Whether the step may be next. If so, it is followed; else nothing more is to be asked. `NoMemory` where memory runs out.
+    /// Tells whether the step may be next. If so, it is followed; else the audit must not be asked anything more. `NoMemory` if memory runs out.
     pub(crate) fn follow(&mut self, alloc: Global, step: &'a NotedStep) -> Result<bool, Refusal>
         requires { Stands self.old }
         ensures shape { self.new.shape ≡ self.old.shape }
@@ -86,7 +86,7 @@ impl<'a> Audit<'a> {
         }
     }
 
-    /// Whether this post may be next. If so, it is followed.
+    /// Tells whether this post may be next. If so, it is followed.
     fn post(
         &mut self,
         alloc: Global,
@@ -117,7 +117,7 @@ impl<'a> Audit<'a> {
         Ok(next)
     }
 
-    /// Whether this take may be next. If so, it is followed.
+    /// Tells whether this take may be next. If so, it is followed.
     fn take(&mut self, at: &Actor, from: &Actor, draft: &Draft) -> Result<bool, Refusal>
         requires { Stands self.old }
         ensures shape { self.new.shape ≡ self.old.shape }
@@ -136,8 +136,8 @@ impl<'a> Audit<'a> {
         Ok(next)
     }
 
-    /// Whether a loyal replica may post next to another than replica 0 what it last posted to replica 0, recorded like this. If so, that is
-    /// followed, else nothing changed.
+    /// Tells whether a loyal replica may post next, to a replica other than 0, what it last posted to replica 0, recorded like this. If so,
+    /// that is followed, else nothing changes.
     fn post_again(
         &mut self,
         alloc: Global,
@@ -164,7 +164,7 @@ impl<'a> Audit<'a> {
         }
     }
 
-    /// The same, from this replica to this one.
+    /// Does the same, from one replica to another.
     fn repeat(
         &mut self,
         alloc: Global,
@@ -195,7 +195,7 @@ impl<'a> Audit<'a> {
         Ok(true)
     }
 
-    /// Whether the box from one actor to another can get one envelope more.
+    /// Tells whether the box from one actor to another can get one more envelope.
     fn is_open(&self, from: &Actor, to: &Actor) -> bool
         requires stands { Stands self.now }
         requires from { IsActor self.now.shape from.now }
@@ -206,7 +206,7 @@ impl<'a> Audit<'a> {
         self.boxes.item(poster, taker).is_none() && self.boxes.posts(poster, taker) < NUMBER_END - 1
     }
 
-    /// Whether the box from one actor to another holds an envelope that was recorded like this one.
+    /// Tells whether the box from one actor to another holds an envelope that was recorded like this one.
     fn holds(&self, from: &Actor, to: &Actor, draft: &Draft) -> bool
         requires stands { Stands self.now }
         requires from { IsActor self.now.shape from.now }
@@ -222,7 +222,7 @@ impl<'a> Audit<'a> {
         }
     }
 
-    /// The envelope of which this is recorded; `None` where an actor of the shape who posts it would forge a signature. `NoMemory` where
+    /// Makes the envelope that the draft records; `None` if an actor of the shape that posts it would forge a signature. `NoMemory` if
     /// memory runs out.
     fn unforged(
         &self,
@@ -247,7 +247,8 @@ impl<'a> Audit<'a> {
         Ok(made)
     }
 
-    /// Whether the conduct of an actor lets it post this envelope, which forges nothing. If so, it is put into its box, which is open.
+    /// Tells whether the protocol of an actor lets it post this envelope, which forges nothing. If so, the envelope is put into its box. Requires
+    /// that the box is open.
     fn put(
         &mut self,
         alloc: Global,
@@ -287,8 +288,8 @@ impl<'a> Audit<'a> {
     }
 }
 
-/// The envelope of which this is recorded, made by the holders of these keys; `None` where they would forge a signature. `NoMemory`
-/// where memory runs out.
+/// Makes the envelope that the draft records, with these keys; `None` if their holders would forge a signature. `NoMemory` if
+/// memory runs out.
 fn made_by(
     alloc: Global,
     draft: &Draft,
@@ -308,7 +309,7 @@ fn made_by(
     }
 }
 
-/// Has the signatures of a loyal actor's post be known, where there are traitors who could send them on. `NoMemory` where memory
+/// Notes the signatures of a loyal actor's post as known, if there are traitors that could send them on. `NoMemory` if memory
 /// runs out.
 fn learn(
     known: &mut Known,
@@ -328,7 +329,7 @@ fn learn(
     known.learn(envelope)
 }
 
-/// For so many actors, that nothing is kept. `NoMemory` where memory runs out.
+/// Returns `count` entries, all `None`: nothing is stored. `NoMemory` if memory runs out.
 fn no_firsts<'a>(alloc: Global, count: usize) -> Result<Vec<Option<Held<'a>>>, Refusal>
     ensures count { IfOk result (λ firsts. length firsts.items ≡ count) }
     ensures none { IfOk result (λ firsts. (place : ℕ) → slice_index_or firsts.items place None ≡ None) }
@@ -341,7 +342,7 @@ fn no_firsts<'a>(alloc: Global, count: usize) -> Result<Vec<Option<Held<'a>>>, R
     Ok(firsts)
 }
 
-/// The envelope that is kept, once more, where it was recorded like this. `NoMemory` where memory runs out or one handle more is refused.
+/// Returns a copy of the stored envelope, if it was recorded like this. `NoMemory` if memory runs out or one more handle is refused.
 fn copy_of(alloc: Global, first: &Option<Held>, draft: &Draft) -> Result<Option<Envelope>, Refusal>
     ensures copy { IfOk result (λ copy. IfSome copy (λ envelope. (held : AHeld) × (first.now ≡ Some held) × (held.draft.now ≡ draft.now) × (envelope ≡ held.envelope))) }
     ensures refusal { IsOkUnless result Refusal.NoMemory }
@@ -358,8 +359,8 @@ fn copy_of(alloc: Global, first: &Option<Held>, draft: &Draft) -> Result<Option<
     }
 }
 
-/// What is kept of a post: the envelope once more, where it goes to replica 0. `NoMemory` where memory runs out or one handle more is
-/// refused.
+/// Returns what is to be stored for a post: a copy of it, if it goes to replica 0. `NoMemory` if memory runs out or one more handle
+/// is refused.
 fn first_of<'a>(alloc: Global, to: &Actor, held: &Held<'a>) -> Result<Option<Held<'a>>, Refusal>
     ensures first { IfOk result (λ first. IsFirstOf to.now held.now first) }
     ensures refusal { IsOkUnless result Refusal.NoMemory }
@@ -376,7 +377,7 @@ fn first_of<'a>(alloc: Global, to: &Actor, held: &Held<'a>) -> Result<Option<Hel
     }
 }
 
-/// Keeps what there is to keep of an actor's post at the actor's place.
+/// Stores an actor's post at the actor's place, if there is one to store.
 fn keep_first<'a>(firsts: &mut Vec<Option<Held<'a>>>, place: usize, first: Option<Held<'a>>)
     requires { place < length firsts.old.items }
     ensures { firsts.new.items ≡ with_first firsts.old.items place first.entry }

@@ -15,7 +15,7 @@ use dsr_names::{Actor, ClientId, Refusal, ReplicaId, Shape};
 use dsr_replica::Replica;
 use std::alloc::Global;
 
-/// A party for each actor of the shape, in the order of their places, and the traitors' keys.
+/// A party for each actor of the shape, in the order of the actors' places, and the traitors' keys.
 #[derive(Drop)]
 pub(crate) struct Parties {
     /// The parties, none of which has taken a step.
@@ -24,7 +24,7 @@ pub(crate) struct Parties {
     pub(crate) traitors: Vec<Key>,
 }
 
-/// A party for each actor of the shape. `NoMemory` where memory runs out.
+/// Makes a party for each actor of the shape. `NoMemory` if memory runs out.
 pub(crate) fn all_parties(alloc: Global, shape: &Shape) -> Result<Parties, Refusal>
     ensures parties { IfOk result (λ made. AreCast shape.now (shape.now.n + shape.now.m) made.parties.items) }
     ensures traitors { IfOk result (λ made. AreKeysBelow shape.now shape.now.n made.traitors.items) }
@@ -44,7 +44,7 @@ pub(crate) fn all_parties(alloc: Global, shape: &Shape) -> Result<Parties, Refus
     Ok(Parties { parties, traitors })
 }
 
-/// A key of each actor of the shape: a notary's, who signs whatever was recorded. `NoMemory` where memory runs out.
+/// Makes a key for each actor of the shape: those of a notary, who signs whatever was recorded. `NoMemory` if memory runs out.
 pub(crate) fn all_keys(alloc: Global, shape: &Shape) -> Result<Vec<Key>, Refusal>
     ensures all { IfOk result (λ keys. HasAllKeys shape.now keys.items) }
     ensures refusal { IsOkUnless result Refusal.NoMemory }
@@ -62,7 +62,7 @@ pub(crate) fn all_keys(alloc: Global, shape: &Shape) -> Result<Vec<Key>, Refusal
     Ok(keys)
 }
 
-/// The key of a replica of the shape, which was not taken.
+/// Takes the key of a replica of the shape. Requires that it was not taken.
 fn replica_key(shape: &Shape, keys: &mut Keys, number: u8) -> Key
     requires inside { number < shape.now.n }
     requires keys { keys.old.shape ≡ shape.now }
@@ -78,7 +78,7 @@ fn replica_key(shape: &Shape, keys: &mut Keys, number: u8) -> Key
     key
 }
 
-/// The key of a client of the shape, which was not taken.
+/// Takes the key of a client of the shape. Requires that it was not taken.
 fn client_key(shape: &Shape, keys: &mut Keys, number: u8) -> Key
     requires inside { number < shape.now.m }
     requires keys { keys.old.shape ≡ shape.now }
@@ -94,7 +94,7 @@ fn client_key(shape: &Shape, keys: &mut Keys, number: u8) -> Key
     key
 }
 
-/// The party of a replica of the shape, and its key where it is a traitor. `NoMemory` where memory runs out. Requires that its key was
+/// Makes the party of a replica of the shape, and its key if it is a traitor. `NoMemory` if memory runs out. Requires that its key was
 /// not taken.
 fn replica_party(
     alloc: Global,
@@ -120,7 +120,7 @@ fn replica_party(
     }
 }
 
-/// The party of a client of the shape, whose key was not taken.
+/// Makes the party of a client of the shape. Requires that its key was not taken.
 fn client_party(alloc: Global, shape: &Shape, keys: &mut Keys, number: u8) -> Party
     requires inside { number < shape.now.m }
     requires keys { keys.old.shape ≡ shape.now }
@@ -133,7 +133,7 @@ fn client_party(alloc: Global, shape: &Shape, keys: &mut Keys, number: u8) -> Pa
     Party::Client(Customer::new(alloc, Client::new(key, shape)))
 }
 
-/// Keeps the key, where there is one. `NoMemory` where memory runs out.
+/// Adds the key, if there is one. `NoMemory` if memory runs out.
 fn keep(keys: &mut Vec<Key>, key: Option<Key>) -> Result<(), Refusal>
     ensures kept { OnOk result (keys.new.items ≡ keys.old.items ++ option_to_list key) }
     ensures refusal { IsOkUnless result Refusal.NoMemory }

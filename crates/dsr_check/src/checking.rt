@@ -13,14 +13,14 @@ use dsr_names::Refusal;
 use dsr_record::{NotedStep, Record};
 use std::alloc::Global;
 
-/// The line of a transcript's header; the first step stands in the next one.
+/// The line of a transcript's header; the first step is in the next one.
 const HEADER_LINE: u64 = 1;
 
-/// Whether the recorded steps are a run, and what that run gave.
+/// Checks whether the recorded steps are a run, and returns what that run gave.
 ///
-/// `NotARun` names the line of the first step that may not be next: the header is line 1, the first step stands in line 2. `NoMemory`
-/// where memory runs out. There is no other refusal. What is proved of runs holds of each that is found to be one: its loyal replicas
-/// agree, each reply that a client accepted is right, and the history of the verdict linearizes it.
+/// `NotARun` names the line of the first step that may not be next: the header is line 1, the first step is in line 2. `NoMemory` if
+/// memory runs out. No other refusal comes. What is proved for runs holds for each that passes: its loyal replicas agree, each reply
+/// that a client accepted is right, and the history of the verdict linearizes it.
 pub fn check(alloc: Global, recorded: &Record) -> Result<Verdict, Refusal>
     ensures run { OnOk result (IsRun recorded.now.shape recorded.now.run) }
     ensures verdict { IfOk result (IsVerdict recorded.now.shape recorded.now.run) }
@@ -44,7 +44,7 @@ pub fn check(alloc: Global, recorded: &Record) -> Result<Verdict, Refusal>
     Ok(verdict)
 }
 
-/// Follows all steps, and returns how many there are. `NotARun` names the line of the first one that may not be next. `NoMemory` where
+/// Follows all steps, and returns how many there are. `NotARun` names the line of the first one that may not be next. `NoMemory` if
 /// memory runs out.
 fn follow_all<'a>(
     alloc: Global,

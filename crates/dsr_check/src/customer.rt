@@ -18,7 +18,7 @@ use dsr_ledger::Reply;
 use dsr_names::{Actor, Refusal, ReplicaId};
 use std::alloc::Global;
 
-/// A client, and the replies that it accepted, in their order.
+/// A client, and the replies that it accepted, in the order of acceptance.
 #[derive(Drop)]
 pub(crate) struct Customer {
     /// The client.
@@ -28,7 +28,7 @@ pub(crate) struct Customer {
 }
 
 impl Customer {
-    /// The client, before it accepted a reply.
+    /// Starts with a client that has accepted no reply.
     pub(crate) fn new(alloc: Global, client: Client) -> Customer
         ensures same { result.client ≡ client }
         ensures none { result.accepted.items ≡ [] }
@@ -39,7 +39,7 @@ impl Customer {
         }
     }
 
-    /// Whether the client, which is `me`, may post this envelope to this actor next. If so, it has posted it.
+    /// Tells whether the client, which is `me`, may post this envelope to this actor next. If so, it has posted it.
     pub(crate) fn post(&mut self, me: &Actor, to: &Actor, envelope: &Envelope) -> bool
         ensures posts { (shape : Shape) (c : ℕ) (log : List Entry) → me.now ≡ ClientNumber c → PlaysClient shape c log self.old
             → IsActor shape to.now
@@ -53,7 +53,8 @@ impl Customer {
         }
     }
 
-    /// Takes the envelope from another actor of the shape, and notes the reply that is accepted by it. `NoMemory` where memory runs out.
+    /// Takes the envelope, and notes the reply that the client accepts with it, if any. Requires that the envelope comes from another actor
+    /// of the shape, and is within the limits. `NoMemory` if memory runs out.
     pub(crate) fn take(&mut self, from: &Actor, envelope: Envelope) -> Result<(), Refusal>
         requires actor { IsActor self.old.client.shape from.now }
         requires other { from.now ≢ ClientNumber self.old.client.me }
@@ -69,8 +70,8 @@ impl Customer {
     }
 }
 
-/// Whether the client may post this envelope to this replica next: its outstanding request, or a new one where nothing is
-/// outstanding. If so, it has posted it.
+/// Tells whether the client may post this envelope to this replica next: its outstanding request, or a new one if nothing
+/// is outstanding. If so, it has posted it.
 fn asks(client: &mut Client, to: ReplicaId, envelope: &Envelope) -> bool
     ensures me { client.new.me ≡ client.old.me }
     ensures shape { client.new.shape ≡ client.old.shape }
@@ -89,7 +90,7 @@ fn asks(client: &mut Client, to: ReplicaId, envelope: &Envelope) -> bool
     }
 }
 
-/// Whether the client, with which nothing is outstanding, begins a request by asking this of this replica. If so, it has begun it.
+/// Tells whether the client, with no request outstanding, begins one by posting this ask to this replica. If so, it has begun it.
 fn begins(client: &mut Client, to: ReplicaId, ask: &SignedRequest) -> bool
     ensures me { client.new.me ≡ client.old.me }
     ensures shape { client.new.shape ≡ client.old.shape }
@@ -112,7 +113,7 @@ fn begins(client: &mut Client, to: ReplicaId, ask: &SignedRequest) -> bool
     true
 }
 
-/// Whether the envelope tells the client's seen front.
+/// Tells whether the envelope is the client's seen front.
 fn tells(client: &Client, envelope: &Envelope) -> bool
     ensures tells { (log : List Entry) → StandsFor client.now log → IsTrue result ↔ (envelope.now ≡ Seen (seen client.now.shape log)) }
 {

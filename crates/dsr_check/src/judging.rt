@@ -20,12 +20,12 @@ const MOST_CLIENTS: usize = 32;
 /// For each client how many of the first accepted replies are done with, as far as they are replies to this client.
 type Heads = [usize; MOST_CLIENTS];
 
-/// Whether the replies are right by this history, whoever has them and wherever they are from: within each client the numbers of the
-/// history rise, and each reply, beside its client, answers a request of that client that stands at the reply's place, with the
-/// reply's number, and the answer there is that of one directory that goes through the history. It needs no allocator.
+/// Tells whether the replies are right by this history, wherever both are from: the numbers of each client rise in the history, and
+/// each reply answers a request of the client beside it, which is at the reply's place, with the reply's number, and the answer
+/// there is that of one directory that goes through the history. It needs no allocator.
 ///
-/// It goes through the history once where the replies of each client stand in the order of their places, as in a verdict; otherwise
-/// once more, at most, for each time that the place of a client's next reply is not a later one.
+/// It goes through the history once if the replies of each client are in the order of their places, as in a verdict; otherwise once
+/// more, at most, for each time that the place of a client's next reply is not a later one.
 pub fn judge(history: &[Request], accepted: &[(ClientId, Reply)]) -> bool
     ensures { IsTrue result ↔ IsJudgedRight history.now accepted.now }
 {
@@ -46,14 +46,14 @@ pub fn judge(history: &[Request], accepted: &[(ClientId, Reply)]) -> bool
     are_done(accepted, &heads)
 }
 
-/// What `judge` finds of a run: where at most f replicas are traitors, the history of a run and the replies that its clients accepted
+/// What `judge` finds for a run: if at most f replicas are traitors, the history of a run and the replies that its clients accepted
 /// are judged right.
 pub fn verdicts_are_judged_right()
     ensures { (shape : Shape) (run : List Step) (verdict : Verdict) → HasFewTraitors shape → IsRun shape run → IsVerdict shape run verdict
         → IsJudgedRight verdict.history verdict.accepted }
 {}
 
-/// Whether the numbers rise within each client.
+/// Tells whether the numbers of each client rise.
 fn is_legal(history: &[Request]) -> bool
     ensures { IsTrue result ↔ IsLegal (reverse history.now) }
 {
@@ -69,7 +69,7 @@ fn is_legal(history: &[Request]) -> bool
     true
 }
 
-/// Each client's head at the first of its replies.
+/// Returns each client's head at the first of its replies.
 fn first_heads(accepted: &[(ClientId, Reply)]) -> Heads
     ensures size { length result ≡ 32 }
     ensures first { (client : ℕ) → client < 32 → IsNext accepted.now client 0 (head_of result client) }
@@ -81,7 +81,7 @@ fn first_heads(accepted: &[(ClientId, Reply)]) -> Heads
     heads
 }
 
-/// The place of the first reply to this client from a place on; the end where there is none.
+/// Returns the place of the first reply to this client at `from` or later; the end if there is none.
 fn next_of(accepted: &[(ClientId, Reply)], client: u8, from: usize) -> usize
     requires { from ≤ length accepted.now }
     ensures { IsNext accepted.now client from result }
@@ -95,7 +95,7 @@ fn next_of(accepted: &[(ClientId, Reply)], client: u8, from: usize) -> usize
     accepted.len()
 }
 
-/// Whether the heads of all clients that have replies are at the end.
+/// Tells whether the head of each client that has replies is at the end.
 fn are_done(accepted: &[(ClientId, Reply)], heads: &Heads) -> bool
     requires { length heads.now ≡ 32 }
     ensures done { IsTrue result → (client : ℕ) (reply : Reply) → In (client, reply) accepted.now
@@ -110,7 +110,7 @@ fn are_done(accepted: &[(ClientId, Reply)], heads: &Heads) -> bool
     true
 }
 
-/// Whether each head moved that was not at the end.
+/// Tells whether each head that is not at the end has moved.
 fn have_moved(before: &Heads, after: &Heads, end: usize) -> bool
     requires before { length before.now ≡ 32 }
     requires after { length after.now ≡ 32 }
@@ -127,7 +127,7 @@ fn have_moved(before: &Heads, after: &Heads, end: usize) -> bool
     true
 }
 
-/// The heads after a walk along the history, in which each client's head passes the replies that it comes to in turn.
+/// Walks along the history, and returns the heads after that: each client's head passes the replies that it comes to in turn.
 fn walked(history: &[Request], accepted: &[(ClientId, Reply)], heads: &Heads) -> Heads
     requires size { length heads.now ≡ 32 }
     requires heads { (client : ℕ) → client < 32 → IsHead (reverse history.now) accepted.now client (head_of heads.now client) }
@@ -151,7 +151,7 @@ fn walked(history: &[Request], accepted: &[(ClientId, Reply)], heads: &Heads) ->
     moved
 }
 
-/// Where the client's head is after this reply: at its next one, if this one stands at it.
+/// Returns the client's head after this reply: at its next reply, if this one was at the head.
 fn passed(accepted: &[(ClientId, Reply)], client: u8, head: usize, reply: &Reply) -> usize
     requires within { head ≤ length accepted.now }
     requires own { (entry : ℕ × Reply) → slice_get accepted.now head ≡ Some entry → entry.0 ≡ client }

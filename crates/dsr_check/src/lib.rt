@@ -1,4 +1,4 @@
-//! Whether a recorded run is one, and what it gave. Each loyal actor is a real replica or client, which is led through the recorded steps.
+//! Checks whether a recorded run is one, and what it gave. Each loyal actor is a real replica or client, which repeats the recorded steps.
 #![tactic(auto)]
 
 mod audit;

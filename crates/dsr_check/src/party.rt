@@ -22,8 +22,8 @@ use dsr_names::{Actor, ClientId, Refusal, ReplicaId};
 use dsr_replica::Replica;
 use std::alloc::Global;
 
-/// Who takes an actor's steps again. A loyal actor is a real replica or client; a traitor may do what it likes, as far as it forges
-/// nothing, so there is no code of it.
+/// A party repeats an actor's steps. A loyal actor is a real replica or client; a traitor may do what it likes as long as it forges
+/// nothing, so there is no code for it.
 #[derive(Drop)]
 pub(crate) enum Party {
     /// A loyal replica.
@@ -35,8 +35,8 @@ pub(crate) enum Party {
 }
 
 impl Party {
-    /// Whether the conduct of the actor, which is `me`, lets it post this envelope to this actor next. If so, it has posted it.
-    /// `NoMemory` where memory runs out.
+    /// Tells whether the protocol of the actor, which is `me`, lets it post this envelope to this actor next. If so, it has
+    /// posted it. `NoMemory` if memory runs out.
     pub(crate) fn post(
         &mut self,
         alloc: Global,
@@ -58,7 +58,7 @@ impl Party {
         }
     }
 
-    /// Whether the actor is a loyal replica that may post to this replica next, without choosing anything.
+    /// Tells whether the actor is a loyal replica that may post to this replica next by the plain choice.
     pub(crate) fn can_repeat(&self, to: ReplicaId) -> bool
         ensures { IsTrue result ↔ CanRepeat self.now to }
     {
@@ -68,7 +68,7 @@ impl Party {
         }
     }
 
-    /// Posts to this replica, without choosing anything. Requires that it can.
+    /// Posts to this replica by the plain choice. Requires that it can.
     pub(crate) fn repeat(&mut self, to: ReplicaId)
         requires { CanRepeat self.old to }
         ensures repeats { (shape : Shape) (p : ℕ) (log : List Entry) (envelope : AnEnvelope) → Plays shape (ReplicaNumber p) log self.old
@@ -82,8 +82,8 @@ impl Party {
         }
     }
 
-    /// Whether the conduct of the actor, which is `me`, lets it take this envelope from this actor next. If so, it has taken it.
-    /// `NoMemory` where memory runs out.
+    /// Tells whether the protocol of the actor, which is `me`, lets it take this envelope from this actor next. If so, it has
+    /// taken it. `NoMemory` if memory runs out.
     pub(crate) fn take(
         &mut self,
         me: &Actor,
@@ -118,7 +118,7 @@ impl Party {
     }
 }
 
-/// Whether a loyal replica may post this envelope to this actor next. If so, it has posted it.
+/// Tells whether a loyal replica may post this envelope to this actor next. If so, it has posted it.
 fn replica_posts(
     alloc: Global,
     replica: &mut Replica,
@@ -142,7 +142,7 @@ fn replica_posts(
     }
 }
 
-/// Whether a loyal replica may post this envelope to this replica next. If so, it has posted it.
+/// Tells whether a loyal replica may post this envelope to this replica next. If so, it has posted it.
 fn sends(
     alloc: Global,
     replica: &mut Replica,
@@ -175,7 +175,7 @@ fn sends(
     Ok(true)
 }
 
-/// Whether the envelope is a loyal replica's reply to this client.
+/// Tells whether the envelope is a loyal replica's reply to this client.
 fn replies(replica: &Replica, client: ClientId, envelope: &Envelope) -> bool
     ensures replies { (log : List Entry) → StandsFor replica.now log
         → OnTrue result ((reply_to replica.now.shape log client ≡ Some envelope.now) × StandsFor replica.now (Post (ClientNumber client) envelope.now ∷ log)) }
@@ -188,7 +188,7 @@ fn replies(replica: &Replica, client: ClientId, envelope: &Envelope) -> bool
     }
 }
 
-/// Whether a loyal replica may take from this replica next. If so, it has taken this envelope.
+/// Tells whether a loyal replica may take from this replica next. If so, it has taken this envelope.
 fn replica_takes(
     replica: &mut Replica,
     from: ReplicaId,

@@ -41,8 +41,8 @@ impl Default for Register {
     }
 }
 
-/// The registers that hold a value, at most 1,024, in the order of their names. It is of fixed size, so it needs no
-/// allocator; a name is found by halving.
+/// The registers that hold a value, at most 1,024, in the order of their names. The table is of fixed size, so it
+/// needs no allocator; a name is found by halving.
 #[derive(Drop)]
 pub(crate) struct Table {
     registers: ArrayVec<Register, MOST_REGISTERS>,
@@ -59,14 +59,14 @@ impl Model for Table {
     ghost invariant = { λ t. IsInOrder t.registers.items };
 }
 
-/// How the register's name compares with this one, byte by byte.
+/// Compares the register's name with this one, byte by byte.
 fn compared(register: &Register, name: &Name) -> Ordering
     ensures { result ≡ slice_cmp nat_cmp register.now.0 name.now }
 {
     register.name.as_bytes().cmp(name.as_bytes())
 }
 
-/// What the operation leaves in its register, which held this.
+/// Returns what the operation leaves in its register, which held this.
 fn leaves(op: &Op, held: Option<u64>, full: bool) -> Option<u64>
     ensures { result ≡ left_by op.now held full }
 {
@@ -85,7 +85,7 @@ fn leaves(op: &Op, held: Option<u64>, full: bool) -> Option<u64>
     }
 }
 
-/// What the operation answers on its register, which held this.
+/// Returns what the operation answers on its register, which held this.
 fn answers(op: &Op, held: Option<u64>, full: bool) -> Answer
     ensures { result ≡ answer_on op.now held full }
 {
@@ -102,7 +102,7 @@ fn answers(op: &Op, held: Option<u64>, full: bool) -> Answer
 }
 
 impl Table {
-    /// A table in which no register holds a value.
+    /// Makes a table in which no register holds a value.
     pub(crate) fn new() -> Table
         ensures { result ≡ [] }
     {
@@ -111,7 +111,7 @@ impl Table {
         }
     }
 
-    /// Does the operation and answers it.
+    /// Does the operation, and returns its answer.
     pub(crate) fn apply(&mut self, op: &Op) -> Answer
         ensures answer { (ops : List Op) → StandsFor self.old ops → result ≡ answer_after ops op.now }
         ensures change { (ops : List Op) → StandsFor self.old ops → StandsFor self.new (op.now ∷ ops) }
@@ -126,7 +126,7 @@ impl Table {
         answers(op, held, full)
     }
 
-    /// What the register holds.
+    /// Returns what the register holds.
     fn get(&self, name: &Name) -> Option<u64>
         ensures held { result ≡ held_in self.now name.now }
         ensures order { IsInOrder self.now }
@@ -140,7 +140,7 @@ impl Table {
         }
     }
 
-    /// Lets the register hold this, or nothing. Requires room for it where it holds nothing and is to hold a value.
+    /// Makes the register hold this, or nothing. If it holds nothing and is to hold a value, requires room for it.
     fn put(&mut self, name: &Name, left: Option<u64>)
         requires room { IsSome left → held_in self.old name.now ≡ None → length self.old < most_registers }
         ensures { (other : List ℕ) → held_in self.new other ≡ (if bytes_eq name.now other then left else held_in self.old other) }
@@ -157,7 +157,7 @@ impl Table {
         }
     }
 
-    /// Where the register stands, or where it would.
+    /// Returns the register's place, or the one that it would get.
     fn search(&self, name: &Name) -> Result<usize, usize>
         ensures found { IfOk result (IsAt self.now name.now) }
         ensures absent { IfErr result (IsGap self.now name.now) }

@@ -1,4 +1,4 @@
-//! What an audit tells of the run that it has followed.
+//! What an audit reports about the run that it has followed.
 
 ghost use Rattle.std.specs.Prelude.{◌≡◌, ◌++◌, ◌<◌, true, IfSome, IfNone, ℕ, List, IfOk, OnOk, IsOkUnless, length, map, reverse};
 ghost use Rattle.dsr_ledger.specs.declared.reply.Reply.{Reply as AReply};
@@ -20,7 +20,7 @@ use dsr_request::Request;
 use std::alloc::Global;
 
 impl<'a> Audit<'a> {
-    /// The verdict on the run that was followed, which has so many entries. `NoMemory` where memory runs out.
+    /// Makes the verdict on the run that was followed. Requires that the run has `entries` entries. `NoMemory` if memory runs out.
     pub(crate) fn verdict(&self, alloc: Global, entries: u64) -> Result<Verdict, Refusal>
         requires { Stands self.now }
         ensures verdict { (run : List Step) → StandsFor self.now run → length run ≡ entries → IfOk result (IsVerdict self.now.shape run) }
@@ -31,7 +31,7 @@ impl<'a> Audit<'a> {
         Ok(Verdict::of(entries, history, accepted))
     }
 
-    /// The history of the run: that of the loyal replica with the most closed slots.
+    /// Returns the history of the run: that of the loyal replica with the most closed slots.
     fn history(&self) -> &[Request]
         requires { Stands self.now }
         ensures { (run : List Step) → StandsFor self.now run → result.now ≡ reverse (history self.now.shape (log_of run)) }
@@ -50,7 +50,7 @@ impl<'a> Audit<'a> {
         history
     }
 
-    /// The replies that the clients accepted.
+    /// Returns the replies that the clients accepted. `NoMemory` if memory runs out.
     fn accepted(&self, alloc: Global) -> Result<Vec<(ClientId, Reply)>, Refusal>
         requires { Stands self.now }
         ensures same { (run : List Step) → StandsFor self.now run
@@ -65,7 +65,7 @@ impl<'a> Audit<'a> {
         Ok(list)
     }
 
-    /// The replica of this number, where it is loyal.
+    /// Returns the replica with this number, if it is loyal.
     fn replica(&self, number: u8) -> Option<&Replica>
         requires stands { Stands self.now }
         requires inside { number < self.now.shape.n }
@@ -80,7 +80,7 @@ impl<'a> Audit<'a> {
         }
     }
 
-    /// The replies that a client accepted, in their order.
+    /// Returns the replies that a client accepted, in the order of acceptance.
     fn replies(&self, client: ClientId) -> &[Reply]
         requires stands { Stands self.now }
         requires inside { client < self.now.shape.m }
@@ -94,7 +94,7 @@ impl<'a> Audit<'a> {
     }
 }
 
-/// Adds the replies that a client accepted. `NoMemory` where memory runs out.
+/// Adds the replies that a client accepted. `NoMemory` if memory runs out.
 fn add(
     list: &mut Vec<(ClientId, Reply)>,
     client: ClientId,
@@ -109,7 +109,7 @@ fn add(
     Ok(())
 }
 
-/// The same requests once more. `NoMemory` where memory runs out.
+/// Returns a copy of these requests. `NoMemory` if memory runs out.
 fn copy_of(alloc: Global, requests: &[Request]) -> Result<Vec<Request>, Refusal>
     ensures same { IfOk result (λ copy. copy.items ≡ requests.now) }
     ensures refusal { IsOkUnless result Refusal.NoMemory }

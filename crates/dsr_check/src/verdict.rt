@@ -22,7 +22,7 @@ impl Model for Verdict {
 }
 
 impl Verdict {
-    /// The verdict of these.
+    /// Makes the verdict from these.
     pub(crate) fn of(
         entries: u64,
         history: Vec<Request>,
@@ -37,21 +37,22 @@ impl Verdict {
         }
     }
 
-    /// How many entries the run has: one for each line after the header.
+    /// Returns how many entries the run has: one for each line after the header.
     pub fn entries(&self) -> u64
         ensures { result ≡ self.now.entries }
     {
         self.entries
     }
 
-    /// The history: the requests that acted, in their order.
+    /// Returns the history: the requests that acted, in order.
     pub fn history(&self) -> &[Request]
         ensures { result.now ≡ self.now.history }
     {
         self.history.as_slice()
     }
 
-    /// The replies that clients accepted, each with its client: client by client, and those of each in their order.
+    /// Returns the replies that clients accepted, each with its client: client by client, and for each in the order
+    /// of acceptance.
     pub fn accepted(&self) -> &[(ClientId, Reply)]
         ensures { result.now ≡ self.now.accepted }
     {

@@ -1,4 +1,4 @@
--- What a C program is told of a text, in five numbers (this project).
+-- What a C program gets to know about a text, in five numbers (this project).
 use Rattle.std.specs.Prelude.{◌≡◌, ℕ, List, length}
 use Rattle.dsr_names.specs.Refusal.{code_of}
 use Rattle.dsr_names.specs.declared.refusal.Refusal.{Refusal}
@@ -21,8 +21,8 @@ pub record IsVerdictOn (text : List ℕ) (verdict : Verdict) : Type 0 where
   pub agreement : HasAgreement recorded.shape recorded.run
   pub of_run : IsVerdict recorded.shape recorded.run verdict
 
--- the text is the transcript of a run, and told is how many entries it has, how many requests its history, and how many replies its
--- clients accepted
+-- the text is the transcript of a run, and the report says how many entries it has, how many requests its history, and how many
+-- replies its clients accepted
 pub record IsRunReport (text : List ℕ) (report : Report) : Type 0 where
   pub verdict : Verdict
   pub on_text : IsVerdictOn text verdict
@@ -31,19 +31,19 @@ pub record IsRunReport (text : List ℕ) (report : Report) : Type 0 where
   pub history : report.history ≡ length verdict.history
   pub accepted : report.accepted ≡ length verdict.accepted
 
--- the line that a refusal names; 0 where it names none
+-- the line that a refusal names; 0 if it names none
 abbrev pub line_of : Refusal → ℕ
 line_of (BadText line) = line
 line_of (NotARun line) = line
 line_of other = 0
 
--- what a refusal says of the text: that it is a transcript, of whose steps the first bad one stands in this line; or that it is no
--- transcript, and why; or nothing, where memory ran out
+-- what a refusal says about the text: it is a transcript, and the first of its steps that may not be next is at this line; or it
+-- is not a transcript, and why; or nothing, if memory ran out
 abbrev pub IsCheckRefusal : List ℕ → Refusal → Type 0
 IsCheckRefusal text (NotARun line) = (recorded : Record) × Spells text recorded × IsFirstBad recorded.shape recorded.run line
 IsCheckRefusal text other = IsRecordRefusal text other
 
--- the text is refused: told are the refusal's number and line, and nothing is counted
+-- the text is refused: the report has the refusal's number and line, and counts nothing
 pub record IsRefusalReport (text : List ℕ) (report : Report) : Type 0 where
   pub refusal : Refusal
   pub why : IsCheckRefusal text refusal

@@ -11,15 +11,15 @@ use dsr_names::Refusal;
 use dsr_record::Record;
 use std::alloc::Global;
 
-/// What a text was found to be.
+/// What was found about a text.
 #[repr(C)]
 #[derive(Clone, Copy, Debug)]
 pub struct Report {
     /// 0 for a run, or the number of the refusal.
     pub status: u64,
-    /// The line that the refusal names, counted from 1; 0 where it names none.
+    /// The line that the refusal names, counted from 1; 0 if it names none.
     pub line: u64,
-    /// How many entries the run has; this and what follows is 0 after a refusal.
+    /// How many entries the run has; this number and those that follow are 0 after a refusal.
     pub entries: u64,
     /// How many requests its history has.
     pub history: u64,
@@ -27,7 +27,7 @@ pub struct Report {
     pub accepted: u64,
 }
 
-/// The report on the text.
+/// Returns the report on the text.
 pub(crate) fn report_on(alloc: Global, text: &[u8]) -> Report
     ensures run { result.status ≡ 0 → IsRunReport text.now result }
     ensures refused { result.status ≢ 0 → IsRefusalReport text.now result }
@@ -54,7 +54,7 @@ pub(crate) fn report_on(alloc: Global, text: &[u8]) -> Report
     }
 }
 
-/// The line that the refusal names; 0 where it names none.
+/// Returns the line that the refusal names; 0 if it names none.
 fn named_line(refusal: &Refusal) -> u64
     ensures { result ≡ line_of refusal.now }
 {
@@ -64,7 +64,7 @@ fn named_line(refusal: &Refusal) -> u64
     }
 }
 
-/// The verdict on the run whose transcript the text is.
+/// Reads the transcript that the text is, and returns the verdict on its run. The refusals are those of `Record::of_text` and of `check`.
 fn checked(alloc: Global, text: &[u8]) -> Result<Verdict, Refusal>
     ensures run { IfOk result (IsVerdictOn text.now) }
     ensures refused { IfErr result (IsCheckRefusal text.now) }

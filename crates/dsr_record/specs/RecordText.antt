@@ -1,5 +1,5 @@
 -- Transcripts, the texts of records (this project): a header `dsr-transcript 1 SHAPE` or `dsr-transcript 2 SHAPE`, then a line for each
--- step, as `c0 post r0 ask c0#1:write:a:7~c0` or `r0 take c0 ask c0#1:write:a:7~c0`.
+-- step, like `c0 post r0 ask c0#1:write:a:7~c0` or `r0 take c0 ask c0#1:write:a:7~c0`.
 use Rattle.std.specs.Prelude.{◌≡◌, ◌⊎◌, ℕ, List, [], ◌∷◌, ◌++◌, codes}
 use Rattle.dsr_names.specs.Actor.{IsNumbered, actor_text}
 use Rattle.dsr_names.specs.Shape.{IsAllowed}
@@ -26,7 +26,7 @@ entry_word (Take from envelope) = codes "take"
 abbrev pub entry_text : Entry → List ℕ
 entry_text entry = entry_word entry ++ 32 ∷ (actor_text (other_of entry) ++ 32 ∷ envelope_text (envelope_of entry))
 
--- an entry that a text can spell
+-- an entry that a text can write
 abbrev pub IsSpelledEntry : Entry → Type 0
 IsSpelledEntry entry = IsNumbered (other_of entry) × IsSpelledEnvelope (envelope_of entry)
 
@@ -34,11 +34,11 @@ IsSpelledEntry entry = IsNumbered (other_of entry) × IsSpelledEnvelope (envelop
 abbrev pub step_text : Step → List ℕ
 step_text step = actor_text step.0 ++ 32 ∷ entry_text step.1
 
--- a step that a text can spell
+-- a step that a text can write
 abbrev pub IsSpelledStep : Step → Type 0
 IsSpelledStep step = IsNumbered step.0 × IsSpelledEntry step.1
 
--- a step that a text of this version can spell: in version 1 with a plain envelope alone
+-- a step that a text of this version can write: in version 1 only with a plain envelope
 abbrev pub IsStepOf : Version → Step → Type 0
 IsStepOf One step = IsSpelledStep step × IsPlain (envelope_of step.1)
 IsStepOf Two step = IsSpelledStep step
@@ -52,7 +52,7 @@ version_title Two = codes "dsr-transcript 2"
 abbrev pub transcripts : Version → TextKind Step
 transcripts version = record { title = version_title version; line_text = step_text; IsLine = IsStepOf version; CanFollow = λ shape earlier line. Unit {0} }
 
--- the record's steps can stand in a transcript of its version
+-- the record's steps can be in a transcript of its version
 abbrev pub Fits : Record → Type 0
 Fits r = AreLines (transcripts r.version) r.shape r.run
 
@@ -60,22 +60,22 @@ Fits r = AreLines (transcripts r.version) r.shape r.run
 abbrev pub record_text : Record → List ℕ
 record_text r = header_line (version_title r.version) r.shape ++ lines_text (transcripts r.version) r.run
 
--- the text spells a record: it is a header of the record's version and shape, which is allowed, then a line of its version for each of its
--- steps, and nothing more
+-- the text is a transcript of the record: a header with the record's version and shape, which is allowed, then a line of that version for
+-- each of its steps, and nothing more
 pub record Spells (text : List ℕ) (r : Record) : Type 0 where
   pub after : List ℕ
   pub header : BeginsWithHeader (version_title r.version) text r.shape after
   pub allowed : IsAllowed r.shape
   pub begins : BeginsWithLines (transcripts r.version) after r.shape r.run []
 
--- the first bad line of the text has this number: line 1 where the text begins with a header of neither version, else a later one
+-- the first bad line of the text has this number: 1 if the text begins with a header of neither version, else that of a later line
 abbrev pub IsBadRecordLine : List ℕ → ℕ → Type 0
 IsBadRecordLine text number =
     ((number ≡ 1) × (HasNoHeader (version_title One) text × HasNoHeader (version_title Two) text))
     ⊎ (IsBadLater (transcripts One) text number ⊎ IsBadLater (transcripts Two) text number)
 
--- what each refusal says of the text: the header's shape is outside the limits, whatever follows it; which line is the first bad one;
--- nothing, where memory ran out; there is no other refusal
+-- what each refusal says about the text: the header's shape is outside the limits, whatever follows it; which line is the first bad
+-- one; nothing, if memory ran out; no other refusal comes
 abbrev pub IsRecordRefusal : List ℕ → Refusal → Type 0
 IsRecordRefusal text BadShape = HasBadShape (version_title One) text ⊎ HasBadShape (version_title Two) text
 IsRecordRefusal text (BadText number) = IsBadRecordLine text number

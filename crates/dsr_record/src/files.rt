@@ -1,4 +1,4 @@
-//! Reading records from a source, and writing them to a sink.
+//! Reads records from a source, and writes them to a sink.
 
 ghost use Rattle.std.specs.Prelude.{◌≡◌, ◌⊎◌, ◌+◌, ◌≤◌, Some, Err, IfOk, IfErr, OnOk, OnErr, IsOkUnless, length, string_bytes};
 ghost use Rattle.dsr_names.specs.Limits.{most_calls};
@@ -13,8 +13,8 @@ use std::alloc::Global;
 use std::fmt;
 use std::fmt::Write;
 
-/// The record whose transcript the source gives. `ReadFailed` where reading fails, as in `read_input`, also for more than 16,777,216 bytes;
-/// else what is refused is as in `Record::of_text`. After a refusal what was read is gone.
+/// Reads the record whose transcript the source gives. `ReadFailed` if reading fails, as in `read_input`, also for more than 16,777,216
+/// bytes; the other refusals are those of `Record::of_text`. After a refusal what was read is gone.
 pub fn read<S: Source>(alloc: Global, source: &mut S) -> Result<Record, Refusal>
     ensures given { IfOk result (GivesRecord (S.input source.old)) }
     ensures refused { IfErr result (IsReadRefusal (S.input source.old)) }
@@ -27,10 +27,10 @@ pub fn read<S: Source>(alloc: Global, source: &mut S) -> Result<Record, Refusal>
     }
 }
 
-/// Writes the transcript of the record. Requires that its steps can stand in a transcript of its version.
+/// Writes the transcript of the record. Requires that its steps can be in a transcript of its version.
 ///
-/// `NoMemory` where memory runs out: then nothing was written. `WriteFailed` where the sink fails, as in `write_output`: then a prefix of
-/// the transcript went out.
+/// `NoMemory` if memory runs out: then nothing is written. `WriteFailed` if the sink fails, as in `write_output`: then a prefix of the
+/// transcript has gone out.
 pub fn write<S: Sink>(alloc: Global, recorded: &Record, sink: &mut S) -> Result<(), Refusal>
     requires { Fits recorded.now }
     ensures done { OnOk result (SentAll (record_text recorded.now) (S.output sink.old) (S.output sink.new)) }
@@ -44,7 +44,7 @@ pub fn write<S: Sink>(alloc: Global, recorded: &Record, sink: &mut S) -> Result<
     write_output(sink, text.as_bytes())
 }
 
-/// The transcript of the record.
+/// Returns the transcript of the record. `NoMemory` if memory runs out.
 fn text_of(alloc: Global, recorded: &Record) -> Result<String, Refusal>
     ensures text { IfOk result (λ text. string_bytes text ≡ record_text recorded.now) }
     ensures refusal { IsOkUnless result Refusal.NoMemory }

@@ -1,4 +1,4 @@
-//! What was read last of each poster, so that an envelope that stands in many lines is read once.
+//! Stores what was last read for each poster, so that an envelope that is in many lines is read once.
 
 ghost use Rattle.std.specs.Prelude.{Some, IfOk, IfSome, IsOkUnless};
 ghost use Rattle.dsr_base.specs.Reads.{Reads};
@@ -9,13 +9,13 @@ use dsr_script::Draft;
 use std::alloc::Global;
 use std::marker::Model;
 
-/// The most replicas of a shape; in the order of places the clients come after them.
+/// The most replicas of a shape; in the order of places the clients come after the replicas.
 const MOST_REPLICAS: usize = 16;
 
-/// The most actors of a shape, replicas and clients.
+/// The most actors of a shape: replicas and clients.
 const MOST_ACTORS: usize = 48;
 
-/// The text of the envelope that was read last, and its draft; no draft where there is nothing to give again.
+/// The text of the envelope that was read last, and its draft; no draft if there is nothing to give again.
 #[derive(Drop)]
 struct LastRead {
     text: Vec<u8>,
@@ -35,7 +35,7 @@ impl Model for LastRead {
 }
 
 impl LastRead {
-    /// Nothing yet. It takes no memory.
+    /// Starts with nothing. It takes no memory.
     fn new(alloc: Global) -> LastRead {
         LastRead {
             text: Vec::new(alloc),
@@ -43,7 +43,7 @@ impl LastRead {
         }
     }
 
-    /// The draft that the bytes spell, as `Draft::read` says it. Where they are the text that was read last, its draft is shared.
+    /// Reads a draft's text, as `Draft::read` does. If it is the text that was read last, the draft of that is shared.
     fn read(&mut self, alloc: Global, bytes: &[u8]) -> Result<Option<Draft>, Refusal>
         ensures read { IfOk result (λ draft. Reads IsSpelledEnvelope envelope_text bytes.now draft) }
         ensures refusal { IsOkUnless result Refusal.NoMemory }
@@ -60,7 +60,7 @@ impl LastRead {
         }
     }
 
-    /// The draft that was read last, where the bytes are its text. `NoMemory` where one handle more is refused.
+    /// Returns the draft that was read last, if the bytes are its text. `NoMemory` if one more handle is refused.
     fn again(&self, bytes: &[u8]) -> Result<Option<Draft>, Refusal>
         ensures again { IfOk result (λ draft. IfSome draft (λ d. Reads IsSpelledEnvelope envelope_text bytes.now (Some d))) }
         ensures refusal { IsOkUnless result Refusal.NoMemory }
@@ -71,7 +71,7 @@ impl LastRead {
         }
     }
 
-    /// Keeps the draft that the bytes spell. `NoMemory` where memory runs out or one handle more is refused.
+    /// Stores the draft and its text. `NoMemory` if memory runs out or one more handle is refused.
     fn keep(&mut self, bytes: &[u8], draft: &Draft) -> Result<(), Refusal>
         requires { Reads IsSpelledEnvelope envelope_text bytes.now (Some draft.now) }
         ensures refusal { IsOkUnless result Refusal.NoMemory }
@@ -84,21 +84,21 @@ impl LastRead {
     }
 }
 
-/// What was read last of each poster.
+/// What was last read for each poster.
 #[derive(Drop)]
 pub(crate) struct LastReads {
     posters: Vec<LastRead>,
 }
 
 impl LastReads {
-    /// That nothing is to be kept, whoever posts. It takes no memory.
+    /// Stores nothing, whoever posts. It takes no memory.
     pub(crate) fn none(alloc: Global) -> LastReads {
         LastReads {
             posters: Vec::new(alloc),
         }
     }
 
-    /// Nothing yet of each actor that a text can name. `NoMemory` where memory runs out.
+    /// Starts with nothing for each actor that a text can name. `NoMemory` if memory runs out.
     pub(crate) fn new(alloc: Global) -> Result<LastReads, Refusal>
         ensures refusal { IsOkUnless result Refusal.NoMemory }
     {
@@ -109,7 +109,7 @@ impl LastReads {
         Ok(LastReads { posters })
     }
 
-    /// The draft that the bytes spell, which this actor posted, as `Draft::read` says it.
+    /// Reads the text of a draft that this actor posted, as `Draft::read` does.
     pub(crate) fn read(
         &mut self,
         alloc: Global,
@@ -126,7 +126,7 @@ impl LastReads {
     }
 }
 
-/// The actor's place among all that a text can name.
+/// Returns the actor's place among all that a text can name.
 fn place_of(actor: &Actor) -> usize {
     match actor {
         Actor::Replica(replica) => replica.number() as usize,

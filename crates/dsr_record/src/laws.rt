@@ -1,5 +1,5 @@
-//! The laws that each step can be written in a transcript, and that what is written is read as it was: the contracts of functions that do
-//! nothing.
+//! The laws that each step can be written in a transcript, and that a record's transcript is read as that record: the contracts of
+//! functions that do nothing.
 
 ghost use Rattle.dsr_names.specs.Actor.{IsNumbered};
 ghost use Rattle.dsr_record.specs.RecordText.{IsSpelledStep, Fits, Spells, record_text};
@@ -9,7 +9,7 @@ use crate::record::Record;
 use dsr_names::Actor;
 use dsr_script::each_draft_has_a_text;
 
-/// Each step can be spelled, as a line of a transcript of version 2.
+/// Each step can be written, as a line of a transcript of version 2.
 pub fn each_step_has_a_line(step: &NotedStep)
     ensures { IsSpelledStep step.now }
 {
@@ -26,7 +26,7 @@ pub fn each_step_has_a_line(step: &NotedStep)
     }
 }
 
-/// The transcript of a record spells that record, where its entries can stand in its version. So what is written of it is read as that record
+/// The transcript of a record is a text of that record, if its entries can be in a transcript of its version. So it is read as that record
 /// again.
 pub fn transcripts_spell_their_records(recorded: &Record)
     ensures { Fits recorded.now → Spells (record_text recorded.now) recorded.now }
@@ -34,7 +34,7 @@ pub fn transcripts_spell_their_records(recorded: &Record)
     let _n = recorded.shape().n();
 }
 
-/// That the actor has a number that texts can name, as each has.
+/// Shows that the actor has a number that texts can name, as every actor has.
 fn number_actor(actor: &Actor)
     ensures { IsNumbered actor.now }
 {

@@ -19,7 +19,7 @@ pub(crate) struct Held<'a> {
     pub(crate) envelope: &'a Envelope,
 }
 
-/// Whether the actor's entry can go on by its box: a post where the box is empty, a take where it holds that envelope.
+/// Tells whether the actor's entry can go on by its box: a post if the box is empty, a take if it holds that envelope.
 pub(crate) fn can_move<'a>(
     shape: &Shape,
     boxes: &Boxes<Held<'a>>,
@@ -42,7 +42,7 @@ pub(crate) fn can_move<'a>(
     }
 }
 
-/// Moves the envelope of the actor's entry: into its box by a post, out of it by a take. Requires that the entry can go on.
+/// Moves the envelope of the actor's entry: a post puts it into its box, a take removes it. Requires that the entry can go on.
 pub(crate) fn move_envelope<'a>(
     shape: &Shape,
     boxes: &mut Boxes<Held<'a>>,

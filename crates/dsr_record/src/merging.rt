@@ -1,4 +1,4 @@
-//! Merging the logs of a closed mail into one record.
+//! Merges the logs of a closed mail into one record.
 
 ghost use Rattle.std.specs.Prelude.{◌≡◌, ◌↔◌, ◌<◌, [], List, All, IfOk, IfErr, IfSome, IfNone, OnOk, IsOkUnless, IsTrue};
 ghost use Rattle.dsr_names.specs.Shape.{IsActor};
@@ -22,12 +22,12 @@ use dsr_run::{counters_are_kept, own_logs_are_enough};
 use std::alloc::Global;
 
 impl Record {
-    /// The record of all entries of the logs, in one order: again and again the next entry of the lowest actor, replicas before clients, whose
-    /// next entry can go on. A post can go on where its box is empty, a take where its box holds that envelope. It is of version 1 where each
-    /// step can stand in a transcript of version 1, else of version 2. Nothing says that the steps are a run.
+    /// Makes a record of all entries of the logs, in one order: again and again the next entry of the lowest actor, replicas before clients,
+    /// whose next entry can go on. A post can go on if its box is empty, a take if its box holds that envelope. The record is of version 1 if
+    /// each step can be in a transcript of version 1, else of version 2. Nothing says that the steps are a run.
     ///
-    /// `NotARun` where entries are left and none of them can go on: its line is the first that the transcript lacks. `NoMemory` where memory
-    /// runs out.
+    /// `NotARun` if entries are left and none of them can go on: its line is the first that the transcript lacks. `NoMemory` if memory runs
+    /// out.
     pub fn of_logs(alloc: Global, logs: &Logs) -> Result<Record, Refusal>
         ensures shape { IfOk result (λ recorded. recorded.shape ≡ logs.now.shape) }
         ensures logs { IfOk result (λ recorded. IsWhole (logs_of logs.now) recorded.run) }
@@ -53,13 +53,13 @@ impl Record {
     }
 }
 
-/// What is not merged of an actor's log.
+/// What is not yet merged of an actor's log.
 #[derive(Drop)]
 pub(crate) struct Rest<'a> {
     entries: &'a [Entry],
 }
 
-/// A merge of logs, as far as it went.
+/// A merge of logs, as far as it has gone.
 #[derive(Drop)]
 pub(crate) struct Merging<'a> {
     logs: &'a Logs,
@@ -71,7 +71,7 @@ pub(crate) struct Merging<'a> {
 }
 
 impl<'a> Merging<'a> {
-    /// The merge of these logs before any step. `NoMemory` where memory runs out.
+    /// Makes the merge of these logs before any step. `NoMemory` if memory runs out.
     fn new(alloc: Global, logs: &'a Logs) -> Result<Merging<'a>, Refusal>
         ensures logs { IfOk result (λ merging. merging.logs.now ≡ logs.now) }
         ensures stands { IfOk result Stands }
@@ -88,7 +88,7 @@ impl<'a> Merging<'a> {
         })
     }
 
-    /// Merges until no next entry can go on. `NoMemory` where memory runs out.
+    /// Merges until no next entry can go on. `NoMemory` if memory runs out.
     fn run(&mut self, alloc: Global) -> Result<(), Refusal>
         requires { Stands self.old }
         ensures logs { self.new.logs.now ≡ self.old.logs.now }
@@ -102,7 +102,7 @@ impl<'a> Merging<'a> {
         Ok(())
     }
 
-    /// The lowest actor whose next entry can go on.
+    /// Returns the lowest actor whose next entry can go on.
     fn next_actor(&self) -> Option<Actor>
         requires { Stands self.now }
         ensures turn { IfSome result (HasTurnIn self.now) }
@@ -117,7 +117,7 @@ impl<'a> Merging<'a> {
         None
     }
 
-    /// Whether the actor's next entry can go on.
+    /// Tells whether the actor's next entry can go on.
     fn can_go_on(&self, actor: &Actor) -> bool
         requires stands { Stands self.now }
         requires actor { IsActor self.now.logs.now.shape actor.now }
@@ -130,7 +130,7 @@ impl<'a> Merging<'a> {
         }
     }
 
-    /// Merges the next entry of this actor. `NoMemory` where memory runs out. Requires that it is the actor's turn.
+    /// Merges the next entry of this actor. `NoMemory` if memory runs out. Requires that it is the actor's turn.
     fn advance(&mut self, alloc: Global, actor: &Actor) -> Result<(), Refusal>
         requires stands { Stands self.old }
         requires turn { HasTurnIn self.old actor.now }
@@ -153,7 +153,7 @@ impl<'a> Merging<'a> {
         Ok(())
     }
 
-    /// Whether each log is merged whole.
+    /// Tells whether each log is merged whole.
     fn is_whole(&self) -> bool
         ensures { IsTrue result ↔ All (λ rest. rest.entries.now ≡ []) self.now.rests.items }
     {
@@ -161,7 +161,7 @@ impl<'a> Merging<'a> {
     }
 }
 
-/// All logs, each as nothing of it is merged. `NoMemory` where memory runs out.
+/// Returns all logs, with nothing of them merged. `NoMemory` if memory runs out.
 fn rests_of<'a>(alloc: Global, logs: &'a Logs) -> Result<Vec<Rest<'a>>, Refusal>
     ensures rests { IfOk result (λ rests. AreRests logs.now.shape (logs_of logs.now) (log_of []) rests.items) }
     ensures refusal { IsOkUnless result Refusal.NoMemory }

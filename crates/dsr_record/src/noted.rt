@@ -11,16 +11,16 @@ use std::marker::Model;
 pub enum NotedEntry {
     /// The actor posted the envelope.
     Post {
-        /// To whom.
+        /// The actor to which it posted.
         to: Actor,
-        /// What it posted.
+        /// The envelope that it posted.
         envelope: Draft,
     },
     /// The actor took the envelope.
     Take {
-        /// From whom.
+        /// The actor from which it took.
         from: Actor,
-        /// What it took.
+        /// The envelope that it took.
         envelope: Draft,
     },
 }
@@ -42,28 +42,28 @@ impl Model for NotedStep {
 }
 
 impl NotedStep {
-    /// The step of this actor by which its log got this entry.
+    /// Makes the step of this actor by which its log got this entry.
     pub fn new(actor: Actor, entry: NotedEntry) -> NotedStep
         ensures { result ≡ (actor, entry_of entry) }
     {
         NotedStep { actor, entry }
     }
 
-    /// Who took the step.
+    /// Returns the actor that took the step.
     pub fn actor(&self) -> Actor
         ensures { result ≡ self.now.0 }
     {
         self.actor
     }
 
-    /// The entry that its log got.
+    /// Returns the entry that its log got.
     pub fn entry(&self) -> &NotedEntry
         ensures { entry_of result.now ≡ self.now.1 }
     {
         &self.entry
     }
 
-    /// The envelope that was posted or taken.
+    /// Returns the envelope that was posted or taken.
     pub fn envelope(&self) -> &Draft
         ensures { result.now ≡ envelope_of self.now.1 }
     {

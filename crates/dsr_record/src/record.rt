@@ -28,7 +28,7 @@ impl Model for Record {
 }
 
 impl Record {
-    /// The record of these steps, in their order, to be written in this version.
+    /// Makes the record of these steps, in their order, to be written in this version.
     pub fn of(version: Version, shape: Shape, entries: Vec<NotedStep>) -> Record
         ensures version { result.version ≡ version }
         ensures shape { result.shape ≡ shape }
@@ -41,11 +41,11 @@ impl Record {
         }
     }
 
-    /// The record whose transcript the text is: a header `dsr-transcript 1 SHAPE` or `dsr-transcript 2 SHAPE`, then a line for each step.
+    /// Reads a transcript: a header `dsr-transcript 1 SHAPE` or `dsr-transcript 2 SHAPE`, then a line for each step.
     ///
-    /// `BadShape` where the header's shape is outside the limits, whatever follows it. `BadText` names the first bad line, counted
-    /// from 1: line 1 where it is no header of either version, else one that is not so spelled, that has no line feed, or, in version 1,
-    /// that only version 2 has. `NoMemory` where memory runs out.
+    /// `BadShape` if the header's shape is outside the limits, whatever follows it. `BadText` names the first bad line, counted from 1:
+    /// line 1 if the text begins with a header of neither version, else a line that is not written so, that has no line feed, or, in
+    /// version 1, that only version 2 has. `NoMemory` if memory runs out.
     pub fn of_text(alloc: Global, text: &[u8]) -> Result<Record, Refusal>
         ensures spelled { IfOk result (Spells text.now) }
         ensures refused { IfErr result (IsRecordRefusal text.now) }
@@ -55,28 +55,28 @@ impl Record {
         read_record(alloc, text)
     }
 
-    /// The version of its transcript.
+    /// Returns the version of its transcript.
     pub fn version(&self) -> Version
         ensures { result ≡ self.now.version }
     {
         self.version
     }
 
-    /// The shape.
+    /// Returns the shape.
     pub fn shape(&self) -> Shape
         ensures { result ≡ self.now.shape }
     {
         self.shape
     }
 
-    /// The steps, in their order: who took each, and the entry of that actor's log.
+    /// Returns the steps, in order: who took each, and the entry of that actor's log.
     pub fn entries(&self) -> &[NotedStep]
         ensures { reverse result.now ≡ self.now.run }
     {
         self.entries.as_slice()
     }
 
-    /// Whether its steps can stand in a transcript of its version.
+    /// Tells whether its steps can be in a transcript of its version.
     pub fn fits(&self) -> bool
         ensures { IsTrue result ↔ Fits self.now }
     {
@@ -84,14 +84,14 @@ impl Record {
     }
 }
 
-/// Whether a transcript of this version can have all of these steps.
+/// Tells whether a transcript of this version can have all of these steps.
 pub(crate) fn are_steps_of(version: Version, steps: &[NotedStep]) -> bool
     ensures { IsTrue result ↔ All (IsStepOf version) steps.now }
 {
     steps.iter().all(|step| is_step_of(version, step))
 }
 
-/// Whether a transcript of this version can have the step.
+/// Tells whether a transcript of this version can have the step.
 pub(crate) fn is_step_of(version: Version, step: &NotedStep) -> bool
     ensures { IsTrue result ↔ IsStepOf version step.now }
 {

@@ -1,4 +1,4 @@
-//! Recording what a world did.
+//! Records what a world did.
 
 ghost use Rattle.std.specs.Prelude.{◌≡◌, ◌↔◌, All, IfOk, OnOk, IsOkUnless};
 ghost use Rattle.dsr_envelope.specs.Limits.{IsEnvelope};
@@ -18,8 +18,8 @@ use dsr_world::World;
 use std::alloc::Global;
 
 impl Record {
-    /// The record of all steps of the world, in their order: of version 1 where each of them can stand in a transcript of version 1, else of
-    /// version 2. `NoMemory` where memory runs out.
+    /// Makes the record of all steps of the world, in order: of version 1 if each of them can be in a transcript of version 1, else of
+    /// version 2. `NoMemory` if memory runs out.
     pub fn of_world(alloc: Global, world: &World) -> Result<Record, Refusal>
         ensures shape { IfOk result (λ recorded. recorded.shape ≡ world.now.shape) }
         ensures run { IfOk result (λ recorded. recorded.run ≡ world.now.run) }
@@ -40,7 +40,7 @@ impl Record {
     }
 }
 
-/// The first version whose transcripts can have all of these steps. Requires that texts can spell each.
+/// Returns the first version whose transcripts can have all of these steps. Requires that texts can write each.
 pub(crate) fn least_version(steps: &[NotedStep]) -> Version
     requires { All IsSpelledStep steps.now }
     ensures least { (result ≡ One) ↔ All (IsStepOf One) steps.now }
@@ -53,7 +53,7 @@ pub(crate) fn least_version(steps: &[NotedStep]) -> Version
     }
 }
 
-/// The entry with its envelope as data. Requires that the envelope is within the limits.
+/// Makes the entry with its envelope as data. `NoMemory` if memory runs out. Requires that the envelope is within the limits.
 pub(crate) fn noted(alloc: Global, entry: &Entry) -> Result<NotedEntry, Refusal>
     requires { IsEnvelope (envelope_of entry.now) }
     ensures same { IfOk result (λ noted. entry_of noted ≡ entry.now) }

@@ -1,4 +1,4 @@
-//! Reading the texts of records.
+//! Reads the texts of records.
 
 ghost use Rattle.std.specs.Prelude.{◌≡◌, ◌↔◌, Err, IfOk, IfErr, IsOkUnless, IsTrue};
 ghost use Rattle.dsr_base.specs.Reads.{Reads};
@@ -18,7 +18,7 @@ use dsr_text::{TakesLines, read_header, take_lines};
 use std::alloc::Global;
 use std::marker::PhantomData;
 
-/// The record whose transcript the text is, as `Record::of_text` says it.
+/// Reads a transcript, as `Record::of_text` does.
 pub(crate) fn read_record(alloc: Global, text: &[u8]) -> Result<Record, Refusal>
     ensures spelled { IfOk result (Spells text.now) }
     ensures refused { IfErr result (IsRecordRefusal text.now) }
@@ -32,7 +32,7 @@ pub(crate) fn read_record(alloc: Global, text: &[u8]) -> Result<Record, Refusal>
     read
 }
 
-/// Whether line 1 was bad.
+/// Tells whether line 1 was bad.
 fn has_no_header(read: &Result<Record, Refusal>) -> bool
     ensures { IsTrue result ↔ (read.now ≡ Err (Refusal.BadText 1)) }
 {
@@ -49,7 +49,7 @@ trait Format {
     // the version
     ghost version: { Version };
 
-    /// The version.
+    /// Returns the version.
     fn version() -> Version
         ensures { result ≡ version };
 }
@@ -81,8 +81,8 @@ impl Format for Second {
 }
 
 impl NotedStep {
-    /// The step that the line spells, without its line feed. The inner `None` comes exactly where the bytes spell none. `NoMemory` where
-    /// memory runs out.
+    /// Reads a line's text, without its line feed. The inner `None` means exactly that the bytes are not one. `NoMemory` if memory runs
+    /// out.
     pub fn read(alloc: Global, bytes: &[u8]) -> Result<Option<NotedStep>, Refusal>
         ensures read { IfOk result (λ step. Reads IsSpelledStep step_text bytes.now step) }
         ensures refusal { IsOkUnless result Refusal.NoMemory }
@@ -92,7 +92,7 @@ impl NotedStep {
     }
 }
 
-/// The step that the line spells, as `NotedStep::read` says it.
+/// Reads a line's text, as `NotedStep::read` does.
 fn read_step(
     alloc: Global,
     last: &mut LastReads,
@@ -113,7 +113,7 @@ fn read_step(
     }
 }
 
-/// The entry of this actor's log that the bytes spell.
+/// Reads an entry of this actor's log.
 fn read_entry(
     alloc: Global,
     last: &mut LastReads,
@@ -137,7 +137,7 @@ fn read_entry(
     }
 }
 
-/// The post of these, where there are both.
+/// Makes the post with both, if both are there.
 fn posted(end: Option<(Actor, Draft)>) -> Option<NotedEntry>
     ensures { result ≡ posted end }
 {
@@ -147,7 +147,7 @@ fn posted(end: Option<(Actor, Draft)>) -> Option<NotedEntry>
     }
 }
 
-/// The take of these, where there are both.
+/// Makes the take with both, if both are there.
 fn taken(end: Option<(Actor, Draft)>) -> Option<NotedEntry>
     ensures { result ≡ taken end }
 {
@@ -157,7 +157,7 @@ fn taken(end: Option<(Actor, Draft)>) -> Option<NotedEntry>
     }
 }
 
-/// The other end and the envelope that the bytes spell. The other end posted it where no poster is given.
+/// Reads the other end and the envelope. If no poster is given, the other end posted it.
 fn read_end(
     alloc: Global,
     last: &mut LastReads,
@@ -179,7 +179,7 @@ fn read_end(
     }
 }
 
-/// The record whose transcript of this version the text is.
+/// Reads a transcript of this version.
 fn read_as<F: Format>(alloc: Global, text: &[u8]) -> Result<Record, Refusal>
     ensures spelled { IfOk result (λ recorded. (recorded.version ≡ F.version) × Spells text.now recorded) }
     ensures refused { IfErr result (IsTextRefusal (transcripts F.version) text.now) }

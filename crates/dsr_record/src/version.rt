@@ -7,7 +7,7 @@ use dsr_base::Exact;
 /// A version of transcripts.
 #[derive(Clone, Copy, Debug, PartialEq, Eq)]
 pub enum Version {
-    /// Its lines are plain: no value in them has more than one request, and nothing is removed or tells of a removal.
+    /// Its lines are plain: no value in them has more than one request, and nothing is removed or reports a removal.
     One,
     /// Its lines may have lists of requests and removals.
     Two,
@@ -20,7 +20,7 @@ impl Exact for Version {
 }
 
 impl Version {
-    /// The title of its header.
+    /// Returns the title of its header.
     pub(crate) fn title(&self) -> &'static str
         ensures { result.now ≡ version_title self.now }
     {

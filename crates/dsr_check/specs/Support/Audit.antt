@@ -1,4 +1,4 @@
--- How an audit stands for the run that it has followed (this project).
+-- How an audit represents the run that it has followed (this project).
 use Rattle.std.specs.Prelude.{◌≡◌, ◌↔◌, ℕ, zero, suc, ◌+◌, ◌++◌, ◌∷◌, ◌<◌, ◌^◌, true, [], List, Option, None, Some, Any, length, slice_index_or, slice_set}
 use Rattle.dsr_base.specs.Boxes.{AreSquare, box_at}
 use Rattle.dsr_base.specs.declared.boxes.MailBox.{MailBox}
@@ -34,7 +34,7 @@ pub record IsBoxOf (box : MailBox Held) (posted taken : List Envelope) : Type 0 
   pub holds : posted ≡ taken ++ held_in box.item
   pub recorded : (held : Held) → box.item ≡ Some held → held.draft.now ≡ held.envelope
 
--- the box can get one envelope more: it is empty, and fewer than 2^40 posts will stand in it
+-- the box can get one more envelope: it is empty, and with that it will have had fewer than 2^40
 abbrev pub IsOpen : MailBox Held → Type 0
 IsOpen box = (box.item ≡ None) × (suc box.posts < 2 ^ 40)
 
@@ -48,18 +48,18 @@ pub record AreBoxes (shape : Shape) (logs : Logs) (rows : List (List (MailBox He
   pub each : (from to : Actor) → IsActor shape from → IsActor shape to
       → IsBoxOf (box_at rows (place_of shape from) (place_of shape to)) (posted_to to (logs from)) (taken_from from (logs to))
 
--- of each actor that has posted to replica 0, what is kept is the last of it, as it was recorded
+-- there is a place for each actor, and what is stored there, if anything, is what the actor last posted to replica 0, as it was recorded
 pub record AreFirsts (shape : Shape) (logs : Logs) (firsts : List (Option Held)) : Type 0 where
   pub count : length firsts ≡ shape.n + shape.m
   pub last : (who : Actor) → IsActor shape who → (held : Held) → slice_index_or firsts (place_of shape who) None ≡ Some held
       → (held.draft.now ≡ held.envelope) × ((older : List Envelope) × (posted_to (Replica 0) (logs who) ≡ older ++ held.envelope ∷ []))
 
--- what is kept after a post: the envelope, where it went to replica 0
+-- what is stored after a post: the envelope at the poster's place, if there is one to store
 abbrev pub with_first : List (Option Held) → ℕ → Option Held → List (Option Held)
 with_first firsts place None = firsts
 with_first firsts place (Some held) = slice_set firsts place (Some held)
 
--- what was kept of this post is it, where it went to replica 0
+-- what is to be stored for this post: a copy of it, if it went to replica 0
 abbrev pub IsFirstOf : Actor → Held → Option Held → Type 0
 IsFirstOf (Replica zero) held kept = (first : Held) × (kept ≡ Some first) × (first.draft.now ≡ held.draft.now) × (first.envelope ≡ held.envelope)
 IsFirstOf (Replica (suc q)) held kept = kept ≡ None
@@ -69,7 +69,7 @@ IsFirstOf (Client c) held kept = kept ≡ None
 abbrev pub box_of : Audit → Actor → Actor → MailBox Held
 box_of a from to = box_at a.boxes (place_of a.shape from) (place_of a.shape to)
 
--- a traitor posts this envelope, and forges nothing; of a loyal actor nothing is said
+-- if a traitor posts this envelope, it forges nothing; of loyal actors this asks nothing
 abbrev pub ForgesNone : Shape → Logs → Actor → Envelope → Type 0
 ForgesNone shape logs from envelope = IsTraitor shape from → (s : Signature) → Carries envelope s → IsMadeOrPosted shape logs s
 
@@ -77,8 +77,8 @@ ForgesNone shape logs from envelope = IsTraitor shape from → (s : Signature) �
 abbrev pub HasAllKeys : Shape → List Actor → Type 0
 HasAllKeys shape keys = (a : Actor) → IsActor shape a → Any (λ holder. holder ≡ a) keys
 
--- the parts of an audit stand for a run: the parties, the boxes, the notary's keys, the traitors' keys, what is known, and what is kept of
--- posts to replica 0
+-- the parts of an audit represent a run: the parties, the boxes, the notary's keys, the traitors' keys, the known signatures, and what is
+-- stored of posts to replica 0
 pub record AreParts (shape : Shape) (run : List Step) (parties : List Party) (rows : List (List (MailBox Held))) (notary keys : List Actor) (known : List Signature) (firsts : List (Option Held)) : Type 0 where
   pub is_run : IsRun shape run
   pub played : ArePlayed shape (log_of run) parties
@@ -96,20 +96,20 @@ StandsFor a run = AreParts a.shape run a.parties.items a.boxes a.notary.items a.
 abbrev pub Stands : Audit → Type 0
 Stands a = (run : List Step) × StandsFor a run
 
--- while the parties are cast: there are parties for the actors at the first places, none of which has taken a step
+-- while the parties are cast: there are parties for the actors at the first `k` places, none of which has taken a step
 pub record AreCast (shape : Shape) (k : ℕ) (parties : List Party) : Type 0 where
   pub count : length parties ≡ k
   pub each : (who : Actor) → IsActor shape who → place_of shape who < k → (d : Party) → Plays shape who [] (slice_index_or parties (place_of shape who) d)
 
--- a traitor among the first replicas
+-- a traitor among the first `k` replicas
 abbrev pub IsTraitorBelow : Shape → ℕ → Actor → Type 0
 IsTraitorBelow shape k (Replica p) = (p < k) × (is_traitor shape p ≡ true)
 IsTraitorBelow shape k (Client c) = ⊥
 
--- the keys are those of the traitors among the first replicas
+-- the keys are those of the traitors among the first `k` replicas
 abbrev pub AreKeysBelow : Shape → ℕ → List Actor → Type 0
 AreKeysBelow shape k keys = (a : Actor) → Any (λ holder. holder ≡ a) keys ↔ IsTraitorBelow shape k a
 
--- each actor at one of the first places has a key among these
+-- each actor at one of the first `k` places has a key among these
 abbrev pub HasKeysBelow : Shape → ℕ → List Actor → Type 0
 HasKeysBelow shape k keys = (a : Actor) → IsActor shape a → place_of shape a < k → Any (λ holder. holder ≡ a) keys

@@ -1,5 +1,5 @@
--- How far the replies of each client are judged. The head of a client is the number of the first accepted replies that are done with,
--- as far as they are replies to this client.
+-- How far the replies of each client are judged. The head of a client is how many of the first accepted replies are done with, as far
+-- as they are replies to this client.
 use Rattle.std.specs.Prelude.{◌≡◌, ℕ, ◌≤◌, List, length, take, slice_get, slice_index_or, Some, ◌⊎◌}
 use Rattle.dsr_base.specs.Member.{In}
 use Rattle.dsr_request.specs.Request.{Request}
@@ -10,7 +10,7 @@ use Rattle.dsr_history.specs.History.{IsReplyTo}
 abbrev pub head_of : List ℕ → ℕ → ℕ
 head_of heads client = slice_index_or heads client 0
 
--- the first reply to the client from this place on stands here, or there is none and this is the end
+-- `here` is the first place from `from` on with a reply to the client, or, if there is none, the end
 pub record IsNext (accepted : List (ℕ × Reply)) (client from here : ℕ) : Type 0 where
   pub after : from ≤ here
   pub within : here ≤ length accepted
@@ -23,7 +23,7 @@ pub record IsHead (history : List Request) (accepted : List (ℕ × Reply)) (cli
   pub within : head ≤ length accepted
   pub own : (entry : ℕ × Reply) → slice_get accepted head ≡ Some entry → entry.0 ≡ client
 
--- the head passed this reply, or there is another reply at it
+-- the head passed this reply, or stayed: then it is at another reply, or at the end
 pub record HasMoved (accepted : List (ℕ × Reply)) (client : ℕ) (reply : Reply) (head moved : ℕ) : Type 0 where
   pub within : moved ≤ length accepted
   pub after : head ≤ moved
@@ -31,7 +31,7 @@ pub record HasMoved (accepted : List (ℕ × Reply)) (client : ℕ) (reply : Rep
   pub own : (entry : ℕ × Reply) → slice_get accepted moved ≡ Some entry → entry.0 ≡ client
   pub stays : moved ≡ head → (entry : ℕ × Reply) → slice_get accepted head ≡ Some entry → ¬ (entry.1 ≡ reply)
 
--- after a walk along these oldest requests of the history: the client's head is one still, and where it did not move,
+-- after a walk along these oldest requests of the history: the client's head is still one, and if it did not move,
 -- the reply at it answers none of these requests
 pub record HasWalked (history walked : List Request) (accepted : List (ℕ × Reply)) (client before head : ℕ) : Type 0 where
   pub good : IsHead history accepted client head

@@ -1,4 +1,4 @@
--- How a party stands for the log of its actor (this project).
+-- How a party represents the log of its actor (this project).
 use Rattle.std.specs.Prelude.{◌≡◌, ℕ, true, false, List, Option, None, Some, reverse}
 use Rattle.dsr_names.specs.Shape.{Shape, is_traitor, IsActor}
 use Rattle.dsr_names.specs.declared.actor.Actor.{Actor}
@@ -15,19 +15,19 @@ use Rattle.dsr_check.specs.declared.customer.Customer.{Customer}
 use Rattle.dsr_check.specs.declared.party.Party.{Party}
 use Rattle.dsr_check.specs.declared.party.Party.TheVariants.{Loyal, Traitor, Client}
 
--- the choice of these clients; nothing in particular where there are none
+-- the choice of these clients; the plain one if there are none
 abbrev pub choice_by : Option (List ℕ) → Pick
 choice_by None = Plain
 choice_by (Some clients) = From clients
 
--- the replica is this loyal one, and stands for the log
+-- the replica is this loyal one, and represents the log
 pub record PlaysReplica (shape : Shape) (p : ℕ) (log : List Entry) (r : Replica) : Type 0 where
   pub honest : is_traitor shape p ≡ false
   pub me : r.me ≡ ReplicaNumber p
   pub shape_is : r.shape ≡ shape
   pub stands : StandsFor r log
 
--- the client is this one, stands for the log, and has noted what it accepted
+-- the client is this one, represents the log, and has noted what it accepted
 pub record PlaysClient (shape : Shape) (c : ℕ) (log : List Entry) (x : Customer) : Type 0 where
   pub me : x.client.me ≡ c
   pub shape_is : x.client.shape ≡ shape
@@ -43,7 +43,8 @@ Plays shape (ClientNumber c) log (Loyal r) = ⊥
 Plays shape (ClientNumber c) log Traitor = ⊥
 Plays shape (ClientNumber c) log (Client x) = PlaysClient shape c log x
 
--- the party plays some actor of a shape, to which an envelope within the limits can come from this other one
+-- the party plays some actor of a shape, the other one is an actor of that shape too, and the envelope is
+-- within the limits
 pub record CanGet (party : Party) (me from : Actor) (envelope : Envelope) : Type 0 where
   pub shape : Shape
   pub log : List Entry
@@ -51,7 +52,7 @@ pub record CanGet (party : Party) (me from : Actor) (envelope : Envelope) : Type
   pub other : IsActor shape from
   pub within : IsEnvelope envelope
 
--- the party is a loyal replica that may post to this replica without choosing anything
+-- the party is a loyal replica that may post to this replica by the plain choice
 abbrev pub CanRepeat : Party → ℕ → Type 0
 CanRepeat (Loyal r) q = Allows r q Plain
 CanRepeat Traitor q = ⊥

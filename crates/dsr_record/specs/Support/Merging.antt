@@ -1,4 +1,4 @@
--- How a merge of logs stands in its fields (this project).
+-- How the fields of a merge of logs represent it (this project).
 use Rattle.std.specs.List.{sum_by}
 use Rattle.std.specs.Prelude.{◌≡◌, ℕ, ◌<◌, ◌++◌, List, [], ◌∷◌, Option, None, Some, All, length, reverse, slice_index_or}
 use Rattle.dsr_base.specs.Boxes.{AreSquare, box_at}
@@ -34,7 +34,7 @@ pub record AreBoxes (shape : Shape) (logs : Logs) (rows : List (List (MailBox He
   pub each : (from to : Actor) → IsActor shape from → IsActor shape to
       → IsBoxOf (box_at rows (place_of shape from) (place_of shape to)) (posted_to to (logs from)) (taken_from from (logs to))
 
--- the entry can go on by the boxes, as they stand for some steps
+-- the entry can go on by the boxes, which are as some steps have left them
 pub record CanMove (shape : Shape) (rows : List (List (MailBox Held))) (actor : Actor) (entry : Entry) : Type 0 where
   pub run : List Step
   pub boxes : AreBoxes shape (log_of run) rows
@@ -43,12 +43,12 @@ pub record CanMove (shape : Shape) (rows : List (List (MailBox Held))) (actor : 
   pub box : KeepsBox (log_of run) actor entry
   pub limits : KeepsLimits (log_of run) actor entry
 
--- there is a rest of each actor's log, at its place: what is not merged of it
+-- for each actor there is a rest of its log, at its place: what is not merged of it
 pub record AreRests (shape : Shape) (logs merged : Logs) (rests : List Rest) : Type 0 where
   pub count : length rests ≡ size shape
   pub each : (a : Actor) → IsActor shape a → (d : Rest) → logs a ≡ reverse (slice_index_or rests (place_of shape a) d).entries.now ++ merged a
 
--- while the rests are made: there are those of the actors at the first places, of whose logs nothing is merged
+-- while the rests are made: there are rests for the actors at the first `k` places, of whose logs nothing is merged
 pub record AreRestsBelow (shape : Shape) (k : ℕ) (logs : Logs) (rests : List Rest) : Type 0 where
   pub count : length rests ≡ k
   pub each : (a : Actor) → IsActor shape a → place_of shape a < k → (d : Rest)
@@ -65,7 +65,7 @@ pub record IsMerging (shape : Shape) (logs : Logs) (merged : List Step) (rests :
 abbrev pub merged_of : Merging → List Step
 merged_of m = reverse m.steps.items
 
--- the fields stand for a merge of the logs, and texts can spell its steps
+-- the fields represent a merge of the logs, and texts can write its steps
 pub record Stands (m : Merging) : Type 0 where
   pub merging : IsMerging m.logs.now.shape (logs_of m.logs.now) (merged_of m) m.rests.items m.boxes
   pub spelled : All IsSpelledStep m.steps.items

@@ -1,4 +1,4 @@
--- A noted entry as the entry that it stands for, and the parts of a line.
+-- A noted entry as the entry that it represents, and the parts of a line.
 use Rattle.std.specs.Prelude.{ℕ, List, ◌∷◌, ◌++◌, Option}
 use Rattle.std.specs.Option.{option_map}
 use Rattle.dsr_names.specs.Actor.{IsNumbered, actor_text}
@@ -11,20 +11,20 @@ use Rattle.dsr_record.specs.declared.noted.NotedEntry.{NotedEntry}
 use Rattle.dsr_record.specs.declared.noted.NotedEntry.TheVariants.{Post, Take}
 use Rattle.dsr_record.specs.RecordText.{entry_text, IsSpelledEntry}
 
--- the entry that it stands for
+-- the entry that it represents
 abbrev pub entry_of : NotedEntry → Entry
 entry_of (Post to envelope) = entry.Post to envelope
 entry_of (Take from envelope) = entry.Take from envelope
 
--- a noted entry that a text can spell
+-- a noted entry that a text can write
 abbrev pub IsNoted : NotedEntry → Type 0
 IsNoted e = IsSpelledEntry (entry_of e)
 
--- that text
+-- its text
 abbrev pub noted_text : NotedEntry → List ℕ
 noted_text e = entry_text (entry_of e)
 
--- the other end and the envelope, where a text can spell them
+-- the other end and the envelope, if a text can write them
 abbrev pub IsEnd : Actor × Envelope → Type 0
 IsEnd p = IsNumbered p.0 × IsSpelledEnvelope p.1
 
@@ -32,10 +32,10 @@ IsEnd p = IsNumbered p.0 × IsSpelledEnvelope p.1
 abbrev pub end_text : Actor × Envelope → List ℕ
 end_text p = actor_text p.0 ++ 32 ∷ envelope_text p.1
 
--- the post to that end, where there is one
+-- the post to that end, if there is one
 abbrev pub posted : Option (Actor × Envelope) → Option NotedEntry
 posted end = option_map (λ p. Post p.0 p.1) end
 
--- the take from that end, where there is one
+-- the take from that end, if there is one
 abbrev pub taken : Option (Actor × Envelope) → Option NotedEntry
 taken end = option_map (λ p. Take p.0 p.1) end
