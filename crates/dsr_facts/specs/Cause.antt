@@ -31,7 +31,7 @@ use Rattle.dsr_facts.specs.declared.cause.Limit.TheVariants.{Rounds, Numbers, Po
 use Rattle.dsr_facts.specs.declared.undue.Undue.{Undue}
 use Rattle.dsr_facts.specs.declared.undue.Undue.TheVariants.{First, NothingActed, NoChoice, ProposesNothing, Outstanding, NothingOutstanding}
 
--- the refusal that a cause is of
+-- the refusal that a cause explains
 abbrev pub refusal_by : Cause → Refusal
 refusal_by (NoActor actor) = refusal.NoActor
 refusal_by (WrongRole part) = refusal.WrongRole
@@ -41,7 +41,7 @@ refusal_by BoxFull = refusal.BoxFull
 refusal_by BoxEmpty = refusal.BoxEmpty
 refusal_by (Forged s) = refusal.Forged
 
--- what the tests refuse that come before the signatures are looked at; nothing, where a signature is forged
+-- the refusal by the tests that come before the signatures are looked at; none for a forged signature
 abbrev pub tested_as : Cause → Option Refusal
 tested_as (NoActor actor) = Some refusal.NoActor
 tested_as (WrongRole part) = Some refusal.WrongRole
@@ -51,13 +51,13 @@ tested_as BoxFull = Some refusal.BoxFull
 tested_as BoxEmpty = Some refusal.BoxEmpty
 tested_as (Forged s) = None
 
--- of these two it is the first that is no actor of the shape
+-- the actor is the first of these two that is not one of the shape
 abbrev pub IsOutsider : Shape → Actor → Actor → Actor → Type 0
 IsOutsider shape one other actor =
     ((actor ≡ one) × (is_actor shape one ≡ false)) ⊎ ((actor ≡ other) × (is_actor shape one ≡ true) × (is_actor shape other ≡ false))
 
--- why the event is not its actor's part: what a traitor posts is planted; clients post nothing to each other, but tell; only traitors
--- plant; a client takes nothing from itself; only a client tells, and only another client
+-- why the event is not its actor's part: a traitor posts only by `Plant`; a client posts to another only by `Tell`; only traitors
+-- plant; a client takes nothing from itself; `Tell` is only from a client to another
 abbrev pub IsNoPart : Shape → Event → Part → Type 0
 IsNoPart shape (Post from to pick) Traitor = is_traitor_of shape from ≡ true
 IsNoPart shape (Post from to pick) BothClients = (is_traitor_of shape from ≡ false) × (are_clients from to ≡ true)
@@ -66,7 +66,7 @@ IsNoPart shape (Take at from) FromItself = is_own_client at from ≡ true
 IsNoPart shape (Tell from to) NotTwoClients = are_two_clients from to ≡ false
 IsNoPart shape event part = ⊥
 
--- why a loyal replica does not post to this client by this choice: no request of the client acted there; or it chooses something
+-- why a loyal replica does not post to this client by this choice: no request of the client acted there; or something is chosen
 abbrev pub IsUndueReply : Shape → List Entry → ℕ → Pick → Undue → Type 0
 IsUndueReply shape log c Plain NothingActed = reply_to shape log c ≡ None
 IsUndueReply shape log c (From clients) NoChoice = Unit {0}
@@ -80,7 +80,7 @@ IsUndueAsk shape log (Begin op) (Outstanding number) = option_map (λ ask. ask.r
 IsUndueAsk shape log (From clients) ProposesNothing = Unit {0}
 IsUndueAsk shape log pick why = ⊥
 
--- why the event is not due by its actor's log; of a take by a loyal replica from a replica, that something else is due first
+-- why the event is not due by its actor's log; for a take by a loyal replica from a replica, that something else is due first
 abbrev pub IsUndue : Shape → Logs → Event → Undue → Type 0
 IsUndue shape logs (Post (Replica p) (Replica q) pick) why = IsUndueRound shape (Replica p) (logs (Replica p)) q pick why
 IsUndue shape logs (Post (Replica p) (Client c) pick) why = IsUndueReply shape (logs (Replica p)) c pick why
@@ -98,7 +98,7 @@ IsSpent shape logs (Plant from to draft) Posts = is_used_up logs from to ≡ tru
 IsSpent shape logs (Tell from to) Posts = is_used_up logs from to ≡ true
 IsSpent shape logs event limit = ⊥
 
--- what the cause says is so
+-- what the cause says holds
 abbrev pub IsWhy : Shape → Logs → Event → Cause → Type 0
 IsWhy shape logs (Post from to pick) (NoActor actor) = IsOutsider shape from to actor
 IsWhy shape logs (Plant from to draft) (NoActor actor) = IsOutsider shape from to actor
@@ -115,7 +115,7 @@ IsWhy shape logs (Plant from to draft) (Forged s) =
     Carries draft (signed s.signer s.statement) × (IsMadeOrPosted shape logs (signed s.signer s.statement) → ⊥)
 IsWhy shape logs event cause = ⊥
 
--- the event is refused with the cause's refusal, and for it
+-- the event is refused with the cause's refusal, and what the cause says holds
 pub record HoldsCause (shape : Shape) (logs : Logs) (event : Event) (cause : Cause) : Type 0 where
   pub refused : refusal_of shape logs event ≡ tested_as cause
   pub why : IsWhy shape logs event cause

@@ -8,14 +8,14 @@ use Rattle.dsr_facts.specs.declared.difference.Difference.TheVariants.{OtherKind
 use Rattle.dsr_facts.specs.declared.difference.Parting.{Parting}
 use Rattle.dsr_facts.specs.declared.difference.Parting.TheVariants.{TooMany, Missing, Misplaced, OtherContent}
 
--- two lists agree before this place, and not at it: there they go on with these, or end
+-- two lists agree before this place, and not at it: there they go on with `next` and `other`, or end
 pub record PartAt (place : ℕ) (ours theirs : List Chain) (next other : Option Chain) : Type 0 where
   pub before : (i : ℕ) → i < place → slice_get ours i ≡ slice_get theirs i
   pub ours_next : slice_get ours place ≡ next
   pub theirs_next : slice_get theirs place ≡ other
   pub apart : next ≢ other
 
--- of one slot, and with the same signers
+-- for one slot, and with the same signers
 abbrev pub AreAlike : Chain → Chain → Type 0
 AreAlike x y = (x.slot ≡ y.slot) × (signers_of x.signatures ≡ signers_of y.signatures)
 
@@ -42,8 +42,8 @@ pub record ArePartedAt (place : ℕ) (ours theirs : List Chain) (how : Parting) 
   pub part : PartAt place ours theirs next other
   pub is : IsParting ours theirs next other how
 
--- how two lists of chains differ, of which one is that of the empty envelope: they part somewhere, or have no chain, and then only the kinds
--- of the envelopes differ
+-- how two lists of chains differ, if one of the envelopes is the empty one: they part somewhere, or neither has a chain, and then only the
+-- kinds of the envelopes differ
 abbrev pub DifferInChains : List Chain → List Chain → Difference → Type 0
 DifferInChains ours theirs (Chains place how) = ArePartedAt place ours theirs how
 DifferInChains ours theirs OtherKind = (ours ≡ []) × (theirs ≡ [])
@@ -55,7 +55,7 @@ DifferInRounds ours theirs xs ys OtherRound = ours ≢ theirs
 DifferInRounds ours theirs xs ys (Chains place how) = (ours ≡ theirs) × ArePartedAt place xs ys how
 DifferInRounds ours theirs xs ys d = ⊥
 
--- how the second envelope differs from the first, which is wanted. The empty envelope is compared as the envelope of a round with no chain
+-- how the second envelope differs from the first, which is wanted. The empty envelope is compared as a round's envelope with no chain
 abbrev pub IsDifference : Envelope → Envelope → Difference → Type 0
 IsDifference (Round r xs) (Round s ys) d = DifferInRounds r s xs ys d
 IsDifference Empty (Round s ys) d = DifferInChains [] ys d

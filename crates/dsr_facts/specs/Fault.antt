@@ -19,7 +19,7 @@ use Rattle.dsr_facts.specs.declared.fault.Fault.TheVariants.{Refused, OtherPoste
 use Rattle.dsr_facts.specs.declared.cause.Cause.TheVariants.{NotDue, Exhausted}
 use Rattle.dsr_facts.specs.declared.cause.Limit.TheVariants.{Rounds}
 
--- the choice of these clients; nothing in particular if there are none
+-- the choice of these clients; the plain one if there are none
 abbrev pub choice_by : Option (List ℕ) → Pick
 choice_by None = Plain
 choice_by (Some clients) = From clients
@@ -36,7 +36,7 @@ IsRoundFault shape me log q found pick (Refused (Exhausted Rounds)) = IsSome (en
 IsRoundFault shape me log q found pick (OtherPosted wanted how) = (envelope_to shape me log q pick ≡ Some wanted) × IsDifference wanted found how
 IsRoundFault shape me log q found pick fault = ⊥
 
--- the same, by the choice that the envelope shows; for nothing in particular if it shows none that can be made
+-- the same, by the choice that the envelope shows; by the plain choice if it shows none that can be made
 pub record HoldsRoundFault (shape : Shape) (me : Actor) (log : List Entry) (q : ℕ) (found : Envelope) (fault : Fault) : Type 0 where
   pub pick : Pick
   pub read : IsRead shape me q found pick

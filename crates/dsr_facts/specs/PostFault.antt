@@ -26,7 +26,7 @@ IsPostFault shape logs p q found pick (OtherPosted wanted how) =
     (refusal_of shape logs (Post (Replica p) (Replica q) pick) ≡ None)
     × (post_of shape (logs (Replica p)) (Replica p) (Replica q) pick ≡ Some wanted) × IsDifference wanted found how
 
--- the same, by the choice that the envelope shows; for nothing in particular if it shows none that can be made
+-- the same, by the choice that the envelope shows; by the plain choice if it shows none that can be made
 pub record HoldsPostFault (shape : Shape) (logs : Logs) (p q : ℕ) (found : Envelope) (fault : Fault) : Type 0 where
   pub pick : Pick
   pub read : IsRead shape (Replica p) q found pick

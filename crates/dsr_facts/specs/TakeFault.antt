@@ -10,7 +10,7 @@ use Rattle.dsr_facts.specs.Cause.{HoldsCause}
 use Rattle.dsr_facts.specs.declared.fault.Fault.{Fault}
 use Rattle.dsr_facts.specs.declared.fault.Fault.TheVariants.{Refused, OtherHeld, OtherPosted}
 
--- the box from one actor to another holds another envelope than this
+-- the box from one actor to another holds an envelope other than this
 pub record HoldsOther (logs : Logs) (from to : Actor) (found : Envelope) : Type 0 where
   pub held : Envelope
   pub holds : in_box logs from to ≡ Some held

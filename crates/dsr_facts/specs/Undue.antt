@@ -14,7 +14,7 @@ use Rattle.dsr_replica.specs.Held.{held, all_held}
 use Rattle.dsr_facts.specs.declared.undue.Undue.{Undue}
 use Rattle.dsr_facts.specs.declared.undue.Undue.TheVariants.{First, ChosenBefore, OtherSender, NothingHeld, BeginsNothing}
 
--- of these clients it is the first of whom the replica holds no ask
+-- the client is the first of these whose ask the replica does not hold
 pub record IsFirstUnheld (shape : Shape) (log : List Entry) (clients : List ℕ) (client : ℕ) : Type 0 where
   pub place : ℕ
   pub at : slice_get clients place ≡ Some client
@@ -23,7 +23,7 @@ pub record IsFirstUnheld (shape : Shape) (log : List Entry) (clients : List ℕ)
 
 -- why a loyal replica with this log does not post to this replica by this choice. First: something else is due with the replicas.
 -- Otherwise the post is due, and the choice is not allowed there: a replica begins no request; or what is proposed was chosen at the post
--- to replica 0; or this client is the first of the chosen ones of whom it holds no ask; or it holds all their asks, and the slot that
+-- to replica 0; or this client is the first of the chosen ones whose ask it does not hold; or it holds all their asks, and the slot that
 -- begins with the round has another sender
 abbrev pub IsUndueRound : Shape → Actor → List Entry → ℕ → Pick → Undue → Type 0
 IsUndueRound shape me log q pick (First next) = (due shape log ≡ next) × (is_due next q ≡ false)

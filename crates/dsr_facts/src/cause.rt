@@ -30,15 +30,15 @@ use dsr_world::{Event, World};
 /// Why an event is not its actor's part.
 #[derive(Clone, Copy, Debug, PartialEq, Eq)]
 pub enum Part {
-    /// The actor is a traitor: what it posts is planted.
+    /// The actor is a traitor: it posts only by `Plant`.
     Traitor,
     /// The actor is loyal: only traitors plant.
     Loyal,
-    /// Clients post nothing to each other, but tell.
+    /// Both are clients: a client posts to another only by `Tell`.
     BothClients,
     /// A client takes nothing from itself.
     FromItself,
-    /// Only a client tells, and only another client.
+    /// `Tell` is only from a client to another.
     NotTwoClients,
 }
 
@@ -56,11 +56,11 @@ pub enum Limit {
 /// Why an event is refused.
 #[derive(Clone, Copy, Debug)]
 pub enum Cause {
-    /// This is no actor of the shape.
+    /// This actor is not one of the shape.
     NoActor(Actor),
-    /// It is not the actor's part.
+    /// The event is not the actor's part.
     WrongRole(Part),
-    /// The actor's conduct has no such step now.
+    /// The actor's protocol has no such step now.
     NotDue(Undue),
     /// A counter would pass its limit.
     Exhausted(Limit),
@@ -68,11 +68,11 @@ pub enum Cause {
     BoxFull,
     /// The box holds none.
     BoxEmpty,
-    /// This signature is no traitor's, and its signer has not posted it.
+    /// This signature is not a traitor's, and its signer has not posted it.
     Forged(Forged),
 }
 
-/// Why the event is refused by this world. `None` exactly if the event may be done, as far as there is memory. It allocates nothing.
+/// Returns why the event is refused by this world. `None` exactly if the event may be done, as far as there is memory. Allocates nothing.
 pub fn why_refused(world: &World, event: &Event) -> Option<Cause>
     ensures some { IfSome result (HoldsCause world.now.shape (log_of world.now.run) event.now) }
     ensures none { IfNone result (MayBeDone world.now.shape (log_of world.now.run) event.now) }
@@ -85,7 +85,7 @@ pub fn why_refused(world: &World, event: &Event) -> Option<Cause>
     }
 }
 
-/// Why a loyal actor's post is refused.
+/// Returns why a loyal actor's post is refused, if it is.
 pub(crate) fn post_cause(world: &World, from: &Actor, to: &Actor, pick: &Pick) -> Option<Cause>
     ensures some { IfSome result (HoldsCause world.now.shape (log_of world.now.run) (Post from.now to.now pick.now)) }
     ensures none { IfNone result (refusal_of world.now.shape (log_of world.now.run) (Post from.now to.now pick.now) ≡ None) }
@@ -111,7 +111,7 @@ pub(crate) fn post_cause(world: &World, from: &Actor, to: &Actor, pick: &Pick) -
     None
 }
 
-/// Why a traitor's post is refused.
+/// Returns why a traitor's post is refused, if it is.
 fn plant_cause(world: &World, from: &Actor, to: &Actor, draft: &Draft) -> Option<Cause>
     ensures some { IfSome result (HoldsCause world.now.shape (log_of world.now.run) (Plant from.now to.now draft.now)) }
     ensures none { IfNone result (refusal_of world.now.shape (log_of world.now.run) (Plant from.now to.now draft.now) ≡ None) }
@@ -133,7 +133,7 @@ fn plant_cause(world: &World, from: &Actor, to: &Actor, draft: &Draft) -> Option
     Some(Cause::Forged(forged))
 }
 
-/// A signature that a traitor who posts the draft would forge.
+/// Returns a signature that a traitor who posts the draft would forge, if there is one.
 fn forged_by(world: &World, from: &Actor, draft: &Draft) -> Option<Forged>
     requires inside { IsActor world.now.shape from.now }
     requires traitor { is_traitor_of world.now.shape from.now ≡ true }
@@ -144,7 +144,7 @@ fn forged_by(world: &World, from: &Actor, draft: &Draft) -> Option<Forged>
     world.forged_in(draft)
 }
 
-/// Why a take is refused.
+/// Returns why a take is refused, if it is.
 pub(crate) fn take_cause(world: &World, at: &Actor, from: &Actor) -> Option<Cause>
     ensures some { IfSome result (HoldsCause world.now.shape (log_of world.now.run) (Take at.now from.now)) }
     ensures none { IfNone result (refusal_of world.now.shape (log_of world.now.run) (Take at.now from.now) ≡ None) }
@@ -167,7 +167,7 @@ pub(crate) fn take_cause(world: &World, at: &Actor, from: &Actor) -> Option<Caus
     None
 }
 
-/// Why it is refused that an actor tells another its seen front.
+/// Returns why an actor's post of its seen front to another is refused, if it is.
 fn tell_cause(world: &World, from: &Actor, to: &Actor) -> Option<Cause>
     ensures some { IfSome result (HoldsCause world.now.shape (log_of world.now.run) (Tell from.now to.now)) }
     ensures none { IfNone result (refusal_of world.now.shape (log_of world.now.run) (Tell from.now to.now) ≡ None) }
@@ -187,7 +187,7 @@ fn tell_cause(world: &World, from: &Actor, to: &Actor) -> Option<Cause>
     None
 }
 
-/// Why a loyal actor has no such post.
+/// Returns why a loyal actor has no such post, if it has none.
 fn undue_post(world: &World, from: &Actor, to: &Actor, pick: &Pick) -> Option<Undue>
     requires from { IsActor world.now.shape from.now }
     requires to { IsActor world.now.shape to.now }
@@ -209,7 +209,7 @@ fn undue_post(world: &World, from: &Actor, to: &Actor, pick: &Pick) -> Option<Un
     }
 }
 
-/// Why a loyal replica posts no reply to this client by this choice.
+/// Returns why a loyal replica posts no reply to this client by this choice, if it posts none.
 fn undue_reply(replica: &Replica, client: ClientId, pick: &Pick) -> Option<Undue>
     ensures some { (log : List Entry) → StandsFor replica.now log → IfSome result (IsUndueReply replica.now.shape log client pick.now) }
     ensures none { (log : List Entry) (p : ℕ) → StandsFor replica.now log
@@ -224,7 +224,7 @@ fn undue_reply(replica: &Replica, client: ClientId, pick: &Pick) -> Option<Undue
     }
 }
 
-/// Why a client asks nothing by this choice.
+/// Returns why a client asks nothing by this choice, if it asks nothing.
 fn undue_ask(client: &Client, pick: &Pick) -> Option<Undue>
     ensures some { (log : List Entry) → StandsForClient client.now log → IfSome result (IsUndueAsk client.now.shape log pick.now) }
     ensures none { (log : List Entry) (q : ℕ) → StandsForClient client.now log
@@ -238,7 +238,7 @@ fn undue_ask(client: &Client, pick: &Pick) -> Option<Undue>
     }
 }
 
-/// Why a take is not due.
+/// Returns why a take is not due, if it is not.
 fn undue_take(world: &World, at: &Actor, from: &Actor) -> Option<Undue>
     requires at { IsActor world.now.shape at.now }
     ensures some { IfSome result (IsUndue world.now.shape (log_of world.now.run) (Take at.now from.now)) }
@@ -260,7 +260,7 @@ fn undue_take(world: &World, at: &Actor, from: &Actor) -> Option<Undue>
     }
 }
 
-/// Which counter would pass its limit by a loyal actor's post, for which there is an envelope.
+/// Returns which counter would pass its limit by a loyal actor's post, if one would. Requires that the protocol has such a post.
 fn spent_by_post(world: &World, from: &Actor, to: &Actor, pick: &Pick) -> Option<Limit>
     requires from { IsActor world.now.shape from.now }
     requires to { IsActor world.now.shape to.now }
@@ -292,7 +292,7 @@ fn spent_by_post(world: &World, from: &Actor, to: &Actor, pick: &Pick) -> Option
     }
 }
 
-/// Whether the round in progress is none in which a loyal replica posts, which has an envelope for this choice.
+/// Tells whether the round in progress is too late for a loyal replica's post, for which there is an envelope.
 fn has_no_round(replica: &Replica, to: ReplicaId, pick: &Pick) -> bool
     ensures { (log : List Entry) (p : ℕ) → StandsFor replica.now log → replica.now.me ≡ ReplicaNumber p
         → is_none (post_of replica.now.shape log (ReplicaNumber p) (ReplicaNumber to) pick.now) ≡ false
@@ -304,7 +304,7 @@ fn has_no_round(replica: &Replica, to: ReplicaId, pick: &Pick) -> bool
     }
 }
 
-/// Whether there is no number for a client's new request, where one is begun.
+/// Tells whether a client is to begin a request for which there is no number.
 fn has_no_number(client: &Client, pick: &Pick) -> bool
     ensures { (log : List Entry) (to : AnActor) → StandsForClient client.now log
         → is_none (post_of client.now.shape log (ClientNumber client.now.me) to pick.now) ≡ false
@@ -316,7 +316,7 @@ fn has_no_number(client: &Client, pick: &Pick) -> bool
     }
 }
 
-/// The loyal replica of this number.
+/// Returns the loyal replica with this number.
 pub(crate) fn loyal_of(world: &World, number: ReplicaId) -> &Replica
     requires { IsLoyal world.now.shape (ReplicaNumber number) }
     ensures { PlaysReplica world.now.shape number (log_of world.now.run (ReplicaNumber number)) result.now }
@@ -327,7 +327,7 @@ pub(crate) fn loyal_of(world: &World, number: ReplicaId) -> &Replica
     }
 }
 
-/// The client of this number.
+/// Returns the client with this number.
 fn client_of(world: &World, number: ClientId) -> &Client
     requires { number < world.now.shape.m }
     ensures stands { StandsForClient result.now (log_of world.now.run (ClientNumber number)) }
@@ -340,7 +340,7 @@ fn client_of(world: &World, number: ClientId) -> &Client
     }
 }
 
-/// The first of these two that is no actor of the shape.
+/// Returns the first of these two that is not an actor of the shape, if there is one.
 fn outsider(shape: &Shape, one: &Actor, other: &Actor) -> Option<Actor>
     ensures some { IfSome result (IsOutsider shape.now one.now other.now) }
     ensures refused { IfSome result (λ actor. (is_actor shape.now one.now && is_actor shape.now other.now) ≡ false) }
@@ -357,7 +357,7 @@ fn outsider(shape: &Shape, one: &Actor, other: &Actor) -> Option<Actor>
     None
 }
 
-/// Whether it is an actor of the shape.
+/// Tells whether this is an actor of the shape.
 fn is_inside(shape: &Shape, actor: &Actor) -> bool
     ensures same { result ≡ is_actor shape.now actor.now }
     ensures inside { IsTrue result → IsActor shape.now actor.now }
@@ -365,7 +365,7 @@ fn is_inside(shape: &Shape, actor: &Actor) -> bool
     shape.has(*actor)
 }
 
-/// Whether an actor of the shape is a traitor.
+/// Tells whether an actor of the shape is a traitor.
 fn is_traitor(shape: &Shape, actor: &Actor) -> bool
     requires { IsActor shape.now actor.now }
     ensures { result ≡ is_traitor_of shape.now actor.now }
@@ -373,7 +373,7 @@ fn is_traitor(shape: &Shape, actor: &Actor) -> bool
     !shape.is_loyal(*actor)
 }
 
-/// Whether both are clients.
+/// Tells whether both are clients.
 fn are_clients(one: &Actor, other: &Actor) -> bool
     ensures { result ≡ are_clients one.now other.now }
 {
@@ -383,7 +383,7 @@ fn are_clients(one: &Actor, other: &Actor) -> bool
     }
 }
 
-/// Whether both are one client.
+/// Tells whether both are one client.
 fn is_own_client(one: &Actor, other: &Actor) -> bool
     ensures { result ≡ is_own_client one.now other.now }
 {
@@ -393,7 +393,7 @@ fn is_own_client(one: &Actor, other: &Actor) -> bool
     }
 }
 
-/// Whether the box from one actor to another holds an envelope.
+/// Tells whether the box from one actor to another holds an envelope.
 fn is_full(world: &World, from: &Actor, to: &Actor) -> bool
     requires from { IsActor world.now.shape from.now }
     requires to { IsActor world.now.shape to.now }
@@ -402,7 +402,7 @@ fn is_full(world: &World, from: &Actor, to: &Actor) -> bool
     world.in_box(from, to).is_some()
 }
 
-/// Whether the box from one actor to another has had all the posts that it may have.
+/// Tells whether the box from one actor to another has had all the posts that it may have.
 fn is_used_up(world: &World, from: &Actor, to: &Actor) -> bool
     requires from { IsActor world.now.shape from.now }
     requires to { IsActor world.now.shape to.now }

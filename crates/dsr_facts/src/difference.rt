@@ -5,16 +5,16 @@ ghost use Rattle.dsr_facts.specs.Difference.{AreAlike, IsOneOf, ArePartedAt, Dif
 use dsr_chain::Chain;
 use dsr_envelope::Envelope;
 
-/// What is wrong at the first place at which a list of chains is another than the one that is posted.
+/// What is wrong at the first place at which a found list of chains differs from the wanted one.
 #[derive(Clone, Copy, Debug, PartialEq, Eq)]
 pub enum Parting {
-    /// Nothing more is posted, or nowhere what stands there.
+    /// The wanted list has ended, or it has nowhere the chain that the found one has here.
     TooMany,
-    /// The list ends before what is posted there, or has it nowhere.
+    /// The found list has ended, or it has nowhere the chain that the wanted one has here; its own chain here is in the wanted list.
     Missing,
-    /// What stands there is posted elsewhere, and what is posted there stands elsewhere.
+    /// Each list has, at another place, the chain that the other one has here.
     Misplaced,
-    /// The slot and the signers are those of what is posted there, but the chain is another: its value, or a signature, differs.
+    /// Both chains here have the same slot and signers, but their value or a signature differs.
     OtherContent,
 }
 
@@ -25,7 +25,7 @@ pub enum Difference {
     OtherKind,
     /// It is of another round.
     OtherRound,
-    /// Its chains are those that are posted up to this place, counted from 0, and another one, or none, at it.
+    /// The chains are the wanted ones before this place, counted from 0, and differ at it, where one list may have ended.
     Chains { place: u64, how: Parting },
     /// It is another ask.
     OtherAsk,
@@ -35,7 +35,7 @@ pub enum Difference {
     OtherFront,
 }
 
-/// How the envelope that was found differs from the one that is wanted. `None` exactly if it does not. It allocates nothing.
+/// Returns how the envelope that was found differs from the wanted one. `None` exactly if it does not. Allocates nothing.
 pub fn how_differs(wanted: &Envelope, found: &Envelope) -> Option<Difference>
     ensures some { IfSome result (IsDifference wanted.now found.now) }
     ensures none { IfNone result (wanted.now ≡ found.now) }
@@ -66,7 +66,7 @@ pub fn how_differs(wanted: &Envelope, found: &Envelope) -> Option<Difference>
     })
 }
 
-/// How the chains of two envelopes differ, one of which is empty.
+/// Returns how the chains of two envelopes differ. Requires that one of them has none.
 fn in_chains(ours: &[Chain], theirs: &[Chain]) -> Difference
     requires { (ours.now ≡ []) ⊎ (theirs.now ≡ []) }
     ensures { DifferInChains ours.now theirs.now result }
@@ -78,7 +78,7 @@ fn in_chains(ours: &[Chain], theirs: &[Chain]) -> Difference
     }
 }
 
-/// How two lists of chains differ, which are not the same.
+/// Returns how two lists of chains differ. Requires that they do.
 fn parted(ours: &[Chain], theirs: &[Chain]) -> Difference
     requires { ours.now ≢ theirs.now }
     ensures chains { DifferInChains ours.now theirs.now result }
@@ -92,7 +92,7 @@ fn parted(ours: &[Chain], theirs: &[Chain]) -> Difference
     }
 }
 
-/// Up to which place two lists of chains agree.
+/// Returns the first place at which two lists of chains differ, or the end of the shorter one.
 fn agreed(ours: &[Chain], theirs: &[Chain]) -> usize
     ensures before { (i : ℕ) → i < result → slice_get ours.now i ≡ slice_get theirs.now i }
     ensures ours { result ≤ length ours.now }
@@ -107,7 +107,8 @@ fn agreed(ours: &[Chain], theirs: &[Chain]) -> usize
     ours.len()
 }
 
-/// What is wrong at this place, up to which two lists of chains agree, and which is the end of at most one of them.
+/// Returns what is wrong at this place. Requires that two lists of chains agree before it, differ at it, and have not both ended
+/// there.
 fn parting_at(ours: &[Chain], theirs: &[Chain], place: usize) -> Parting
     requires before { (i : ℕ) → i < place → slice_get ours.now i ≡ slice_get theirs.now i }
     requires apart { (x y : AChain) → slice_get ours.now place ≡ Some x → slice_get theirs.now place ≡ Some y → x ≢ y }
@@ -118,7 +119,7 @@ fn parting_at(ours: &[Chain], theirs: &[Chain], place: usize) -> Parting
     how
 }
 
-/// What is wrong where two lists of chains go on with what stands at this place.
+/// Returns what is wrong if two lists of chains go on with what is at this place.
 fn parting_on(ours: &[Chain], theirs: &[Chain], place: usize) -> Parting
     requires some { place < length ours.now ⊎ place < length theirs.now }
     ensures { IsParting ours.now theirs.now (slice_get ours.now place) (slice_get theirs.now place) result }
@@ -132,7 +133,7 @@ fn parting_on(ours: &[Chain], theirs: &[Chain], place: usize) -> Parting
     parting_of(ours, theirs, &ours[place], &theirs[place])
 }
 
-/// What is wrong where two lists of chains go on with these.
+/// Returns what is wrong if two lists of chains go on with these.
 fn parting_of(ours: &[Chain], theirs: &[Chain], next: &Chain, other: &Chain) -> Parting
     ensures { IsParting ours.now theirs.now (Some next.now) (Some other.now) result }
 {
@@ -147,14 +148,14 @@ fn parting_of(ours: &[Chain], theirs: &[Chain], next: &Chain, other: &Chain) -> 
     }
 }
 
-/// Whether two chains are of one slot, and have the same signers.
+/// Tells whether two chains are for one slot, and have the same signers.
 fn are_alike(one: &Chain, other: &Chain) -> bool
     ensures { IsTrue result ↔ AreAlike one.now other.now }
 {
     one.slot() == other.slot() && one.signers().same(&other.signers())
 }
 
-/// Whether the chain is one of these.
+/// Tells whether the chain is one of these.
 fn has(chains: &[Chain], chain: &Chain) -> bool
     ensures { IsTrue result ↔ IsOneOf chain.now chains.now }
 {

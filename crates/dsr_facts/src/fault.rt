@@ -19,16 +19,16 @@ use std::alloc::Global;
 /// Why a recorded take, or a recorded post of a loyal replica to a replica, may not follow.
 #[derive(Drop)]
 pub enum Fault {
-    /// The event that it would be is refused for this.
+    /// The event that it would be is refused, with this cause.
     Refused(Cause),
     /// The box holds another envelope.
     OtherHeld,
-    /// The actor posts this there, from which the envelope differs so.
+    /// The actor posts `wanted` there, from which the envelope differs by `how`.
     OtherPosted { wanted: Envelope, how: Difference },
 }
 
-/// Why the replica, which is `me`, may not post this envelope to this replica next, by its own log. `None` exactly if it may, whatever the box
-/// holds. `NoMemory` if memory runs out.
+/// Returns why the replica, which is `me`, may not post this envelope to this replica next, by its own log. `None` exactly if it may, whatever
+/// the box holds. `NoMemory` if memory runs out.
 pub fn round_fault(
     alloc: Global,
     replica: &Replica,
@@ -60,7 +60,7 @@ pub fn round_fault(
     }
 }
 
-/// What a fault says is so: the replica may not post the envelope.
+/// If a fault holds, the replica may not post the envelope.
 pub fn round_faults_stop()
     ensures { (shape : Shape) (me : AnActor) (log : List Entry) (q : ℕ) (found : AnEnvelope) (fault : AFault)
         → HoldsRoundFault shape me log q found fault → MayPostRound shape me log q found → ⊥ }

@@ -17,8 +17,8 @@ use dsr_names::{Actor, Refusal, ReplicaId};
 use dsr_world::World;
 use std::alloc::Global;
 
-/// Why a loyal replica's recorded post of this envelope to a replica may not follow in this world. `None` exactly if it may. `NoMemory` if
-/// memory runs out.
+/// Returns why a loyal replica's recorded post of this envelope to a replica may not follow in this world. `None` exactly if it may.
+/// `NoMemory` if memory runs out.
 pub fn post_fault(
     alloc: Global,
     world: &World,
@@ -52,7 +52,7 @@ pub fn post_fault(
     }
 }
 
-/// What a fault says is so: the post may not follow.
+/// If a fault holds, the post may not follow.
 pub fn post_faults_stop()
     ensures { (shape : AShape) (logs : Logs) (p q : ℕ) (found : AnEnvelope) (fault : AFault) → is_traitor shape p ≡ false
         → HoldsPostFault shape logs p q found fault → IsNextStep shape logs (ReplicaNumber p, Post (ReplicaNumber q) found) → ⊥ }

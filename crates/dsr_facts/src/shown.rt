@@ -11,8 +11,9 @@ use dsr_envelope::{Clients, Envelope, Pick};
 use dsr_names::{Actor, Refusal, ReplicaId, Shape};
 use std::alloc::Global;
 
-/// The clients whose requests a loyal replica's post to this replica shows as chosen; `None` for nothing in particular, and if it shows
-/// clients that cannot be a choice. Whatever the replica's log is, no other choice gives this envelope. `NoMemory` if memory runs out.
+/// Returns the clients whose requests a loyal replica's post to this replica shows as chosen; `None` for the plain choice, and if it
+/// shows clients that cannot be a choice. Whatever the replica's log is, no other choice gives this envelope. `NoMemory` if memory runs
+/// out.
 pub(crate) fn shown_clients(
     alloc: Global,
     shape: &Shape,
@@ -40,7 +41,7 @@ pub(crate) fn shown_clients(
     }
 }
 
-/// The choice of these clients.
+/// Makes the choice of these clients, or the plain one if there are none.
 pub(crate) fn pick_of(clients: &Option<Clients>) -> Pick
     ensures { result ≡ choice_by clients.now }
 {
@@ -50,7 +51,7 @@ pub(crate) fn pick_of(clients: &Option<Clients>) -> Pick
     }
 }
 
-/// The clients of the requests of the last chain, where they can be chosen.
+/// Returns the clients of the requests in the last chain, if they can be chosen.
 fn last_clients(alloc: Global, chains: &[Chain]) -> Result<Option<Clients>, Refusal>
     ensures shown { IsPick (choice_of (map (λ r. r.client) (requests_in (last_value Idle chains.now))))
         → IfOk result (λ clients. choice_by clients ≡ choice_of (map (λ r. r.client) (requests_in (last_value Idle chains.now)))) }
@@ -64,7 +65,7 @@ fn last_clients(alloc: Global, chains: &[Chain]) -> Result<Option<Clients>, Refu
     }
 }
 
-/// The clients of these requests, where they can be chosen.
+/// Returns the clients of these requests, if they can be chosen.
 fn clients_in(alloc: Global, asks: &[SignedRequest]) -> Result<Option<Clients>, Refusal>
     ensures shown { IsPick (choice_of (map (λ r. r.client) (map (λ ask. ask.request) asks.now)))
         → IfOk result (λ clients. choice_by clients ≡ choice_of (map (λ r. r.client) (map (λ ask. ask.request) asks.now))) }

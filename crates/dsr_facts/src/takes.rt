@@ -16,7 +16,7 @@ use dsr_script::Draft;
 use dsr_world::World;
 use std::alloc::Global;
 
-/// Why the recorded take of this envelope may not follow in this world. `None` exactly if it may. `NoMemory` if memory runs out.
+/// Returns why the recorded take of this envelope may not follow in this world. `None` exactly if it may. `NoMemory` if memory runs out.
 pub fn take_fault(
     alloc: Global,
     world: &World,
@@ -41,7 +41,7 @@ pub fn take_fault(
     }
 }
 
-/// What the box from one actor to another holds, as data. `NoMemory` if memory runs out.
+/// Returns what the box from one actor to another holds, as data. Requires that it holds something. `NoMemory` if memory runs out.
 fn held_in(alloc: Global, world: &World, from: &Actor, to: &Actor) -> Result<Draft, Refusal>
     requires from { IsActor world.now.shape from.now }
     requires to { IsActor world.now.shape to.now }
@@ -57,7 +57,7 @@ fn held_in(alloc: Global, world: &World, from: &Actor, to: &Actor) -> Result<Dra
     Ok(held)
 }
 
-/// What a fault says is so: the take may not follow.
+/// If a fault holds, the take may not follow.
 pub fn take_faults_stop()
     ensures { (shape : AShape) (logs : Logs) (at from : AnActor) (found : AnEnvelope) (fault : AFault)
         → HoldsTakeFault shape logs at from found fault → IsNextStep shape logs (at, Take from found) → ⊥ }

@@ -27,17 +27,17 @@ pub enum Undue {
     BeginsNothing,
     /// No request of the client has acted at the replica.
     NothingActed,
-    /// A replica chooses nothing at a post to a client.
+    /// A replica chooses nothing for a post to a client.
     NoChoice,
     /// A client proposes nothing.
     ProposesNothing,
-    /// The client's request of this number is outstanding.
+    /// The client's request with this number is outstanding.
     Outstanding { number: u64 },
     /// No request of the client is outstanding.
     NothingOutstanding,
 }
 
-/// Why the replica does not post to this replica by this choice. `None` exactly if it has an envelope for it. It allocates nothing.
+/// Returns why the replica does not post to this replica by this choice. `None` exactly if it has an envelope for it. Allocates nothing.
 pub fn undue_round(replica: &Replica, to: ReplicaId, pick: &Pick) -> Option<Undue>
     ensures some { (log : List Entry) → StandsFor replica.now log
         → IfSome result (IsUndueRound replica.now.shape replica.now.me log to pick.now) }
@@ -54,7 +54,8 @@ pub fn undue_round(replica: &Replica, to: ReplicaId, pick: &Pick) -> Option<Undu
     }
 }
 
-/// Why the replica does not propose the asks of these clients at a post to this replica, which is due.
+/// Returns why the replica does not propose the asks of these clients in a post to this replica, if it does not. Requires that the post
+/// is due.
 fn undue_choice(replica: &Replica, to: ReplicaId, clients: &Clients) -> Option<Undue>
     ensures some { (log : List Entry) → StandsFor replica.now log → due replica.now.shape log ≡ PostTo to
         → IfSome result (IsUndueRound replica.now.shape replica.now.me log to (From clients.now)) }
@@ -73,7 +74,7 @@ fn undue_choice(replica: &Replica, to: ReplicaId, clients: &Clients) -> Option<U
     }
 }
 
-/// The first of these clients of whom the replica holds no ask.
+/// Returns the first of these clients whose ask the replica does not hold.
 fn first_unheld(replica: &Replica, clients: &[ClientId]) -> Option<ClientId>
     ensures some { (log : List Entry) → StandsFor replica.now log → IfSome result (IsFirstUnheld replica.now.shape log clients.now) }
     ensures none { (log : List Entry) → StandsFor replica.now log → IfNone result (IsSome (all_held replica.now.shape log clients.now)) }
@@ -86,7 +87,7 @@ fn first_unheld(replica: &Replica, clients: &[ClientId]) -> Option<ClientId>
     None
 }
 
-/// Whether the post to this replica is due.
+/// Tells whether the post to this replica is due.
 fn is_due(next: Due, to: ReplicaId) -> bool
     ensures { result ≡ is_due next to }
 {
