@@ -157,7 +157,7 @@ impl Table {
         }
     }
 
-    /// Returns the register's place, or the one that it would get.
+    /// Returns the register's place as `Ok`, or the place that it would get as `Err`.
     fn search(&self, name: &Name) -> Result<usize, usize>
         ensures found { IfOk result (IsAt self.now name.now) }
         ensures absent { IfErr result (IsGap self.now name.now) }

@@ -85,7 +85,7 @@ pub fn why_refused(world: &World, event: &Event) -> Option<Cause>
     }
 }
 
-/// Returns why a loyal actor's post is refused, if it is.
+/// Returns why a loyal actor's post is refused; `None` if it is not.
 pub(crate) fn post_cause(world: &World, from: &Actor, to: &Actor, pick: &Pick) -> Option<Cause>
     ensures some { IfSome result (HoldsCause world.now.shape (log_of world.now.run) (Post from.now to.now pick.now)) }
     ensures none { IfNone result (refusal_of world.now.shape (log_of world.now.run) (Post from.now to.now pick.now) ≡ None) }
@@ -111,7 +111,7 @@ pub(crate) fn post_cause(world: &World, from: &Actor, to: &Actor, pick: &Pick) -
     None
 }
 
-/// Returns why a traitor's post is refused, if it is.
+/// Returns why a traitor's post is refused; `None` if it is not.
 fn plant_cause(world: &World, from: &Actor, to: &Actor, draft: &Draft) -> Option<Cause>
     ensures some { IfSome result (HoldsCause world.now.shape (log_of world.now.run) (Plant from.now to.now draft.now)) }
     ensures none { IfNone result (refusal_of world.now.shape (log_of world.now.run) (Plant from.now to.now draft.now) ≡ None) }
@@ -144,7 +144,7 @@ fn forged_by(world: &World, from: &Actor, draft: &Draft) -> Option<Forged>
     world.forged_in(draft)
 }
 
-/// Returns why a take is refused, if it is.
+/// Returns why a take is refused; `None` if it is not.
 pub(crate) fn take_cause(world: &World, at: &Actor, from: &Actor) -> Option<Cause>
     ensures some { IfSome result (HoldsCause world.now.shape (log_of world.now.run) (Take at.now from.now)) }
     ensures none { IfNone result (refusal_of world.now.shape (log_of world.now.run) (Take at.now from.now) ≡ None) }
@@ -167,7 +167,7 @@ pub(crate) fn take_cause(world: &World, at: &Actor, from: &Actor) -> Option<Caus
     None
 }
 
-/// Returns why an actor's post of its seen front to another is refused, if it is.
+/// Returns why an actor's post of its seen front to another is refused; `None` if it is not.
 fn tell_cause(world: &World, from: &Actor, to: &Actor) -> Option<Cause>
     ensures some { IfSome result (HoldsCause world.now.shape (log_of world.now.run) (Tell from.now to.now)) }
     ensures none { IfNone result (refusal_of world.now.shape (log_of world.now.run) (Tell from.now to.now) ≡ None) }
@@ -187,7 +187,7 @@ fn tell_cause(world: &World, from: &Actor, to: &Actor) -> Option<Cause>
     None
 }
 
-/// Returns why a loyal actor has no such post, if it has none.
+/// Returns why a loyal actor has no such post; `None` if it has one.
 fn undue_post(world: &World, from: &Actor, to: &Actor, pick: &Pick) -> Option<Undue>
     requires from { IsActor world.now.shape from.now }
     requires to { IsActor world.now.shape to.now }
@@ -209,7 +209,7 @@ fn undue_post(world: &World, from: &Actor, to: &Actor, pick: &Pick) -> Option<Un
     }
 }
 
-/// Returns why a loyal replica posts no reply to this client by this choice, if it posts none.
+/// Returns why a loyal replica posts no reply to this client by this choice; `None` if it posts one.
 fn undue_reply(replica: &Replica, client: ClientId, pick: &Pick) -> Option<Undue>
     ensures some { (log : List Entry) → StandsFor replica.now log → IfSome result (IsUndueReply replica.now.shape log client pick.now) }
     ensures none { (log : List Entry) (p : ℕ) → StandsFor replica.now log
@@ -224,7 +224,7 @@ fn undue_reply(replica: &Replica, client: ClientId, pick: &Pick) -> Option<Undue
     }
 }
 
-/// Returns why a client asks nothing by this choice, if it asks nothing.
+/// Returns why a client asks nothing by this choice; `None` if it asks something.
 fn undue_ask(client: &Client, pick: &Pick) -> Option<Undue>
     ensures some { (log : List Entry) → StandsForClient client.now log → IfSome result (IsUndueAsk client.now.shape log pick.now) }
     ensures none { (log : List Entry) (q : ℕ) → StandsForClient client.now log
@@ -238,7 +238,7 @@ fn undue_ask(client: &Client, pick: &Pick) -> Option<Undue>
     }
 }
 
-/// Returns why a take is not due, if it is not.
+/// Returns why a take is not due; `None` if it is due.
 fn undue_take(world: &World, at: &Actor, from: &Actor) -> Option<Undue>
     requires at { IsActor world.now.shape at.now }
     ensures some { IfSome result (IsUndue world.now.shape (log_of world.now.run) (Take at.now from.now)) }
@@ -260,7 +260,7 @@ fn undue_take(world: &World, at: &Actor, from: &Actor) -> Option<Undue>
     }
 }
 
-/// Returns which counter would pass its limit by a loyal actor's post, if one would. Requires that the protocol has such a post.
+/// Returns which counter a loyal actor's post would take past its limit; `None` if no counter. Requires that the protocol has such a post.
 fn spent_by_post(world: &World, from: &Actor, to: &Actor, pick: &Pick) -> Option<Limit>
     requires from { IsActor world.now.shape from.now }
     requires to { IsActor world.now.shape to.now }

@@ -25,7 +25,7 @@ pub enum Difference {
     OtherKind,
     /// It is of another round.
     OtherRound,
-    /// The chains are the wanted ones before this place, counted from 0, and differ at it, where one list may have ended.
+    /// The chains are the wanted ones before this place, counted from 0, and differ at it, or one list has ended there.
     Chains { place: u64, how: Parting },
     /// It is another ask.
     OtherAsk,

@@ -40,6 +40,6 @@ pub record MayPost (shape : Shape) (me : Actor) (log : List Entry) (to : Actor) 
   pub fits : FitsWhereFree shape me log to envelope
   pub forges : ForgesNone shape me log envelope
 
--- it may post to this actor once more: with that post the box will have fewer than 2^40
+-- it may post to this actor again: with that post the box will have had fewer than 2^40
 abbrev pub HasPostsLeft : List Entry → Actor → Type 0
 HasPostsLeft log to = suc (length (posted_to to log)) < 2 ^ 40

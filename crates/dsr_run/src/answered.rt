@@ -21,7 +21,7 @@ ghost use Rattle.dsr_run.specs.Run.{IsRun, AreLogs};
 ghost use Rattle.dsr_run.specs.Step.{Step, Logs, log_of};
 
 /// To be eager is a way to be loyal: in a shape with a client, whenever the post to replica 0 is due, there is an envelope that is both
-/// what a loyal replica may post next and eager. Nothing is said here about limits and boxes.
+/// what a loyal replica may post next and eager. This says nothing about limits and boxes.
 pub fn loyal_replicas_may_be_eager()
     ensures { (shape : Shape) → 0 < shape.m → (me : Actor) (log : List Entry) → due shape log ≡ PostTo 0
         → (envelope : Envelope) × IsNext shape me log (Post (Replica 0) envelope) × ProposesNext shape me log envelope }

@@ -1,5 +1,5 @@
--- How drafts and known signatures stand in their fields, what of a signature is hashed, and why texts of drafts can be joined.
--- These serve `impl Model`, `impl Hash`, and private contracts.
+-- How the fields of drafts and of known signatures represent them, what is hashed for a signature, and why texts of drafts can
+-- be joined. These serve `impl Model`, `impl Hash`, and private contracts.
 pub mod AskText
 pub mod Carried
 pub mod ChainParts

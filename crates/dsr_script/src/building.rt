@@ -103,7 +103,7 @@ fn is_chain_held(chain: &SaidChain, keys: &[Key], known: &Known) -> bool
         && chain.asks().iter().all(|ask| is_ask_held(ask, keys, known))
 }
 
-/// Tells whether none of these signatures, which are said in a chain with this slot and content, is forged.
+/// Tells whether none of these signatures, which a chain with this slot and content describes, is forged.
 fn are_links_held(
     slot: u64,
     content: &Option<Requests>,
@@ -124,7 +124,7 @@ fn are_links_held(
     true
 }
 
-/// Tells whether the signature that is said after these signers in a chain with this slot and content is not forged. What it says in
+/// Tells whether the signature that a chain with this slot and content describes after these signers is not forged. What it says in
 /// full takes much room, so that is made only if none of the keys is the signer's.
 fn is_link_held(
     slot: u64,
@@ -221,7 +221,7 @@ fn value_of(
     })
 }
 
-/// Makes the signatures that are said in a chain with this slot and content.
+/// Makes the signatures that a chain with this slot and content describes.
 fn signatures_of(
     alloc: Global,
     slot: u64,

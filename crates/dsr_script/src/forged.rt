@@ -21,12 +21,12 @@ use dsr_desk::{Key, Signers, Statement};
 use dsr_names::Actor;
 use dsr_request::Requests;
 
-/// A signature that a holder of these keys who knows these signatures may not post: who is said to have signed, and what.
+/// A signature that a holder of these keys who knows these signatures may not post: its claimed signer and statement.
 #[derive(Clone, Copy, Debug)]
 pub struct Forged {
-    /// The signer.
+    /// The claimed signer.
     pub signer: Actor,
-    /// The statement that is said to be signed.
+    /// The claimed statement.
     pub statement: Statement,
 }
 
@@ -94,7 +94,7 @@ fn forged_in_chain(chain: &SaidChain, keys: &[Key], known: &Known) -> Option<For
     forged_beside(chain.asks(), keys, known)
 }
 
-/// Returns a forged signature among these, which are said in a chain with this slot and content after these signers.
+/// Returns a forged signature among these, which a chain with this slot and content describes after these signers.
 fn forged_link(
     slot: u64,
     content: &Option<Requests>,
@@ -148,7 +148,7 @@ fn forged_request(ask: &SaidRequest, keys: &[Key], known: &Known) -> Option<Forg
     forged_of(&ask.said(), keys, known)
 }
 
-/// Returns the signature that is said, if it is forged.
+/// Returns the described signature, if it is forged.
 fn forged_of(said: &Said, keys: &[Key], known: &Known) -> Option<Forged>
     ensures carried { IfSome result (λ forged. said.now ≡ signed forged.signer forged.statement) }
     ensures forged { IfSome result (λ forged. ¬ IsHeldOrKnown keys.now known.now.signatures (signed forged.signer forged.statement)) }

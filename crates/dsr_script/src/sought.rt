@@ -16,7 +16,7 @@ pub(crate) enum Sought {
 }
 
 impl Sought {
-    /// Returns the actor that signed, or is said to have signed.
+    /// Returns the actor that signed, or is claimed to have signed.
     pub(crate) fn signer(&self) -> Actor
         ensures { result ≡ (said_of self.now).signer }
     {
@@ -26,7 +26,7 @@ impl Sought {
         }
     }
 
-    /// Returns the statement that was signed, or is said to be signed.
+    /// Returns the statement that was signed, or is claimed to be.
     pub(crate) fn statement(&self) -> &Statement
         ensures { result.now ≡ (said_of self.now).statement }
     {

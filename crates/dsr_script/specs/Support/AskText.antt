@@ -29,7 +29,7 @@ other_kind : (b : Bool) (s : Signature) → IsStatement s.statement → IsOther 
 other_kind true s h = tt
 other_kind false s h = h
 
--- what is said about a signature within the limits can be said
+-- what a text says about a signature within the limits is something that a text can say
 pub said_kind : (fitting : Statement) (s : Signature) → IsSignature s → IsSpelled (spelled_at fitting s)
 said_kind fitting s h = record { signer = h.signer; other = other_kind (statement_eq s.statement fitting) s h.statement }
 

@@ -10,11 +10,11 @@ use Rattle.dsr_chain.specs.declared.signed_request.SignedRequest.{SignedRequest}
 use Rattle.dsr_script.specs.ChainText.{spelled_links}
 use Rattle.dsr_script.specs.SignatureText.{Spelled}
 
--- the signature that is said at a place that this statement fits
+-- the signature that a text describes at a place that this statement fits
 abbrev pub said_in : Statement → Spelled → Signature
 said_in fitting x = signed x.signer (unwrap_or x.other fitting)
 
--- those that are said in a chain with this slot and content, after these signers
+-- those that a chain with this slot and content describes, after these signers
 abbrev pub said_by : ℕ → Option (List Request) → List Actor → List Spelled → List Signature
 said_by slot value before [] = []
 said_by slot value before (x ∷ xs) = said_in (Link slot value before) x ∷ said_by slot value (before ++ x.signer ∷ []) xs
