@@ -1,4 +1,4 @@
--- What clients accept stands in the history: the reply of a loyal replica is behind it, and the request is one that its client posted.
+-- What clients accept is in the history: the reply of a loyal replica is behind it, and the request is one that its client posted.
 use Rattle.std.proofs.Common.{◌≡◌, ℕ, ◌<◌, List, ◌∷◌, length, length-append, inl, inr, refl, ap, sym, subst, arith}
 use Rattle.dsr_base.specs.Member.{In, here}
 use Rattle.dsr_base.proofs.MemberLemmas.{In-append_right}
@@ -34,7 +34,7 @@ pub record WasPosted (log : List Entry) (q : Request) : Type 0 where
   pub posted : In (Post (Replica to) (Ask ask)) log
   pub is : ask.request ≡ q
 
--- what stands at a place stands in the history
+-- what is at a place of the history is in it
 pub stands_in : (h : List Request) (place : ℕ) (q : Request) (answer : Answer) → StandsAt h place q answer → In q h
 stands_in h place q answer s = subst (In q) (sym s.parts) (In-append_right q s.newer (q ∷ s.older) (here refl))
 
@@ -69,7 +69,7 @@ module _ (shape : Shape) (run : List Step) (is : IsRun shape run) where
         subst (λ r. WasPosted (log_of run (Client r.client)) r) source.1 (signed_posted some.0 source.0 source.2 source.3)
   ]
 
-  -- what a loyal replica replied and the client took stands in the history
+  -- what a loyal replica replied and the client took is in the history
   pub reply_right : HasFewTraitors shape → (c p : ℕ) → IsLoyal shape (Replica p) → (r : AReply)
       → In (Take (Replica p) (Reply r)) (log_of run (Client c)) → IsReplyTo (history shape (log_of run)) c r
   reply_right few c p loyal r taken =

@@ -1,4 +1,4 @@
--- Agreement and validity in a run: loyal replicas decide the same of each slot that they have closed, and what a loyal sender posted.
+-- Agreement and validity in a run: loyal replicas decide the same for each slot that they have closed, and what a loyal sender posted.
 use Rattle.std.proofs.Common.{◌≡◌, ℕ, suc, ◌+◌, ◌<◌, ◌≤◌, Bool, true, false, List, ◌++◌, Option, None, Some, ◌⊎◌, inl, inr, refl, ap, sym, ◌∙◌, subst, arith}
 use Rattle.std.specs.Prelude.{slice_get}
 use Rattle.std.proofs.lemmas.Bool.{cases_lt, false≢true}
@@ -35,7 +35,7 @@ use Rattle.dsr_run.proofs.Signing.{IsSigned, link_signed}
 module _ (shape : Shape) (run : List Step) (is : IsRun shape run) (slot : ℕ) where
   -- ---- the value
 
-  -- there is a value that a loyal sender posted; idle will do where it posted none, or is a traitor
+  -- there is a value that a loyal sender posted; if it posted none, or is a traitor, idle will do
   pub some_value : (value : SlotValue) × IsValue shape (log shape run is slot (sender shape slot)) slot value
   some_value = by_sender (is_traitor shape (sender shape slot)) refl
     where
@@ -65,7 +65,7 @@ module _ (shape : Shape) (run : List Step) (is : IsRun shape run) (slot : ℕ) w
   -- ---- the broadcast
 
   module _ (value : SlotValue) (its : IsValue shape (log shape run is slot (sender shape slot)) slot value) where
-    -- what stands in a loyal replica's part of the slot stands in what it gave
+    -- what is in a loyal replica's part of the slot is in what it gave
     signed_given : (l : ℕ) → Loyal shape run is slot l → (s : Signature)
         → IsSigned shape (Replica l) (log shape run is slot l) slot value s → WasPosted shape (given_by shape run is slot value) l s
     signed_given l loyal s h = record {
@@ -98,7 +98,7 @@ module _ (shape : Shape) (run : List Step) (is : IsRun shape run) (slot : ℕ) w
         not_traitor l loyal (inl traitor) = absurd (false≢true (sym loyal.1 ∙ traitor.1))
         not_traitor l loyal (inr posted) = posted
 
-    -- where each loyal replica has closed the slot's first f rounds, the slot is a broadcast
+    -- if each loyal replica has closed the slot's first f rounds, the slot is a broadcast
     pub is_broadcast : ((p : ℕ) → Loyal shape run is slot p → last_round shape slot ≤ rounds shape (log shape run is slot p))
         → IsBroadcast shape slot value (given_by shape run is slot value)
     is_broadcast closed = record {
@@ -118,12 +118,12 @@ module _ (shape : Shape) (run : List Step) (is : IsRun shape run) (slot : ℕ) w
     decided_is p loyal closed =
         ap decision (kept_is shape run is slot value its p loyal (suc shape.f) (omega arith) (omega (arith, closed)))
 
-  -- where one loyal replica has closed the slot, the others have closed all its rounds but perhaps the last
+  -- if one loyal replica has closed the slot, the others have closed all its rounds, except perhaps the last
   pub all_near : (q : ℕ) → Loyal shape run is slot q → last_round shape slot < rounds shape (log shape run is slot q)
       → (p : ℕ) → Loyal shape run is slot p → last_round shape slot ≤ rounds shape (log shape run is slot p)
   all_near q loyal closed p loyal_too = let near = rounds_near shape run is slot p q loyal_too loyal in omega (arith, closed, near)
 
-  -- two loyal replicas that have closed the slot decided the same of it
+  -- two loyal replicas that have closed the slot decided the same for it
   pub same_decided : HasFewTraitors shape → (p q : ℕ) → Loyal shape run is slot p → Loyal shape run is slot q
       → last_round shape slot < rounds shape (log shape run is slot p) → last_round shape slot < rounds shape (log shape run is slot q)
       → slot_decided shape (log shape run is slot p) slot ≡ slot_decided shape (log shape run is slot q) slot
@@ -144,7 +144,7 @@ module _ (shape : Shape) (run : List Step) (is : IsRun shape run) (slot : ℕ) w
 -- ---- all closed slots
 
 module _ (shape : Shape) (few : HasFewTraitors shape) (run : List Step) (is : IsRun shape run) where
-  -- of two loyal replicas the one that has closed at least as many slots has decided what the other has, and perhaps more after it
+  -- if one of two loyal replicas has closed at least as many slots as the other, it has decided what the other has, and perhaps more after it
   pub decided_extends : (p q : ℕ) → IsLoyal shape (Replica p) → IsLoyal shape (Replica q)
       → closed_slots shape (rounds shape (log_of run (Replica q))) ≤ closed_slots shape (rounds shape (log_of run (Replica p)))
       → Extends (decided_values shape (log_of run (Replica p))) (decided_values shape (log_of run (Replica q)))
@@ -158,7 +158,7 @@ module _ (shape : Shape) (few : HasFewTraitors shape) (run : List Step) (is : Is
       (closed_below shape slot (rounds shape (log_of run (Replica q))) closed)) in
       (grown.0, grown.1 ∙ ap (λ vs. grown.0 ++ vs) same)
 
-  -- of two loyal replicas' decided values one list is a prefix of the other
+  -- one of two loyal replicas' lists of decided values is a prefix of the other
   pub one_extends : (p q : ℕ) → IsLoyal shape (Replica p) → IsLoyal shape (Replica q)
       → Extends (decided_values shape (log_of run (Replica p))) (decided_values shape (log_of run (Replica q)))
       ⊎ Extends (decided_values shape (log_of run (Replica q))) (decided_values shape (log_of run (Replica p)))

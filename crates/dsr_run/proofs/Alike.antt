@@ -1,4 +1,4 @@
--- Lists of chains of which the same is kept: chains of other slots change nothing.
+-- Lists of chains from which the same is kept: chains of other slots change nothing.
 use Rattle.std.proofs.Common.{◌≡◌, ◌≢◌, ℕ, zero, suc, ◌<◌, ◌≤◌, List, [], ◌∷◌, ◌++◌, inl, inr, refl, ap, sym, ◌∙◌, arith}
 use Rattle.std.proofs.lemmas.Bool.{cases_lt}
 use Rattle.dsr_base.specs.Member.{In, here, there}
@@ -10,7 +10,7 @@ use Rattle.dsr_slot.specs.Keeping.{keep_one, keep, kept_after}
 use Rattle.dsr_slot.proofs.Lemmas.{skips_other_slots}
 
 module _ (shape : Shape) (slot round : ℕ) where
-  -- the same is kept of both lists, whatever was kept before
+  -- the same is kept from both lists, whatever was kept before
   abbrev pub AreAlike : List Chain → List Chain → Type 0
   AreAlike xs ys = (kept : List Kept) → keep shape slot round kept xs ≡ keep shape slot round kept ys
 
@@ -25,7 +25,7 @@ module _ (shape : Shape) (slot round : ℕ) where
       ∙ (ap (λ ks. keep shape slot round ks ys) (same kept)
       ∙ (more (keep shape slot round kept us) ∙ sym (keep_append us vs kept)))
 
-  -- where the lists of each poster are alike, so is what is read of all
+  -- if the lists of each poster are alike, so is what is read of all
   pub alike_each : (n : ℕ) (given other : ℕ → List Chain) → ((i : ℕ) → i < n → AreAlike (given i) (other i))
       → AreAlike (from_each n given) (from_each n other)
   alike_each zero given other same kept = refl
@@ -40,7 +40,7 @@ module _ (shape : Shape) (slot round : ℕ) where
       ap (λ ks. keep shape slot round ks xs) (skips_other_slots shape slot round kept x (other x (here refl)))
       ∙ alike_none xs (λ c h. other c (there h)) kept
 
-  -- of lists slot by slot only that of the slot counts
+  -- if lists come slot by slot, only that of the slot counts
   alike_below : (n : ℕ) (part : ℕ → List Chain) → n ≤ slot → ((k : ℕ) (c : Chain) → In c (part k) → c.slot ≡ k)
       → AreAlike (from_each n part) []
   alike_below zero part low of_slot kept = refl
@@ -64,7 +64,7 @@ module _ (shape : Shape) (slot round : ℕ) where
         ∙ ap (λ k. keep shape slot round kept (part k)) last)
   ]
 
--- so what is kept after the first rounds is the same where what is read in each of them is alike
+-- so what is kept after the first rounds is the same if what is read in each of them is alike
 pub kept_alike : (shape : Shape) (slot : ℕ) (read other : ℕ → List Chain) (rounds : ℕ)
     → ((r : ℕ) → r < rounds → AreAlike shape slot (suc r) (read (suc r)) (other (suc r)))
     → kept_after shape slot read rounds ≡ kept_after shape slot other rounds

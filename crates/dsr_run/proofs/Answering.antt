@@ -49,7 +49,7 @@ begun_at_most : (d : Due) (t : ℕ) → posts_at d t 0 ≤ suc t
 begun_at_most (PostTo k) t = grind (arith, nat_tests)
 begun_at_most (TakeFrom k) t = omega arith
 
--- at most one slot more has begun than rounds are closed
+-- at most one more slot has begun than rounds are closed
 pub begun_within : (shape : Shape) (p : ℕ) → p < shape.n → (log : List Entry) → IsLoyalLog shape (Replica p) log → begun log ≤ suc (rounds shape log)
 begun_within shape p inside log loyal =
     let some : 0 < shape.n = omega (arith, inside) in
@@ -135,7 +135,7 @@ module _ (shape : Shape) (run : List Step) (is : IsRun shape run) where
         (decided_since few p q loyal loyal_too h.moment h.past (rounds_since shape (log_of run (Replica p)) h.moment h.past) (omega (arith, soon, closed)))
         h.acted
 
-    -- by begun slots
+    -- the same, counted by begun slots
     pub acts_by_slots : (q : ℕ) → IsLoyal shape (Replica q) → last_turn + shape.f ≤ rounds shape (log_of run (Replica q))
         → IsReached shape (log_of run (Replica q)) c number
     acts_by_slots q loyal_too closed =
@@ -155,7 +155,7 @@ held_asked shape run is ask t h =
     let taken = subst (In (Take (Client c) (Ask ask))) (sym h.parts) (In-append_right (Take (Client c) (Ask ask)) h.added h.base was.taken) in
     taken_was_posted shape run is (Client c) (Replica h.replica) (Ask ask) taken
 
--- so many rounds later its number is reached
+-- after the stated number of rounds its number is reached
 pub reached_in_time : (shape : Shape) (run : List Step) → HasFewTraitors shape → IsRun shape run → (ask : SignedRequest) (t : ℕ)
     → IsHeldEagerly shape (log_of run) ask t → (q : ℕ) → IsLoyal shape (Replica q)
     → t + rounds_to_act shape ≤ rounds shape (log_of run (Replica q)) → IsReached shape (log_of run (Replica q)) ask.request.client ask.request.number
@@ -168,7 +168,7 @@ reached_in_time shape run few is ask t h q loyal closed =
     (held_from shape ask.request.client h.base ask h.holds).own.asked.client ask.request.number
     (record { ask = ask; is = h.holds; reaches = omega arith }) q loyal (omega (arith, closed, near, round))
 
--- what an eager replica holds has acted, so many rounds later, at every loyal replica
+-- what an eager replica holds has acted, after the stated number of rounds, at every loyal replica
 abbrev pub ActsInTime : Shape → Logs → Type 0
 ActsInTime shape logs = (ask : SignedRequest) (t : ℕ) → IsHeldEagerly shape logs ask t → (q : ℕ) → IsLoyal shape (Replica q)
     → t + rounds_to_act shape ≤ rounds shape (logs (Replica q)) → HasActed shape (logs (Replica q)) ask.request
@@ -177,6 +177,6 @@ pub acts_in_time : (shape : Shape) (run : List Step) → HasFewTraitors shape �
 acts_in_time shape run few is ask t h q loyal closed =
     acted_itself shape few run is ask h.replica (held_asked shape run is ask t h) q loyal (reached_in_time shape run few is ask t h q loyal closed)
 
--- the same of the logs of a run
+-- the same for the logs of a run
 pub acts_in_logs : (shape : Shape) (logs : Logs) → HasFewTraitors shape → AreLogs shape logs → ActsInTime shape logs
 acts_in_logs shape logs few are = subst (ActsInTime shape) (run_logs shape logs are) (acts_in_time shape are.run few are.is)

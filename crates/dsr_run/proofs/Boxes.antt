@@ -24,7 +24,7 @@ in_log step older a entry h = elim (log_cases step older a) [
   | inr other ↦ subst (In entry) (sym other.1) h
 ]
 
--- an entry of a log is the last step's, or stood there before
+-- an entry of a log is the last step's, or was there before
 pub from_log : (step : Step) (older : List Step) (a : Actor) (entry : Entry) → In entry (log_of (step ∷ older) a)
     → ((step.0 ≡ a) × (step.1 ≡ entry)) ⊎ In entry (log_of older a)
 from_log step older a entry h = elim (log_cases step older a) [
@@ -36,7 +36,7 @@ from_log step older a entry h = elim (log_cases step older a) [
     first_or_later same (here e) = inl (same, e)
     first_or_later same (there later) = inr later
 
--- an envelope among those posted to an actor is of an entry
+-- an envelope among those posted to an actor comes from an entry
 pub posted_entry : (a : Actor) (log : List Entry) (envelope : Envelope) → In envelope (posted_to a log) → In (Post a envelope) log
 posted_entry a [] envelope h = elim h [ ]
 posted_entry a (Take from x ∷ older) envelope h = there (posted_entry a older envelope h)

@@ -1,4 +1,4 @@
--- The history of a world is found replica by replica: what the loyal one of the first replicas with the most closed slots has.
+-- The history of a world is found replica by replica: it is what the loyal one of the first replicas with the most closed slots has.
 use Rattle.std.proofs.Common.{◌≡◌, ℕ, suc, ◌+◌, ◌<◌, ◌≤◌, true, false, List, length, reverse, inl, inr, refl, ap, sym, ◌∙◌, arith}
 use Rattle.std.specs.Prelude.{map}
 use Rattle.std.proofs.lemmas.List.{length-reverse}
@@ -64,7 +64,7 @@ module _ (shape : Shape) (logs : Logs) (k closed : ℕ) (requests : List Request
         | inr other ↦ let fewer = other.0 in absurd (omega (arith, size, count, fewer, more))
       ]
 
--- the same numbers, said otherwise
+-- the same numbers, in another form
 pub as_best : (shape : Shape) (logs : Logs) (k closed other : ℕ) (requests others : List Request) → IsBest shape logs (suc k) closed requests
     → other ≡ closed → others ≡ requests → IsBest shape logs (k + 1) other others
 as_best shape logs k closed other requests others best count same = record {

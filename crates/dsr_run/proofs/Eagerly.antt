@@ -72,7 +72,7 @@ get_last : {A : Type 0} (xs : List A) (x : A) → slice_get (xs ++ x ∷ []) (le
 get_last [] x = refl
 get_last (y ∷ xs) x = get_last xs x
 
--- how many slots have begun at a replica: in so many rounds it has posted to replica 0
+-- how many slots have begun at a replica: one with each of its posts to replica 0
 abbrev pub begun : List Entry → ℕ
 begun log = length (posted_to (Replica 0) log)
 
@@ -93,7 +93,7 @@ module _ (shape : Shape) (p : ℕ) (inside : p < shape.n) (log : List Entry) (lo
   abbrev limit : ℕ
   limit = begun base + shape.n * turns shape.m
 
-  -- the client's request, or a later one of its, is proposed in an own slot before the limit
+  -- the client's request, or a later one of the client, is proposed in an own slot before the limit
   pub record IsProposed : Type 0 where
     pub slot : ℕ
     pub soon : slot < limit
@@ -112,7 +112,7 @@ module _ (shape : Shape) (p : ℕ) (inside : p < shape.n) (log : List Entry) (lo
     pub soon : rounds shape moment < limit
     pub acted : IsReached shape moment c number
 
-  -- or its turn comes nearer: so many own slots have passed, the next one is this, and in each 8 clients were passed over
+  -- or its turn comes nearer: `past` own slots have passed, the next one is this, and in each 8 clients were passed over
   record Waits (now : List Entry) : Type 0 where
     past : ℕ
     next : ℕ

@@ -1,4 +1,4 @@
--- Which client a replica proposed last, by the choices of its posts: in the round in which a slot begins its sender alone has a chain of it.
+-- Which client a replica proposed last, by the choices of its posts: in the round in which a slot begins, only its sender has a chain for it.
 use Rattle.std.proofs.Common.{◌≡◌, ℕ, suc, ◌+◌, ◌-◌, ◌<◌, ◌≤◌, ◌==◌, Bool, true, false, List, [], ◌∷◌, ◌++◌, Option, None, Some, if◌then◌else◌, length, inl, inr, refl, ap, sym, ◌∙◌, subst, eq-eqb, arith}
 use Rattle.std.specs.Prelude.{map, reverse}
 use Rattle.std.specs.Option.{option_map}
@@ -60,7 +60,7 @@ past_earlier slot (chain ∷ rest) more low =
     ∙ past_earlier slot rest more (λ c inside. low c (there inside))
 
 module _ (shape : Shape) (me : Actor) (log : List Entry) where
-  -- each chain of a slot's part is of that slot
+  -- each chain of a slot's part is for that slot
   of_slot : (t : ℕ) (value : SlotValue) (slot : ℕ) (c : Chain) → In c (slot_part shape me log t value slot) → c.slot ≡ slot
   of_slot t value slot c h =
       elim (post_cases shape slot (slot_read shape log slot) me value (t - first_round shape slot) c (in_part shape me log t slot value c h).2) [
@@ -84,7 +84,7 @@ module _ (shape : Shape) (me : Actor) (log : List Entry) where
   started_clients t value true = if_is (t == t) (clients_of value) [] (eq-eqb t t refl)
   started_clients t value false = refl
 
-  -- so the clients that an envelope has for the slot that begins are those of the value that it proposes, where it is the sender's
+  -- so the clients that an envelope has for the slot that begins are those of the value that it proposes, if the sender posts it
   begun_clients : (value : SlotValue) → clients_in (rounds shape log) (chains_for (rounds shape log) (envelope_with shape me log value))
       ≡ (if actor_eq me (sender_of shape (rounds shape log)) then clients_of value else [])
   begun_clients value =
@@ -100,7 +100,7 @@ module _ (shape : Shape) (me : Actor) (log : List Entry) where
 
   -- ---- who was proposed last, after a post to replica 0
 
-  -- nobody new by nothing in particular
+  -- the plain choice proposes nobody new
   pub plain_last : (x : Envelope) → envelope_to shape me log 0 Plain ≡ Some x → last_proposed shape (Post (Replica 0) x ∷ log) ≡ last_proposed shape log
   plain_last x e =
       let is : envelope_with shape me log Idle ≡ x = same_Some (envelope_with shape me log Idle) x (chosen_then shape me log 0 Plain x e) in

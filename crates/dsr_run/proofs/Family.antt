@@ -62,7 +62,7 @@ module _ (shape : Shape) (run : List Step) (is : IsRun shape run) (slot : ℕ) w
   pub loyal_log : (p : ℕ) → Loyal p → IsLoyalLog shape (Replica p) (log p)
   loyal_log p loyal = log_loyal shape p loyal.1 run is
 
-  -- what a loyal replica gives is what it posts of the slot; what a traitor gives is what was taken from it
+  -- what a loyal replica gives is what it posts for the slot; what a traitor gives is what was taken from it
   abbrev pub given_by : SlotValue → Exchange
   given_by value zero p q = []
   given_by value (suc r) p q =
@@ -99,7 +99,7 @@ module _ (shape : Shape) (run : List Step) (is : IsRun shape run) (slot : ℕ) w
   was_posted i p t x e =
       at_place (posted_to (Replica p) (log i)) (taken_from (Replica i) (log p)) (boxes shape run is (Replica i) (Replica p)) t x e
 
-  -- where one loyal replica has closed a round, the others have closed all rounds before it
+  -- if one loyal replica has closed a round, the others have closed all rounds before it
   pub rounds_near : (p q : ℕ) → Loyal p → Loyal q → rounds shape (log q) ≤ suc (rounds shape (log p))
   rounds_near p q loyal loyal_too =
       let all = all_taken shape (Replica q) (some_replica q loyal_too.0) (log q) (loyal_log q loyal_too) p loyal.0 in
@@ -116,7 +116,7 @@ module _ (shape : Shape) (run : List Step) (is : IsRun shape run) (slot : ℕ) w
 
     -- ---- what is read
 
-    -- of what was taken from a loyal replica the same is kept as of what it gave
+    -- from what was taken from a loyal replica the same is kept as from what it gave
     loyal_alike : (p : ℕ) → Loyal p → (i : ℕ) → Loyal i → (r : ℕ) → r ≤ shape.f → first_round shape slot + r < rounds shape (log p)
         → AreAlike shape slot (suc r) (sent (log p) (first_round shape slot + r) i) (given_by value (suc r) i p)
     loyal_alike p loyal i loyal_too r within closed kept =
@@ -145,7 +145,7 @@ module _ (shape : Shape) (run : List Step) (is : IsRun shape run) (slot : ℕ) w
             subst (AreAlike shape slot (suc r) (sent (log p) (first_round shape slot + r) i)) (sym (traitor_gives value r i p traitor)) (λ kept. refl)
         by_poster false poster = loyal_alike p loyal i (inside, poster) r within closed
 
-    -- what a loyal replica keeps is what it keeps of what it was given
+    -- what a loyal replica keeps is what it keeps from what it was given
     pub kept_is : (p : ℕ) → Loyal p → (r : ℕ) → r ≤ suc shape.f → first_round shape slot + r ≤ rounds shape (log p)
         → slot_kept shape (log p) slot r ≡ kept_after shape slot (read_by shape (given_by value) p) r
     kept_is p loyal r within closed =

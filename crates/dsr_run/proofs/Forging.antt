@@ -36,7 +36,7 @@ made_later shape step older s (inr posted) = inr (has_posted_later step older s.
 
 -- ---- clients
 
--- a client's signature is on each request that it asks for, and nobody's on what it tells other clients
+-- a client's signature is on each request that it asks for, and nobody's on the seen fronts that it posts
 client_signs : (shape : Shape) (c : ℕ) (log : List Entry) → IsClientLog shape c log → (to : Actor) (envelope : Envelope)
     → IsNextOfClient shape c log (Post to envelope) → (s : Signature) → Carries envelope s → s.signer ≡ Client c
 client_signs shape c log is (Client other) envelope next s carried = elim (subst (λ e. Carries e s) next.2 carried) [ ]
@@ -110,12 +110,12 @@ module _ (shape : Shape) where
       → IsMadeOrPosted shape (log_of (step ∷ older)) s
   step_made step older is s carried = now_made step.0 step.1 older is (all_made older is.0) s carried
 
-  -- so can each signature be sent that an actor took
+  -- so each signature that an actor took can be sent
   pub taken_made : (run : List Step) → IsRun shape run → (a : Actor) (s : Signature) → WasTaken (log_of run a) s
       → IsMadeOrPosted shape (log_of run) s
   taken_made run is a s h = all_made run is a (Take h.from h.envelope) h.taken s h.carried
 
-  -- and each that any actor posted
+  -- and so can each that any actor posted
   pub posted_made : (run : List Step) → IsRun shape run → (a : Actor) (s : Signature) → HasPosted (log_of run a) s
       → IsMadeOrPosted shape (log_of run) s
   posted_made run is a s h = all_made run is a (Post h.to h.envelope) h.posted s h.carried

@@ -1,5 +1,5 @@
 -- The history is that of the loyal replica with the most closed slots: each loyal replica's is a prefix of it, it only grows, and
--- no number of a client stands in it twice.
+-- no number of a client is in it twice.
 use Rattle.std.proofs.Common.{◌≡◌, ℕ, zero, suc, ◌<◌, ◌≤◌, nat_lt, Bool, true, false, List, [], ◌∷◌, ◌++◌, length, if◌then◌else◌, ◌⊎◌, inl, inr, refl, ap, sym, ◌∙◌, subst, append_assoc, arith}
 use Rattle.std.specs.Prelude.{map}
 use Rattle.std.proofs.lemmas.Bool.{cases_lt, false≢true}
@@ -28,7 +28,7 @@ use Rattle.dsr_run.proofs.Logs.{log_loyal}
 pub extends_on : {A : Type 0} (last later first : List A) → Extends last later → Extends later first → Extends last first
 extends_on last later first g h = (g.0 ++ h.0, g.1 ∙ (ap (λ xs. g.0 ++ xs) h.1 ∙ sym (append_assoc g.0 h.0 first)))
 
--- of two lists of which one grew from the other, one that is at least as long is the later one
+-- if one of two lists grew from the other, one that is at least as long is the later one
 longer_is_later : {A : Type 0} (xs ys : List A) → length ys ≤ length xs → Extends xs ys ⊎ Extends ys xs → Extends xs ys
 longer_is_later xs ys long (inl grown) = grown
 longer_is_later xs ys long (inr ([], same)) = ([], sym same)
@@ -53,7 +53,7 @@ module _ (shape : Shape) (logs : Logs) where
   abbrev most : ℕ → List SlotValue
   most = most_decided shape logs
 
-  -- a traitor counts for nothing, a loyal replica where it has decided more
+  -- a traitor counts for nothing, a loyal replica if it has decided more
   pub past_traitor : (p : ℕ) → is_traitor shape p ≡ true → most (suc p) ≡ most p
   past_traitor p traitor = if_is (is_traitor shape p) true (most p) (longer (decided_at shape logs p) (most p)) traitor
 
@@ -128,7 +128,7 @@ module _ (shape : Shape) (logs : Logs) where
     | inr h ↦ inr (h.replica, (h.below, h.loyal), ap (λ vs. acted (map requests_in vs)) h.is)
   ]
 
-  -- no number of a client stands twice in the history, whatever the logs
+  -- no number of a client is in the history twice, whatever the logs
   pub history_legal : IsLegal (history shape logs)
   history_legal = legal_acting (requests_of (map requests_in (most shape.n)))
 

@@ -1,4 +1,4 @@
--- What is held of clients stays held or gives way to later requests, and which clients an eager replica's slot shows as proposed.
+-- What is held for clients stays held or gives way to later requests, and which clients an eager replica's slot shows as proposed.
 use Rattle.std.proofs.Common.{◌≡◌, ℕ, zero, suc, ◌<◌, ◌≤◌, ◌==◌, ◌&&◌, not, nat_lt, Bool, true, false, List, [], ◌∷◌, ◌++◌, map, Option, None, Some, if◌then◌else◌, inl, inr, refl, ap, sym, ◌∙◌, subst, eq-eqb, arith}
 use Rattle.std.specs.Prelude.{All, slice_get}
 use Rattle.std.proofs.lemmas.Bool.{false_from_ne_true}
@@ -40,7 +40,7 @@ pub record IsHeld (held : Option SignedRequest) (number : ℕ) : Type 0 where
   pub is : held ≡ Some ask
   pub reaches : number ≤ ask.request.number
 
--- what is held gives way only to an ask of no smaller number
+-- what is held gives way only to an ask whose number is not smaller
 way_given : (b w : Bool) (ask new : SignedRequest) (held : Option SignedRequest) → held ≡ Some ask → w ≡ gives_way held new.request.number
     → IsHeld (if b && w then Some new else held) ask.request.number
 way_given false w ask new held is e = record { ask = ask; is = is; reaches = omega arith }
@@ -66,7 +66,7 @@ if_held : (b : Bool) (new before : Option SignedRequest) (number : ℕ) → IsHe
 if_held true new before number h k = h
 if_held false new before number h k = k
 
--- an ask that is held stays, or gives way to one of no smaller number
+-- an ask that is held stays, or gives way to one whose number is not smaller
 pub held_stays : (shape : Shape) (client : ℕ) (entry : Entry) (log : List Entry) (number : ℕ) → IsHeld (held shape client log) number
     → IsHeld (held shape client (entry ∷ log)) number
 held_stays shape client (Post to envelope) log number h = h
@@ -79,7 +79,7 @@ held_stays shape client (Take (Client c) envelope) log number h =
     higher : (o : Option SignedRequest) (number low : ℕ) → low ≤ number → IsHeld o number → IsHeld o low
     higher o number low below h = let reaches = h.reaches in record { ask = h.ask; is = h.is; reaches = omega (arith, below, reaches) }
 
--- a client that does not wait with a held ask has a last reply of no smaller number
+-- a client that does not wait with a held ask has a last reply whose number is not smaller
 pub answered_already : (asked : Option SignedRequest) (last : Option AReply) (ask : SignedRequest) → asked ≡ Some ask → is_newer asked last ≡ false
     → (reply : AReply) × (last ≡ Some reply) × (ask.request.number ≤ reply.number)
 answered_already None last ask is old = absurd (none-some ask is)

@@ -38,12 +38,12 @@ module _ (shape : Shape) (few : HasFewTraitors shape) where
 
   -- ---- seen fronts
 
-  -- what clients have seen, and what they told other clients, is within the history
+  -- what clients have seen, and what they posted to other clients, is within the history
   pub record AreFronts (run : List Step) : Type 0 where
     pub had : (c : ℕ) → seen_by shape (log_of run) c ≤ length (history shape (log_of run))
     pub told : (c d front : ℕ) → In (Post (Client c) (Seen front)) (log_of run (Client d)) → front ≤ length (history shape (log_of run))
 
-  -- what a client tells is what it has seen
+  -- what a client posts as its seen front is what it has seen
   told_now : (step : Step) (older : List Step) → IsRun shape (step ∷ older) → AreFronts older → (c d front : ℕ)
       → In (Post (Client c) (Seen front)) (log_of (step ∷ older) (Client d)) → front ≤ length (history shape (log_of (step ∷ older)))
   told_now step older is before c d front h =
@@ -75,7 +75,7 @@ module _ (shape : Shape) (few : HasFewTraitors shape) where
 
   -- ---- the issue front
 
-  -- the time before a client first asked for a request of the number
+  -- the time before a client first asked for a request with the number
   record WasIssued (run : List Step) (c number : ℕ) : Type 0 where
     pub earlier : List Step
     pub since : Extends run earlier

@@ -1,5 +1,5 @@
--- Where a request of a client has been reached, it has acted itself: a client asks for a next request only once it has accepted a reply to
--- the one before, and that one stands in the history by then.
+-- If a request of a client has been reached, it has acted itself: a client asks for a next request only once it has accepted a reply to
+-- the one before, and that one is in the history by then.
 use Rattle.std.proofs.Common.{◌≡◌, ℕ, ◌<◌, ◌≤◌, List, [], ◌∷◌, ◌++◌, length, inl, inr, ap, sym, ◌∙◌, subst, arith}
 use Rattle.std.proofs.lemmas.Bool.{cases_lt}
 use Rattle.dsr_base.specs.Member.{In, here, there}
@@ -42,7 +42,7 @@ module _ (shape : Shape) (few : HasFewTraitors shape) (run : List Step) (is : Is
   are : IsNumbered ask.request.client (log_of run (Client ask.request.client)) (state_after shape (log_of run (Client ask.request.client)))
   are = numbered shape c (log_of run (Client c)) (log_client shape c run is)
 
-  -- the client's request of this number in the history is the one that was asked
+  -- the client's request with this number in the history is the one that was asked
   is_asked : (r : Request) → In r (history shape (log_of run)) → r.client ≡ ask.request.client → r.number ≡ ask.request.number → r ≡ ask.request
   is_asked r inside client number =
       let posted = history_posted shape run is r inside in
@@ -50,7 +50,7 @@ module _ (shape : Shape) (few : HasFewTraitors shape) (run : List Step) (is : Is
       let same = are.once posted.to p posted.ask ask own asked (ap (λ (z : Request). z.number) posted.is ∙ number) in
       sym posted.is ∙ ap (λ (s : SignedRequest). s.request) same
 
-  -- a later request of the client stands there only where this one was answered
+  -- a later request of the client is in it only if this one was answered
   was_answered : (r : Request) → In r (history shape (log_of run)) → r.client ≡ ask.request.client → ask.request.number < r.number
       → ask.request.number ≤ length (accepted_by shape (log_of run) ask.request.client)
   was_answered r inside client later =
@@ -62,7 +62,7 @@ module _ (shape : Shape) (few : HasFewTraitors shape) (run : List Step) (is : Is
         | inr current ↦ let next = (are.next posted.ask current).0 in omega (arith, next, number, later)
       ]
 
-  -- what was answered stands in the history
+  -- what was answered is in the history
   answered_stands : ask.request.number ≤ length (accepted_by shape (log_of run) ask.request.client) → In ask.request (history shape (log_of run))
   answered_stands within =
       let some = (posted_within shape run is (Client c) (Replica p) (Ask ask) asked).request.some_number in
@@ -72,7 +72,7 @@ module _ (shape : Shape) (few : HasFewTraitors shape) (run : List Step) (is : Is
       let stands = stands_in (history shape (log_of run)) reply.0.place right.request reply.0.answer right.stands in
       subst (λ r. In r (history shape (log_of run))) (is_asked right.request stands right.client_is (right.number_is ∙ reply.2)) stands
 
-  -- where the client's last request has no smaller number, this one has acted
+  -- if the number of the client's last request is not smaller, this one has acted
   pub acted_itself : (q : ℕ) → IsLoyal shape (Replica q) → IsReached shape (log_of run (Replica q)) ask.request.client ask.request.number
       → HasActed shape (log_of run (Replica q)) ask.request
   acted_itself q loyal h =

@@ -1,4 +1,4 @@
--- How what is known of loyal actors' posts goes on with each step.
+-- How the known signatures of loyal actors' posts change with each step.
 use Rattle.std.proofs.Common.{◌≡◌, ◌↔◌, Bool, true, false, List, ◌∷◌, ◌⊎◌, inl, inr, refl, ap, sym, ◌∙◌, subst}
 use Rattle.dsr_base.specs.Member.{In, here}
 use Rattle.dsr_names.specs.Shape.{Shape, is_traitor, IsActor, IsLoyal}
@@ -41,7 +41,7 @@ known_posted shape older known new a to x knows loyal learned = record {
     by_entry s b honest h (inl now) = inr (subst (λ y. Carries y s) (sym (same_envelope to h.to x h.envelope now.1)) h.carried)
     by_entry s b honest h (inr old) = inl (knows.all s b honest (record { to = h.to; envelope = h.envelope; posted = old; carried = h.carried }))
 
--- a step that is no loyal actor's post makes nothing known
+-- a step that is not a loyal actor's post makes nothing known
 pub known_still : (shape : Shape) (older : List Step) (known : List Signature) (step : Step) → KnowsPosts shape (log_of older) known
     → ((to : Actor) (x : Envelope) → step.1 ≡ Post to x → IsLoyal shape step.0 → ⊥) → KnowsPosts shape (log_of (step ∷ older)) known
 known_still shape older known step knows silent = record {
@@ -54,7 +54,7 @@ known_still shape older known step knows silent = record {
     by_entry s b honest h (inl now) = absurd (silent h.to h.envelope now.1 (subst (IsLoyal shape) (sym now.0) honest))
     by_entry s b honest h (inr old) = knows.all s b honest (record { to = h.to; envelope = h.envelope; posted = old; carried = h.carried })
 
--- so whether a signature can be sent is decided by what is known
+-- so the known signatures decide whether a signature can be sent
 module _ (shape : Shape) (run : List Step) (is : IsRun shape run) (known : List Signature) (knows : KnowsPosts shape (log_of run) known) where
   of_signer : (a : Actor) (s : Signature) → IsActor shape a → HasPosted (log_of run a) s → IsTraitor shape a ⊎ In s known
   of_signer (Client c) s inside posted = inr (knows.all s (Client c) inside posted)

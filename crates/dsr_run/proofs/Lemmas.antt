@@ -1,5 +1,5 @@
--- What the crates above take from runs: the logs of a run keep their conduct, and an earlier run is one; what boxes hold, what is forged
--- and what is known; agreement, the history, what is right and within the limits; which steps may be next; whom a replica
+-- What the crates above take from runs: the logs of a run keep their protocol, and an earlier run is one; what boxes hold, what is
+-- forged and what is known; agreement, the history, what is right and within the limits; which steps may be next; whom a replica
 -- proposed last; and what eager replicas propose, and by when that has acted and is answered.
 pub use Rattle.dsr_run.proofs.Logs.{log_cases, run_before, log_loyal, log_client, logs_grew, logs_step, no_logs}
 pub use Rattle.dsr_run.proofs.Boxes.{in_log, from_log, posted_entry, IsBox, boxes, found_was_posted, taken_was_posted, actors_within, posted_cases, posted_still, taken_cases, taken_still}

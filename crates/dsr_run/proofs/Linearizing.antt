@@ -1,4 +1,4 @@
--- The history linearizes its run: what has a response stands in it, and what is not yet invoked does not.
+-- The history linearizes its run: what has a response is in it, and what is not yet invoked is not.
 use Rattle.std.proofs.Common.{◌≡◌, ◌<◌, List, [], ◌∷◌, ◌++◌, length, inl, inr, refl, ap, sym, ◌∙◌, subst, append_assoc, arith}
 use Rattle.std.proofs.lemmas.Bool.{cases_lt}
 use Rattle.dsr_base.specs.Growth.{Extends}
@@ -26,25 +26,25 @@ use Rattle.dsr_run.proofs.Issuing.{history_since}
 use Rattle.dsr_run.proofs.Logs.{log_client, run_before, logs_grew}
 use Rattle.dsr_run.proofs.NextSteps.{run_logs}
 
--- where a request does not stand in an earlier list, that list is the end of what is older than the request
+-- if a request is not in an earlier list, that list is the end of what is older than the request
 all_behind : (grown earlier newer older : List Request) (q : Request) → grown ++ earlier ≡ newer ++ q ∷ older → ¬ In q earlier → Extends older earlier
 all_behind [] earlier newer older q e absent = absurd (absent (subst (In q) (sym e) (In-append_right q newer (q ∷ older) (here refl))))
 all_behind (g ∷ grown) earlier [] older q e absent = let rest : grown ++ earlier ≡ older = cc in (grown, sym rest)
 all_behind (g ∷ grown) earlier (n ∷ newer) older q e absent =
     let rest : grown ++ earlier ≡ newer ++ q ∷ older = cc in all_behind grown earlier newer older q rest absent
 
--- who posted a request has invoked it
+-- an actor that posted a request has invoked it
 posted_invoked : (logs : Logs) (q : Request) → WasPosted (logs (Client q.client)) q → IsInvoked logs q
 posted_invoked logs q h = record { replica = h.to; ask = h.ask; posted = h.posted; is = h.is }
 
--- what is shown of places at two moments
+-- what is shown about places at two moments
 abbrev pub PlacesRise : Shape → (logs earlier : Logs) → (first second : Request) → (reply later : Reply) → Type 0
 PlacesRise shape logs earlier first second reply later =
     ((a : Actor) → Extends (logs a) (earlier a)) → HasResponse shape earlier first reply → ¬ IsInvoked earlier second → HasResponse shape logs second later
     → reply.place < later.place
 
 module _ (shape : Shape) (few : HasFewTraitors shape) where
-  -- a request with a response stands in the history where the reply says, with its answer: its client posted no other under that number
+  -- a request with a response is in the history at the place that the reply says, with its answer: its client posted no other under that number
   answered_stands : (run : List Step) → IsRun shape run → (q : Request) (r : Reply) → HasResponse shape (log_of run) q r
       → StandsAt (history shape (log_of run)) r.place q r.answer
   answered_stands run is q r h =
@@ -56,7 +56,7 @@ module _ (shape : Shape) (few : HasFewTraitors shape) where
       posted.ask h.invoked.ask posted.posted h.invoked.posted number in
       subst (λ z. StandsAt (history shape (log_of run)) r.place z r.answer) (sym posted.is ∙ (ap (λ z. z.request) one ∙ h.invoked.is)) right.stands
 
-  -- what had a response at a moment stands in the history of that moment, and what was not yet invoked does not
+  -- what had a response at a moment is in the history of that moment, and what was not yet invoked is not
   in_real_time : (run : List Step) → IsRun shape run → (first second : Request) → Precedes shape run first second → (newer older : List Request)
       → history shape (log_of run) ≡ newer ++ second ∷ older → In first older
   in_real_time run is first second before newer older parts =
@@ -85,14 +85,14 @@ module _ (shape : Shape) (few : HasFewTraitors shape) where
     grows = λ run earlier is since. history_since shape few run earlier is since;
   }
 
-  -- it is one of the logs alone
+  -- it depends on the logs alone
   pub logs_linearized : (logs : Logs) → LinearizesLogs shape logs (history shape logs)
   logs_linearized logs run is each =
       let same : log_of run ≡ logs = λ i a. each a i in subst (λ l. IsLinearization shape run (history shape l)) same (linearized run is)
 
   -- ---- at any two moments
 
-  -- a request that was invoked only after another had its response has a greater place than that, whatever the order of the steps was
+  -- a request that was invoked only after another had its response has a greater place than that, whatever the order of the steps
   places_rise : (run : List Step) → IsRun shape run → (earlier : List Step) → IsRun shape earlier → (first second : Request) (reply later : Reply)
       → PlacesRise shape (log_of run) (log_of earlier) first second reply later
   places_rise run is earlier was first second reply later grown response not_yet response_later =
@@ -107,7 +107,7 @@ module _ (shape : Shape) (few : HasFewTraitors shape) where
         | inr late ↦ omega (arith, low, late)
       ]
 
-  -- and so of logs alone
+  -- and the same holds for logs alone
   pub logs_places_rise : (logs earlier : Logs) → AreLogs shape logs → AreLogs shape earlier → (first second : Request) (reply later : Reply)
       → PlacesRise shape logs earlier first second reply later
   logs_places_rise logs earlier are were first second reply later =
@@ -117,7 +117,7 @@ module _ (shape : Shape) (few : HasFewTraitors shape) where
 
 -- ---- what any order says that linearizes a run
 
--- what was accepted stays so
+-- what was accepted stays accepted
 accepted_since : (shape : Shape) (newer older : List Entry) → Extends (accepted shape (newer ++ older)) (accepted shape older)
 accepted_since shape [] older = ([], refl)
 accepted_since shape (entry ∷ newer) older =

@@ -1,5 +1,5 @@
--- How many links of a slot a loyal replica signs: one for each chain that it keeps, and one where it sends; so at most two, and at
--- most one where the sender is loyal.
+-- How many links of a slot a loyal replica signs: one for each chain that it keeps, and one if it is the sender; so at most two,
+-- and at most one if the sender is loyal.
 use Rattle.std.proofs.Common.{◌≡◌, ◌≢◌, ℕ, zero, suc, ◌+◌, ◌≤◌, List, [], ◌∷◌, length, map, ◌⊎◌, inl, inr, refl, ap, sym, ◌∙◌, subst, arith}
 use Rattle.std.specs.Prelude.{slice_get}
 use Rattle.std.proofs.lemmas.Bool.{false≢true}
@@ -59,7 +59,7 @@ module _ (shape : Shape) (me : Actor) (log : List Entry) (slot : ℕ) (value : S
       let grown = after_stays shape slot (slot_read shape log slot) r (suc shape.f) within in
       subst (In k) (sym grown.1) (In-append_left k (slot_kept shape log slot r) grown.0 h)
 
-  -- where a link that the replica signed is from
+  -- where a link that the replica signed comes from
   pub own_link : (s : Signature) → s.signer ≡ me → IsSigned shape me log slot value s → IsRelayed s ⊎ IsStarted s
   own_link s own h = elim (posted_from shape slot me value (suc h.round) (slot_kept shape log slot h.round) h.chain h.stands) [
     | inl relay ↦ inl (relayed relay)
@@ -93,7 +93,7 @@ module _ (shape : Shape) (me : Actor) (log : List Entry) (slot : ℕ) (value : S
       let first = first_link shape slot h.from.round h.from.chain came.proper in
       h.unsigned (subst (λ a. HasSigned a h.from.chain) (first.2 ∙ sym sends) (signer_in first.0 h.from.chain.signatures first.1))
 
--- where all of these have one content, they are at most one
+-- if all of these have one content, they are at most one
 one_kept : (value : SlotValue) (ks : List Kept) → Apart ks → ((k : Kept) → In k ks → content_of k ≡ content value) → length ks ≤ 1
 one_kept value [] apart only = omega arith
 one_kept value (k ∷ []) apart only = omega arith
@@ -109,7 +109,7 @@ module _ (shape : Shape) (run : List Step) (is : IsRun shape run) (slot : ℕ) w
       own_link shape (Replica l) (log shape run is slot l) slot value s own
       (link_signed shape (log shape run is slot) (loyal_log shape run is slot) slot value its l loyal s own link h)
 
-  -- the sender signs one link alone
+  -- the sender signs only one link
   sender_links : (l : ℕ) → Loyal shape run is slot l → Replica l ≡ sender_of shape slot → HasFewLinks (Replica l) (log shape run is slot l) slot 1
   sender_links l loyal sends =
       let v = some_value shape run is slot in
@@ -150,7 +150,7 @@ module _ (shape : Shape) (run : List Step) (is : IsRun shape run) (slot : ℕ) w
       (taken_entry (Replica by.0) (log shape run is slot l) found.0
       (In-from_place found.0 (taken_from (Replica by.0) (log shape run is slot l)) t found.1)) s (carried_for t found.0 c s found.2 (inl stands))
 
-  -- with a loyal sender, what a loyal replica keeps has the sender's content alone
+  -- with a loyal sender, what a loyal replica keeps has only the sender's content
   only_its_own : (l : ℕ) → Loyal shape run is slot l → (sends : IsLoyal shape (sender_of shape slot)) → (value : SlotValue)
       → IsValue shape (log shape run is slot (sender shape slot)) slot value
       → (k : Kept) → In k (slot_kept shape (log shape run is slot l) slot (suc shape.f)) → content_of k ≡ content value

@@ -1,4 +1,4 @@
--- What holds of a run holds of its logs, in whatever order its steps came about.
+-- What holds for a run holds for its logs, whatever the order of its steps.
 use Rattle.std.proofs.Common.{◌≡◌, ℕ, suc, ◌<◌, ◌≤◌, ◌^◌, List, [], ◌∷◌, ◌++◌, length, ◌⊎◌, inl, inr, ap, sym, ◌∙◌, subst, arith}
 use Rattle.std.proofs.Common.{length-append}
 use Rattle.dsr_base.specs.Growth.{Extends}
@@ -25,7 +25,7 @@ use Rattle.dsr_run.proofs.NextSteps.{run_logs}
 use Rattle.dsr_run.proofs.Righting.{right_reply}
 use Rattle.dsr_run.proofs.Within.{posted_within, history_within}
 
--- fewer than 2^40 envelopes are posted in a box
+-- fewer than 2^40 envelopes are posted into a box
 posts_below : (shape : Shape) (run : List Step) → IsRun shape run → (a b : Actor) → length (posted_to b (log_of run a)) < 2 ^ 40
 posts_below shape [] is a b = omega arith
 posts_below shape ((actor, Take from x) ∷ older) is a b =

@@ -1,4 +1,4 @@
--- The logs of a run: each step is an entry of its actor's log, and the logs of loyal actors keep their conduct.
+-- The logs of a run: each step is an entry of its actor's log, and the logs of loyal actors keep their protocol.
 use Rattle.std.proofs.Common.{◌≡◌, ℕ, false, List, [], ◌∷◌, ◌++◌, ◌⊎◌, inl, inr, refl, ap, sym, ◌∙◌, subst}
 use Rattle.dsr_base.specs.Growth.{Extends}
 use Rattle.dsr_names.specs.Shape.{Shape, is_traitor}

@@ -35,7 +35,7 @@ module _ (shape other : Shape) (adds : AddsTraitors shape other) where
   still_unforged logs (Post to envelope) unforged = λ s carried. more_made logs s (unforged s carried)
   still_unforged logs (Take from envelope) unforged = tt
 
-  -- what a loyal replica does forges nothing, where it is a traitor of the other shape: its own signatures are a traitor's
+  -- what a loyal replica does forges nothing if it is a traitor of the other shape: its own signatures are a traitor's
   loyal_unforged : (run : List Step) → IsRun shape run → (p : ℕ) → p < shape.n → is_traitor shape p ≡ false
       → IsTraitor other (Replica p) → (entry : Entry) → IsNext shape (Replica p) (log_of run (Replica p)) entry
       → ForgesNothing other (log_of run) entry
@@ -75,7 +75,7 @@ module _ (shape other : Shape) (adds : AddsTraitors shape other) where
   pub more_logs : (logs : Logs) → AreLogs shape logs → AreLogs other logs
   more_logs logs are = record { run = are.run; is = more_run are.run are.is; each = are.each }
 
-  -- who is loyal by the other shape was loyal
+  -- an actor that is loyal by the other shape was loyal
   was_loyal : (p : ℕ) → IsLoyal other (Replica p) → IsLoyal shape (Replica p)
   was_loyal p loyal =
       let inside = subst (λ n. p < n) (sym adds.agree.replicas) loyal.0 in
@@ -85,7 +85,7 @@ module _ (shape other : Shape) (adds : AddsTraitors shape other) where
       by_bit inside true traitor = absurd (false≢true (sym loyal.1 ∙ (adds.stay (Replica p) (inside, traitor)).1))
       by_bit inside false e = e
 
-  -- with more traitors fewer logs make the history
+  -- with more traitors fewer logs determine the history
   pub fewer_logs : HasFewTraitors shape → (run : List Step) → IsRun shape run → Extends (history shape (log_of run)) (history other (log_of run))
   fewer_logs few run is = elim (history_is other (log_of run)) [
     | inl none ↦ (

@@ -33,7 +33,7 @@ use Rattle.dsr_run.proofs.Within.{posted_within, loyal_next_within, history_with
 module _ (shape : Shape) (allowed : IsAllowed shape) (older : List Step) (is : IsRun shape older) where
   -- ---- what is posted is within the limits
 
-  -- what a client asks, where a new request is
+  -- what a client asks is within the limits, if a new request is
   ask_within : (c : ℕ) (o : Option SignedRequest) → outstanding shape (log_of older (Client c)) ≡ o → (pick : Pick) (x : Envelope)
       → option_map Ask (chosen_beside o c (next_number shape (log_of older (Client c))) pick) ≡ Some x → (o ≡ None → IsEnvelope x) → IsEnvelope x
   ask_within c None o_is pick x e free = free refl
@@ -41,7 +41,7 @@ module _ (shape : Shape) (allowed : IsAllowed shape) (older : List Step) (is : I
   ask_within c (Some ask) o_is (From clients) x e free = absurd (none-some x e)
   ask_within c (Some ask) o_is (Begin op) x e free = absurd (none-some x e)
 
-  -- what a replica posts, where it is if it is a traitor
+  -- what a replica posts is within the limits, if what a traitor posts is
   replica_within : (p : ℕ) (to : Actor) (x : Envelope) → p < shape.n → (b : Bool) → is_traitor shape p ≡ b
       → KeepsOwn shape (Replica p) (log_of older (Replica p)) (Post to x) → (is_traitor shape p ≡ true → IsEnvelope x) → IsEnvelope x
   replica_within p to x inside true traitor keeps free = free traitor
@@ -87,7 +87,7 @@ module _ (shape : Shape) (allowed : IsAllowed shape) (older : List Step) (is : I
   take_next (Client c) from x actor other keeps full =
       record { actor = actor; other = other; box = full; limits = tt; conduct = keeps }
 
-  -- the conduct of a post that an actor may make by its own log
+  -- a post that an actor may make by its own log keeps the actor's protocol
   pub own_keeps : (me to : Actor) (x : Envelope) → IsActor shape me → MayPost shape me (log_of older me) to x
       → KeepsConduct shape (log_of older) me (Post to x)
   own_keeps (Client c) to x inside may = may.keeps
@@ -101,7 +101,7 @@ module _ (shape : Shape) (allowed : IsAllowed shape) (older : List Step) (is : I
 
 -- ---- logs of a run
 
--- the logs of a run, as equal to those that its steps leave
+-- the logs of a run equal those that its steps leave
 pub run_logs : (shape : Shape) (logs : Logs) → (are : AreLogs shape logs) → log_of are.run ≡ logs
 run_logs shape logs are = λ i a. are.each a i
 
@@ -133,7 +133,7 @@ module _ (shape : Shape) (logs : Logs) (are : AreLogs shape logs) where
       posted_within shape are.run are.is from me x
       (subst (In (Post me x)) (sym (are.each from)) (posted_entry me (logs from) x stands))
 
-  -- who is no actor of the shape has an empty log
+  -- an actor that is not of the shape has an empty log
   pub outside_empty : (a : Actor) → ¬ IsActor shape a → logs a ≡ []
   outside_empty a outside = by_first (logs a) refl
     where

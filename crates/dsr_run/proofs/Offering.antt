@@ -55,7 +55,7 @@ ahead_step m y a inside low = grind (arith, nat_tests)
 ahead_round : (m a : ℕ) → a < m → m ≤ suc (ahead m a (next_client m a))
 ahead_round m a low = grind (arith, nat_tests)
 
--- each of so many clients in turn stands so few places on
+-- each of `count` clients in turn is fewer than `count` places on
 within_turn : (m count a y : ℕ) → a < m → In y (in_turn m count a) → (y < m) × (ahead m y a < count)
 within_turn m zero a y low h = elim h [ ]
 within_turn m (suc count) a y low (here e) =
@@ -103,7 +103,7 @@ module _ (shape : Shape) (log : List Entry) where
       let ring = in_turn shape.m shape.m (first_in_turn shape.m (last_proposed shape log)) in
       (from_filter (is_waiting shape log) c ring (in_taken 8 (filter (is_waiting shape log) ring) c h)).1
 
-  -- the clients that are next may be picked, where there are any
+  -- the clients that are next may be picked, if there are any
   pub next_are_clients : 0 < shape.m → 0 < length (next_proposed shape log) → IsClients (next_proposed shape log)
   next_are_clients some any =
       let first = first_in_turn shape.m (last_proposed shape log) in
@@ -130,7 +130,7 @@ module _ (shape : Shape) (log : List Entry) where
     pub eager : ProposesNext shape me log envelope
 
   module _ (me : Actor) (is : due shape log ≡ PostTo 0) where
-    -- what a choice gives where the post is due
+    -- what a choice gives if the post is due
     given : (pick : Pick) (envelope : Envelope) → chosen shape me log 0 pick ≡ Some envelope
         → (if is_due (due shape log) 0 then chosen shape me log 0 pick else None) ≡ Some envelope
     given pick envelope e = ap (λ d. if is_due d 0 then chosen shape me log 0 pick else None) is ∙ e

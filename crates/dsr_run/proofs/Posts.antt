@@ -1,4 +1,4 @@
--- What a loyal replica's post of a round has of one slot: the slot's part, for the one value that the slot's sender posts.
+-- What a loyal replica's post in a round has for one slot: the slot's part, for the one value that the slot's sender posts.
 use Rattle.std.proofs.Common.{◌≡◌, ℕ, suc, ◌+◌, ◌-◌, ◌<◌, ◌≤◌, ◌==◌, ◌&&◌, not, nat_lt, Bool, true, false, List, [], ◌∷◌, ◌++◌, Some, if◌then◌else◌, refl, ap, sym, ◌∙◌, subst, eq-eqb, arith}
 use Rattle.std.specs.Prelude.{All, slice_get}
 use Rattle.std.proofs.lemmas.Bool.Decides.{nat_tests, Decides-eqb}
@@ -39,7 +39,7 @@ flight_test first r f within = grind (arith, nat_tests)
 begun_by : (round first last : ℕ) → (not (nat_lt round first) && not (nat_lt last round)) ≡ true → first ≤ round
 begun_by round first last e = grind (arith, nat_tests)
 
--- what is relayed is the same for all values, and what is started counts only where something is started
+-- what is relayed is the same for all values, and what is started counts only if something is started
 same_part : (c b : Bool) (relays : List Chain) (x y : Chain) → (c && b) ≡ false
     → (if c then relays ++ (if b then x ∷ [] else []) else []) ≡ (if c then relays ++ (if b then y ∷ [] else []) else [])
 same_part true true relays x y e = absurd cc
@@ -53,7 +53,7 @@ for_round round (c ∷ cs) = if_true (round == round) (c ∷ cs) [] (eq-eqb roun
 
 -- ---- the part of a slot
 
--- what is posted of a slot in its round r+1
+-- what is posted for a slot in its round r+1
 pub part_at : (shape : Shape) (me : Actor) (log : List Entry) (slot : ℕ) (value : SlotValue) (r : ℕ) → r ≤ shape.f
     → slot_part shape me log (first_round shape slot + r) value slot ≡ posted shape slot me value (suc r) (slot_kept shape log slot r)
 part_at shape me log slot value r within =
@@ -63,7 +63,7 @@ part_at shape me log slot value r within =
     (posted shape slot me value (suc (first + r - first)) (slot_kept shape log slot (first + r - first))) [] (flight_test first r shape.f within)
     ∙ ap (λ d. posted shape slot me value (suc d) (slot_kept shape log slot d)) back
 
--- each chain of a slot's part is of that slot
+-- each chain of a slot's part is for that slot
 pub part_of_slot : (shape : Shape) (p : ℕ) → p < shape.n → (log : List Entry) (round : ℕ) (value : SlotValue) → All (IsAsked shape) (signed_in value)
     → (slot : ℕ) (c : Chain) → In c (slot_part shape (Replica p) log round value slot) → c.slot ≡ slot
 part_of_slot shape p inside log round value asked slot c h =
@@ -72,14 +72,14 @@ part_of_slot shape p inside log round value asked slot c h =
 
 -- ---- the value of a slot
 
--- the value that the slot's sender posts, where it is loyal and has posted in the slot's first round
+-- the value that the slot's sender posts, if it is loyal and has posted in the slot's first round
 pub record IsValue (shape : Shape) (log : List Entry) (slot : ℕ) (value : SlotValue) : Type 0 where
   pub asked : All (IsAsked shape) (signed_in value)
   pub is : IsLoyal shape (sender_of shape slot) → (envelope : Envelope)
       → slice_get (posted_to (Replica 0) log) (first_round shape slot) ≡ Some envelope
       → envelope ≡ round_envelope (first_round shape slot) (chains_posted shape (sender_of shape slot) log (first_round shape slot) value)
 
--- the envelope of a round, made for a value that gives the same of this slot as the slot's own value does
+-- the envelope of a round, made for a value that gives the same for this slot as the slot's own value does
 pub record IsOfSlot (shape : Shape) (me : Actor) (log : List Entry) (slot : ℕ) (value : SlotValue) (round : ℕ) (envelope : Envelope) : Type 0 where
   pub made_for : SlotValue
   pub asked : All (IsAsked shape) (signed_in made_for)

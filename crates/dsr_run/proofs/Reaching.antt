@@ -22,7 +22,7 @@ use Rattle.dsr_run.proofs.Accepting.{stands_in}
 use Rattle.dsr_run.proofs.Histories.{acted_on}
 use Rattle.dsr_run.proofs.Righting.{In-reversed}
 
--- at the replica of this log the client's request of this number has acted, or a later one of its
+-- at the replica of this log the client's request with this number has acted, or a later one of the client
 pub record IsReached (shape : Shape) (log : List Entry) (client number : ℕ) : Type 0 where
   pub last : Reply
   pub is : reply (decided_requests shape log) client ≡ Some last
@@ -102,7 +102,7 @@ acts_or_reached (x ∷ older) client number h = by_place (λ k. acts_or_reached 
           reaches = omega (arith, reaches, low, number_is);
         })
 
--- a client one of whose requests stands in a history has a reply of no smaller number
+-- a client with a request in a history has a reply whose number is not smaller
 replied_to : (history : List Request) → IsLegal history → (client number : ℕ) → Reaches history client number
     → (last : Reply) × (reply_in history client ≡ Some last) × (number ≤ last.number)
 replied_to history legal client number h =
@@ -127,7 +127,7 @@ module _ (shape : Shape) (log : List Entry) (client number : ℕ) where
       has_acted (acts_or_reached (requests_of (decided_requests shape log)) client number
       (record { request = r; stands = inside; is_client = is; reaches = reaches }))
 
-  -- what has acted by a log has acted by each log of which the decided values are those and perhaps later ones
+  -- what has acted by a log has acted by each log whose decided values are those and perhaps later ones
   pub acted_later : (before : List Entry) → Extends (decided_values shape log) (decided_values shape before)
       → IsReached shape before client number → IsReached shape log client number
   acted_later before grown h =

@@ -73,7 +73,7 @@ module _ (shape : Shape) (few : HasFewTraitors shape) where
     grew = λ earlier since. history_since shape few run earlier is since;
   }
 
-  -- two replies of one number by loyal replicas to one client are the same
+  -- two loyal replicas' replies with one number to one client are the same
   same_reply : (run : List Step) → IsRun shape run → (c p q : ℕ) → IsLoyal shape (Replica p) → IsLoyal shape (Replica q) → (r s : AReply)
       → In (Take (Replica p) (Reply r)) (log_of run (Client c)) → In (Take (Replica q) (Reply s)) (log_of run (Client c)) → r.number ≡ s.number → r ≡ s
   same_reply run is c p q loyal loyal_other r s h k number =
@@ -114,7 +114,7 @@ module _ (shape : Shape) (few : HasFewTraitors shape) where
           let same = agree q loyal_other w k is_number p reply.0 loyal (In-append_left (Take (Replica p) (Reply reply.0)) newer older reply.1) reply.2 in
           subst (λ r. In (Take (Replica p) (Reply r)) newer) same reply.1
 
-  -- in one word
+  -- the same in one word
   pub all_taken_answered : 2 * shape.f < shape.n → (run : List Step) → IsRun shape run → (c number : ℕ) → TookAllReplies shape (log_of run (Client c)) number
       → HasReplyTo number (accepted_by shape (log_of run) c)
   all_taken_answered most run is c number h =

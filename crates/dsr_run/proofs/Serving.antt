@@ -1,4 +1,4 @@
--- A client whose request has acted at each loyal replica accepts a reply to it, once it took from each of them what that posted since.
+-- A client whose request has acted at each loyal replica accepts a reply to it, once it has taken from each of them what that has posted since.
 use Rattle.std.proofs.Common.{◌≡◌, ℕ, zero, suc, ◌+◌, ◌*◌, ◌<◌, ◌≤◌, Bool, true, false, List, [], ◌∷◌, ◌++◌, length, Option, None, Some, if◌then◌else◌, ◌⊎◌, inl, inr, refl, ap, sym, ◌∙◌, subst, length-append, arith}
 use Rattle.std.specs.Prelude.{slice_get}
 use Rattle.std.specs.Option.{option_map}
@@ -43,7 +43,7 @@ use Rattle.dsr_run.proofs.Within.{posted_within}
 
 -- ---- what is new in a log
 
--- where something stands in a list that grew by an item or did not: where it stood, or it is the new item, at the end
+-- what is in a list that grew by an item or did not: it was there, or it is the new item, at the end
 new_if : {A : Type 0} (b : Bool) (xs : List A) (y : A) (place : ℕ) (x : A) → slice_get (if b then xs ++ y ∷ [] else xs) place ≡ Some x
     → (slice_get xs place ≡ Some x) ⊎ ((b ≡ true) × (y ≡ x))
 new_if false xs y place x e = inl e
@@ -104,7 +104,7 @@ reply_parts (Some r) envelope e = (r, refl, same_Some (Reply r) envelope e)
 -- ---- one client
 
 module _ (shape : Shape) (few : HasFewTraitors shape) (run : List Step) (is : IsRun shape run) (c number : ℕ) where
-  -- no request of a client has a number past the next one
+  -- no client's request has a number past the next one
   most_number : (q : ℕ) → IsLoyal shape (Replica q) → (r : AReply) → In (Take (Replica q) (Reply r)) (log_of run (Client c))
       → r.number ≤ suc (length (accepted_by shape (log_of run) c))
   most_number q loyal r taken =
@@ -158,7 +158,7 @@ module _ (shape : Shape) (few : HasFewTraitors shape) (run : List Step) (is : Is
         (subst (λ l. slice_get (taken_from (Replica q) l) place ≡ Some x.0) parts x.1) in
         (reply.0, subst (λ z. In (Take (Replica q) z) newer) (sym reply.1) new, reply.2)
 
-    -- so it accepts a reply to its request, if not earlier
+    -- so it accepts a reply to its request, if it has not done so earlier
     pub accepts_since : 2 * shape.f < shape.n → (p : ℕ) (ask : SignedRequest) → ask.request.number ≡ number
         → In (Post (Replica p) (Ask ask)) (log_of moment (Client c))
         → ((q : ℕ) → IsLoyal shape (Replica q) → IsReached shape (log_of moment (Replica q)) c number × TookSince (log_of run) (log_of moment) c q)
@@ -209,8 +209,8 @@ module _ (shape : Shape) (few : HasFewTraitors shape) (run : List Step) (is : Is
           took = took next;
         }
 
--- a client is answered in time: where an eager replica held its request, and so many rounds later it took from each loyal replica what
--- this one posted since
+-- a client is answered in time: if an eager replica held its request, and after the stated number of rounds it took from each loyal
+-- replica what this one posted since
 abbrev pub AnswersInTime : Shape → Logs → Logs → Type 0
 AnswersInTime shape logs earlier = ((a : Actor) → Extends (logs a) (earlier a)) → (ask : SignedRequest) (t : ℕ) → IsHeldEagerly shape earlier ask t
     → ((q : ℕ) → IsLoyal shape (Replica q) → (t + rounds_to_act shape ≤ rounds shape (earlier (Replica q))) × TookSince logs earlier ask.request.client q)
@@ -222,12 +222,12 @@ answered_in_time shape run moment few most is earlier grown ask t h each =
     accepts_since shape few run is ask.request.client ask.request.number moment earlier grown most h.replica ask refl (held_asked shape moment earlier ask t h)
     (λ q loyal. let now = each q loyal in (reached_in_time shape moment few earlier ask t h q loyal now.0, now.1))
 
--- of an earlier moment of the run
+-- for an earlier moment of the run
 pub answered_in_run : (shape : Shape) (run moment : List Step) → HasFewTraitors shape → 2 * shape.f < shape.n → IsRun shape run
     → Extends run moment → AnswersInTime shape (log_of run) (log_of moment)
 answered_in_run shape run moment few most is grown = answered_in_time shape run moment few most is (run_before shape run moment is grown)
 
--- and of logs of a run that were such logs before
+-- and for logs of a run that were such logs before
 pub answered_in_logs : (shape : Shape) (logs earlier : Logs) → HasFewTraitors shape → 2 * shape.f < shape.n → AreLogs shape logs
     → AreLogs shape earlier → AnswersInTime shape logs earlier
 answered_in_logs shape logs earlier few most are were =

@@ -1,4 +1,4 @@
--- Where the links that a loyal replica signed stand: in its part of the slot of the link.
+-- Where the links that a loyal replica signed are: in its part of the link's slot.
 use Rattle.std.proofs.Common.{◌≡◌, ℕ, suc, ◌-◌, ◌<◌, ◌≤◌, List, [], ◌∷◌, ◌++◌, Option, None, Some, inl, inr, ap, sym, ◌∙◌, subst, arith}
 use Rattle.std.specs.Prelude.{All, map, slice_get}
 use Rattle.std.specs.Option.{option_map}
@@ -61,7 +61,7 @@ pub post_inside : (shape : Shape) (me : Actor) (q : ℕ) (x : Envelope) → 0 < 
 post_inside shape me q x some h =
     subst (IsInside shape.n) (post_due shape me h.older q h.next.0 x h.next.2) (counts shape me some h.older h.loyal).inside
 
--- what was posted stands among what was posted to its taker
+-- what was posted is among what was posted to its taker
 pub entry_posted : (a : Actor) (log : List Entry) (x : Envelope) → In (Post a x) log → In x (posted_to a log)
 entry_posted a [] x h = elim h [ ]
 entry_posted a (Take from y ∷ older) x (here e) = absurd cc
@@ -90,7 +90,7 @@ in_round : (s : Signature) (round : ℕ) (chains : List Chain) → Carries (roun
 in_round s round [] carried = elim carried [ ]
 in_round s round (c ∷ cs) carried = carried
 
--- no replica's signature stands beside a request that was asked
+-- no replica's signature is beside a request that was asked
 not_beside : (shape : Shape) (l : ℕ) (s : Signature) (value : SlotValue) → All (IsAsked shape) (signed_in value) → s.signer ≡ Replica l
     → In s (map (λ r. r.signature) (signed_in value)) → ⊥
 not_beside shape l s value asked signer h =
@@ -101,7 +101,7 @@ not_beside shape l s value asked signer h =
     differ : (c : ℕ) → Client c ≡ Replica l → ⊥
     differ c e = cc
 
--- a signature stands in the replica's part of a round of the slot
+-- a signature is in the replica's part of a round of the slot
 pub record IsSigned (shape : Shape) (me : Actor) (log : List Entry) (slot : ℕ) (value : SlotValue) (s : Signature) : Type 0 where
   pub round : ℕ
   pub within : round ≤ shape.f
@@ -113,7 +113,7 @@ pub record IsSigned (shape : Shape) (me : Actor) (log : List Entry) (slot : ℕ)
 
 module _ (shape : Shape) (log : ℕ → List Entry) (loyal_log : (p : ℕ) → IsLoyal shape (Replica p) → IsLoyalLog shape (Replica p) (log p))
     (slot : ℕ) (value : SlotValue) (its : IsValue shape (log (sender shape slot)) slot value) (l : ℕ) (loyal : IsLoyal shape (Replica l)) where
-  -- a chain of the replica's part of a slot, on which it signed a link of this slot, is of this slot
+  -- a chain of the replica's part of a slot, on which it signed a link of this slot, is for this slot
   in_slot : (q t k : ℕ) (x : Envelope) (h : IsOfSlot shape (Replica l) (log l) slot value t x) → q < shape.n → (chain : Chain)
       → In chain (slot_part shape (Replica l) (log l) t h.made_for k) → (s : Signature) → IsLinkOf slot s.statement → In s chain.signatures
       → IsSigned shape (Replica l) (log l) slot value s
@@ -152,7 +152,7 @@ module _ (shape : Shape) (log : ℕ → List Entry) (loyal_log : (p : ℕ) → I
             absurd (not_beside shape l s found.0.value proper.asked signer beside)
       ]
 
-  -- a link of the slot that the replica signed and posted stands in its part of a round of the slot
+  -- a link of the slot that the replica signed and posted is in its part of a round of the slot
   pub link_signed : (s : Signature) → s.signer ≡ Replica l → IsLinkOf slot s.statement → HasPosted (log l) s
       → IsSigned shape (Replica l) (log l) slot value s
   link_signed s signer link h = by_taker h.to h.envelope h.posted h.carried

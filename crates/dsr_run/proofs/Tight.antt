@@ -1,4 +1,4 @@
--- No bound smaller by a round holds: of one replica and nine clients the ninth has not acted a round earlier.
+-- No bound that is smaller by a round holds: with one replica and nine clients the ninth has not acted a round earlier.
 use Rattle.std.proofs.Common.{◌≡◌, ℕ, zero, suc, ◌<◌, ◌^◌, List, [], ◌∷◌, ◌++◌, length, refl, ap, sym, ◌∙◌, subst, arith}
 use Rattle.std.specs.Prelude.{All, IsTrue}
 use Rattle.std.proofs.lemmas.List.Elements.{All-nil, All-cons}

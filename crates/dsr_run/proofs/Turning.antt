@@ -1,5 +1,5 @@
--- Turns: of clients in a ring those that wait are taken eight by eight, and each client's turn comes nearer; and when a replica's
--- own slots begin.
+-- Turns: from clients in a ring those that wait are taken eight by eight, and each client's turn comes nearer; and when a
+-- replica's own slots begin.
 use Rattle.std.proofs.Common.{◌≡◌, ◌≢◌, ℕ, zero, suc, ◌+◌, ◌-◌, ◌*◌, ◌<◌, ◌≤◌, ◌==◌, nat_lt, Bool, true, false, List, [], ◌∷◌, Option, None, Some, if◌then◌else◌, ◌⊎◌, inl, inr, refl, ap, sym, ◌∙◌, arith}
 use Rattle.std.specs.Prelude.{filter, take, reverse, ◌++◌, ◌%◌}
 use Rattle.std.proofs.Math.Nat.{mod-eq_of_lt, add-mod_right}
@@ -15,7 +15,7 @@ use Rattle.dsr_run.specs.Eager.{first_or, next_client, in_turn, first_in_turn}
 
 -- ---- whose turn it is
 
--- how many clients stand before c in turn, from this one on
+-- how many clients come before c in turn, from this one on
 abbrev pub ahead : ℕ → ℕ → ℕ → ℕ
 ahead m c a = if nat_lt c a then c + m - a else c - a
 
@@ -42,14 +42,14 @@ last_put before (x ∷ xs) a = refl
 last_of : (before : Option ℕ) (a : ℕ) (rest : List ℕ) → first_or before (reverse (a ∷ rest)) ≡ first_or (Some a) (reverse rest)
 last_of before a rest = ap (first_or before) (reverse-append (a ∷ []) rest) ∙ last_put before (reverse rest) a
 
--- the last of these clients stands so much nearer to c that its successor is so many places nearer than a
+-- the last of these clients is so near to c that its successor is at least `many` places nearer than a
 pub record IsNearer (m c many a : ℕ) (chosen : List ℕ) : Type 0 where
   pub last : ℕ
   pub is : (before : Option ℕ) → first_or before (reverse chosen) ≡ Some last
   pub near : ahead m c (next_client m last) + many ≤ ahead m c a
 
 module _ (m c : ℕ) (inside : c < m) (waits : ℕ → Bool) (own : waits c ≡ true) where
-  -- the clients that wait among so many, from a on
+  -- the clients that wait among `many` clients, from a on
   abbrev waiting : ℕ → ℕ → List ℕ
   waiting count a = filter waits (in_turn m count a)
 
@@ -82,7 +82,7 @@ module _ (m c : ℕ) (inside : c < m) (waits : ℕ → Bool) (own : waits c ≡ 
         inr (record { last = h.last; is = λ before. last_of before a (take (suc k) rest) ∙ h.is (Some a); near = omega (arith, step, near) })
   ]
 
-  -- of the clients from a on, the first so many that wait have c among them, or end that much nearer to c
+  -- of the waiting clients from a on, the first k+1 have c among them, or end k+1 places nearer to c
   pub comes : (count k a : ℕ) → a < m → ahead m c a < count → Comes (suc k) a (take (suc k) (waiting count a))
   comes zero k a low near = absurd (omega (arith, near))
   comes (suc count) k a low near = elim (holds_or_not (a == c) (Decides-eqb a c)) [
@@ -95,7 +95,7 @@ module _ (m c : ℕ) (inside : c < m) (waits : ℕ → Bool) (own : waits c ≡ 
 
 -- ---- when own slots begin
 
--- of any n slots one is the replica's own
+-- one of any n slots is the replica's own
 pub own_slot : (n p : ℕ) → p < n → (at : ℕ) → (slot : ℕ) × (slot % n ≡ p) × (at ≤ slot) × (slot < at + n)
 own_slot n p inside zero = (p, mod-eq_of_lt inside, omega arith, omega (arith, inside))
 own_slot n p inside (suc at) =
@@ -107,10 +107,10 @@ own_slot n p inside (suc at) =
       | inr now ↦ (before.0 + n, add-mod_right before.0 n ∙ before.1, omega (arith, low, inside), omega (arith, now, low))
     ]
 
--- where 8 clients were passed over in each of so many own slots, one of the turns is left
+-- if 8 clients were passed over in each of `past` own slots, one of the turns is left
 pub turn_left : (m past : ℕ) → past * 8 < m → past < turns m
 turn_left m past few = let most = (div_ceil_times m 8 (omega arith)).0 in omega (arith, few, most)
 
--- so many own slots later
+-- `past` turns of n slots and one more are at most `all` turns
 pub slots_later : (n past all : ℕ) → past < all → n * past + n ≤ n * all
 slots_later n past all before = let more = mul-le n (suc past) n all (omega arith) before in omega (arith, more)

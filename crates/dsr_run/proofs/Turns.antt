@@ -37,7 +37,7 @@ numbered_reply (w ∷ older) are k some most = elim (cases_lt (length older) k) 
 ]
 
 module _ (shape : Shape) (me : ℕ) where
-  -- an ask is for what is outstanding, or begins the next request where nothing is
+  -- an ask is for what is outstanding, or begins the next request if nothing is
   asked_as : (log : List Entry) (pick : Pick) (ask : SignedRequest) → ask_to shape me log pick ≡ Some (Ask ask)
       → (outstanding shape log ≡ Some ask) ⊎ ((outstanding shape log ≡ None) × (ask.request.number ≡ suc (length (accepted shape log))))
   asked_as log pick ask e = by_outstanding (outstanding shape log) refl
@@ -80,7 +80,7 @@ module _ (shape : Shape) (run : List Step) (is : IsRun shape run) (first second 
   some : 0 < first.number
   some = subst (λ k. 0 < k) (ap (λ z. z.number) a.is) (asked_some shape second.client (log run) (log_client shape second.client run is) a.replica a.ask own)
 
-  -- where so many replies were accepted, the first request has its response
+  -- if as many replies were accepted as its number says, the first request has its response
   responded : (r : List Step) → IsRun shape r → Extends run r → first.number ≤ length (accepted shape (log r)) → (reply : Reply) × HasResponse shape (log_of r) first reply
   responded r was past most =
       let found = numbered_reply (accepted shape (log r)) (accepted_numbered shape second.client (log r) (log_client shape second.client r was)) first.number some most in
@@ -103,7 +103,7 @@ module _ (shape : Shape) (run : List Step) (is : IsRun shape run) (first second 
         },
       )
 
-  -- so it has where the second was first asked for
+  -- so it has when the second was first asked for
   pub turns : (r : List Step) → IsRun shape r → Extends run r → IsInvoked (log_of r) second → Precedes shape run first second
   turns [] was past h = elim h.posted [ ]
   turns (step ∷ older) was past h =

@@ -28,7 +28,7 @@ use Rattle.dsr_run.proofs.Logs.{log_cases, log_loyal}
 
 -- ---- rounds
 
--- within a round fewer rounds are closed than at most may be
+-- at most this many rounds are closed, and fewer within a round
 abbrev IsBefore : ℕ → Due → ℕ → Type 0
 IsBefore most (PostTo zero) t = t ≤ most
 IsBefore most (PostTo (suc q)) t = t < most
@@ -48,7 +48,7 @@ after_take : (most p t later : ℕ) (b : Bool) → t < most → later ≤ suc t 
 after_take most p t later true h step same = omega (arith, h, step)
 after_take most p t later false h step same = let still = same refl in omega (arith, h, still)
 
--- a take closes a round only where it is from the last replica
+-- a take closes a round only if it is from the last replica
 one_round : (shape : Shape) (p : ℕ) (x : Envelope) (log : List Entry) → 0 < shape.n
     → (rounds shape (Take (Replica p) x ∷ log) ≤ suc (rounds shape log))
     × ((suc p == shape.n) ≡ false → rounds shape (Take (Replica p) x ∷ log) ≡ rounds shape log)
@@ -120,7 +120,7 @@ module _ (shape : Shape) where
 
   -- ---- envelopes
 
-  -- what is posted is within the limits, and so what is taken
+  -- what is posted is within the limits, and so is what is taken
   pub posted_within : (run : List Step) → IsRun shape run → (a to : Actor) (x : Envelope) → In (Post to x) (log_of run a) → IsEnvelope x
   posted_within [] is a to x h = elim h [ ]
   posted_within (step ∷ older) is a to x h = elim (from_log step older a (Post to x) h) [
