@@ -17,7 +17,7 @@ use Rattle.dsr_client.specs.State.{State, accepted, asked_beside, outstanding, s
 use Rattle.dsr_client.proofs.Lemmas.{chosen_ask, choice_told, plain_ask, new_ask}
 
 module _ (shape : Shape) (me : ℕ) (log : List Entry) where
-  -- where a request is outstanding, that may be asked for again
+  -- if a request is outstanding, it may be asked for again
   pub next_plain : (q : ℕ) (ask : SignedRequest) → q < shape.n → outstanding shape log ≡ Some ask → IsNext shape me log (Post (Replica q) (Ask ask))
   next_plain q ask inside some = (inside, (Plain, plain_ask shape me log ∙ ap (option_map Ask) some))
 
@@ -39,7 +39,7 @@ module _ (shape : Shape) (me : ℕ) (log : List Entry) where
   begun_beside None pick ask told none = told
   begun_beside (Some other) pick ask told none = absurd (none-some other (sym none))
 
-  -- where nothing is outstanding, the client's next request is asked for
+  -- if nothing is outstanding, the client's next request may be asked for
   pub next_begun : (q : ℕ) (ask : SignedRequest) → outstanding shape log ≡ None → IsNext shape me log (Post (Replica q) (Ask ask))
       → ask_of me (next_number shape log) ask.request.op ≡ ask
   next_begun q ask none next =

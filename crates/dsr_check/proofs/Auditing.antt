@@ -1,4 +1,4 @@
--- What a step that may be next meets in an audit, and how the audit goes on standing for the run with it.
+-- What a step that may be next finds in an audit, and how the audit represents the run with it.
 use Rattle.std.proofs.Common.{zero, suc, ◌≡◌, ◌↔◌, ℕ, ◌<◌, Bool, true, false, List, [], ◌∷◌, ◌++◌, Option, None, Some, length, length-append, append-nil, ◌⊎◌, inl, inr, refl, ap, sym, ◌∙◌, subst, arith}
 use Rattle.std.specs.Bool.{OnFalse, OnTrue}
 use Rattle.std.specs.Prelude.{Any, IfNone, OnSome, slice_set, slice_index_or}
@@ -38,14 +38,14 @@ use Rattle.dsr_check.proofs.Stepping.{played_step, boxes_posted, boxes_taken}
 
 -- ---- boxes
 
--- a box of which all was taken is empty
+-- a box from which all was taken is empty
 empty_where_taken : (o : Option Held) (posted taken : List Envelope) → posted ≡ taken ++ held_in o → posted ≡ taken → o ≡ None
 empty_where_taken None posted taken holds same = refl
 empty_where_taken (Some h) posted taken holds same =
     let longer = ap length (sym same ∙ holds) in
     absurd (omega (arith, longer, length-append taken (h.envelope ∷ [])))
 
--- a box of which all but one envelope was taken holds that one
+-- a box from which all but one envelope was taken holds that one
 held_where_left : (o : Option Held) (posted taken : List Envelope) (x : Envelope) → posted ≡ taken ++ held_in o → posted ≡ taken ++ x ∷ []
     → (h : Held) × (o ≡ Some h) × (h.envelope ≡ x)
 held_where_left None posted taken x holds left =
@@ -86,7 +86,7 @@ own_of : (shape : Shape) (logs : Logs) (me : Actor) (entry : Entry) → KeepsCon
 own_of shape logs (Replica p) entry keeps = keeps.0
 own_of shape logs (Client c) entry keeps = keeps
 
--- the conduct of a step that may be next, as the actor's own log shows it
+-- a step that may be next keeps its actor's protocol, as the actor's own log shows it
 pub next_keeps : (shape : Shape) (logs : Logs) (me : Actor) (entry : Entry) → IsNextStep shape logs (me, entry) → KeepsOwn shape me (logs me) entry
 next_keeps shape logs me entry next = own_of shape logs me entry next.conduct
 
@@ -368,7 +368,7 @@ module _ (shape : Shape) (run : List Step) (parties : List Party) (rows : List (
       known_posted shape run known known from to x (are.knows p traitor) loyal
       (λ s. (inl, λ h. elim h [ inl old ↦ old | inr carried ↦ (are.knows p traitor).all s from loyal (before s carried) ]))
 
-  -- what is kept of an actor is in its log
+  -- what is stored for an actor is in its log
   first_in_log : (from : Actor) (first : Held) → IsActor shape from → slice_index_or firsts (place_of shape from) None ≡ Some first
       → In (Post (Replica 0) first.envelope) (log_of run from)
   first_in_log from first actor kept =

@@ -20,7 +20,7 @@ ends_with (u ∷ us) a (v ∷ vs) b e fewer = ends_with us a vs b (rest (us ++ a
 
 -- ---- steps in their order
 
--- one step more
+-- one more step
 pub reverse_more : (steps : List Step) (i : ℕ) (step : Step) → i < length steps → step ≡ slice_index_or steps i step
     → reverse (take (i + 1) steps) ≡ step ∷ reverse (take i steps)
 reverse_more steps i step inside is =

@@ -17,7 +17,7 @@ entry_read [] place d entry within at = absurd (omega arith)
 entry_read (e ∷ es) zero d entry within at = cc
 entry_read (e ∷ es) (suc place) d entry within at = entry_read es place d entry (omega arith) at
 
--- one entry more
+-- one more entry
 pub in_more : (accepted : Accepted) (place : ℕ) (d : ℕ × Reply) (entry : ℕ × Reply) → place < length accepted → In entry (take (place + 1) accepted)
     → In entry (take place accepted) ⊎ (get_or accepted place d ≡ entry)
 in_more accepted place d entry within inside =

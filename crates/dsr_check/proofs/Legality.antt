@@ -7,7 +7,7 @@ use Rattle.dsr_request.specs.Request.{Request}
 use Rattle.dsr_history.specs.History.{IsLegal}
 use Rattle.dsr_check.specs.Support.Heads.{head_of}
 
--- the history is legal, and each client's last number is the greatest of its numbers, or 0 where it has none
+-- the history is legal, and each client's last number is the greatest of its numbers, or 0 if it has none
 pub record IsNoted (history : List Request) (last : List ℕ) : Type 0 where
   pub size : length last ≡ 32
   pub legal : IsLegal history

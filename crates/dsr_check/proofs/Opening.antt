@@ -28,7 +28,7 @@ use Rattle.dsr_names.proofs.PlaceLemmas.{same_place, place_below}
 pub none_cast : (shape : Shape) → AreCast shape 0 []
 none_cast shape = record { count = refl; each = λ who inside below d. absurd (omega (arith, below)) }
 
--- one node more
+-- one more node
 pub one_cast : (shape : Shape) (k : ℕ) (parties : List Party) (who : Actor) (x : Party) → AreCast shape k parties → IsActor shape who
     → place_of shape who ≡ k → Plays shape who [] x → AreCast shape (suc k) (parties ++ x ∷ [])
 one_cast shape k parties who x are actor at plays = record {
@@ -78,7 +78,7 @@ pub no_keys : (shape : Shape) → AreKeysBelow shape 0 []
 no_keys shape (Replica p) = (λ h. let below = h.2 in absurd (omega (arith, below)), λ h. let below = h.0 in absurd (omega (arith, below)))
 no_keys shape (Client c) = (λ h. let below = h.2 in absurd (omega (arith, below)), λ h. elim h [ ])
 
--- the key of one replica more, where it is a traitor
+-- the key of one more replica, if it is a traitor
 pub more_keys : (shape : Shape) (k : ℕ) (keys : List Actor) (o : Option Actor) → AreKeysBelow shape k keys → IfSome o (λ key. key ≡ Replica k)
     → IsSome o ↔ (is_traitor shape k ≡ true) → AreKeysBelow shape (suc k) (keys ++ option_to_list o)
 more_keys shape k keys None are is when a = subst (λ ks. Any (λ h. h ≡ a) ks ↔ IsTraitorBelow shape (suc k) a) (sym (append-nil keys)) (
@@ -147,7 +147,7 @@ opened shape parties rows notary keys known firsts are signs held square empty n
 pub no_signers : (shape : Shape) → HasKeysBelow shape 0 []
 no_signers shape a inside below = absurd (omega (arith, below))
 
--- one key more
+-- one more key
 pub one_signer : (shape : Shape) (k : ℕ) (keys : List Actor) (key who : Actor) → HasKeysBelow shape k keys → IsActor shape who
     → place_of shape who ≡ k → key ≡ who → HasKeysBelow shape (suc k) (keys ++ key ∷ [])
 one_signer shape k keys key who are actor at is a inside below = elim (cases_lt (place_of shape a) k) [

@@ -31,7 +31,7 @@ some_of : (o : Option Envelope) → IsSome o → (y : Envelope) × (o ≡ Some y
 some_of None e = absurd (true≢false (sym e))
 some_of (Some y) e = (y, refl)
 
--- a loyal replica's post that it does not choose, where that can be this envelope alone
+-- a loyal replica's post by the plain choice, if that can only be this envelope
 pub replica_repeats : (shape : Shape) (p : ℕ) (log : List Entry) (r after : AReplica) (q : ℕ) (x : Envelope) → PlaysReplica shape p log r
     → Allows r q Plain → after.me ≡ r.me → after.shape ≡ r.shape
     → ((y : Envelope) → envelope_to r.shape r.me log q Plain ≡ Some y → StandsFor after (Post (Replica q) y ∷ log))
@@ -53,7 +53,7 @@ replica_repeats shape p log r after q x plays may me shape_is stands only =
       },
     )
 
--- who can post so is no traitor
+-- an actor that can post so is not a traitor
 pub can_repeat_loyal : (shape : Shape) (p q : ℕ) (log : List Entry) (whose : Party) → Plays shape (Replica p) log whose → CanRepeat whose q
     → is_traitor shape p ≡ false
 can_repeat_loyal shape p q log (party.Loyal r) plays can = plays.honest

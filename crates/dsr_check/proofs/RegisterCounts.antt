@@ -1,4 +1,4 @@
--- A table that stands for operations has as many entries as registers hold a number after them.
+-- A table that represents operations has as many entries as registers hold a number after them.
 use Rattle.std.proofs.Common.{◌≡◌, ℕ, suc, ◌≤◌, Bool, true, false, cond, ◌&&◌, ◌||◌, List, [], ◌∷◌, length, map, filter, is_some, nat_le, refl, sym, ◌∙◌, ap, subst, arith, IsSome, le_antisymm}
 use Rattle.std.specs.List.{AllByRecursion, IsDistinct, list_any}
 use Rattle.std.specs.Map.{keys_of}
@@ -158,11 +158,11 @@ at_least table ops h =
     length-le_from_keys nat_list_eq_equiv (held_names ops) table (held_distinct ops)
     (λ q among. subst IsSome (sym (h q)) (held_is_some ops q (is_some (value ops q)) refl among))
 
--- a table that stands for operations has an entry for each register that holds a number
+-- a table that represents operations has an entry for each register that holds a number
 pub count_stands : (table : Registers) (ops : List Op) → IsDistinct bytes_eq (keys_of table) → StandsFor table ops → length table ≡ count_held ops
 count_stands table ops distinct h = le_antisymm (at_most table ops distinct h) (at_least table ops h) ∙ length_held ops
 
--- and so it is full where they are
+-- and so it is full if they are
 pub full_stands : (table : Registers) (ops : List Op) → IsDistinct bytes_eq (keys_of table) → StandsFor table ops → nat_le 1024 (length table) ≡ is_full (λ name. value ops name) (registers ops)
 full_stands table ops distinct h = ap (nat_le 1024) (count_stands table ops distinct h)
 

@@ -1,4 +1,4 @@
--- What is kept of posts to replica 0: of each actor the last one. A loyal replica posts that to the others of the round too.
+-- What is stored of posts to replica 0: for each actor the last one. A loyal replica posts that to the others in that round too.
 use Rattle.std.proofs.Common.{◌≡◌, ◌==◌, ℕ, ◌+◌, zero, suc, ◌<◌, List, [], ◌∷◌, ◌++◌, length, Option, None, Some, if◌then◌else◌, inl, inr, refl, ap, sym, ◌∙◌, subst, arith}
 use Rattle.std.specs.Prelude.{slice_get, slice_index_or, slice_set}
 use Rattle.std.proofs.lemmas.Bool.{cond-true, cond-false, cases_Bool, false_from_ne_true}
@@ -95,7 +95,7 @@ module _ (shape : Shape) (run : List Step) (firsts : List (Option Held)) (are : 
             (before.0, (before.1.0, ap (posted_to (Replica 0)) other.1 ∙ before.1.1))
       ]
 
-  -- so it is where a copy is kept, and every other post is none
+  -- so it is after a post to replica 0, of which a copy is stored, and after every other post
   pub firsts_posted : (from to : Actor) (h : Held) (kept : Option Held) → h.draft.now ≡ h.envelope → IsActor shape from → IsFirstOf to h kept
       → AreFirsts shape (log_of ((from, Post to h.envelope) ∷ run)) (with_first firsts (place_of shape from) kept)
   firsts_posted from (Replica zero) h kept recorded actor is =
@@ -123,7 +123,7 @@ last_of : (older : List Envelope) (x : Envelope) → slice_get (older ++ x ∷ [
 last_of [] x = refl
 last_of (y ∷ older) x = last_of older x
 
--- what stands last in a list
+-- what is last in a list
 last_at : (posts older : List Envelope) (x : Envelope) (t : ℕ) → posts ≡ older ++ x ∷ [] → length posts ≡ suc t → slice_get posts t ≡ Some x
 last_at posts older x t is long =
     let count : length older ≡ t = let more = length_push older x in let same = ap length is in omega (arith, more, same, long) in

@@ -1,4 +1,4 @@
--- How the parties and the boxes of an audit go on standing for the run with each step.
+-- How the parties and the boxes of an audit represent the run with each further step.
 use Rattle.std.proofs.Common.{◌≡◌, ◌≢◌, ◌+◌, ◌<◌, List, [], ◌∷◌, ◌++◌, None, Some, length, length-append, append-nil, ◌⊎◌, inl, inr, refl, ap, sym, ◌∙◌, subst, arith}
 use Rattle.std.specs.Prelude.{slice_set, slice_index_or}
 use Rattle.std.proofs.lemmas.List.{get_or-set_same, get_or-set_other, length-set}

@@ -31,7 +31,7 @@ turned_at xs i x within read = turned_parts xs i x within ∙ ap (λ y. reverse 
 abbrev pub reply_to : Request → List Request → Reply
 reply_to request older = record { number = request.number; place = length older; answer = answer_after (operations older) request.op }
 
--- it is right wherever the request stands so
+-- it is right in each history in which the request comes right after these
 pub stands_right : (history newer older : List Request) (request : Request) (client : ℕ) → history ≡ newer ++ request ∷ older → request.client ≡ client
     → IsReplyTo history client (reply_to request older)
 stands_right history newer older request client parts own = record {
@@ -80,7 +80,7 @@ reply_cases request older client reply h = by h.stands.newer h.stands.parts
       number_is = h.number_is;
     })
 
--- one request more
+-- one more request
 
 -- of another client
 pub walked_by : (history older : List Request) (request : Request) (accepted : List (ℕ × Reply)) (client before head : ℕ)
@@ -94,7 +94,7 @@ walked_by history older request accepted client before head other walked = recor
   ];
 }
 
--- of this client, whose head passed the reply to it if that stood there
+-- of this client, whose head passed the reply to it if the head was at that
 pub walked_on : (history newer older : List Request) (request : Request) (accepted : List (ℕ × Reply)) (client before head moved : ℕ)
     → history ≡ newer ++ request ∷ older → request.client ≡ client → HasWalked history older accepted client before head
     → HasMoved accepted client (reply_to request older) head moved → HasWalked history (request ∷ older) accepted client before moved

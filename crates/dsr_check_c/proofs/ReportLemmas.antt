@@ -1,4 +1,4 @@
--- What the numbers of a report say of the refusal.
+-- What the numbers of a report say about the refusal.
 use Rattle.std.proofs.Common.{◌≡◌, ◌⊎◌, inl, inr, ℕ, Result, Ok, Err, ap, ◌∙◌}
 use Rattle.dsr_names.specs.Refusal.{code_of}
 use Rattle.dsr_names.specs.declared.refusal.Refusal.{Refusal}
@@ -14,7 +14,7 @@ not_refused verdict one other (inr e) = cc
 same_refusal : (V : Type 0) (one other : Refusal) → ◌≡◌ {A = Result V Refusal} (Err one) (Err other) → one ≡ other
 same_refusal V one other e = cc
 
--- a refusal is told by its number, and a bad step by its line too
+-- a refusal is known by its number, and a bad step by its line too
 pub refused_as : (V : Type 0) (refusal : Refusal) (line code named : ℕ) → code ≡ code_of refusal → named ≡ line_of refusal
     → (◌≡◌ {A = Result V Refusal} (Err refusal) (Err (NotARun line))) ⊎ (◌≡◌ {A = Result V Refusal} (Err refusal) (Err NoMemory))
     → ((code ≡ 14) × (named ≡ line)) ⊎ (code ≡ 12)

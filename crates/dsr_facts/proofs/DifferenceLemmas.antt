@@ -11,7 +11,7 @@ use Rattle.dsr_facts.specs.declared.difference.Difference.{Difference}
 use Rattle.dsr_facts.specs.declared.difference.Difference.TheVariants.{OtherKind, OtherRound, Chains, OtherAsk, OtherReply, OtherFront}
 use Rattle.dsr_facts.specs.declared.difference.Parting.{Parting}
 
--- lists of which each place has the same are the same
+-- lists with the same at each place are the same
 pub same_places : (xs ys : List Chain) → ((i : ℕ) → slice_get xs i ≡ slice_get ys i) → xs ≡ ys
 same_places [] [] each = refl
 same_places [] (y ∷ ys) each = absurd (none-some y (each 0))
@@ -57,7 +57,7 @@ not_from_itself (Seen a) OtherFront is = is refl
 pub difference_apart : (wanted found : Envelope) (d : Difference) → IsDifference wanted found d → wanted ≢ found
 difference_apart wanted found d is same = not_from_itself found d (subst (λ x. IsDifference x found d) same is)
 
--- of two lists that agree up to a place, and are not the same, one goes on there
+-- if two lists agree up to a place, and are not the same, one of them goes on there
 pub goes_on : (xs ys : List Chain) (n : ℕ) → xs ≢ ys → ((i : ℕ) → i < n → slice_get xs i ≡ slice_get ys i) → n ≤ length xs → n ≤ length ys
     → (n < length xs) ⊎ (n < length ys)
 goes_on xs ys n apart before ours theirs = elim (cases_lt n (length xs)) [
@@ -72,7 +72,7 @@ goes_on xs ys n apart before ours theirs = elim (cases_lt n (length xs)) [
   ]
 ]
 
--- where both go on they go on apart, if what stands there does; so they do where one has ended
+-- if both go on, they part there if what is there differs; and if one has ended, they part too
 pub go_apart : (xs ys : List Chain) (n : ℕ) → ((x y : Chain) → slice_get xs n ≡ Some x → slice_get ys n ≡ Some y → x ≢ y)
     → (n < length xs) ⊎ (n < length ys) → slice_get xs n ≢ slice_get ys n
 go_apart xs ys n apart goes same = elim ((slice_get_cases xs n).1) [

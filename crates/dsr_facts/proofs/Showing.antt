@@ -26,7 +26,7 @@ last_is value (chain ∷ more) last some is =
     let place : length more ≡ length (chain ∷ more) - 1 = omega arith in
     last_at value chain more last ∙ ap (λ (c : Chain). c.value) (ap (λ i. slice_index_or (chain ∷ more) i last) place ∙ sym is)
 
--- where some choice gives the envelope, it is the one that was read off it
+-- if some choice gives the envelope, it is the one that was read off it
 pub pick_is : (shape : Shape) (me : Actor) (log : List Entry) (q : ℕ) (x : Envelope) (ours : Pick) → (IsPick (shown_choice shape me q x) → ours ≡ shown_choice shape me q x)
     → (pick : Pick) → IsPick pick → envelope_to shape me log q pick ≡ Some x → pick ≡ ours
 pick_is shape me log q x ours shown pick good e =

@@ -66,7 +66,7 @@ in_box_within shape run is from to x holds =
     posted_within shape run is from to x (posted_entry to (log_of run from) x
     (In-from_place x (posted_to to (log_of run from)) (length (taken_from from (log_of run to))) holds))
 
--- and something is there where it is full
+-- and something is there if it is full
 pub full_holds : (logs : Logs) (from to : Actor) → is_full logs from to ≡ true → in_box logs from to ≡ None → ⊥
 full_holds logs from to full none = none_below (posted_to to (logs from)) (length (taken_from from (logs to))) none full
   where

@@ -1,4 +1,4 @@
--- What a choice gives keeps the conduct of its actor.
+-- What a choice gives keeps the protocol of its actor.
 use Rattle.std.proofs.Common.{◌≡◌, ℕ, ◌<◌, ◌^◌, not, nat_lt, Bool, true, false, List, Option, None, Some, if◌then◌else◌, refl, ap, sym, ◌∙◌, subst, arith}
 use Rattle.std.specs.Option.{option_map}
 use Rattle.std.proofs.lemmas.Bool.{true≢false}

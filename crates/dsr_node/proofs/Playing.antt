@@ -1,4 +1,4 @@
--- How the nodes of a world go on standing for their logs.
+-- How the nodes of a world still represent their logs after a step.
 use Rattle.std.proofs.Common.{◌≡◌, ℕ, suc, ◌<◌, ◌^◌, not, nat_lt, Bool, true, false, List, ◌∷◌, Option, None, Some, length, reverse, if◌then◌else◌, refl, ap, ap₂, sym, ◌∙◌, subst, arith}
 use Rattle.std.specs.Option.{option_map, is_none}
 use Rattle.std.specs.Prelude.{Result, IfOk, IsSome}
@@ -61,7 +61,7 @@ loyal_given shape (ReplicaNumber p) log r to pick result plays given =
     subst (λ s. IfOk result (λ envelope. post_of s log (ReplicaNumber p) to pick ≡ Some envelope)) plays.shape_is (given p log plays.me plays.stands)
 loyal_given shape (ClientNumber c) log r to pick result plays given = elim plays [ ]
 
--- there is a post where nothing refuses it, and no counter is at its end
+-- there is a post if nothing refuses it, and no counter is at its end
 not_refused : (o : Option Envelope) (b : Bool) → (if is_none o then Some NotDue else if b then Some Exhausted else None) ≡ None → IsSome o × (b ≡ false)
 not_refused None b e = absurd (none-some NotDue (sym e))
 not_refused (Some x) true e = absurd (none-some Exhausted (sym e))
@@ -104,7 +104,7 @@ client_plays shape c log (Loyal r) plays = elim plays [ ]
 client_plays shape c log Traitor plays = elim plays [ ]
 client_plays shape c log (Client x) plays = tt
 
--- what plays an actor that is no traitor is none
+-- what plays an actor that is not a traitor is not a traitor
 pub honest_plays : (shape : Shape) (me : Actor) (log : List Entry) (node : Node) → is_traitor_of shape me ≡ false → Plays shape me log node → IsHonest node
 honest_plays shape me log (Loyal r) honest plays = tt
 honest_plays shape (ReplicaNumber p) log Traitor honest plays = absurd (false≢true (sym honest ∙ plays))

@@ -77,7 +77,7 @@ line_clean (Replies to) is = after_word (codes "replies") (Replies to) (word_cle
 abbrev pub make_play : Shape → List Event → Play
 make_play shape events = record { shape = shape; events = events }
 
--- the play that has the events which a text's lines stand for is the play that the text spells
+-- the play with the events that a text's lines represent is the play whose text it is
 pub same_play : (text : List ℕ) (play : Play) (s : Spells text play) (shape : Shape) → shape ≡ play.shape → (events : List Event)
     → events ≡ all_events shape s.lines → make_play shape events ≡ play
 same_play text play s shape same events given = ap₂ make_play same (given ∙ (ap (λ x. all_events x s.lines) same ∙ sym s.events))

@@ -26,7 +26,7 @@ use Rattle.dsr_play.specs.Support.PlayParts.{IsLineOf, posts_line, asks_line, Ar
 
 -- ---- words
 
--- words are other words where the sum of their first two letters and their length is another one
+-- words differ if the sum of their first two letters and their length differs
 pub other_key : (xs ys : List ℕ) → nat_eq ((get_or xs 0 0 + get_or xs 1 0) + length xs) ((get_or ys 0 0 + get_or ys 1 0) + length ys) ≡ false → xs ≡ ys → ⊥
 other_key xs ys differ e =
     let same : (get_or xs 0 0 + get_or xs 1 0) + length xs ≡ (get_or ys 0 0 + get_or ys 1 0) + length ys = ap (λ zs. (get_or zs 0 0 + get_or zs 1 0) + length zs) e in
@@ -212,7 +212,7 @@ reads_replies rest rp reads = reads_word (λ (c : ℕ). c < 32) client_text repl
 
 -- ---- words with a star or an actor after them
 
--- a text that begins with another byte than a star is no star
+-- a text that does not begin with a star is not a star
 other_first : (xs : List ℕ) → nat_eq 42 (get_or xs 0 0) ≡ false → codes "*" ≡ xs → ⊥
 other_first xs differ e =
     let same : 42 ≡ get_or xs 0 0 = ap (λ zs. get_or zs 0 0) e in
@@ -447,7 +447,7 @@ other_word word rest no_post no_plant no_take no_tell no_posts no_plants no_take
     none (Hears from) is e = no_hears (sym is.1)
     none (Replies to) is e = no_replies (sym is.1)
 
--- a text without a space spells no line
+-- a text without a space is not a line
 pub no_line : (bytes : List ℕ) → IsAbsent 32 bytes → Reads IsPlayLine line_text bytes None
 no_line bytes whole =
     reads_none IsPlayLine line_text bytes (λ line is e. not_absent 32 (line_word line) (line_rest line) (subst (IsAbsent 32) e whole))

@@ -1,4 +1,4 @@
--- Steps that can stand in a transcript, in the order of the record and in that of the run.
+-- Steps that can be in a transcript, in the order of the record and in that of the run.
 use Rattle.std.proofs.Common.{◌↔◌, List, [], ◌∷◌, sym, subst}
 use Rattle.std.specs.Prelude.{All, reverse}
 use Rattle.std.proofs.lemmas.List.{reverse-append, reverse-reverse}

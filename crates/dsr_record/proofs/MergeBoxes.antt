@@ -23,7 +23,7 @@ use Rattle.dsr_record.specs.declared.mailboxes.Held.{Held}
 pub same_actor : (a : Actor) → actor_eq a a ≡ true
 same_actor a = (actor_eq-Decides a a).1 refl
 
--- two actors are one, or stand at two places
+-- two actors are one, or are at two places
 one_or_two : (shape : Shape) (a b : Actor) → IsActor shape a → IsActor shape b → (a ≡ b) ⊎ (place_of shape b ≢ place_of shape a)
 one_or_two shape a b actor other = by_test (actor_eq a b) (actor_eq-Decides a b).0 (actor_eq-Decides a b).1
   where

@@ -30,7 +30,7 @@ use Rattle.dsr_record.specs.declared.merging.Rest.{Rest}
 
 -- ---- lists
 
--- the first entry, or another where there is none
+-- the first entry, or another if there is none
 first_or : Entry → List Entry → Entry
 first_or d [] = d
 first_or d (entry ∷ more) = entry
@@ -79,7 +79,7 @@ module _ (logs : Logs) (merged : List Step) (a : Actor) (rest : List Entry) (lef
       let same = next_one (logs a) (log_of merged a) rest can.next.0 can.entry left can.next.1 in
       subst (KeepsBox (log_of merged) a) (ap (first_or entry) (sym same ∙ e)) can.box
 
-  -- nothing can where nothing is left
+  -- nothing can go on if nothing is left
   pub none_goes : rest ≡ [] → ¬ CanGoOn logs merged a
   none_goes e can =
       let same = next_one (logs a) (log_of merged a) rest can.next.0 can.entry left can.next.1 in
@@ -91,7 +91,7 @@ module _ (logs : Logs) (merged : List Step) (a : Actor) (rest : List Entry) (lef
 
 -- ---- what an entry of logs of a run is
 
--- the next entry stands in the log
+-- the next entry is in the log
 in_log : (logs : Logs) (merged : List Step) (a : Actor) (entry : Entry) → IsNextOf logs merged a entry → In entry (logs a)
 in_log logs merged a entry next = subst (In entry) (sym next.1) (In-append_right entry next.0 (entry ∷ log_of merged a) (here refl))
 
@@ -114,7 +114,7 @@ module _ (shape : Shape) (logs : Logs) (are : AreLogs shape logs) (a : Actor) wh
   pub next_within : (merged : List Step) (entry : Entry) → IsNextOf logs merged a entry → IsEnvelope (envelope_of entry)
   next_within merged entry next = entry_within entry (in_log logs merged a entry next)
 
--- more posts stand in a longer log
+-- a longer log has at least as many posts
 posts_grow : (to : Actor) (later older : List Entry) → length (posted_to to older) ≤ length (posted_to to (later ++ older))
 posts_grow to [] older = omega arith
 posts_grow to (Take from x ∷ later) older = posts_grow to later older
@@ -140,7 +140,7 @@ next_limits shape logs are merged a (Post to x) few next =
 
 -- ---- what is left
 
--- the rests after one entry more of this actor
+-- the rests after one more entry of this actor
 pub rests_after : (shape : Shape) (logs : Logs) (merged : List Step) (rests : List Rest) (a : Actor) (entry : Entry) (more : List Entry) (rest : Rest)
     → AreRests shape logs (log_of merged) rests → IsActor shape a → rest.entries.now ≡ more → logs a ≡ reverse (entry ∷ more) ++ log_of merged a
     → AreRests shape logs (log_of ((a, entry) ∷ merged)) (slice_set rests (place_of shape a) rest)
@@ -172,7 +172,7 @@ rests_after shape logs merged rests a entry more rest are actor same left = reco
               ∙ ap (λ l. reverse (slice_index_or (slice_set rests (place_of shape a) rest) (place_of shape a) d).entries.now ++ l) (sym own.1)))
         ]
 
--- the rest that stands at an actor's place
+-- the rest at an actor's place
 pub left_at : (shape : Shape) (logs merged : Logs) (rests : List Rest) → AreRests shape logs merged rests → (a : Actor) → IsActor shape a
     → (place : ℕ) → place ≡ place_of shape a → (rest : Rest) → rest ≡ slice_index_or rests place rest → logs a ≡ reverse rest.entries.now ++ merged a
 left_at shape logs merged rests are a inside place at rest is =
@@ -190,7 +190,7 @@ merging_on shape logs merged rests rows later a entry more rest m turn same left
   boxes = boxes;
 }
 
--- who is no actor of the shape has nothing in a merge
+-- an actor that is not of the shape has nothing in a merge
 pub none_merged : (shape : Shape) (logs : Logs) (merged : List Step) → IsMerge shape logs merged → (a : Actor) → ¬ IsActor shape a → log_of merged a ≡ []
 none_merged shape logs [] is a outside = refl
 none_merged shape logs ((actor, entry) ∷ older) is a outside = elim (log_cases (actor, entry) older a) [
@@ -209,7 +209,7 @@ pub actor_or_not : (shape : Shape) (a : Actor) → IsActor shape a ⊎ (¬ IsAct
 actor_or_not shape (Replica p) = below_or_not p shape.n
 actor_or_not shape (Client c) = below_or_not c shape.m
 
--- where nothing is left, each log is merged whole
+-- if nothing is left, each log is merged whole
 pub all_merged : (shape : Shape) (logs : Logs) (merged : List Step) (rests : List Rest) → IsMerge shape logs merged
     → AreRests shape logs (log_of merged) rests → ((a : Actor) → ¬ IsActor shape a → logs a ≡ []) → All (λ rest. rest.entries.now ≡ []) rests
     → IsWhole logs merged
@@ -345,7 +345,7 @@ module _ (shape : Shape) (logs : Logs) where
     | inr most ↦ record { older = older; count = last k (length older) less most; merge = is.0; actor = a; entry = x; turn = is.1; next = is.2 }
   ]
 
-  -- nothing is next where a log is merged whole
+  -- nothing is next if a log is merged whole
   none_next : (run : List Step) (a : Actor) (entry : Entry) → IsWhole logs run → ¬ IsNextOf logs run a entry
   none_next run a entry whole next =
       let count = ap length (whole a ∙ next.1) in
@@ -363,7 +363,7 @@ module _ (shape : Shape) (logs : Logs) where
   whole_same run other is whole too all =
       merges_same run other is too (same_number (length run) (length other) (most_whole run other is whole too) (most_whole other run too all is))
 
-  -- and where there is one, no merge stops
+  -- and if there is one, no merge stops
   pub whole_goes_on : (run : List Step) (line : ℕ) → IsMerge shape logs run → IsWhole logs run → ¬ StopsAt shape logs line
   whole_goes_on run line is whole stop = elim (below_or_not (length stop.merged) (length run)) [
     | inl less ↦

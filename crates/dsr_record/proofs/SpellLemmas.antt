@@ -1,4 +1,4 @@
--- A transcript spells its record.
+-- A transcript is a text of its record.
 use Rattle.std.proofs.Common.{◌≤◌, ◌^◌, refl, sym, arith}
 use Rattle.std.proofs.Math.Pow.{pow_mono}
 use Rattle.std.proofs.lemmas.List.{append-nil}
@@ -8,7 +8,7 @@ use Rattle.dsr_text.specs.Lines.{lines_text}
 use Rattle.dsr_record.specs.Record.{Record}
 use Rattle.dsr_record.specs.RecordText.{Fits, Spells, record_text, transcripts}
 
--- texts can spell the shapes that are allowed
+-- texts can write the shapes that are allowed
 is_spelled : (shape : Shape) → IsAllowed shape → IsSpelled shape
 is_spelled shape allowed =
     let few = allowed.few_replicas in

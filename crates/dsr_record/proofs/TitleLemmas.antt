@@ -25,14 +25,14 @@ either One = inl refl
 either Two = inr refl
 
 module _ (text : List ℕ) where
-  -- a record that the text spells, of version 1 or of version 2
+  -- a record whose text this is, of version 1 or of version 2
   titled : (r : Record) (version : Version) → r.version ≡ version → (s : Spells text r) → BeginsWithHeader (version_title version) text r.shape s.after
   titled r version same s = subst (λ v. BeginsWithHeader (version_title v) text r.shape s.after) same s.header
 
   not_both : (a b : Record) → a.version ≡ One → b.version ≡ Two → Spells text a → Spells text b → ⊥
   not_both a b one two s t = one_title text a.shape b.shape s.after t.after (titled a One one s) (titled b Two two t)
 
-  -- where no header of version 1 begins the text, what it spells is of version 2
+  -- if no header of version 1 begins the text, it is that of a record of version 2
   pub second_when : (r : Result Record Refusal) → HasNoHeader (version_title One) text
       → ((other : Record) → other.version ≡ Two → Spells text other → IsOkUnless r refusal.NoMemory)
       → (other : Record) → Spells text other → IsOkUnless r refusal.NoMemory
@@ -41,12 +41,12 @@ module _ (text : List ℕ) where
     | inr two ↦ when other two s
   ]
 
-  -- line 1 is bad where no header begins the text
+  -- line 1 is bad if no header begins the text
   pub no_header : IsTextRefusal (transcripts One) text (refusal.BadText 1) → HasNoHeader (version_title One) text
   no_header (inl none) = none.1
   no_header (inr later) = let bad = later.bad in absurd (omega (arith, bad.counted))
 
-  -- where a header of version 1 begins it, it spells nothing of version 2
+  -- if a header of version 1 begins it, it is not that of a record of version 2
   kept : (r : Result Record Refusal) (other : Record) → other.version ≡ Two → Spells text other → IfErr r (IsTextRefusal (transcripts One) text)
       → r ≢ Err (refusal.BadText 1) → IsOkUnless r refusal.NoMemory
   kept (Ok a) other two s is differs = tt

@@ -1,4 +1,4 @@
--- What is said of signatures, and the signatures.
+-- What texts say about signatures, and the signatures.
 use Rattle.std.proofs.Common.{All, ◌≡◌, ℕ, Bool, true, false, cond, List, [], ◌∷◌, ◌++◌, Option, None, Some, refl, sym, ap, ap₂}
 use Rattle.std.specs.Prelude.{unwrap_or}
 use Rattle.std.specs.Bool.{Decides}
@@ -17,7 +17,7 @@ same_statement : (b : Bool) (fitting : Statement) (s : Signature) → Decides b 
 same_statement true fitting s decides = sym (decides.0 refl)
 same_statement false fitting s decides = refl
 
--- a signature is what is said of it
+-- a signature is what a text says about it
 pub said_back : (fitting : Statement) (s : Signature) → said_in fitting (spelled_at fitting s) ≡ s
 said_back fitting s = ap (signed s.signer) (same_statement (statement_eq s.statement fitting) fitting s (statement_eq-Decides s.statement fitting))
 
@@ -27,16 +27,16 @@ module _ (slot : ℕ) (value : Option (List Request)) where
   links_back before [] = refl
   links_back before (s ∷ ss) = ap₂ (λ y ys. y ∷ ys) (said_back (Link slot value before) s) (links_back (before ++ s.signer ∷ []) ss)
 
-  -- nothing is said in the long form of what fits
+  -- the long form of what fits is never said
   abbrev pub AreShort : List Actor → List Spelled → Type 0
   AreShort before xs = xs ≡ spelled_links slot value before (said_by slot value before xs)
 
-  -- the whole list is short where the rest is
+  -- the whole list is short if the rest is
   pub record ShortOn (links : List Spelled) (before : List Actor) (rest : List Spelled) : Type 0 where
     pub whole : AreShort before rest → AreShort [] links
     pub part : AreShort [] links → AreShort before rest
 
-  -- each signature that is said has the property where each of the rest has it
+  -- each signature that is said has the property if each of the rest has it
   pub record HeldOn (P : Signature → Type 0) (links : List Spelled) (before : List Actor) (rest : List Spelled) : Type 0 where
     pub whole : All P (said_by slot value before rest) → All P (said_by slot value [] links)
     pub part : All P (said_by slot value [] links) → All P (said_by slot value before rest)

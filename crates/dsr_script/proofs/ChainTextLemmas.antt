@@ -135,7 +135,7 @@ no_chain bytes reads =
 pub no_slash : (bytes : List ℕ) → IsAbsent 47 bytes → Reads IsSpelledChain chain_text bytes None
 no_slash bytes free = no_chain bytes (no_parts IsCount decimal IsEnd end_text 47 (at_byte 47) no_slash_in_slot bytes free)
 
--- nor with one alone
+-- nor with only one
 pub one_slash : (bytes slot rest : List ℕ) → bytes ≡ slot ++ 47 ∷ rest → IsAbsent 47 slot → IsFree 47 false rest → Reads IsSpelledChain chain_text bytes None
 one_slash bytes slot rest parts part free =
     no_chain bytes

@@ -1,4 +1,4 @@
--- No line feed stands in the text of an envelope.
+-- No line feed is in the text of an envelope.
 use Rattle.std.proofs.Common.{All, ◌≢◌, ℕ, Bool, true, false, List, [], ◌∷◌, ◌++◌, codes, Option, None, Some, refl, arith, lit<}
 use Rattle.std.specs.Prelude.{if◌then◌else◌}
 use Rattle.std.specs.Fmt.{decimal}

@@ -1,4 +1,4 @@
--- What the first of a list's items, and the rest of it, say of all.
+-- What the first item of a list, and the rest of it, say about all.
 use Rattle.std.proofs.Common.{◌≡◌, ℕ, ◌-◌, ◌≤◌, List, [], ◌∷◌, Option, None, Some, length, map, ◌⊎◌, inl, inr, refl, ap, sym, ◌∙◌, subst, take, drop, arith}
 use Rattle.std.specs.Prelude.{IfSome, IfNone, slice_index_or}
 use Rattle.std.proofs.lemmas.List.{take_all}

@@ -1,4 +1,4 @@
--- What texts say of a chain in which no signature misfits: who signed.
+-- What texts say about a chain in which no signature misfits: who signed.
 use Rattle.std.proofs.Common.{◌≡◌, ◌≤◌, ℕ, suc, Bool, true, false, List, [], ◌∷◌, ◌++◌, Option, None, Some, length, map, take, if◌then◌else◌, ap, ap₂, refl, sym, ◌∙◌, append_assoc, append-nil, arith}
 use Rattle.std.specs.Prelude.{All, slice_get}
 use Rattle.std.proofs.lemmas.Bool.{false≢true}
@@ -18,7 +18,7 @@ use Rattle.dsr_script.specs.ChainText.{spelled_links, IsValue}
 use Rattle.dsr_script.specs.SignatureText.{Spelled, spelled_at}
 use Rattle.dsr_script.specs.Support.SpelledText.{short_form}
 
--- a signature on the statement that fits is said by its signer alone
+-- of a signature on the statement that fits, a text says only the signer
 short_where_fitting : (fitting : Statement) (s : Signature) → s.statement ≡ fitting → spelled_at fitting s ≡ short_form s.signer
 short_where_fitting fitting s same =
     let whole : Bool → Spelled = λ b. record { signer = s.signer; other = if b then None else Some s.statement } in
@@ -52,7 +52,7 @@ pub short_links : (chain : Chain) → ¬ HasMisfit chain
     → spelled_links chain.slot (content chain.value) [] chain.signatures ≡ map short_form (signers_of chain.signatures)
 short_links chain none = short_each chain.slot (content chain.value) [] chain.signatures (fits_each chain none)
 
--- the value with such requests is one that a text can spell
+-- the value with such requests is one that a text can write
 pub spelled_value : (signed : List SignedRequest) → All IsSigned signed → length signed ≤ 8 → IsValue (value_of signed)
 spelled_value [] each few = tt
 spelled_value (s ∷ ss) each few = record { some = omega arith; few = few; each = each }

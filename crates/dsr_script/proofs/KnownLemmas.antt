@@ -52,7 +52,7 @@ found_seen (k ∷ ks) s seen = by (sought_eq s k) (found_seen ks s (All-tail IsS
     by true rest = All-head IsSeen k ks seen
     by false rest = rest
 
--- and one is found exactly where a key says that
+-- and one is found exactly if a key says that
 pub found_in : (ks : List Sought) (s : Sought) → IsSome (find (sought_eq s) ks) ↔ In (said_of s) (map said_of ks)
 found_in [] s = (λ h. absurd cc, λ h. elim h [ ])
 found_in (k ∷ ks) s = by (sought_eq s k) refl (found_in ks s)

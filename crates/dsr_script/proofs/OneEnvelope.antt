@@ -1,4 +1,4 @@
--- Each text of an envelope is the text of one envelope alone.
+-- Each text of an envelope is the text of only one envelope.
 use Rattle.std.proofs.Common.{◌≡◌, ℕ, ◌<◌, get_or, List, [], ◌∷◌, ◌++◌, codes, Option, None, Some, refl, sym, ap, subst, arith, lit<}
 use Rattle.std.specs.Fmt.{decimal}
 use Rattle.std.proofs.lemmas.List.{append-nil, append_cancel_left, append_cancel_right}

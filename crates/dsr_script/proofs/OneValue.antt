@@ -1,4 +1,4 @@
--- Each text is the text of one value alone.
+-- Each text is the text of only one value.
 use Rattle.std.proofs.Common.{◌≡◌, ℕ, ◌+◌, ◌-◌, ◌<◌, ◌^◌, nat_eq, get_or, List, [], ◌∷◌, ◌++◌, codes, Option, None, Some, false, refl, sym, ◌∙◌, ap, ap₂, subst, arith, lit<, rules}
 use Rattle.std.specs.Fmt.{decimal}
 use Rattle.std.specs.Str.Parse.{AllDigits}

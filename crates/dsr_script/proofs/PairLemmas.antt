@@ -13,7 +13,7 @@ module _ {A B : Type 0} (is_a : A → Type 0) (text_a : A → List ℕ) (is_b : 
   reads_pair (Some a) None reads_a reads_b = no_rest is_a text_a is_b text_b mark cuts apart bytes front rest parts part reads_b
   reads_pair (Some a) (Some b) reads_a reads_b = reads_parts is_a text_a is_b text_b mark cuts apart bytes front rest parts part a b reads_a reads_b
 
--- what has these parts is read where the parts are
+-- what has these parts is read if the parts are
 pub reads_through : {P X : Type 0} (is_p : P → Type 0) (text_p : P → List ℕ) (is_x : X → Type 0) (text_x : X → List ℕ) (parts : X → P)
     → ((x : X) → is_x x ↔ is_p (parts x)) → ((x : X) → text_x x ≡ text_p (parts x)) → (bytes : List ℕ) (rp : Option P) (r : Option X)
     → Reads is_p text_p bytes rp → ((x : X) → (r ≡ Some x) ↔ (rp ≡ Some (parts x))) → Reads is_x text_x bytes r

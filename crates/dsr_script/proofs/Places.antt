@@ -30,7 +30,7 @@ noted_more known now later signatures k s stands now_is later_is =
     ∙ (ap (λ xs. noted xs s) now_is
     ∙ (sym (noted_push known (take k signatures) s) ∙ ap (noted_all known) (sym (take_more signatures k s stands))))
 
--- what a text says of one more
+-- what a text says about one more
 pub said_more : (links after whole : List Spelled) (brief : Spelled) (slot : ℕ) (content : Option (List Request)) (before later : List Actor)
     (signatures : List Signature) (k : ℕ) (s : Signature) → slice_get signatures k ≡ Some s → after ≡ links ++ brief ∷ []
     → brief ≡ spelled_at (Link slot content before) s → later ≡ before ++ s.signer ∷ []

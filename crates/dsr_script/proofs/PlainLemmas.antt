@@ -1,4 +1,4 @@
--- What is said of signatures is plain where they are.
+-- What texts say about signatures is plain if the signatures are.
 use Rattle.std.proofs.Common.{All, ◌≡◌, ℕ, ◌↔◌, Bool, true, false, cond, List, [], ◌∷◌, ◌++◌, Option, None, Some, refl, sym, ◌∙◌, ap, subst, IfSome}
 use Rattle.std.specs.Bool.{Decides}
 use Rattle.std.proofs.lemmas.List.Elements.{All-nil, All-cons, All-head, All-tail}
@@ -37,7 +37,7 @@ plain_links slot value fits before (s ∷ ss) =
       λ h. All-cons IsPlainSaid first others (one.1 (All-head IsPlainSignature s ss h)) (more.1 (All-tail IsPlainSignature s ss h)),
     )
 
--- a chain is plain where its content, its requests and what is said of its signatures are
+-- a chain is plain if its content, its requests and what a text says about its signatures are
 pub plain_chain : (x : Chain) (asks : List SignedRequest) (links : List Spelled) (value : Option (List Request)) → value ≡ content_of asks
     → asks ≡ signed_in x.value → value_of (signed_in x.value) ≡ x.value → links ≡ spelled_links x.slot (content x.value) [] x.signatures
     → (IsPlainContent value × All IsPlainAsk asks × All IsPlainSaid links) ↔ IsPlainChain x

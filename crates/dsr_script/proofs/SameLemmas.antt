@@ -7,7 +7,7 @@ use Rattle.dsr_script.specs.Support.AskText.{ask_of}
 use Rattle.dsr_script.specs.Support.Links.{said_in}
 use Rattle.dsr_script.proofs.BriefLemmas.{said_back}
 
--- signed requests are the same where the request is, and what is said of the signature beside it
+-- signed requests are the same if the request is, and what a text says about the signature beside it
 pub same_asks : (x y : SignedRequest) (said other : Spelled) → said ≡ spelled_at (Ask x.request) x.signature → other ≡ spelled_at (Ask y.request) y.signature
     → ((x.request ≡ y.request) × (said ≡ other)) ↔ (x ≡ y)
 same_asks x y said other h k = (

@@ -117,7 +117,7 @@ same_word xs ys word r is holds same = (bytes_eq-Decides xs ys).0 (sym is ∙ ho
 pub not_same_word : (xs ys word : List ℕ) (r : Bool) → r ≡ bytes_eq xs ys → r ≡ false → ys ≡ word → xs ≢ word
 not_same_word xs ys word r is fails same e = false≢true (sym fails ∙ (is ∙ (bytes_eq-Decides xs ys).1 (e ∙ sym same)))
 
--- a text without a space spells no line
+-- a text without a space is not a line
 pub no_word : (bytes : List ℕ) → IsAbsent 32 bytes → Reads IsLine line_text bytes None
 no_word bytes whole =
     reads_none IsLine line_text bytes (λ line is e. not_absent 32 (line_word line) (line_rest line) (subst (IsAbsent 32) e whole))

@@ -1,4 +1,4 @@
--- What texts say of signatures, read back.
+-- What texts say about signatures, read back.
 use Rattle.std.proofs.Common.{◌≡◌, ℕ, ◌↔◌, Bool, true, false, cond, List, ◌∷◌, ◌++◌, Option, None, Some, refl, sym, ◌∙◌, ap, ap₂, subst, arith, lit<}
 use Rattle.std.specs.Bool.{Decides}
 use Rattle.std.specs.Prelude.{IsTrue, not, unwrap_or}
@@ -80,7 +80,7 @@ pub no_open_in_actor : (a : Actor) → IsNumbered a → IsAbsent 40 (actor_text 
 no_open_in_actor (Replica r) h = letter_then_without 114 40 (decimal r) (lit< tt) (decimal_without_low 40 r (lit< tt) (omega (arith, h)))
 no_open_in_actor (Client c) h = letter_then_without 99 40 (decimal c) (lit< tt) (decimal_without_low 40 c (lit< tt) (omega (arith, h)))
 
--- without an opening parenthesis there is a signer alone
+-- without an opening parenthesis there is only a signer
 short_alone : (bytes : List ℕ) → IsAbsent 40 bytes → (signer : Actor) (other : Option Statement) → bytes ≡ spelled_text (said_of signer other)
     → (bytes ≡ actor_text signer) × (other ≡ None)
 short_alone bytes free signer None e = (e ∙ append-nil (actor_text signer), refl)
@@ -144,7 +144,7 @@ kind_of : (b : Bool) (fitting : Statement) (s : Signature) → Decides b (s.stat
 kind_of true fitting s decides fits = (λ h. tt, λ h. subst IsStatement (sym (decides.0 refl)) fits)
 kind_of false fitting s decides fits = (λ h. h, λ h. h)
 
--- what is said of a signature can be said where the signature is within the limits
+-- what a text says about a signature can be said if the signature is within the limits
 pub said_kinds : (fitting : Statement) → IsStatement fitting → (s : Signature) → IsSignature s ↔ IsSpelled (spelled_at fitting s)
 said_kinds fitting fits s =
     let kinds = kind_of (statement_eq s.statement fitting) fitting s (statement_eq-Decides s.statement fitting) fits in (

@@ -1,4 +1,4 @@
--- What a text can spell is within the limits of envelopes.
+-- What a text can write is within the limits of envelopes.
 use Rattle.std.proofs.Common.{◌≤◌, length, arith}
 use Rattle.std.specs.Prelude.{All}
 use Rattle.std.proofs.lemmas.List.Elements.{All-nil, All-weaker}
@@ -29,7 +29,7 @@ chain_within chain h = record {
   signatures = h.signatures.each;
 }
 
--- an envelope that a text can spell is within the limits
+-- an envelope that a text can write is within the limits
 pub spelled_within : (envelope : Envelope) → IsSpelledEnvelope envelope → IsEnvelope envelope
 spelled_within Empty h = tt
 spelled_within (Round round chains) h = (h.0, record { few = h.1.few; each = All-weaker IsSpelledChain IsChain chain_within chains h.1.each })

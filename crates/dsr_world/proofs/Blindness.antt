@@ -24,7 +24,7 @@ module _ (shape other : Shape) (agree : AgreeButForTraitors shape other) where
   event_blind logs (Tell (Client c) to) = ap (λ front. Some (Client c, PostEntry to (Seen front))) (seen_blind shape other agree (logs (Client c)))
   event_blind logs (Tell (Replica p) to) = refl
 
-  -- the tests of an event, each with its refusal, are the same where its actor's role is
+  -- the tests of an event, each with its refusal, are the same if its actor's role is
   refusals_blind : (logs : Logs) (event : Event) → is_traitor_of shape (actor_of event) ≡ is_traitor_of other (actor_of event)
       → refusals shape logs event ≡ refusals other logs event
   refusals_blind logs (Post from to pick) role = λ i.

@@ -68,7 +68,7 @@ all_counted [] = refl
 all_counted (None ∷ rest) = let later = all_counted rest in omega (arith, later)
 all_counted (Some refusal ∷ rest) = let later = all_counted rest in omega (arith, later)
 
--- one done more
+-- one more is done
 pub counts_done : (outcomes : List (Option Refusal)) (a b : RunEnd) → Counts outcomes a → b.done ≡ a.done + 1 → b.refused ≡ a.refused → b.starved ≡ a.starved
     → b.first ≡ a.first → Counts (outcomes ++ None ∷ []) b
 counts_done outcomes a b h done refused starved first = record {
@@ -78,7 +78,7 @@ counts_done outcomes a b h done refused starved first = record {
   first = first ∙ (h.first ∙ sym (first_same 0 outcomes));
 }
 
--- one refused more
+-- one more is refused
 pub counts_refused : (outcomes : List (Option Refusal)) (last : Refusal) (a b : RunEnd) → Counts outcomes a → b.done ≡ a.done → b.refused ≡ a.refused + 1
     → b.starved ≡ a.starved + starved_by last → b.first ≡ option_or a.first (Some (a.done + a.refused, last)) → Counts (outcomes ++ Some last ∷ []) b
 counts_refused outcomes last a b h done refused starved first = record {
@@ -93,7 +93,7 @@ counts_refused outcomes last a b h done refused starved first = record {
 
 -- ---- steps
 
--- what a step says of its event, in the words of its contract
+-- what a step says about its event, in the words of its contract
 pub record Says (shape : Shape) (last first : List Step) (event : Event) (result : Result (Option AReply) Refusal) : Type 0 where
   pub done : IfOk result (HasDone shape last first event)
   pub refused : (refusal : Refusal) → refusal_of shape (log_of first) event ≡ Some refusal → result ≡ Err refusal
@@ -121,7 +121,7 @@ step_outcome shape last first event (Err refusal) outcome says e =
 
 -- ---- outcomes
 
--- one event more
+-- one more event
 outcomes_one : (shape : Shape) (first mid last : List Step) (events : List Event) (event : Event) (outcomes : List (Option Refusal)) (outcome : Option Refusal)
     → AreOutcomes shape mid first events outcomes → IsOutcome shape last mid event outcome
     → AreOutcomes shape last first (events ++ event ∷ []) (outcomes ++ outcome ∷ [])
@@ -139,7 +139,7 @@ outcomes_each shape last first [] (o ∷ outcomes) are = absurd are
 outcomes_each shape last first (e ∷ events) [] are = absurd are
 outcomes_each shape last first (e ∷ events) (o ∷ outcomes) are = ap suc (outcomes_each shape last are.0 events outcomes are.2)
 
--- a run that goes on by so many steps
+-- a run that goes on by `count` steps
 pub record GrewBy (later earlier : List Step) (count : ℕ) : Type 0 where
   pub grew : Extends later earlier
   pub size : length later ≡ count + length earlier
@@ -172,7 +172,7 @@ outcomes_grow shape last first (e ∷ events) (o ∷ outcomes) are =
 pub ended_none : (shape : Shape) (run : List Step) (end : RunEnd) → Counts [] end → HasEnded shape run run [] end
 ended_none shape run end counts = record { outcomes = []; are = refl; counts = counts }
 
--- after one event more
+-- after one more event
 pub ended_one : (shape : Shape) (last mid first : List Step) (events : List Event) (event : Event) (outcome : Option Refusal) (before after : RunEnd)
     → HasEnded shape mid first events before → IsOutcome shape last mid event outcome
     → ((outcomes : List (Option Refusal)) → Counts outcomes before → Counts (outcomes ++ outcome ∷ []) after)
@@ -201,7 +201,7 @@ ended_grew shape last first events end h = subst (GrewBy last first) (sym h.coun
 -- ---- the first events of a list
 
 module _ (shape : Shape) (first : List Step) (events : List Event) where
-  -- after one event more
+  -- after one more event
   pub ended_next : (last mid : List Step) (k : ℕ) (event : Event) (outcome : Option Refusal) (before after : RunEnd) → k < length events
       → event ≡ slice_index_or events k event → HasEnded shape mid first (take k events) before → IsOutcome shape last mid event outcome
       → ((outcomes : List (Option Refusal)) → Counts outcomes before → Counts (outcomes ++ outcome ∷ []) after)
@@ -215,7 +215,7 @@ module _ (shape : Shape) (first : List Step) (events : List Event) where
       split : take (k + 1) events ≡ take k events ++ event ∷ []
       split = ap (λ j. take j events) next ∙ (take-suc events k event inside ∙ ap (λ x. take k events ++ x ∷ []) (sym at))
 
-  -- so many have ended
+  -- the first `k` events have ended
   pub ended_few : (mid : List Step) (k : ℕ) (end : RunEnd) → k ≤ length events → HasEnded shape mid first (take k events) end → end.done + end.refused ≡ k
   ended_few mid k end inside h = ended_all shape mid first (take k events) end h ∙ length-take-le k events inside
 

@@ -27,7 +27,7 @@ use Rattle.dsr_names.proofs.PlaceLemmas.{same_place, place_below}
 pub none_opened : (shape : Shape) → AreOpened shape 0 []
 none_opened shape = record { count = refl; each = λ who inside below d. absurd (omega (arith, below)) }
 
--- one node more
+-- one more node
 pub one_opened : (shape : Shape) (k : ℕ) (nodes : List Node) (who : Actor) (x : Node) → AreOpened shape k nodes → IsActor shape who
     → place_of shape who ≡ k → Plays shape who [] x → AreOpened shape (suc k) (nodes ++ x ∷ [])
 one_opened shape k nodes who x are actor at plays = record {
@@ -77,7 +77,7 @@ pub no_keys : (shape : Shape) → AreKeysBelow shape 0 []
 no_keys shape (Replica p) = (λ h. let below = h.2 in absurd (omega (arith, below)), λ h. let below = h.0 in absurd (omega (arith, below)))
 no_keys shape (Client c) = (λ h. let below = h.2 in absurd (omega (arith, below)), λ h. elim h [ ])
 
--- the key of one replica more, where it is a traitor
+-- the key of one more replica, if it is a traitor
 pub more_keys : (shape : Shape) (k : ℕ) (keys : List Actor) (o : Option Actor) → AreKeysBelow shape k keys → IfSome o (λ key. key ≡ Replica k)
     → IsSome o ↔ (is_traitor shape k ≡ true) → AreKeysBelow shape (suc k) (keys ++ option_to_list o)
 more_keys shape k keys None are is when a = subst (λ ks. Any (λ h. h ≡ a) ks ↔ IsTraitorBelow shape (suc k) a) (sym (append-nil keys)) (

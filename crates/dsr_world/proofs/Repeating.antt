@@ -77,7 +77,7 @@ last_of : (older : List Envelope) (x : Envelope) → slice_get (older ++ x ∷ [
 last_of [] x = refl
 last_of (y ∷ older) x = last_of older x
 
--- what stands last in a list
+-- what is last in a list
 last_at : (posts older : List Envelope) (x : Envelope) (t : ℕ) → posts ≡ older ++ x ∷ [] → length posts ≡ suc t → slice_get posts t ≡ Some x
 last_at posts older x t is long =
     let count : length older ≡ t = let more = length_push older x in let same = ap length is in omega (arith, more, same, long) in
@@ -87,7 +87,7 @@ first_posted : (q t : ℕ) → posts_at (PostTo (suc q)) t 0 ≡ suc t
 first_posted q t = grind (arith, nat_tests)
 
 module _ (shape : Shape) (run : List Step) (letters : List (Option Envelope)) (are : AreLetters shape (log_of run) letters) where
-  -- a step leaves them right where it is no loyal actor's post to replica 0
+  -- a step leaves them right if it is not a loyal actor's post to replica 0
   letters_left : (step : Step) → (IsLoyal shape step.0 → Leaves step.1) → AreLetters shape (log_of (step ∷ run)) letters
   letters_left step leaves = record {
     count = are.count;
@@ -101,7 +101,7 @@ module _ (shape : Shape) (run : List Step) (letters : List (Option Envelope)) (a
         ];
   }
 
-  -- so do each take, what a client tells another, and each step of a traitor
+  -- so does each take, each seen front that a client posts to another, and each step of a traitor
   pub letters_taken : (a from : Actor) (x : Envelope) → AreLetters shape (log_of ((a, Take from x) ∷ run)) letters
   letters_taken a from x = letters_left (a, Take from x) (λ loyal. tt)
 
@@ -144,7 +144,7 @@ module _ (shape : Shape) (run : List Step) (letters : List (Option Envelope)) (a
   letters_posted from (Replica (suc q)) x actor = letters_left (from, Post (Replica (suc q)) x) (λ loyal. tt)
   letters_posted from (Client c) x actor = letters_left (from, Post (Client c) x) (λ loyal. tt)
 
-  -- what a loyal replica posts next to another than replica 0, by the plain choice, is the letter that is kept, if one is
+  -- what a loyal replica posts next to a replica other than 0, by the plain choice, is the letter that is kept, if one is
   pub posts_again : IsRun shape run → (p q : ℕ) → IsLoyal shape (Replica p) → (x y : Envelope) → slice_index_or letters p None ≡ Some x
       → post_of shape (log_of run (Replica p)) (Replica p) (Replica (suc q)) Plain ≡ Some y
       → post_of shape (log_of run (Replica p)) (Replica p) (Replica (suc q)) Plain ≡ Some x

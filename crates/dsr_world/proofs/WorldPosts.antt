@@ -1,4 +1,4 @@
--- How the parts of a world go on standing for its run when a traitor posts, a client tells its seen front, and an actor takes.
+-- How the parts of a world represent its run when a traitor posts, a client posts its seen front, and an actor takes.
 use Rattle.std.proofs.Common.{◌≡◌, ◌≢◌, ◌↔◌, ℕ, ◌<◌, ◌&&◌, not, Bool, true, false, List, [], ◌∷◌, None, Some, ◌⊎◌, inl, inr, refl, ap, sym, ◌∙◌, subst}
 use Rattle.std.specs.Prelude.{Any}
 use Rattle.std.proofs.lemmas.Bool.{true≢false}
@@ -50,7 +50,7 @@ not_true false e = absurd (true≢false e)
 
 -- ---- a client tells another
 
--- what a client tells another leaves it as it is
+-- to post its seen front leaves a client as it is
 told_plays : (shape : Shape) (c d : ℕ) (log : List Entry) (x : Envelope) (node : Node) → Plays shape (Client c) log node
     → Plays shape (Client c) (PostEntry (Client d) x ∷ log) node
 told_plays shape c d log x (Loyal r) plays = elim plays [ ]
@@ -62,7 +62,7 @@ told_plays shape c d log x (ClientNode y) plays = record {
   noted = plays.noted;
 }
 
--- a client's telling that nothing refuses
+-- a client's post of its seen front that nothing refuses
 pub record IsTold (shape : Shape) (logs : Logs) (from to : Actor) : Type 0 where
   pub c : ℕ
   pub d : ℕ
@@ -225,7 +225,7 @@ module _ (shape : Shape) (run : List Step) (nodes : List Node) (rows : List (Lis
       (λ y plays. planted_plays shape p (log_of run (Replica p)) (PostEntry to x) y traitor plays) empty
       (λ q bad. known_still shape run known (Replica p, PostEntry to x) (are.knows q bad) (λ t y e loyal. true≢false (sym traitor ∙ loyal.1)))
 
--- the telling is the event
+-- the post of the seen front is the event
 pub done_tell : (shape : Shape) (run : List Step) (c : ℕ) (to : Actor)
     → HasDone shape ((Client c, PostEntry to (Seen (seen shape (log_of run (Client c))))) ∷ run) run (Tell (Client c) to) None
 done_tell shape run c to = record {

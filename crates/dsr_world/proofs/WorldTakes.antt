@@ -1,4 +1,4 @@
--- How the parts of a world go on standing for its run when an actor takes.
+-- How the parts of a world represent its run when an actor takes.
 use Rattle.std.proofs.Common.{◌≡◌, ℕ, ◌<◌, ◌&&◌, not, Bool, true, false, List, [], ◌∷◌, ◌++◌, Option, None, Some, length, inl, inr, refl, ap, sym, ◌∙◌, subst}
 use Rattle.std.specs.Prelude.{slice_set}
 use Rattle.std.specs.Option.{option_map}
@@ -69,7 +69,7 @@ cleared_take shape logs at from e =
       full = not_false (is_full logs from at) none.fourth;
     }
 
--- it is no client's from itself
+-- it is not a client's take from itself
 pub not_own : (at from : Actor) → is_own_client at from ≡ false → at ≡ from → (c : ℕ) → at ≡ Client c → ⊥
 not_own (Replica p) from own same c is = absurd cc
 not_own (Client d) (Replica q) own same c is = absurd cc

@@ -1,4 +1,4 @@
--- How the parts of a world go on standing for its run, event by event.
+-- How the parts of a world represent its run, event by event.
 use Rattle.std.proofs.Common.{◌≡◌, ◌↔◌, ℕ, suc, ◌<◌, ◌^◌, ◌&&◌, ◌||◌, not, nat_lt, Bool, true, false, List, [], ◌∷◌, ◌++◌, Option, None, Some, length, length-append, reverse, if◌then◌else◌, ◌⊎◌, inl, inr, refl, ap, sym, ◌∙◌, arith}
 use Rattle.std.specs.Prelude.{Any, slice_get, slice_set}
 use Rattle.std.specs.Option.{option_map, is_none}
@@ -45,7 +45,7 @@ use Rattle.dsr_world.proofs.Stepping.{played_step, boxes_posted}
 
 -- ---- what was not refused
 
--- where no row refuses, no test holds
+-- if no row refuses, no test holds
 pub record NoneHolds (a b c d : Bool) (rest : List (Bool × Refusal)) : Type 0 where
   pub first : a ≡ false
   pub second : b ≡ false
@@ -107,7 +107,7 @@ cleared shape logs from to pick e =
       room = last_fails (is_full logs from to) BoxFull none.others;
     }
 
--- the actor's conduct refuses it as little
+-- the actor's protocol does not refuse it either
 pub conduct_cleared : (shape : Shape) (logs : Logs) (from to : Actor) (pick : Pick) → IsCleared shape logs from to pick
     → post_refusal shape (logs from) from to pick ≡ None
 conduct_cleared shape logs from to pick is =
@@ -144,7 +144,7 @@ empty_same box posted taken empty h = h.holds ∙ (ap (λ o. taken ++ held_in o)
 
 -- ---- runs
 
--- one entry more
+-- one more entry
 pub pushed : (entries more : List Step) (step : Step) → more ≡ entries ++ step ∷ [] → reverse more ≡ step ∷ reverse entries
 pushed entries more step e = ap reverse e ∙ reverse-append entries (step ∷ [])
 

@@ -9,7 +9,7 @@ use Rattle.dsr_check.proofs.Auditing.{where_false}
 use Rattle.dsr_check.proofs.FirstBad.{first_bad}
 use Rattle.dsr_check.proofs.checking.follow_all.Goals as goal
 
--- the line that is told
+-- the line that is reported
 same_number : (a b : ℕ) → ◌≡◌ {A = Result ℕ Refusal} (Err (NotARun a)) (Err (NotARun b)) → a ≡ b
 same_number a b e = cc
 

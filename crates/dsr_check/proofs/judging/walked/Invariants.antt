@@ -4,7 +4,7 @@ use Rattle.dsr_history.specs.History.{operations}
 use Rattle.dsr_check.specs.Support.Heads.{head_of, HasWalked}
 use Rattle.dsr_check.proofs.judging.walked.Given as goal
 
--- the table stands for the requests so far, and the heads have walked along them
+-- the table represents the requests so far, and the heads have walked along them
 abbrev pub invariant-loop-place : goal.invariant-loop-place
 invariant-loop-place l = record {
   size : length l.moved ≡ 32;

@@ -3,7 +3,7 @@ use Rattle.std.proofs.lemmas.Bool.{false≢true}
 use Rattle.dsr_record.proofs.TitleLemmas.{no_header, second_when, kept_when}
 use Rattle.dsr_record.proofs.transcript.read_record.Goals as goal
 
--- where line 1 is bad in version 1, the text is read in version 2
+-- if line 1 is bad in version 1, the text is read in version 2
 pub returns-then-has_no_header-clause-when : goal.returns-then-has_no_header-clause-when
 returns-then-has_no_header-clause-when c =
     let bad = c.has_no_header.ensures.0 c.if-has_no_header.true in

@@ -2,7 +2,7 @@ use Rattle.std.proofs.Common.{refl, sym}
 use Rattle.dsr_script.proofs.SpelledLemmas.{fits_said, other_decides}
 use Rattle.dsr_script.proofs.brief.Brief.is_said.Goals as goal
 
--- another statement is said where it does not fit
+-- another statement is said if it does not fit
 pub returns-in-Some : goal.returns-in-Some
 returns-in-Some c = other_decides c.args.fitting.now c.args.self.now c.in-Some.other.now (sym c.in-Some.ensures) c.same.result c.same.ensures
 
