@@ -6,9 +6,9 @@ use Rattle.dsr_request.specs.Request.{Request}
 use Rattle.dsr_ledger.specs.declared.reply.Reply.{Reply}
 use Rattle.dsr_history.specs.History.{IsLegal, IsReplyTo}
 
--- the numbers of each client rise in the history; and each reply answers a request of the client beside it, which is at the
--- reply's place in the history, with the reply's number and the answer of the sequential directory there. The history is listed
--- oldest first here
+-- the numbers of each client rise in the history; and each reply answers a request of the client beside it, which is at
+-- the reply's place in the history, with the reply's number and the answer of the sequential directory there. The
+-- history is listed oldest first here
 pub record IsJudgedRight (history : List Request) (accepted : List (ℕ × Reply)) : Type 0 where
   pub legal : IsLegal (reverse history)
   pub replies : (client : ℕ) (reply : Reply) → In (client, reply) accepted → IsReplyTo (reverse history) client reply

@@ -222,8 +222,8 @@ impl<'a> Audit<'a> {
         }
     }
 
-    /// Makes the envelope that the draft records; `None` if an actor of the shape that posts it would forge a signature. `NoMemory` if
-    /// memory runs out.
+    /// Makes the envelope that the draft records; `None` if an actor of the shape that posts it would forge a signature.
+    /// `NoMemory` if memory runs out.
     fn unforged(
         &self,
         alloc: Global,
@@ -247,8 +247,8 @@ impl<'a> Audit<'a> {
         Ok(made)
     }
 
-    /// Tells whether the protocol of an actor lets it post this envelope, which forges nothing. If so, the envelope is put into its box. Requires
-    /// that the box is open.
+    /// Tells whether the protocol of an actor lets it post this envelope, which forges nothing. If so, the envelope is put into its box.
+    /// Requires that the box is open.
     fn put(
         &mut self,
         alloc: Global,
@@ -288,8 +288,7 @@ impl<'a> Audit<'a> {
     }
 }
 
-/// Makes the envelope that the draft records, with these keys; `None` if their holders would forge a signature. `NoMemory` if
-/// memory runs out.
+/// Makes the envelope that the draft records, with these keys; `None` if their holders would forge a signature. `NoMemory` if memory runs out.
 fn made_by(
     alloc: Global,
     draft: &Draft,
@@ -309,8 +308,7 @@ fn made_by(
     }
 }
 
-/// Notes the signatures of a loyal actor's post as known, if there are traitors that could send them on. `NoMemory` if memory
-/// runs out.
+/// Notes the signatures of a loyal actor's post as known, if there are traitors that could send them on. `NoMemory` if memory runs out.
 fn learn(
     known: &mut Known,
     keys: &[Key],
@@ -359,8 +357,7 @@ fn copy_of(alloc: Global, first: &Option<Held>, draft: &Draft) -> Result<Option<
     }
 }
 
-/// Returns what is to be stored for a post: a copy of it, if it goes to replica 0. `NoMemory` if memory runs out or one more handle
-/// is refused.
+/// Returns what is to be stored for a post: a copy of it, if it goes to replica 0. `NoMemory` if memory runs out or one more handle is refused.
 fn first_of<'a>(alloc: Global, to: &Actor, held: &Held<'a>) -> Result<Option<Held<'a>>, Refusal>
     ensures first { IfOk result (λ first. IsFirstOf to.now held.now first) }
     ensures refusal { IsOkUnless result Refusal.NoMemory }

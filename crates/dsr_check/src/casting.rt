@@ -94,8 +94,8 @@ fn client_key(shape: &Shape, keys: &mut Keys, number: u8) -> Key
     key
 }
 
-/// Makes the party of a replica of the shape, and its key if it is a traitor. `NoMemory` if memory runs out. Requires that its key was
-/// not taken.
+/// Makes the party of a replica of the shape, and its key if it is a traitor. `NoMemory` if memory runs out.
+/// Requires that its key was not taken.
 fn replica_party(
     alloc: Global,
     shape: &Shape,

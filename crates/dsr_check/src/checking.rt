@@ -44,8 +44,8 @@ pub fn check(alloc: Global, recorded: &Record) -> Result<Verdict, Refusal>
     Ok(verdict)
 }
 
-/// Follows all steps, and returns how many there are. `NotARun` names the line of the first one that may not be next. `NoMemory` if
-/// memory runs out.
+/// Follows all steps, and returns how many there are. `NotARun` names the line of the first one that may not be next.
+/// `NoMemory` if memory runs out.
 fn follow_all<'a>(
     alloc: Global,
     audit: &mut Audit<'a>,

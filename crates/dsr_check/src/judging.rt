@@ -46,8 +46,8 @@ pub fn judge(history: &[Request], accepted: &[(ClientId, Reply)]) -> bool
     are_done(accepted, &heads)
 }
 
-/// What `judge` finds for a run: if at most f replicas are traitors, the history of a run and the replies that its clients accepted
-/// are judged right.
+/// What `judge` finds for a run: if at most f replicas are traitors, the history of a run and the replies that its
+/// clients accepted are judged right.
 pub fn verdicts_are_judged_right()
     ensures { (shape : Shape) (run : List Step) (verdict : Verdict) → HasFewTraitors shape → IsRun shape run → IsVerdict shape run verdict
         → IsJudgedRight verdict.history verdict.accepted }

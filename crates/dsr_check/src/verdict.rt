@@ -51,8 +51,8 @@ impl Verdict {
         self.history.as_slice()
     }
 
-    /// Returns the replies that clients accepted, each with its client: client by client, and for each in the order
-    /// of acceptance.
+    /// Returns the replies that clients accepted, each with its client: client by client, and for
+    /// each in the order of acceptance.
     pub fn accepted(&self) -> &[(ClientId, Reply)]
         ensures { result.now ≡ self.now.accepted }
     {

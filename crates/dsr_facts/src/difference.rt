@@ -107,8 +107,8 @@ fn agreed(ours: &[Chain], theirs: &[Chain]) -> usize
     ours.len()
 }
 
-/// Returns what is wrong at this place. Requires that two lists of chains agree before it, differ at it, and have not both ended
-/// there.
+/// Returns what is wrong at this place. Requires that two lists of chains agree before it, differ at it,
+/// and have not both ended there.
 fn parting_at(ours: &[Chain], theirs: &[Chain], place: usize) -> Parting
     requires before { (i : ℕ) → i < place → slice_get ours.now i ≡ slice_get theirs.now i }
     requires apart { (x y : AChain) → slice_get ours.now place ≡ Some x → slice_get theirs.now place ≡ Some y → x ≢ y }

@@ -11,9 +11,9 @@ use dsr_envelope::{Clients, Envelope, Pick};
 use dsr_names::{Actor, Refusal, ReplicaId, Shape};
 use std::alloc::Global;
 
-/// Returns the clients whose requests a loyal replica's post to this replica shows as chosen; `None` for the plain choice, and if it
-/// shows clients that cannot be a choice. Whatever the replica's log is, no other choice gives this envelope. `NoMemory` if memory runs
-/// out.
+/// Returns the clients whose requests a loyal replica's post to this replica shows as chosen; `None` for the plain choice,
+/// and if it shows clients that cannot be a choice. Whatever the replica's log is, no other choice gives this envelope.
+/// `NoMemory` if memory runs out.
 pub(crate) fn shown_clients(
     alloc: Global,
     shape: &Shape,

@@ -54,8 +54,8 @@ pub fn undue_round(replica: &Replica, to: ReplicaId, pick: &Pick) -> Option<Undu
     }
 }
 
-/// Returns why the replica does not propose the asks of these clients in a post to this replica; `None` if it does. Requires that the
-/// post is due.
+/// Returns why the replica does not propose the asks of these clients in a post to this replica; `None` if it does.
+/// Requires that the post is due.
 fn undue_choice(replica: &Replica, to: ReplicaId, clients: &Clients) -> Option<Undue>
     ensures some { (log : List Entry) → StandsFor replica.now log → due replica.now.shape log ≡ PostTo to
         → IfSome result (IsUndueRound replica.now.shape replica.now.me log to (From clients.now)) }

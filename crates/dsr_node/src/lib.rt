@@ -1,5 +1,5 @@
-//! One actor of any kind, with its own log: a loyal replica, a client, or a traitor. What it posts and takes, and what is refused to
-//! it.
+//! One actor of any kind, with its own log: a loyal replica, a client, or a traitor. What it posts and
+//! takes, and what is refused to it.
 #![tactic(auto)]
 
 mod customer;

@@ -36,9 +36,8 @@ pub enum Node {
 }
 
 impl Node {
-    /// Returns the refusal of a post to this actor by this choice, or `None` if it may be made: `NotDue` if the protocol has no
-    /// such post now, else `Exhausted` if a counter would pass its limit. Allocates nothing. Requires that the node is not a
-    /// traitor.
+    /// Returns the refusal of a post to this actor by this choice, or `None` if it may be made: `NotDue` if the protocol has no such
+    /// post now, else `Exhausted` if a counter would pass its limit. Allocates nothing. Requires that the node is not a traitor.
     pub fn refusal(&self, to: Actor, pick: Pick) -> Option<Refusal>
         requires { IsHonest self.now }
         ensures same { (shape : Shape) (me : Actor) (log : List Entry) → Plays shape me log self.now

@@ -13,8 +13,8 @@ pub record Play : Type 0 where
   pub shape : Shape
   pub events : List Event
 
--- the text is that of the play: a header with the play's shape, which is allowed, and lines which represent the play's
--- events
+-- the text is that of the play: a header with the play's shape, which is allowed, and lines
+-- which represent the play's events
 pub record Spells (text : List ℕ) (play : Play) : Type 0 where
   pub after : List ℕ
   pub header : BeginsWithHeader plays.title text play.shape after

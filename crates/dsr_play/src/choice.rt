@@ -6,8 +6,8 @@ use dsr_names::Refusal;
 use std::alloc::Global;
 use std::marker::Model;
 
-/// The choice of a post, in little room: a choice that is not the plain one is behind a handle. Contracts see it as that
-/// `Pick`.
+/// The choice of a post, in little room: a choice that is not the plain one is behind a handle.
+/// Contracts see it as that `Pick`.
 #[derive(Drop)]
 pub struct Choice {
     other: Option<Box<Pick, Global>>,

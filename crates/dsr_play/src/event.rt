@@ -2,8 +2,8 @@ use crate::choice::Choice;
 use dsr_names::Actor;
 use dsr_script::Draft;
 
-/// An event: something that is to happen in a world. It takes little room, since a play can have a million: what is large is
-/// behind a handle.
+/// An event: something that is to happen in a world. It takes little room, since a play can have a million: what
+/// is large is behind a handle.
 #[derive(Drop)]
 pub enum Event {
     /// A loyal actor posts what its protocol asks for.

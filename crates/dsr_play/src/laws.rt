@@ -1,5 +1,5 @@
-//! The law that each event can be written in a play, as the contract of a function that does
-//! nothing.
+//! The law that each event can be written in a play, as the contract of
+//! a function that does nothing.
 
 ghost use Rattle.std.specs.Prelude.{◌<◌, All, ℕ};
 ghost use Rattle.dsr_names.specs.Actor.{IsNumbered};

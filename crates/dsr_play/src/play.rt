@@ -34,9 +34,9 @@ impl Model for Play {
 impl Play {
     /// Reads a play: a header `dsr-play 1 SHAPE`, then lines, each of which represents one event or several.
     ///
-    /// `BadShape` if the header's shape is outside the limits, whatever follows it. `BadText` names the first bad line, counted from
-    /// 1: a line that is not written so, that has no line feed, or with which the events are more than 1,000,000. `NoMemory` if
-    /// memory runs out.
+    /// `BadShape` if the header's shape is outside the limits, whatever follows it. `BadText` names the first bad line, counted
+    /// from 1: a line that is not written so, that has no line feed, or with which the events are more than 1,000,000.
+    /// `NoMemory` if memory runs out.
     pub fn read(alloc: Global, text: &[u8]) -> Result<Play, Refusal>
         ensures play { IfOk result (Spells text.now) }
         ensures refused { IfErr result (IsPlayRefusal text.now) }

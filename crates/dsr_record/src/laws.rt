@@ -26,8 +26,8 @@ pub fn each_step_has_a_line(step: &NotedStep)
     }
 }
 
-/// The transcript of a record is a text of that record, if its entries can be in a transcript of its version. So it is read as that record
-/// again.
+/// The transcript of a record is a text of that record, if its entries can be in a transcript of its version. So it
+/// is read as that record again.
 pub fn transcripts_spell_their_records(recorded: &Record)
     ensures { Fits recorded.now → Spells (record_text recorded.now) recorded.now }
 {

@@ -26,8 +26,8 @@ impl Record {
     /// whose next entry can go on. A post can go on if its box is empty, a take if its box holds that envelope. The record is of version 1 if
     /// each step can be in a transcript of version 1, else of version 2. Nothing says that the steps are a run.
     ///
-    /// `NotARun` if entries are left and none of them can go on: its line is the first that the transcript lacks. `NoMemory` if memory runs
-    /// out.
+    /// `NotARun` if entries are left and none of them can go on: its line is the first that the transcript lacks.
+    /// `NoMemory` if memory runs out.
     pub fn of_logs(alloc: Global, logs: &Logs) -> Result<Record, Refusal>
         ensures shape { IfOk result (λ recorded. recorded.shape ≡ logs.now.shape) }
         ensures logs { IfOk result (λ recorded. IsWhole (logs_of logs.now) recorded.run) }

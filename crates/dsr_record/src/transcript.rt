@@ -81,8 +81,8 @@ impl Format for Second {
 }
 
 impl NotedStep {
-    /// Reads a line's text, without its line feed. The inner `None` means exactly that the bytes are not one. `NoMemory` if memory runs
-    /// out.
+    /// Reads a line's text, without its line feed. The inner `None` means exactly that the bytes are not one.
+    /// `NoMemory` if memory runs out.
     pub fn read(alloc: Global, bytes: &[u8]) -> Result<Option<NotedStep>, Refusal>
         ensures read { IfOk result (λ step. Reads IsSpelledStep step_text bytes.now step) }
         ensures refusal { IsOkUnless result Refusal.NoMemory }

@@ -50,8 +50,7 @@ pub record IsValidAt (shape : Shape) (run : List Step) (slot p : ℕ) : Type 0 w
       → slot_decided shape (log_of run (Replica p)) slot ≡ value
   pub proposed : HasProposed shape (sender_of shape slot) (log_of run (sender_of shape slot)) slot (slot_decided shape (log_of run (Replica p)) slot)
 
--- no signature is forged: each one that a step carries, or that was taken or posted, is by a traitor or is in what its signer has
--- posted by then
+-- no signature is forged: each one that a step carries, or that was taken or posted, is by a traitor or is in what its signer has posted by then
 pub record HasNoForgery (shape : Shape) (run : List Step) : Type 0 where
   pub steps : (older : List Step) (step : Step) → Extends run (step ∷ older) → (s : Signature) → Carries (envelope_of step.1) s
       → IsMadeOrPosted shape (log_of (step ∷ older)) s

@@ -41,9 +41,8 @@ abbrev pub first_or : Option ℕ → List ℕ → Option ℕ
 first_or other [] = other
 first_or other (client ∷ more) = Some client
 
--- the last client that the loyal replica of this log proposed, in a slot of its own; none if it proposed none. (It is read from the
--- chains that it posts for a slot in the round in which that slot begins: in that round a loyal replica posts one only as the
--- slot's sender.)
+-- the last client that the loyal replica of this log proposed, in a slot of its own; none if it proposed none. (It is read from the chains
+-- that it posts for a slot in the round in which that slot begins: in that round a loyal replica posts one only as the slot's sender.)
 abbrev pub last_proposed : Shape → List Entry → Option ℕ
 last_proposed shape [] = None
 last_proposed shape (Post (Replica zero) envelope ∷ older) =

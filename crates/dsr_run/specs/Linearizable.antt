@@ -52,7 +52,7 @@ abbrev pub IsLinearizable : Shape → List Step → Type 0
 IsLinearizable shape run = (order : List Request) × IsLinearization shape run order
 
 -- runs of the shape are strongly linearizable (Golab, Higham and Woelfel 2011): one function gives each run an order that linearizes
--- it, and a longer run the same order with newer requests
+-- it, and if a run extends another, its order extends the order of that one by newer requests
 pub record AreStronglyLinearizable (shape : Shape) : Type 0 where
   pub order : List Step → List Request
   pub each : (run : List Step) → IsRun shape run → IsLinearization shape run (order run)

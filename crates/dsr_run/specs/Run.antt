@@ -44,8 +44,8 @@ pub record HasPosted (log : List Entry) (s : Signature) : Type 0 where
   pub posted : In (Post to envelope) log
   pub carried : Carries envelope s
 
--- a signature that can be sent: a traitor made it, since traitors lend each other their keys, or its signer has posted it (Dolev
--- and Strong 1983)
+-- a signature that can be sent: a traitor made it, since traitors lend each other their keys, or its signer has
+-- posted it (Dolev and Strong 1983)
 abbrev pub IsMadeOrPosted : Shape → Logs → Signature → Type 0
 IsMadeOrPosted shape logs s = IsTraitor shape s.signer ⊎ HasPosted (logs s.signer) s
 

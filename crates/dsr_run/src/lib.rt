@@ -1,5 +1,4 @@
-//! Runs: what replicas, clients and traitors do together. What a run is, its history, and the laws that connect its logs; no
-//! code.
+//! Runs: what replicas, clients and traitors do together; what a run is, its history, and the laws of its logs. No code.
 #![tactic(auto)]
 
 mod answered;

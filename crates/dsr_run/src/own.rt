@@ -1,5 +1,5 @@
-//! An actor's own log and the box that it uses determine its next step; and the laws of runs, for logs alone. Laws, as contracts of
-//! functions that do nothing.
+//! An actor's own log and the box that it uses are enough for its next step; and the laws of runs, for logs alone. Laws, as
+//! contracts of functions that do nothing.
 
 ghost use Rattle.std.specs.Prelude.{◌≡◌, ◌⊎◌, ◌↔◌, ℕ, ◌<◌, ◌≤◌, ◌^◌, List, [], ◌∷◌, ◌++◌, length};
 ghost use Rattle.dsr_base.specs.Growth.{Extends};
@@ -25,10 +25,10 @@ ghost use Rattle.dsr_run.specs.Right.{IsRightReply};
 ghost use Rattle.dsr_run.specs.Run.{IsRun, IsNextStep, AreLogs, IsMadeOrPosted, IsTraitor, ForgesNothing};
 ghost use Rattle.dsr_run.specs.Step.{Step, Logs, log_of};
 
-/// What an actor may do next depends only on its own log and on the one box that it uses: in an allowed shape, a post that its own
-/// log allows, into a box whose posted envelopes are all taken and which gets fewer than 2^40 of them, may be next in the run; so
-/// may a take that its own log allows, from a box that holds an envelope. What such a box holds is within the limits. An actor that
-/// is not of the shape has done nothing.
+/// An actor's own log and the one box that it uses are enough for its next step: in an allowed shape, a post that its own log
+/// allows, into a box whose posted envelopes are all taken and which gets fewer than 2^40 of them, may be next in the run; so may a
+/// take that its own log allows, from a box that holds an envelope. What such a box holds is within the limits. An actor that is
+/// not of the shape has done nothing.
 pub fn own_logs_are_enough()
     ensures post { (shape : Shape) (logs : Logs) (me to : Actor) (envelope : Envelope) → IsAllowed shape → AreLogs shape logs
         → IsActor shape me → IsActor shape to → MayPost shape me (logs me) to envelope → HasPostsLeft (logs me) to
@@ -63,9 +63,9 @@ pub fn logs_are_right()
     ensures legal { (shape : Shape) (logs : Logs) → IsLegal (history shape logs) }
 {}
 
-/// The counters of logs of a run stay within the limits: fewer than 2^40 envelopes are posted into a box, and the history has at most
-/// 2^39 requests. If at most f replicas are traitors, no client has seen more than the history has, and accepted replies have numbers
-/// below 2^40.
+/// The counters of logs of a run stay within the limits: fewer than 2^40 envelopes are posted into a box, and the history has
+/// at most 2^39 requests. If at most f replicas are traitors, no client has seen more than the history has, and accepted
+/// replies have numbers below 2^40.
 pub fn counters_are_kept()
     ensures posts { (shape : Shape) (logs : Logs) → AreLogs shape logs → (a b : Actor) → length (posted_to b (logs a)) < 2 ^ 40 }
     ensures seen { (shape : Shape) (logs : Logs) → HasFewTraitors shape → AreLogs shape logs → (c : ℕ)

@@ -24,8 +24,8 @@ abbrev pub value_text : SlotValue → List ℕ
 value_text Idle = codes "idle"
 value_text (Act batch) = joined 44 signed_text batch
 
--- what texts say about the signatures of a chain after these signers: each one's place fits the slot, the content and the signers before
--- it
+-- what texts say about the signatures of a chain after these signers: each one's place fits the slot, the
+-- content and the signers before it
 abbrev pub spelled_links : ℕ → Option (List Request) → List Actor → List Signature → List Spelled
 spelled_links slot value before [] = []
 spelled_links slot value before (s ∷ ss) = spelled_at (Link slot value before) s ∷ spelled_links slot value (before ++ s.signer ∷ []) ss

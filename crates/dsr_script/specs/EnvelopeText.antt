@@ -1,5 +1,5 @@
--- How texts write an envelope (this project): `empty`, `round 0 0/c0#1:write:a:5~c0/r0`, `ask c0#1:read:a~c0`, `reply 1 0 written`,
--- `seen 1`.
+-- How texts write an envelope (this project): `empty`, `round 0 0/c0#1:write:a:5~c0/r0`, `ask c0#1:read:a~c0`,
+-- `reply 1 0 written`, `seen 1`.
 use Rattle.std.specs.Prelude.{ℕ, List, ◌∷◌, ◌++◌, codes}
 use Rattle.std.specs.Fmt.{decimal}
 use Rattle.dsr_base.specs.Joined.{more_joined, AreUpTo}
@@ -22,8 +22,8 @@ envelope_text (Ask request) = codes "ask " ++ signed_text request
 envelope_text (Reply reply) = codes "reply " ++ reply_text reply
 envelope_text (Seen front) = codes "seen " ++ decimal front
 
--- an envelope that a text can write: within the limits, with 1 to 8 requests in a value that is not idle, and an answer that has a
--- text
+-- an envelope that a text can write: within the limits, with 1 to 8 requests in a value that is not idle,
+-- and an answer that has a text
 abbrev pub IsSpelledEnvelope : Envelope → Type 0
 IsSpelledEnvelope Empty = Unit {0}
 IsSpelledEnvelope (Round round chains) = IsCount round × AreUpTo IsSpelledChain 32 chains

@@ -11,8 +11,8 @@ use dsr_names::{Actor, Refusal};
 use std::alloc::Global;
 use std::marker::Model;
 
-/// What a text says about a signature, in little room: a statement other than the one that fits the place is behind a
-/// handle.
+/// What a text says about a signature, in little room: a statement other than the one that fits
+/// the place is behind a handle.
 #[derive(Drop)]
 pub(crate) struct Brief {
     signer: Actor,
@@ -82,8 +82,8 @@ impl Brief {
         }
     }
 
-    /// Tells whether a text says this at the place that this statement fits: whether it is not the long form of that
-    /// statement.
+    /// Tells whether a text says this at the place that this statement fits: whether it is not the
+    /// long form of that statement.
     pub(crate) fn is_said(&self, fitting: &Statement) -> bool
         ensures { IsTrue result ↔ (self.now ≡ spelled_at fitting.now (said_in fitting.now self.now)) }
     {

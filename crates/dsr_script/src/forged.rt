@@ -30,9 +30,8 @@ pub struct Forged {
     pub statement: Statement,
 }
 
-/// Returns a signature in the draft for which `build` refuses it as forged: it is neither by the holder of one of the keys nor known.
-/// `None` exactly if there is none. (Of several, the first is returned: chains come in their order, and in each its links before its
-/// requests.)
+/// Returns a signature in the draft for which `build` refuses it as forged: it is neither by the holder of one of the keys nor known. `None`
+/// exactly if there is none. (Of several, the first is returned: chains come in their order, and in each its links before its requests.)
 pub fn forged_in(draft: &Draft, keys: &[Key], known: &Known) -> Option<Forged>
     ensures carried { IfSome result (λ forged. Carries draft.now (signed forged.signer forged.statement)) }
     ensures forged { IfSome result (λ forged. ¬ IsHeldOrKnown keys.now known.now.signatures (signed forged.signer forged.statement)) }

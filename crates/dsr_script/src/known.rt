@@ -69,8 +69,7 @@ impl Known {
         self.take_in(envelope)
     }
 
-    /// Makes room for the signatures of one more envelope with at most 32 chains. `NoMemory` if memory runs out. The known signatures
-    /// stay the same.
+    /// Makes room for the signatures of one more envelope with at most 32 chains. `NoMemory` if memory runs out. The known signatures stay the same.
     pub fn room(&mut self) -> Result<(), Refusal>
         ensures same { self.new.signatures ≡ self.old.signatures }
         ensures room { OnOk result (768 ≤ self.new.room) }

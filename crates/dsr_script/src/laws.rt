@@ -35,8 +35,8 @@ pub fn each_draft_has_a_text(draft: &Draft)
     let _plan = draft.plan();
 }
 
-/// Two envelopes that texts can write have the same text only if they are equal. And two texts that are read as the same envelope
-/// are equal.
+/// Two envelopes that texts can write have the same text only if they are equal. And two texts that are read as
+/// the same envelope are equal.
 pub fn texts_tell_drafts()
     ensures one_draft { (a b : Envelope) → IsSpelledEnvelope a → IsSpelledEnvelope b → envelope_text a ≡ envelope_text b → a ≡ b }
     ensures one_text { (bytes others : List ℕ) (envelope : Envelope) → Reads IsSpelledEnvelope envelope_text bytes (Some envelope)

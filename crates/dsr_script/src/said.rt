@@ -109,8 +109,8 @@ impl SaidRequest {
         })
     }
 
-    /// Reads a signed request's text, like `c0#1:read:a~c0`. The inner `None` means exactly that the bytes are not one. `NoMemory` if
-    /// memory runs out.
+    /// Reads a signed request's text, like `c0#1:read:a~c0`. The inner `None` means exactly that the bytes are not one.
+    /// `NoMemory` if memory runs out.
     pub(crate) fn read(alloc: Global, bytes: &[u8]) -> Result<Option<SaidRequest>, Refusal>
         ensures read { IfOk result (λ ask. Reads IsSigned signed_text bytes.now ask) }
         ensures refusal { IsOkUnless result Refusal.NoMemory }
@@ -123,8 +123,8 @@ impl SaidRequest {
         }
     }
 
-    /// Makes this from both parts, if both are there and the second is not the long form of a signature on the request. `NoMemory` if
-    /// memory runs out.
+    /// Makes this from both parts, if both are there and the second is not the long form of a signature on the request.
+    /// `NoMemory` if memory runs out.
     fn of_parts(
         alloc: Global,
         request: Option<Request>,

@@ -93,8 +93,7 @@ impl Item for SaidChain {
 }
 
 impl SaidChain {
-    /// Reads a chain's text, like `0/c0#1:write:a:5~c0/r0`. The inner `None` means exactly that the bytes are not one. `NoMemory` if
-    /// memory runs out.
+    /// Reads a chain's text, like `0/c0#1:write:a:5~c0/r0`. The inner `None` means exactly that the bytes are not one. `NoMemory` if memory runs out.
     pub(crate) fn read(alloc: Global, bytes: &[u8]) -> Result<Option<SaidChain>, Refusal>
         ensures read { IfOk result (λ chain. Reads IsSpelledChain chain_text bytes.now chain) }
         ensures refusal { IsOkUnless result Refusal.NoMemory }

@@ -39,8 +39,7 @@ impl Model for Script {
 }
 
 impl Script {
-    /// Reads a script: a header `dsr-serve 1 SHAPE`, then lines `ask CLIENT OPERATION` and `script TRAITOR ROUND ACTOR ENVELOPE`, in any
-    /// order.
+    /// Reads a script: a header `dsr-serve 1 SHAPE`, then lines `ask CLIENT OPERATION` and `script TRAITOR ROUND ACTOR ENVELOPE`, in any order.
     ///
     /// `BadShape` if the header's shape is outside the limits, whatever follows it. `BadText` names the first bad line, counted from 1:
     /// a line that is not written so, that has no line feed, whose client or actor is not of the shape, whose traitor is not a traitor

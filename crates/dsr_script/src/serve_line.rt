@@ -36,8 +36,8 @@ pub(crate) enum ServeLine {
 }
 
 impl ServeLine {
-    /// Reads a line's text, without its line feed. The inner `None` means exactly that the bytes are not one. `NoMemory` if memory
-    /// runs out.
+    /// Reads a line's text, without its line feed. The inner `None` means exactly that the bytes are not one.
+    /// `NoMemory` if memory runs out.
     pub(crate) fn read(alloc: Global, bytes: &[u8]) -> Result<Option<ServeLine>, Refusal>
         ensures read { IfOk result (λ line. Reads IsLine line_text bytes.now line) }
         ensures refusal { IsOkUnless result Refusal.NoMemory }

@@ -32,8 +32,8 @@ impl Model for Spelled {
 }
 
 impl Spelled {
-    /// Reads what a text says about a signature, like `r0` or `r0(0/idle/r1)`. `None` exactly if the bytes are
-    /// not such a text.
+    /// Reads what a text says about a signature, like `r0` or `r0(0/idle/r1)`. `None` exactly if
+    /// the bytes are not such a text.
     pub(crate) fn read(bytes: &[u8]) -> Option<Spelled>
         ensures { Reads IsSpelled spelled_text bytes.now result }
     {

@@ -1,5 +1,5 @@
--- How the parts of a world represent it, and what `==` of two ends of events decides. No public contract cites this: it serves `impl Model` and
--- private contracts.
+-- How the parts of a world represent it, and what `==` of two ends of events decides. No public contract cites this: it serves `impl
+-- Model` and private contracts.
 pub mod Boxes
 pub mod RunEndEquality
 pub mod WorldFields

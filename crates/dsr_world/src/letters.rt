@@ -53,8 +53,8 @@ pub(crate) fn no_letters(alloc: Global, count: usize) -> Result<Vec<Option<Lette
     Ok(letters)
 }
 
-/// Returns a copy of the letter if it is to be stored: if it is posted to replica 0. `NoMemory` if one more handle is
-/// refused.
+/// Returns a copy of the letter if it is to be stored: if it is posted to replica 0. `NoMemory`
+/// if one more handle is refused.
 pub(crate) fn kept_of(to: &Actor, letter: &Letter) -> Result<Option<Letter>, Refusal>
     ensures kept { IfOk result (λ kept. kept ≡ kept_of to.now letter.now) }
     ensures refusal { IsOkUnless result Refusal.NoMemory }

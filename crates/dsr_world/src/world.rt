@@ -692,8 +692,7 @@ fn learn(known: &mut Known, keys: &[Key], envelope: &Envelope) -> Result<(), Ref
     }
 }
 
-/// Makes the node of a replica of the shape, and its key if it is a traitor. `NoMemory` if memory runs out. Requires that its key was not
-/// taken.
+/// Makes the node of a replica of the shape, and its key if it is a traitor. `NoMemory` if memory runs out. Requires that its key was not taken.
 fn replica_node(
     alloc: Global,
     shape: &Shape,

@@ -43,8 +43,8 @@ Plays shape (ClientNumber c) log (Loyal r) = ⊥
 Plays shape (ClientNumber c) log Traitor = ⊥
 Plays shape (ClientNumber c) log (Client x) = PlaysClient shape c log x
 
--- the party plays some actor of a shape, the other one is an actor of that shape too, and the envelope is
--- within the limits
+-- the party plays some actor of a shape, the other one is an actor of that shape too, and the
+-- envelope is within the limits
 pub record CanGet (party : Party) (me from : Actor) (envelope : Envelope) : Type 0 where
   pub shape : Shape
   pub log : List Entry

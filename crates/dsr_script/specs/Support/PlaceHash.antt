@@ -1,5 +1,5 @@
--- What is hashed for a place of a draft: the traitor's number, the round, and the other end: a client's number
--- counts from 16.
+-- What is hashed for a place of a draft: the traitor's number, the round, and the other end: a
+-- client's number counts from 16.
 use Rattle.std.specs.Prelude.{◌≡◌, true, ◌+◌, ◌++◌}
 use Rattle.std.specs.Hash as fed
 use Rattle.std.proofs.Common.{ap}
