@@ -20,7 +20,7 @@ use dsr_text::{read_items, write_more};
 use std::alloc::Global;
 use std::fmt;
 
-/// The most chains that a text of an envelope has.
+/// The most chains that an envelope may have in a text.
 const MOST_CHAINS: usize = 32;
 
 impl Draft {
