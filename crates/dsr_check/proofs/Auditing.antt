@@ -80,7 +80,7 @@ traitor_inside shape (Client c) traitor = elim traitor [ ]
 pub loyal_forges_none : (shape : Shape) (logs : Logs) (a : Actor) (x : Envelope) → IsLoyal shape a → ForgesNone shape logs a x
 loyal_forges_none shape logs a x loyal traitor = absurd (not_both shape a loyal traitor)
 
--- ---- conduct
+-- ---- the protocol
 
 own_of : (shape : Shape) (logs : Logs) (me : Actor) (entry : Entry) → KeepsConduct shape logs me entry → KeepsOwn shape me (logs me) entry
 own_of shape logs (Replica p) entry keeps = keeps.0
@@ -147,7 +147,7 @@ module _ (shape : Shape) (run : List Step) (parties : List Party) (rows : List (
       let below = place_below shape to other in
       omega (arith, count, below)
 
-  -- ---- what a step that may be next meets
+  -- ---- what a step that may be next finds
 
   pub next_open : (from to : Actor) (x : Envelope) → IsNextStep shape (log_of run) (from, Post to x)
       → IsOpen (box_at rows (place_of shape from) (place_of shape to))

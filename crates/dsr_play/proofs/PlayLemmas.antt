@@ -20,7 +20,7 @@ use Rattle.dsr_play.specs.declared.play_line.PlayLine.TheVariants.{One, Posts, P
 use Rattle.dsr_play.specs.PlayText.{plays, line_text, line_rest, pick_text, ends_text, IsPlayLine, IsSpelledPick, all_events}
 use Rattle.dsr_play.specs.Play.{Play, Spells}
 
--- ---- no line feed stands in a line
+-- ---- no line feed is in a line
 
 client_clean : (c : ℕ) → c < 32 → IsClean (client_text c)
 client_clean c small = actor_clean (Client c) small

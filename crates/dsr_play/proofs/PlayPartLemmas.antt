@@ -38,7 +38,7 @@ module _ {A B : Type 0} (is_a : A → Type 0) (text_a : A → List ℕ) (is_b : 
   pub no_space : IsAbsent 32 bytes → ReadsBoth None
   no_space whole = no_parts is_a text_a is_b text_b 32 (at_byte 32) spaceless bytes whole
 
--- ---- no space stands in a token
+-- ---- no space is in a token
 
 pub replica_spaceless : (r : ℕ) → r < 16 → IsAbsent 32 (replica_text r)
 replica_spaceless r small = letter_then_without 114 32 (decimal r) (lit< tt) (decimal_without_low 32 r (lit< tt) (omega (arith, small)))

@@ -131,7 +131,7 @@ events_of shape (Asks by pick) = posts_by shape (Client by) pick
 events_of shape (Hears from) = with_each shape.n (λ q. Take (Replica q) (Client from) ∷ [])
 events_of shape (Replies to) = with_each_loyal shape (λ p. Post (Replica p) (Client to) Plain ∷ [])
 
--- ---- lines after each other
+-- ---- lines one after another
 
 -- the events that lines represent, in order
 abbrev pub all_events : Shape → List PlayLine → List Event

@@ -26,7 +26,7 @@ use Rattle.dsr_record.specs.declared.version.Version.TheVariants.{One, Two}
 use Rattle.dsr_record.specs.Support.Noted.{entry_of, IsEnd, end_text, IsNoted, noted_text, posted, taken}
 use Rattle.dsr_record.specs.RecordText.{entry_text, step_text, IsSpelledEntry, IsSpelledStep, IsStepOf}
 
--- ---- no space stands in an actor or in a word
+-- ---- no space is in an actor or in a word
 
 pub actor_spaceless : (a : Actor) → IsNumbered a → IsAbsent 32 (actor_text a)
 actor_spaceless (Replica r) small = letter_then_without 114 32 (decimal r) (lit< tt) (decimal_without_low 32 r (lit< tt) (omega (arith, small)))
@@ -165,7 +165,7 @@ module _ (bytes : List ℕ) where
         let are = (was_read AreParts parts_text bytes (actor, noted) both).0 in
         reads_made AreParts parts_text IsSpelledStep step_text make_step step_parts back are_parts same_text bytes (actor, noted) are refl both
 
--- ---- no line feed stands in a line
+-- ---- no line feed is in a line
 
 word_of : (e : Entry) → IsClean (Rattle.dsr_record.specs.RecordText.entry_word e)
 word_of (entry.Post to envelope) = word_clean (codes "post") refl

@@ -15,7 +15,7 @@ use Rattle.dsr_run.specs.Run.{IsRun, other_of}
 use Rattle.dsr_run.specs.Step.{Step, log_of}
 use Rattle.dsr_run.proofs.Logs.{log_cases}
 
--- ---- what stands in a log
+-- ---- what is in a log
 
 -- an entry stays in its log
 pub in_log : (step : Step) (older : List Step) (a : Actor) (entry : Entry) → In entry (log_of older a) → In entry (log_of (step ∷ older) a)

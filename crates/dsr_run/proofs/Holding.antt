@@ -92,7 +92,7 @@ answered_already (Some other) (Some reply) ask is old =
     not_newer : (a b : ℕ) → nat_lt a b ≡ false → b ≤ a
     not_newer a b e = grind (arith, nat_tests)
 
--- ---- the asks held of some clients
+-- ---- the asks held for some clients
 
 put_parts : {A : Type 0} (first : Option A) (more : Option (List A)) (all : List A) → put_before first more ≡ Some all
     → (x : A) × (xs : List A) × (first ≡ Some x) × (more ≡ Some xs) × (x ∷ xs ≡ all)

@@ -115,7 +115,7 @@ module _ (shape : Shape) (few : HasFewTraitors shape) where
       (subst (λ l. PlacesRise shape (log_of are.run) l first second reply later) (run_logs shape earlier were)
       (places_rise are.run are.is were.run were.is first second reply later))
 
--- ---- what any order says that linearizes a run
+-- ---- what any order that linearizes a run says
 
 -- what was accepted stays accepted
 accepted_since : (shape : Shape) (newer older : List Entry) → Extends (accepted shape (newer ++ older)) (accepted shape older)

@@ -28,7 +28,7 @@ pub record IsReached (shape : Shape) (log : List Entry) (client number : ℕ) : 
   pub is : reply (decided_requests shape log) client ≡ Some last
   pub reaches : number ≤ last.number
 
--- ---- what stands in the requests of some values
+-- ---- what is in the requests of some values
 
 in_requests : (r : Request) (requests : List Request) (lists : List (List Request)) → In r requests → In requests lists → In r (requests_of lists)
 in_requests r requests [] h inside = elim inside [ ]

@@ -30,7 +30,7 @@ count_all : (n : ℕ) → count_below (λ p. true) n ≡ n
 count_all zero = refl
 count_all (suc n) = let before = count_all n in omega (arith, before)
 
--- ---- lists turned round
+-- ---- lists reversed
 
 In-reverse : {A : Type 0} (x : A) (xs : List A) → In x (reverse xs) → In x xs
 In-reverse x [] h = h

@@ -85,7 +85,7 @@ pub fn loyal_replicas_agree()
 {}
 
 /// Validity: a slot of a loyal sender, closed at a loyal replica, is decided as the value that the sender posted, however many are traitors.
-/// That is the value for which the sender's envelope of the slot's first round has the chain that it starts; there is exactly one.
+/// The value is the one for which the sender's envelope of the slot's first round has the chain that it starts; there is exactly one.
 pub fn loyal_senders_values_are_decided()
     ensures decided { (shape : Shape) (run : List Step) → IsRun shape run → (slot : ℕ) → IsLoyal shape (sender_of shape slot)
         → (p : ℕ) → IsLoyal shape (Replica p) → slot < closed_slots shape (rounds shape (log_of run (Replica p)))

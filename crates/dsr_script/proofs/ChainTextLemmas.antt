@@ -29,7 +29,7 @@ use Rattle.dsr_script.specs.Support.ChainParts.{chain_parts, value_part}
 use Rattle.dsr_script.proofs.PairLemmas.{reads_pair, reads_through}
 use Rattle.dsr_script.proofs.SpelledLemmas.{said_kinds}
 
--- ---- what is said of a chain's signatures can be said where they are within the limits
+-- ---- what texts say about a chain's signatures can be said if they are within the limits
 
 requests_each : (asks : List SignedRequest) → All IsSigned asks → All IsRequest (map (λ s. s.request) asks)
 requests_each [] h = All-nil IsRequest

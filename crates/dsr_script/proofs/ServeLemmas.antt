@@ -33,7 +33,7 @@ IsClient client = client < 32
 abbrev pub client_text : ℕ → List ℕ
 client_text client = actor_text (Client client)
 
--- ---- no space stands in the fields
+-- ---- no space is in the fields
 
 pub round_spaceless : (round : ℕ) → round < 2 ^ 40 → IsAbsent 32 (decimal round)
 round_spaceless round small = decimal_without_low 32 round (lit< tt) (omega (arith, small))
@@ -78,7 +78,7 @@ IsScript p = (p.0 < 16) × IsRound p.1
 abbrev pub script_text : ℕ × (ℕ × (Actor × Envelope)) → List ℕ
 script_text p = replica_text p.0 ++ 32 ∷ round_text p.1
 
--- ---- no line feed stands in a line
+-- ---- no line feed is in a line
 
 pub line_clean : (line : ServeLine) → IsLine line → IsClean (line_text line)
 line_clean (Ask client op) is =

@@ -51,7 +51,7 @@ drafted_at [] place = None
 drafted_at (Ask of op ∷ earlier) place = drafted_at earlier place
 drafted_at (Post at envelope ∷ earlier) place = if place_eq at place then Some envelope else drafted_at earlier place
 
--- ---- lines after each other
+-- ---- lines one after another
 
 -- a replica of the shape that is a traitor
 abbrev pub IsTraitor : Shape → ℕ → Type 0

@@ -48,7 +48,7 @@ not_true : (b : Bool) → not b ≡ false → b ≡ true
 not_true true e = refl
 not_true false e = absurd (true≢false e)
 
--- ---- a client tells another
+-- ---- a client posts its seen front to another
 
 -- to post its seen front leaves a client as it is
 told_plays : (shape : Shape) (c d : ℕ) (log : List Entry) (x : Envelope) (node : Node) → Plays shape (Client c) log node
