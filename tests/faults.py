@@ -1,7 +1,7 @@
 #!/usr/bin/env python3
 """Allocations, reads and writes that are refused, each in turn: tests/faults.py, or with the names of some of its parts, and with the word `soak` all of
 them, of which some are left out otherwise. It needs what `rt ci` built, and a C compiler, `cc`. tests/threads.py refuses allocations of services, and
-tests/rows.py those of the calls that rows make.
+tests/driver.py those of the calls that rows make.
 
 allocations: the built program runs with most of its words on the examples, with its 1st, 2nd, 3rd .. allocation refused, until a run meets no refusal; and
 with all later ones refused too. A run that met a refusal must do all the same what it does with ample memory; or end with status 3, say so on

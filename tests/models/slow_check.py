@@ -389,6 +389,12 @@ def read_transcript(text):
     return (version, shape, steps), bad_line(len(lines) + 2) if rest else None
 
 
+def header_of(line):
+    """The version and the shape of a transcript with this first line; None if it has none that is allowed."""
+    found, _ = read_transcript(line + b"\n")
+    return found and found[:2]
+
+
 class Judge:
     """Judges one text after another, and keeps the last run for those that begin alike."""
 
