@@ -1,4 +1,4 @@
--- What each list of words asks for, the program's own name left out.
+-- What each list of words asks for; the words begin after the program's own name.
 use Rattle.std.specs.Prelude.{◌&&◌, ◌||◌, Bool, false, true, List, [], ◌∷◌, ℕ, None, Some, codes, drop, if◌then◌else◌, is_some, not}
 use Rattle.std.specs.Prelude.{nat_eq}
 use Rattle.std.specs.List.{list_any, starts_with}
@@ -9,14 +9,14 @@ use Rattle.dsr_command.specs.declared.narrowing.Narrowing.{Narrowing}
 use Rattle.dsr_command.specs.declared.Task.{Task}
 use Rattle.dsr_command.specs.declared.Task.TheVariants.{Apply, Check, Explain, Play, Serve}
 
--- what words can ask for: a task, the program's version, the text of the help, or nothing that the program knows
+-- what words can ask for: a task, the program's version, the help, or nothing that the program knows
 pub data Asked : Type 0 where
   task : Task → Asked
   version : Asked
   help : Asked
   unknown : Asked
 
--- the word is `--help`, or a hyphen and then characters that begin with `h`
+-- the word is `--help`, or a hyphen followed by characters that begin with `h`
 abbrev pub is_help : List ℕ → Bool
 is_help word = bytes_eq word (codes "--help")
     || (starts_with nat_eq word (codes "-") && starts_with nat_eq (chars (drop 1 word)) (codes "h"))
@@ -25,16 +25,16 @@ is_help word = bytes_eq word (codes "--help")
 abbrev pub has_two_hyphens : List (List ℕ) → Bool
 has_two_hyphens words = list_any (λ word. bytes_eq word (codes "--")) words
 
--- what a word asks for that names no task: the help, or nothing known
+-- what a word that does not name a task asks for: the help, or nothing known
 abbrev pub asked_by_other : List ℕ → Asked
 asked_by_other word = if is_help word then help else unknown
 
--- what is asked for by a task's name and the words after it: the task itself takes none
+-- what is asked for by a task's name and the words after it; the task itself takes no words
 abbrev pub asked_after : Task → List (List ℕ) → Asked
 asked_after named [] = task named
 asked_after named (word ∷ rest) = asked_by_other word
 
--- what is asked for by `play` and the words after it, where words before them gave these flags: each of the two is given once at most
+-- what is asked for by `play` and the words after it, if earlier words gave these flags; each of the two may be given at most once
 abbrev pub asked_after_play : Bool → Bool → List (List ℕ) → Asked
 asked_after_play strict transcript [] = task (Play strict transcript)
 asked_after_play strict transcript (word ∷ rest) =
@@ -42,24 +42,24 @@ asked_after_play strict transcript (word ∷ rest) =
     else (if bytes_eq word (codes "--transcript") && not transcript then asked_after_play strict true rest
     else asked_by_other word)
 
--- the same of `serve`, which has one of the flags
+-- the same for `serve`, which has only the second flag
 abbrev pub asked_after_serve : Bool → List (List ℕ) → Asked
 asked_after_serve transcript [] = task (Serve transcript)
 asked_after_serve transcript (word ∷ rest) =
     if bytes_eq word (codes "--transcript") && not transcript then asked_after_serve true rest else asked_by_other word
 
--- all of a play is explained
+-- all of a play is to be explained, in sentences
 abbrev pub all_of_it : Narrowing
 all_of_it = record { slot = None; actor = None; refused = false; as_data = false }
 
--- what the next word after `explain` is to be: an option, or the value of one
+-- what the next word after `explain` must be: an option, or the value of one
 pub data Next : Type 0 where
   an_option : Next
   a_slot : Next
   an_actor : Next
 
--- what is asked for by words after `explain`, where those before them narrow so far what is explained: each option is given once at most,
--- and the value of an option is the word after it
+-- what is asked for by words after `explain`, if those before them have narrowed the explanation to `so_far`; each option may be given at most
+-- once, and the value of an option is the word after it
 abbrev pub asked_after_explain : Next → Narrowing → List (List ℕ) → Asked
 asked_after_explain an_option so_far [] = task (Explain so_far)
 asked_after_explain an_option so_far (word ∷ rest) =
@@ -75,12 +75,12 @@ asked_after_explain an_actor so_far [] = unknown
 asked_after_explain an_actor so_far (word ∷ rest) =
     option_map_or (λ actor. asked_after_explain an_option (record so_far { actor = Some actor }) rest) (actor_of word) unknown
 
--- what is asked for by `--version` and the words after it, of which there are none
+-- what is asked for by `--version` and the words after it: the version, if no words follow
 abbrev pub asked_after_version : List (List ℕ) → Asked
 asked_after_version [] = version
 asked_after_version (word ∷ rest) = unknown
 
--- what the words ask for: `apply` is also what no word at all means
+-- what the words ask for; without any word it is `apply`
 abbrev pub asked_of : List (List ℕ) → Asked
 asked_of [] = task Apply
 asked_of (word ∷ rest) =

@@ -14,7 +14,7 @@ abbrev pub program : App
 program = on_top (λ s. record s { no_binary_name = true; disable_help_subcommand = true })
     (new_app (codes "dsr"))
 
--- a flag of this name, which is given or not
+-- a flag with this name, which is given or not
 abbrev pub flag_rule : List ℕ → Rule
 flag_rule name = record (new_rule name) { long = Some name; action = Some SetTrue }
 
@@ -26,19 +26,19 @@ play_app = with_rule (with_rule (new_app (codes "play")) (flag_rule (codes "stri
 abbrev pub serve_app : App
 serve_app = with_rule (new_app (codes "serve")) (flag_rule (codes "transcript"))
 
--- the program with those of its tasks that keep a directory
+-- the program with the tasks that keep a directory
 abbrev pub keeping : App
 keeping = with_subcommand (with_subcommand (with_subcommand program (new_app (codes "apply")).top) play_app.top) serve_app.top
 
--- the program with all of its tasks, of which `clap` reads no words after `explain`
+-- the program with all of its tasks; `clap` does not read the words after `explain`
 abbrev pub command_line : App
 command_line = with_subcommand (with_subcommand keeping (new_app (codes "check")).top) (new_app (codes "explain")).top
 
--- whether `clap` gives the flag of this name
+-- whether `clap` reports the flag with this name as given
 abbrev pub is_given : List ℕ → List Row → Bool
 is_given name rows = option_map_or (λ given. bytes_eq given (codes "true")) (first_of name rows) false
 
--- the task of the subcommand that the words name, as `clap` gives it; `apply`, where they name none
+-- the task of the subcommand that the words name, as `clap` reports it; `apply` if they do not name one
 abbrev pub task_entered : Option (List ℕ × List Row) → Task
 task_entered None = Apply
 task_entered (Some entered) =

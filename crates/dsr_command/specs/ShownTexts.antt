@@ -1,32 +1,32 @@
--- The texts that are shown where the version or help is asked for, and where the words are unknown (this project).
+-- The texts that are shown if the words ask for the version or the help, or are unknown (this project).
 use Rattle.std.specs.Prelude.{◌≡◌, ◌++◌, ◌≤◌, List, ℕ, codes, length}
 
 -- the line of the version: the program's, and the toolchain that it is proved with
 abbrev pub version_line : List ℕ
 version_line = codes "dsr 1.0.0 (rattle-kit-13f logic dac8208d650f15bf)\n"
 
--- the sentence that each help begins with
+-- the first sentence of each help
 abbrev pub title : List ℕ
 title = codes "dsr keeps a directory of named registers, each free or holding a number."
 
--- what each text for unknown words begins with
+-- the beginning of each text for unknown words
 abbrev pub usage_title : List ℕ
 usage_title = codes "error: "
 
--- the most bytes of such a text
+-- the maximum length, in bytes, of a help or of a text for unknown words
 abbrev pub most_shown : ℕ
 most_shown = 4096
 
--- the text begins so, and is not longer than that; nothing is said of the rest
+-- the text begins with `begin` and has at most `most_shown` bytes; nothing is said about the rest
 pub record IsTitled (begin text : List ℕ) : Type 0 where
   pub rest : List ℕ
   pub is : text ≡ begin ++ rest
   pub short : length text ≤ most_shown
 
--- the text of a help
+-- the text begins with the title of a help, and is short enough
 abbrev pub IsHelp : List ℕ → Type 0
 IsHelp text = IsTitled title text
 
--- the text that is shown where the words are unknown
+-- the text begins with the title of a usage fault, and is short enough
 abbrev pub IsUsage : List ℕ → Type 0
 IsUsage text = IsTitled usage_title text

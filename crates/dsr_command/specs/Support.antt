@@ -1,2 +1,2 @@
--- What `==` of tasks decides. This serves `==` alone.
+-- What `==` on tasks decides. It is used for `==` only.
 pub mod TaskEquality

@@ -1,4 +1,4 @@
--- The values of options, as words spell them (this project).
+-- The values of options, as words encode them (this project).
 use Rattle.std.specs.Prelude.{◌&&◌, ◌^◌, ℕ, List, Option, None, Some, drop, if◌then◌else◌, nat_lt}
 use Rattle.std.specs.Fmt.{decimal}
 use Rattle.std.specs.Str.{bytes_eq}
@@ -7,13 +7,13 @@ use Rattle.dsr_names.specs.Actor.{client_text, replica_text}
 use Rattle.dsr_names.specs.declared.actor.Actor.{Actor}
 use Rattle.dsr_names.specs.declared.actor.Actor.TheVariants.{Client, Replica}
 
--- the slot that a word names: a number below 2 ^ 40, of which it is the decimal
+-- the slot that a word names: the number below 2 ^ 40 whose decimal is the word, if there is one
 abbrev pub slot_of : List ℕ → Option ℕ
 slot_of word =
     let n = digits_value 10 word in
     if nat_lt n (2 ^ 40) && bytes_eq word (decimal n) then Some n else None
 
--- the actor whose token a word is: a replica from r0 to r15, or a client from c0 to c31
+-- the actor whose token is the word: a replica from r0 to r15, or a client from c0 to c31
 abbrev pub actor_of : List ℕ → Option Actor
 actor_of word =
     let n = digits_value 10 (drop 1 word) in

@@ -1,4 +1,4 @@
--- What private contracts say of the words that the program reads without `clap`.
+-- Definitions in private contracts about the words that the program reads without `clap`.
 use Rattle.std.specs.Prelude.{◌&&◌, Bool, false, List, [], ◌∷◌, ℕ, Option, None, Some, codes, drop, nat_eq}
 use Rattle.std.specs.List.{starts_with}
 use Rattle.std.specs.Str.{bytes_eq, chars}
@@ -28,6 +28,6 @@ abbrev pub is_for_version : List (List ℕ) → Bool
 is_for_version (word ∷ []) = bytes_eq word (codes "--version")
 is_for_version _ = false
 
--- the word is a hyphen and then characters that begin with `h`
+-- the word is a hyphen followed by characters that begin with `h`
 abbrev pub is_short_help : List ℕ → Bool
 is_short_help word = starts_with nat_eq word (codes "-") && starts_with nat_eq (chars (drop 1 word)) (codes "h")

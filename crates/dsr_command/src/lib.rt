@@ -1,4 +1,4 @@
-//! The command line of the program `dsr`, read by `clap`, but for `--version` and the words after `explain`.
+//! The command line of the program `dsr`. `clap` reads it, except for `--version` and the words after `explain`.
 #![tactic(auto)]
 
 mod narrowing;
@@ -25,7 +25,7 @@ use std::convert::AsStr;
 /// The line of the version: the program's, and the toolchain that it is proved with, as `rt version` names it.
 const VERSION: &str = "dsr 1.0.0 (rattle-kit-13f logic dac8208d650f15bf)\n";
 
-/// The sentence that each help begins with.
+/// The first sentence of each help.
 const TITLE: &str = "dsr keeps a directory of named registers, each free or holding a number.";
 
 const ABOUT: &str =
@@ -157,10 +157,10 @@ Nothing is served before the end of the input, which has at most 16,777,216 byte
 is served: `dsr: bad text in line N` is printed on standard error, and the exit status is 1; where N, F, M or TRAITORS\n\
 are outside their limits, it is `dsr: the shape is not allowed`.";
 
-/// What the help says of the flag of `play` alone.
+/// The help's text about `--strict`, which only `play` has.
 const STRICT_HELP: &str = "End with status 1 where an event was refused";
 
-/// What the help says of the flag of `play` and `serve`.
+/// The help's text about `--transcript`, which `play` and `serve` have.
 const TRANSCRIPT_HELP: &str = "Write the steps of all actors in place of the report";
 
 const CHECK_ABOUT: &str =
@@ -223,13 +223,13 @@ const DATA_HELP: &str = "Write lines for programs in place of sentences";
 const EXPLAIN_VALUES: &str =
     "--slot wants a number below 2^40 as the next word, and --actor an actor, as r0 or c31";
 
-/// What is said of a word `--`.
+/// The message about a word `--`.
 const SEPARATOR: &str = "unexpected argument '--' found";
 
-/// What a text for unknown words begins with.
+/// The beginning of each text for unknown words.
 const USAGE_TITLE: &str = "error: ";
 
-/// What a text for unknown words ends with.
+/// The end of each text for unknown words.
 const TIPS: &str = "\n  \
 tip: to answer the requests in a file, run `dsr apply < FILE`\n  \
 tip: to play the play in a file, run `dsr play < FILE`\n  \
@@ -237,32 +237,32 @@ tip: to serve the script in a file, run `dsr serve < FILE`\n  \
 tip: to check the transcript in a file, run `dsr check < FILE`\n  \
 tip: to see what they look like, run `dsr apply --help` and so on\n";
 
-/// The most bytes of what `clap` says that are shown.
+/// The length, in bytes, of the longest text from `clap` that is shown.
 const MOST_SAID: usize = 3_700;
 
-/// What is shown in the place of a text that has more.
+/// The text that is shown in place of a longer one.
 const TOO_LONG: &str = "what is to be said of these words is too long to be shown\n";
 
-/// What the program was asked to do.
+/// A task that the program is asked to do.
 #[derive(Clone, Copy, Debug, PartialEq, Eq)]
 pub enum Task {
-    /// Answer the request lines of standard input, one line for each.
+    /// Answer the request lines on standard input, one line for each.
     Apply,
-    /// Play the play of standard input, and tell what came of it.
+    /// Play the play on standard input, and report its outcome.
     Play {
-        /// Whether an event that is refused is a fault.
+        /// Whether a refused event is a fault.
         strict: bool,
-        /// Whether it is told by the transcript of all steps, in place of the report.
+        /// Whether to write the transcript of all steps in place of the report.
         transcript: bool,
     },
-    /// Serve the script of standard input by hosts in threads, and tell what came of it.
+    /// Serve the script on standard input by hosts in threads, and report its outcome.
     Serve {
-        /// Whether it is told by the transcript of all steps, in place of the report.
+        /// Whether to write the transcript of all steps in place of the report.
         transcript: bool,
     },
-    /// Check the transcript of standard input, and report what the run gave.
+    /// Check the transcript on standard input, and report the run's outcome.
     Check,
-    /// Explain why what came of the play of standard input came out so.
+    /// Explain the outcome of the play on standard input.
     Explain(Narrowing),
 }
 
@@ -274,24 +274,24 @@ impl Exact for Task {
     ghost clones = { λ a b. Prim.search rules };
 }
 
-/// What a command line says.
+/// The meaning of a command line.
 #[derive(Debug, Drop)]
 pub enum Reading {
-    /// Do this.
+    /// Do this task.
     Do(Task),
-    /// The version was asked for: show this line on standard output and end with status 0.
+    /// The words ask for the version: show this line on standard output and end with status 0.
     Version(String),
-    /// Help was asked for: show this text on standard output and end with status 0.
+    /// The words ask for help: show this text on standard output and end with status 0.
     Help(String),
-    /// The words are none that the program knows: show this text on standard error and end with
+    /// The program does not know these words: show this text on standard error and end with
     /// status 2.
     Usage(String),
     /// Memory ran out.
     NoMemory,
 }
 
-/// Reads the words that follow the program's own name on its command line. `NoMemory` may come whatever the
-/// words are, and nothing else may.
+/// Reads the words that follow the program's own name on its command line. `NoMemory` may be returned for any
+/// words; every other reading only for words that ask for it.
 pub fn read_words<S: AsStr>(alloc: Global, words: &[S]) -> Reading
     ensures task { IfDo result (λ done. asked_of (map S.text words.now) ≡ task done) }
     ensures version { OnVersion result (asked_of (map S.text words.now) ≡ version) }
@@ -310,7 +310,7 @@ pub fn read_words<S: AsStr>(alloc: Global, words: &[S]) -> Reading
     }
 }
 
-/// Whether the first word is `explain`.
+/// Tells whether the first word is `explain`.
 fn is_for_explain<S: AsStr>(words: &[S]) -> bool
     ensures { result ≡ is_for_explain (map S.text words.now) }
 {
@@ -320,7 +320,7 @@ fn is_for_explain<S: AsStr>(words: &[S]) -> bool
     }
 }
 
-/// Whether the only word is `--version`.
+/// Tells whether the only word is `--version`.
 fn is_for_version<S: AsStr>(words: &[S]) -> bool
     ensures { result ≡ is_for_version (map S.text words.now) }
 {
@@ -330,7 +330,7 @@ fn is_for_version<S: AsStr>(words: &[S]) -> bool
     }
 }
 
-/// The version, as a text to show.
+/// Returns the version as a text to show.
 fn read_version(alloc: Global) -> Reading
     ensures task { IfDo result (λ _. ⊥) }
     ensures help { OnHelp result ⊥ }
@@ -359,7 +359,7 @@ fn read_explain<S: AsStr>(alloc: Global, words: &[S]) -> Reading
     }
 }
 
-/// The help of `explain`.
+/// Returns the help of `explain`.
 fn explain_help(alloc: Global) -> Reading
     ensures task { IfDo result (λ _. ⊥) }
     ensures version { OnVersion result ⊥ }
@@ -377,7 +377,7 @@ fn explain_text(alloc: Global) -> Result<String, AllocError> {
     command.render_help()
 }
 
-/// The usage fault of words after `explain`, which ask for nothing known.
+/// Returns the usage fault of words after `explain` that ask for nothing known.
 fn explain_refused<S: AsStr>(alloc: Global, words: &[S]) -> Reading
     ensures task { IfDo result (λ _. ⊥) }
     ensures version { OnVersion result ⊥ }
@@ -390,8 +390,8 @@ fn explain_refused<S: AsStr>(alloc: Global, words: &[S]) -> Reading
     }
 }
 
-/// What is said of these words: what `clap` says, where it refuses them too, and else that one is `--`, or what the values of options are
-/// to be.
+/// Returns the message about refused words: that of `clap` if it refuses them too; else, that `--` is unknown if it is
+/// one of them; else, what values the options take.
 fn explain_fault<S: AsStr>(alloc: Global, words: &[S]) -> Result<String, AllocError> {
     let command = explain_command(alloc)?;
     if let Err(error) = command.try_get_matches_from(words) {
@@ -411,7 +411,7 @@ fn explain_fault<S: AsStr>(alloc: Global, words: &[S]) -> Result<String, AllocEr
     error.to_string(alloc)
 }
 
-/// Reads words that `clap` reads: those that do not begin with `explain`, and are not `--version` alone.
+/// Reads words by `clap`: those that do not begin with `explain`, and are not `--version` alone.
 #[tactic(auto, using(crate::proofs::ReadingLemmas::readings))]
 fn read_by_clap<S: AsStr>(alloc: Global, words: &[S]) -> Reading
     requires tasks { is_for_explain (map S.text words.now) ≡ false }
@@ -430,7 +430,7 @@ fn read_by_clap<S: AsStr>(alloc: Global, words: &[S]) -> Reading
     }
 }
 
-/// The task that the words name, where `clap` takes them.
+/// Returns the task that the words name if `clap` accepts them, else `clap`'s error.
 fn parse<S: AsStr>(alloc: Global, words: &[S]) -> Result<Task, Error>
     ensures taken { FailsBy (fault_of command_line (map S.text words.now)) result }
     ensures task { IfOk result (λ named. named ≡ task_entered (subcommand_of command_line (map S.text words.now))) }
@@ -440,7 +440,7 @@ fn parse<S: AsStr>(alloc: Global, words: &[S]) -> Result<Task, Error>
     Ok(task_of(&matches))
 }
 
-/// The task whose name was met.
+/// Returns the task that `clap` matched.
 fn task_of(matches: &ArgMatches<'_>) -> Task
     ensures { result ≡ task_entered (subcommand_rows_of matches.now) }
 {
@@ -457,14 +457,14 @@ fn task_of(matches: &ArgMatches<'_>) -> Task
     }
 }
 
-/// Whether the flag of this name was given.
+/// Tells whether the flag with this name was given.
 fn is_given(given: &ArgMatches<'_>, name: &str) -> bool
     ensures { result ≡ is_given name.now (rows_of (found_of given.now)) }
 {
     given.get_str(name) == Some("true")
 }
 
-/// Whether a word is `--`, which `clap` reads over and the program does not know.
+/// Tells whether a word is `--`, which `clap` skips and the program does not know.
 fn has_separator<S: AsStr>(words: &[S]) -> bool
     ensures { result ≡ has_two_hyphens (map S.text words.now) }
 {
@@ -476,7 +476,7 @@ fn has_separator<S: AsStr>(words: &[S]) -> bool
     false
 }
 
-/// The usage fault of a word `--`.
+/// Returns the usage fault of a word `--`.
 fn separator_refused(alloc: Global) -> Reading
     ensures task { IfDo result (λ _. ⊥) }
     ensures version { OnVersion result ⊥ }
@@ -497,7 +497,7 @@ fn separator_error(alloc: Global) -> Result<Error, AllocError>
     command.error(ErrorKind::UnknownArgument, SEPARATOR)
 }
 
-/// What an error of the parse says to the user.
+/// Returns the reading that an error of the parse leads to.
 fn reading_of(alloc: Global, error: &Error) -> Reading
     ensures task { IfDo result (λ _. ⊥) }
     ensures version { OnVersion result ⊥ }
@@ -517,7 +517,7 @@ fn reading_of(alloc: Global, error: &Error) -> Reading
     }
 }
 
-/// The usage fault that says this, after its title, and before the tips.
+/// Returns the usage fault with this text between the title and the tips.
 fn usage_of(alloc: Global, text: &str) -> Reading
     ensures task { IfDo result (λ _. ⊥) }
     ensures version { OnVersion result ⊥ }
@@ -531,7 +531,7 @@ fn usage_of(alloc: Global, text: &str) -> Reading
     }
 }
 
-/// The help that says this of the command, after the title.
+/// Returns the help with this text after the title.
 fn titled(alloc: Global, text: &str) -> Reading
     ensures task { IfDo result (λ _. ⊥) }
     ensures version { OnVersion result ⊥ }
@@ -546,7 +546,7 @@ fn titled(alloc: Global, text: &str) -> Reading
     }
 }
 
-/// The text where it is not too long to be shown, else a line that says so.
+/// Returns the text if it is short enough to show, else a line that says that it is not.
 fn shortened(text: &str) -> &str
     ensures same { length text.now ≤ 3700 → result.now ≡ text.now }
     ensures short { length result.now ≤ 3700 }
@@ -558,7 +558,7 @@ fn shortened(text: &str) -> &str
     }
 }
 
-/// The program's command, with its tasks and the text of its help.
+/// Creates the program's command, with its tasks and the text of its help.
 fn dsr_command<'a>(alloc: Global) -> Result<Command<'a>, AllocError>
     ensures { IfOk result (λ command. (app_of command ≡ command_line)
         × ((fields_of command).has_globals ≡ false)) }
@@ -568,7 +568,7 @@ fn dsr_command<'a>(alloc: Global) -> Result<Command<'a>, AllocError>
     dsr.subcommand(explain_word(alloc))
 }
 
-/// The command with those of its tasks that keep a directory.
+/// Creates the command with the tasks that keep a directory.
 fn dsr_keeping<'a>(alloc: Global) -> Result<Command<'a>, AllocError>
     ensures { IfOk result (λ command. (app_of command ≡ keeping)
         × ((fields_of command).has_globals ≡ false)) }
@@ -621,7 +621,7 @@ fn serve_command<'a>(alloc: Global) -> Result<Command<'a>, AllocError>
     serve.arg(flag(alloc, "transcript", TRANSCRIPT_HELP))
 }
 
-/// The flag of this name, of which the help says this.
+/// Creates a flag with this name and this help text.
 fn flag<'a>(alloc: Global, name: &'a str, text: &'a str) -> Arg<'a>
     ensures rule { rule_of result ≡ flag_rule name.now }
     ensures local { result.global ≡ false }
@@ -641,7 +641,7 @@ fn check_command<'a>(alloc: Global) -> Command<'a>
         .after_help(CHECK_EXAMPLE)
 }
 
-/// `explain` as the list of commands has it.
+/// Creates `explain` as an entry in the list of commands.
 fn explain_word<'a>(alloc: Global) -> Command<'a>
     ensures app { app_of result ≡ new_app (codes "explain") }
     ensures local { (fields_of result).has_globals ≡ false }
@@ -649,7 +649,7 @@ fn explain_word<'a>(alloc: Global) -> Command<'a>
     Command::new(alloc, "explain").about(EXPLAIN_ABOUT)
 }
 
-/// `explain` on its own, for its help, and for what is said of words after it.
+/// Creates the command `explain` by itself, for its help and for messages about the words after it.
 fn explain_command<'a>(alloc: Global) -> Result<Command<'a>, AllocError> {
     let explain = Command::new(alloc, "explain")
         .about(EXPLAIN_ABOUT)
@@ -662,7 +662,7 @@ fn explain_command<'a>(alloc: Global) -> Result<Command<'a>, AllocError> {
     explain.arg(flag(alloc, "data", DATA_HELP))
 }
 
-/// The option of this name, whose value and of which the help says this.
+/// Creates an option with this name, this name for its value, and this help text.
 fn option<'a>(alloc: Global, name: &'a str, value: &'a str, text: &'a str) -> Arg<'a> {
     Arg::new(alloc, name)
         .long(name)

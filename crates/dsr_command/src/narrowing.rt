@@ -1,4 +1,4 @@
-//! What of a play is to be explained, and how the words after `explain` say it.
+//! Which parts of a play to explain, and how the words after `explain` name them.
 
 ghost use Rattle.std.specs.Prelude.{◌≡◌, None, Some, length, map};
 ghost use Rattle.std.specs.Option.{option_and_then};
@@ -11,21 +11,21 @@ use dsr_base::Exact;
 use dsr_names::{Actor, read_num};
 use std::convert::AsStr;
 
-/// What of a play is explained: all of it, or what all of these let through.
+/// Which parts of a play to explain: those that pass every filter here; without filters, all of it.
 #[derive(Clone, Copy, Debug, PartialEq, Eq)]
 pub struct Narrowing {
-    /// This slot alone, where one is named.
+    /// Only this slot, if `Some`.
     pub slot: Option<u64>,
-    /// This actor alone, where one is named.
+    /// Only this actor, if `Some`.
     pub actor: Option<Actor>,
-    /// The refused events alone.
+    /// Only the refused events.
     pub refused: bool,
-    /// In lines for programs in place of sentences.
+    /// Whether to write lines for programs in place of sentences.
     pub as_data: bool,
 }
 
 impl Narrowing {
-    /// All of it, in sentences.
+    /// All of a play, in sentences.
     pub const ALL: Narrowing = Narrowing {
         slot: None,
         actor: None,
@@ -45,7 +45,7 @@ impl Exact for Narrowing {
 /// What the words after `explain` ask for.
 #[derive(Drop)]
 pub(crate) enum Wish {
-    /// That a play is explained, narrowed so.
+    /// An explanation of a play, narrowed like this.
     Explain(Narrowing),
     /// The help.
     Help,
@@ -53,15 +53,15 @@ pub(crate) enum Wish {
     Unknown,
 }
 
-/// What the words after `explain` ask for.
+/// Returns what the words after `explain` ask for.
 pub(crate) fn wish_of<S: AsStr>(words: &[S]) -> Wish
     ensures { asked_by result ≡ asked_after_explain an_option all_of_it (map S.text words.now) }
 {
     further_wish(words, Narrowing::ALL)
 }
 
-/// What the words ask for, where those before them narrow so far what is explained. Since each option is given once at most, it calls
-/// itself four times at most.
+/// Returns what the words ask for if those before them have narrowed the explanation to `so_far`. Each option may be
+/// given at most once, so it calls itself at most four times.
 fn further_wish<S: AsStr>(words: &[S], so_far: Narrowing) -> Wish
     ensures { asked_by result ≡ asked_after_explain an_option so_far (map S.text words.now) }
 {
@@ -94,7 +94,7 @@ fn further_wish<S: AsStr>(words: &[S], so_far: Narrowing) -> Wish
     other_wish(word)
 }
 
-/// The slot that the first word names; none where it names none, or there is no word.
+/// Returns the slot that the first word names; `None` if it does not name one, or there is no word.
 #[tactic(auto, using(crate::proofs::WishLemmas::slot_read))]
 fn first_slot<S: AsStr>(words: &[S]) -> Option<u64>
     ensures { result ≡ option_and_then slot_of (first_of (map S.text words.now)) }
@@ -105,7 +105,7 @@ fn first_slot<S: AsStr>(words: &[S]) -> Option<u64>
     }
 }
 
-/// The actor that the first word names; none where it names none, or there is no word.
+/// Returns the actor that the first word names; `None` if it does not name one, or there is no word.
 #[tactic(auto, using(crate::proofs::WishLemmas::actor_read))]
 fn first_actor<S: AsStr>(words: &[S]) -> Option<Actor>
     ensures { result ≡ option_and_then actor_of (first_of (map S.text words.now)) }
@@ -116,7 +116,7 @@ fn first_actor<S: AsStr>(words: &[S]) -> Option<Actor>
     }
 }
 
-/// What a word asks for that is no option: the help, or nothing known.
+/// Returns what a word that is not an option asks for: the help, or nothing known.
 fn other_wish(word: &str) -> Wish
     ensures { asked_by result ≡ asked_by_other word.now }
 {
@@ -127,7 +127,7 @@ fn other_wish(word: &str) -> Wish
     }
 }
 
-/// Whether the word is a hyphen and then characters that begin with `h`.
+/// Tells whether the word is a hyphen followed by characters that begin with `h`.
 fn is_short_help(word: &str) -> bool
     ensures { result ≡ is_short_help word.now }
 {

@@ -1,4 +1,4 @@
--- When `==` holds of two narrowings, and of two tasks: exactly where they are equal.
+-- `==` holds for two narrowings, and for two tasks, exactly if they are equal.
 use Rattle.std.specs.Prelude.{◌≡◌, ◌&&◌, ℕ, Bool, Option}
 use Rattle.std.specs.Bool.{Decides}
 use Rattle.std.specs.Bool.{beq}
@@ -19,7 +19,7 @@ use Rattle.dsr_command.specs.contracts.TaskPartialEq.TheImpl.{ghosts}
 abbrev narrows : Option ℕ → Option Actor → Bool → Bool → Narrowing
 narrows slot actor refused as_data = record { slot = slot; actor = actor; refused = refused; as_data = as_data }
 
--- of two narrowings it holds exactly where they are equal
+-- `==` holds for two narrowings exactly if they are equal
 pub narrowing_eq-Decides : (a b : Narrowing) → Decides (of_narrowings.eq a b) (a ≡ b)
 narrowing_eq-Decides a b =
     let flags = beq a.refused b.refused && beq a.as_data b.as_data in
@@ -30,7 +30,7 @@ narrowing_eq-Decides a b =
     (Decides-and (option_eq actor_eq a.actor b.actor) flags (equal_options actor_eq-Decides a.actor b.actor)
     (Decides-and (beq a.refused b.refused) (beq a.as_data b.as_data) (booleans_Decides a.refused b.refused) (booleans_Decides a.as_data b.as_data))))
 
--- of two tasks it does too
+-- `==` holds for two tasks exactly if they are equal
 pub task_eq-Decides : (a b : Task) → Decides (ghosts.eq a b) (a ≡ b)
 task_eq-Decides Apply Apply = (λ e. refl, λ e. refl)
 task_eq-Decides Apply (Play stricter told) = (λ e. cc, λ e. cc)
