@@ -29,7 +29,7 @@ TITLE = b"dsr keeps a directory of named registers, each free or holding a numbe
 # A help is cut where it has more bytes than this after the title and the empty line below it.
 MOST_HELP = 3_700
 TASKS = ["apply", "play", "serve", "check", "explain"]
-TOO_LONG = b"error: what is to be said of these words is too long to be shown\n"
+TOO_LONG = b"error: the message is too long to show\n"
 TRY_HELP = b"\nFor more information, try '--help'.\n"
 TIP = b"\n  tip: to play the play in a file, run `dsr play < FILE`\n"
 VOCABULARY = ["apply", "play", "serve", "check", "explain", "--strict", "--transcript", "--slot", "--actor", "--refused", "--data", "0", "7", "07", "-1",

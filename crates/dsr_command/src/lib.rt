@@ -30,19 +30,19 @@ const TITLE: &str = "dsr keeps a directory of named registers, each free or hold
 
 const ABOUT: &str =
     "Clients send it numbered requests: read, write, swap (compare-and-set), remove. It answers each of them.\n\
-`dsr apply` is one directory. `dsr play` is one that replicas keep together, though some of them are traitors,\n\
-`dsr serve` is one that replicas keep in threads, and `dsr check` tells whether what was recorded of such a play\n\
-or service is a run. `dsr explain` tells why what came of a play came out so. Without a command it does what\n\
-`dsr apply` does.";
+`dsr apply` keeps one directory. `dsr play` has replicas keep one together, step by step, though some of them may\n\
+be traitors; `dsr serve` runs such replicas in threads; `dsr check` checks whether a recorded play or service is a\n\
+run, that is, whether each step may follow those before it; and `dsr explain` explains a play's outcome. Without a\n\
+command `dsr` does what `dsr apply` does.";
 
 const EXAMPLES: &str = "Example:\n  \
 $ printf 'c0 1 write a 5\\nc1 1 swap a 5 6\\nc0 2 read a\\n' | dsr apply\n  \
 0 written\n  \
 1 swapped\n  \
 2 held 6\n\n\
-`dsr apply --help` says how a request is written, and what its answer means; `dsr play --help` the same of plays\n\
-and reports, `dsr serve --help` of scripts, `dsr check --help` of transcripts, and `dsr explain --help` of what is\n\
-explained. `dsr --version` prints the version.\n\n\
+`dsr apply --help` says how to write a request, and what its answer means. `dsr play --help` does the same for\n\
+plays and their reports, `dsr serve --help` for scripts, `dsr check --help` for transcripts, and\n\
+`dsr explain --help` for explanations. `dsr --version` prints the version.\n\n\
 Exit status:\n  \
 0  the answers, the report, the transcript, the explanation, the help or the version was written\n  \
 1  the input or, with --strict, an event was refused, a service ended early, or reading or writing failed\n  \
@@ -57,58 +57,62 @@ Each line ends with a line feed, the last one too.\n\n  \
 CLIENT     c0 to c31\n  \
 NUMBER     1 to 1099511627775; a client numbers its own requests, in rising order\n  \
 OPERATION  read NAME            answers what the register holds\n             \
-write NAME VALUE     lets it hold VALUE\n             \
-swap NAME OLD VALUE  compare-and-set: lets it hold VALUE if it holds OLD\n             \
-remove NAME          lets it hold nothing\n  \
+write NAME VALUE     makes it hold VALUE\n             \
+swap NAME OLD VALUE  compare-and-set: makes it hold VALUE if it holds OLD\n             \
+remove NAME          makes it hold nothing\n  \
 NAME       1 to 32 of the characters a-z 0-9 . _ -\n  \
 VALUE      0 to 18446744073709551615\n  \
 OLD        a VALUE, or none: the register holds nothing\n\n\
-For each line one line is written: PLACE ANSWER, where PLACE counts the requests before that acted.\n\n  \
+Each line is answered by a line PLACE ANSWER. PLACE is the number of requests that acted (were executed) before.\n\n  \
 held OLD, removed OLD  what the register held\n  \
-written, swapped       it was done\n  \
-kept OLD               the register held OLD, which is not what the swap asked for\n  \
-full                   1,024 registers hold a value already\n\n\
-A client's latest number again gets its answer again and changes nothing; a lower one gets `old`.\n\n\
+written, swapped       the register now holds VALUE\n  \
+kept OLD               the register held OLD, not what the swap expected, and keeps it\n  \
+full                   1,024 registers already hold a value\n\n\
+A client that repeats its latest number gets the same answer again, and nothing changes; a lower number gets `old`.\n\n\
 Example:\n  \
 $ printf 'c0 1 write a 5\\nc0 2 swap a none 6\\nc0 2 swap a none 6\\nc0 1 read a\\n' | dsr apply\n  \
 0 written\n  \
 1 kept 5\n  \
 1 kept 5\n  \
 old\n\n\
-Nothing is answered before the end of the input, which has at most 16,777,216 bytes. At the first bad line N\n\
-the lines before it are answered, `dsr: bad text in line N` is printed on standard error, and the exit status\n\
-is 1. Most often the last line feed is missing, the line ends with CRLF, it has a tab or two spaces, a number\n\
-has a leading zero, or the request's number is 0.";
+Nothing is answered before the end of the input, which may have at most 16,777,216 bytes. If line N is the\n\
+first bad one, the lines before it are answered, `dsr: bad text in line N` is printed on standard error, and the\n\
+exit status is 1. Most often the last line feed is missing, the line ends with CRLF, it has a tab or two spaces,\n\
+a number has a leading zero, or the request's number is 0.";
 
 const PLAY_ABOUT: &str =
-    "Read a play of replicas and clients from standard input, and write what came of it";
+    "Read a play of replicas and clients from standard input, and write its outcome";
 
 const PLAY_EXAMPLE: &str =
     "A play begins with the line `dsr-play 1 N F M TRAITORS`: N replicas, 1 to 16; at most F traitors among them, with\n\
-N >= 2F+1; M clients, 1 to 32; and who the traitors are, as r0+r2, or - for none. What follows is played line by\n\
-line. Each line ends with a line feed, the last one too. Replicas are r0 to r15, clients c0 to c31.\n\n  \
-post A B           the actor A posts to B what the protocol has it post\n  \
-post A B from C    the same; the replica A proposes what it holds of the clients C, as c0+c1\n  \
+N >= 2F+1; M clients, 1 to 32; and the traitors, such as r0+r2, or - for none. The other replicas and all clients\n\
+are loyal. The lines after it are played in order. Each line ends with a line feed, the last one too. Replicas are r0\n\
+to r15, clients c0 to c31.\n\n  \
+post A B           the loyal actor A posts to B what the protocol has it post\n  \
+post A B from C    the same; the replica A proposes its held requests of the clients C, such as c0+c1\n  \
 post A B begin OP  the client A posts a new request to B; OP as in `dsr apply --help`\n  \
 plant A B E        the traitor A posts the envelope E to B\n  \
 take A B           A takes what B posted to it\n  \
-tell A B           the client A tells the client B how far it has seen\n  \
+tell A B           the client A tells the client B how much history it knows\n  \
 posts A, posts A from C, posts *   A, or each loyal replica, posts to all replicas\n  \
-plants A E                         A plants for all replicas\n  \
-takes A, takes *                   A, or each replica, takes from all replicas\n  \
+plants A E                         the traitor A posts E to all replicas\n  \
+takes A, takes *                   A, or each replica (traitors too), takes from all replicas\n  \
 asks A, asks A begin OP            the client A posts to all replicas\n  \
-hears A, replies A                 all replicas take from the client A, or the loyal ones post to it\n\n\
-In a round a replica posts to all replicas, then takes from all. In its own slot's first round it may propose.\n\
+hears A                            each replica (traitors too) takes from the client A\n  \
+replies A                          each loyal replica posts to the client A (traitors do not)\n\n\
+In a round a replica posts to all replicas, then takes from all, and so closes it. No loyal replica closes a round\n\
+before it has taken from each traitor: each traitor A, too, has to post to all replicas, as by `plants A empty`. In\n\
+the first round of its own slot a replica may propose.\n\n\
 E is empty; round NUMBER and chains; ask REQUEST~c0; reply NUMBER PLACE ANSWER; or seen PLACE. A chain is\n\
-SLOT/VALUE/SIGNERS, as 0/c0#1:write:a:5~c0/r0+r1 or 0/idle/r0.\n\n\
+SLOT/VALUE/SIGNERS, such as 0/c0#1:write:a:5~c0/r0+r1; its VALUE is idle if there are no requests, as in 0/idle/r0.\n\n\
 The report:\n  \
-done N, refused N      events that were done, and that were refused and changed nothing\n  \
+done N, refused N      how many events were done, and how many were refused and changed nothing\n  \
 first I E NAME         the first refused event, counted from 0, and why\n  \
-accepted C K PLACE A   the client C accepted the answer A, and its place, for its request K\n  \
-seen C PLACE           how far C has seen: all places before this one\n  \
-decided R VALUES       what the loyal replica R decided, slot by slot; - where no slot is closed\n  \
-history N              how many requests acted; then each of them after its place\n\n\
-With --transcript the steps of all actors are written in place of the report: each post and each take, in their order,\n\
+accepted C K PLACE A   the client C accepted the answer A, at this place, to its request K\n  \
+seen C PLACE           how much history C knows: all places before this one\n  \
+decided R VALUES       what the loyal replica R decided, slot by slot, idle for no request; - if no slot is closed\n  \
+history N              how many requests acted (were executed); then each of them after its place\n\n\
+With --transcript the steps of all actors are written in place of the report, each post and each take in their order,\n\
 as `dsr check --help` explains.\n\n\
 Example:\n  \
 $ printf 'dsr-play 1 1 0 1 -\\nasks c0 begin write a 7\\nhears c0\\nposts r0 from c0\\ntakes *\\nreplies c0\\ntakes c0\\n' | dsr play\n  \
@@ -119,65 +123,66 @@ seen c0 1\n  \
 decided r0 c0#1:write:a:7\n  \
 history 1\n  \
 0 c0#1:write:a:7\n\n\
-Nothing is played before the end of the input, which has at most 16,777,216 bytes and stands for at most 1,000,000\n\
-events. Of a play with a bad line N nothing is played: `dsr: bad text in line N` is printed on standard error, and\n\
-the exit status is 1; where N, F, M or TRAITORS are outside their limits, it is `dsr: the shape is not allowed`.\n\
-Refused events are no fault: the status is 0, or 3 where one was refused because memory ran out. With --strict it is 1\n\
-where any was refused, or 3 as before; the same is written, and nothing on standard error for it.";
+Nothing is played before the end of the input, which may have at most 16,777,216 bytes and represent at most\n\
+1,000,000 events. If line L is bad, nothing is played: `dsr: bad text in line L` is printed on standard error, and the\n\
+exit status is 1; if N, F, M or TRAITORS are outside their limits, it is `dsr: the shape is not allowed`. Refused\n\
+events are not a fault: the status is 0, or 3 if memory ran out for one of them. With --strict it is 1 if any event\n\
+was refused, or 3 as before; the output is the same, and standard error does not mention such events.";
 
 const SERVE_ABOUT: &str =
-    "Read a script from standard input, serve it by threads, and write what came of it";
+    "Read a script from standard input, serve it by threads, and write the outcome";
 
 const SERVE_EXAMPLE: &str =
-    "A script begins with the line `dsr-serve 1 N F M TRAITORS`: the shape is written as in plays (`dsr play --help`). The\n\
-other lines may stand in any order. Each line ends with a line feed, the last one too.\n\n  \
-ask C OP           the client C asks for OP, written as in `dsr apply --help`; it makes its operations in their order\n  \
+    "A script begins with the line `dsr-serve 1 N F M TRAITORS`; N, F, M and TRAITORS are as in plays (`dsr play --help`).\n\
+The other lines may be in any order. Each line ends with a line feed, the last one too.\n\n  \
+ask C OP           the client C asks for OP, written as in `dsr apply --help`; one operation after another\n  \
 script R NUM TO E  the traitor R posts the envelope E, written as in plays, to the actor TO in its round NUM, from 0 on\n\n\
-Of a traitor, a round and an actor there is one such line at most. Where there is none, and where E would need a forged\n\
-signature, the traitor posts `empty` to a replica and nothing to a client. Nor does it post to a client whose box is full.\n\n\
+At most one such line is allowed per traitor, round and actor. Without one, or if E would need a forged signature, the\n\
+traitor posts `empty` to a replica and nothing to a client. Nor does it post to a client whose box is full: one that has\n\
+not yet taken what this traitor posted to it before.\n\n\
 Each replica, traitor and client is a thread of its own. A client asks the replicas for its next operation as soon as it\n\
-has accepted the answer to the one before. The replicas make rounds until all clients are served. Which of two clients\n\
-comes first is up to the threads, and may differ from run to run.\n\n\
+has accepted the answer to the one before. The replicas make rounds until all clients are served, at most 4,096. Which\n\
+of two clients comes first depends on the threads, and may differ each time.\n\n\
 The report:\n  \
-accepted C K PLACE A   the client C accepted the answer A, and its place, for its request K; client by client\n  \
-history N              how many requests acted; then each of them after its place\n\n\
+accepted C K PLACE A   the client C accepted the answer A, at this place, to its request K; client by client\n  \
+history N              how many requests acted (were executed); then each of them after its place\n\n\
 With --transcript the steps of all actors are written in place of the report, as `dsr check --help` explains.\n\n\
 Example:\n  \
 $ printf 'dsr-serve 1 1 0 1 -\\nask c0 write a 7\\n' | dsr serve\n  \
 accepted c0 1 0 written\n  \
 history 1\n  \
 0 c0#1:write:a:7\n\n\
-A service may end before all clients are served. Then the report or the transcript tells what was done until then, and\n\
-standard error why it ended; the exit status is 1, or 3 for `no memory`, where there may be none for the report either:\n\n  \
-dsr: no answer within the turns  a client had no answer, and all replicas had ended: they make 4,096 rounds at most\n  \
-dsr: a counter is exhausted      a next post would be past a limit, as that of 2^40 posts from one actor to another\n  \
+A service may end before all clients are served. Then the report or the transcript shows what was done until then,\n\
+standard error says why it ended, and the exit status is 1. For `no memory` it is 3, and the report may be missing:\n\n  \
+dsr: no answer within the turns  a client accepted fewer replies than it has operations\n  \
+dsr: a counter is exhausted      a next post would be past a limit, such as 2^40 posts from one actor to another\n  \
 dsr: no thread                   a thread could not be started\n  \
 dsr: no memory                   memory ran out\n\n\
-Nothing is served before the end of the input, which has at most 16,777,216 bytes. Of a script with a bad line N nothing\n\
-is served: `dsr: bad text in line N` is printed on standard error, and the exit status is 1; where N, F, M or TRAITORS\n\
-are outside their limits, it is `dsr: the shape is not allowed`.";
+Nothing is served before the end of the input, which may have at most 16,777,216 bytes. If line L is bad, nothing is\n\
+served: `dsr: bad text in line L` is printed on standard error, and the exit status is 1; if N, F, M or TRAITORS are\n\
+outside their limits, it is `dsr: the shape is not allowed`.";
 
 /// The help's text about `--strict`, which only `play` has.
-const STRICT_HELP: &str = "End with status 1 where an event was refused";
+const STRICT_HELP: &str = "End with status 1 if an event was refused";
 
 /// The help's text about `--transcript`, which `play` and `serve` have.
 const TRANSCRIPT_HELP: &str = "Write the steps of all actors in place of the report";
 
 const CHECK_ABOUT: &str =
-    "Read a transcript from standard input, and tell whether it is a run, and what came of it";
+    "Read a transcript from standard input, check whether it is a run, and write its outcome";
 
 const CHECK_EXAMPLE: &str =
-    "A transcript begins with the line `dsr-transcript 1 N F M TRAITORS`, or the same with 2: the shape is written as in\n\
-plays. Each other line is a step of an actor. Each line ends with a line feed, the last one too.\n\n  \
+    "A transcript begins with the line `dsr-transcript 1 N F M TRAITORS`, or the same with 2 in place of 1; N, F, M and\n\
+TRAITORS are as in plays. Each other line is a step of an actor. Each line ends with a line feed, the last one too.\n\n  \
 A post B E  the actor A posted the envelope E to B\n  \
 A take B E  A took the envelope E from B\n\n\
-Envelopes too are written as in plays (`dsr play --help`). Version 1 has no lists of requests and no removals.\n\n\
-It is a run where each step may follow those before it. A loyal actor posts what the protocol has it post, and takes\n\
+Envelopes, too, are written as in plays (`dsr play --help`). Version 1 has no lists of requests and no removals.\n\n\
+The steps are a run if each may follow those before it: a loyal actor posts what the protocol has it post, and takes\n\
 what it is due to take; a traitor posts anything that needs no forged signature; and what is taken is what was posted.\n\n\
 The report:\n  \
-run N                  it is a run of N steps\n  \
-accepted C K PLACE A   the client C accepted the answer A, and its place, for its request K\n  \
-history N              how many requests acted; then each of them after its place\n\n\
+run N                  the transcript is a run of N steps\n  \
+accepted C K PLACE A   the client C accepted the answer A, at this place, to its request K\n  \
+history N              how many requests acted (were executed); then each of them after its place\n\n\
 Example:\n  \
 $ printf 'dsr-play 1 1 0 1 -\\nasks c0 begin write a 7\\nhears c0\\nposts r0 from c0\\n' | dsr play --transcript\n  \
 dsr-transcript 1 1 0 1 -\n  \
@@ -190,38 +195,39 @@ history 0\n  \
 $ printf 'dsr-transcript 1 1 0 1 -\\nr0 post r0 empty\\n' | dsr check\n  \
 dsr: not a run at line 2\n\n\
 The step in that line is the first that may not follow those before it; the header is line 1. Then nothing is written\n\
-on standard output, and the exit status is 1. Of a text with a bad line N it is `dsr: bad text in line N`; where N, F, M\n\
-or TRAITORS are outside their limits, `dsr: the shape is not allowed`. The input has at most 16,777,216 bytes.";
+on standard output, and the exit status is 1. The same happens if line L is bad, with `dsr: bad text in line L`, and if\n\
+N, F, M or TRAITORS are outside their limits, with `dsr: the shape is not allowed`. The input may have at most\n\
+16,777,216 bytes.";
 
 const EXPLAIN_ABOUT: &str =
-    "Read a play from standard input, and write why what came of it came out so";
+    "Read a play from standard input, and explain its outcome";
 
 const EXPLAIN_EXAMPLE: &str =
-    "The play is written and played as `dsr play --help` says. In place of the report it is written why things came out as\n\
-they did: why events were refused, why loyal replicas decided what they did, and why clients accepted their answers.\n\n  \
+    "The play is written and played as `dsr play --help` says. In place of the report, the output explains the outcome: why\n\
+events were refused, why loyal replicas decided what they did, and why clients accepted their answers.\n\n  \
 NUM    a slot: 0 to 1099511627775, without leading zeros\n  \
 ACTOR  a replica, r0 to r15, or a client, c0 to c31\n\n\
-Each option is given once at most, in any order. Without one all is explained, and with several what all of them let\n\
-through.\n\n\
+Each option may be given at most once, in any order. Without --slot, --actor and --refused everything is explained;\n\
+with several of them, only what fits them all.\n\n\
 Example:\n  \
 $ dsr explain --slot 0 --actor r1 < FILE\n\n\
-Nothing is played before the end of the input, which has at most 16,777,216 bytes and stands for at most 1,000,000\n\
-events. Of a play with a bad line N it is written where in the line the fault is, and what was expected there. Then\n\
-`dsr: bad text in line N` is printed on standard error, and the exit status is 1; where N, F, M or TRAITORS are outside\n\
-their limits, it is `dsr: the shape is not allowed`. Refused events are no fault.";
+Nothing is played before the end of the input, which may have at most 16,777,216 bytes and represent at most\n\
+1,000,000 events. For a bad line L the output gives the column of the fault and what was expected there. Then\n\
+`dsr: bad text in line L` is printed on standard error, and the exit status is 1; if N, F, M or TRAITORS are outside\n\
+their limits, it is `dsr: the shape is not allowed`. Refused events are not a fault.";
 
-/// What the help says of the options of `explain`.
-const SLOT_HELP: &str = "Explain this slot alone";
+/// The help's text about the options of `explain`.
+const SLOT_HELP: &str = "Explain only this slot";
 
-const ACTOR_HELP: &str = "Explain this actor alone";
+const ACTOR_HELP: &str = "Explain only this actor";
 
-const REFUSED_HELP: &str = "Explain refused events alone";
+const REFUSED_HELP: &str = "Explain only refused events";
 
 const DATA_HELP: &str = "Write lines for programs in place of sentences";
 
-/// What is said of words after `explain` that have a wrong value.
+/// The message about words after `explain` with a wrong value.
 const EXPLAIN_VALUES: &str =
-    "--slot wants a number below 2^40 as the next word, and --actor an actor, as r0 or c31";
+    "--slot takes a number below 2^40 as the next word, and --actor an actor, such as r0 or c31";
 
 /// The message about a word `--`.
 const SEPARATOR: &str = "unexpected argument '--' found";
@@ -241,7 +247,7 @@ tip: to see what they look like, run `dsr apply --help` and so on\n";
 const MOST_SAID: usize = 3_700;
 
 /// The text that is shown in place of a longer one.
-const TOO_LONG: &str = "what is to be said of these words is too long to be shown\n";
+const TOO_LONG: &str = "the message is too long to show\n";
 
 /// A task that the program is asked to do.
 #[derive(Clone, Copy, Debug, PartialEq, Eq)]
