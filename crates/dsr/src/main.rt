@@ -1,4 +1,4 @@
-//! The program `dsr`: a directory of named registers, kept by replicas of which some may be traitors.
+//! The program `dsr`: a directory of named registers, kept by replicas although some of them may be traitors.
 #![tactic(auto)]
 
 use dsr_cli::{NO_MEMORY, USAGE_FAULT};
@@ -8,7 +8,7 @@ use std::io::{ErrorKind, Write};
 use std::process::ExitCode;
 use std::{env, io};
 
-/// Says on standard error why the words could not be read, and gives the status for it.
+/// Writes on standard error why the words could not be read, and returns the exit status for that.
 fn refuse_words(rt: &HostRuntime, kind: ErrorKind) -> ExitCode {
     let (text, status) = match kind {
         ErrorKind::OutOfMemory => ("dsr: no memory\n", NO_MEMORY),
@@ -17,7 +17,7 @@ fn refuse_words(rt: &HostRuntime, kind: ErrorKind) -> ExitCode {
             USAGE_FAULT,
         ),
     };
-    // Where this cannot be written either, the status alone tells.
+    // If this cannot be written either, only the status reports it.
     let _ = rt.stderr().write_all(text.as_bytes());
     ExitCode::from(status)
 }

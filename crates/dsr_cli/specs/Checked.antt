@@ -28,8 +28,8 @@ pub record HasChecked (recorded : Record) (report : List ℕ) : Type 0 where
   pub right : IsRight recorded.shape recorded.run
   pub reported : report ≡ run_text recorded.shape recorded.run
 
--- what each refusal of a record says: which line has the first step that makes it no run, or nothing, where memory ran out; there is no
--- other refusal
+-- what each refusal of a record says: which line has the first step that may not follow those before it, or, if memory ran out, nothing;
+-- there is no other refusal
 abbrev pub IsCheckRefusal : Record → Refusal → Type 0
 IsCheckRefusal recorded (NotARun line) = IsFirstBad recorded.shape recorded.run line
 IsCheckRefusal recorded NoMemory = Unit {0}
@@ -52,16 +52,16 @@ pub record CheckedPart (s : Streams) : Type 0 where
   pub too_many : CanFailToTake (length report) s.output
   pub went_out : SentPrefix report s.output s.written
 
--- the source gave a transcript of steps that are no run, as this line of it shows, and nothing went out
+-- the source gave a transcript of steps that are not a run, as this line of it shows, and nothing went out
 pub record FoundNoRun (line : ℕ) (s : Streams) : Type 0 where
   pub recorded : Record
   pub given : GivesRecord s.input recorded
   pub first_bad : IsFirstBad recorded.shape recorded.run line
   pub unwritten : Keeps s.output.contents s.written.contents
 
--- what each refusal leaves: steps that are no run were refused, by the first that makes them none, and nothing was written; where writing
--- failed, a prefix of the report was; what else is refused is so where the transcript is read, and nothing was written: a text that is
--- none by what is wrong with it, reading that failed, and no memory, which may also have run out later
+-- what each refusal leaves: steps that are not a run are refused by the first that may not follow those before it, and nothing was written;
+-- if writing failed, a prefix of the report was; every other refusal is one of reading a transcript, and nothing was written: what is wrong
+-- with a text that is not one, that reading failed, or that memory ran out, which may also happen later
 abbrev pub LeftAfterCheck : Refusal → Streams → Type 0
 LeftAfterCheck (NotARun line) s = FoundNoRun line s
 LeftAfterCheck WriteFailed s = CheckedPart s

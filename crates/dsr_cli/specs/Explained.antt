@@ -1,4 +1,4 @@
--- What `explain` leaves, by what it returns (this project). What an explanation says is not claimed.
+-- What `explain` leaves, by what it returns (this project). Nothing is claimed about what an explanation says.
 use Rattle.std.specs.Prelude.{◌⊎◌, ◌≤◌, List, ℕ, Option, None, Some, IfSome, length}
 use Rattle.std.specs.Io.KnownBytes.{Keeps}
 use Rattle.dsr_names.specs.Limits.{most_bytes}
@@ -9,7 +9,7 @@ use Rattle.dsr_history.specs.Applied.{IsTextOf}
 use Rattle.dsr_play.specs.Play.{IsPlayRefusal}
 use Rattle.dsr_cli.specs.Played.{RefusedText}
 
--- all of an explanation went out of the text that the source gave; where there is a fault, it is one that the text is refused by as a play, or
+-- all of an explanation of the text that the source gave went out; a fault, if there is one, is one by which the text is refused as a play, or
 -- that memory ran out
 pub record ExplainedTo (fault : Option Refusal) (s : Streams) : Type 0 where
   pub text : List ℕ
@@ -19,7 +19,7 @@ pub record ExplainedTo (fault : Option Refusal) (s : Streams) : Type 0 where
   pub told : List ℕ
   pub went_out : SentAll told s.output s.written
 
--- a prefix of an explanation of it did; the sink was one that may not take all of it
+-- a prefix of an explanation of the text went out; the sink was one that may not take all of it
 pub record ExplainedPart (s : Streams) : Type 0 where
   pub text : List ℕ
   pub short : length text ≤ most_bytes
@@ -28,12 +28,12 @@ pub record ExplainedPart (s : Streams) : Type 0 where
   pub too_many : CanFailToTake (length told) s.output
   pub went_out : SentPrefix told s.output s.written
 
--- all of an explanation went out, of a text with no fault
+-- all of an explanation went out, and no fault is reported
 abbrev pub ExplainedAll : Streams → Type 0
 ExplainedAll s = ExplainedTo None s
 
--- what each refusal leaves: a text that is no play was refused, by what is wrong with it, and what explains that was written, or nothing; so it is
--- where memory ran out; where reading failed, which it does of a steady source only for too many bytes, nothing was written; where writing
+-- what each refusal leaves: a text that is not a play is refused by what is wrong with it, and an explanation was written, or nothing; likewise
+-- if memory ran out; if reading failed, which a steady source does only for too many bytes, nothing was written; if writing
 -- failed, a prefix was; there is no other refusal
 abbrev pub LeftAfterExplain : Refusal → Streams → Type 0
 LeftAfterExplain BadShape s = RefusedText BadShape s ⊎ ExplainedTo (Some BadShape) s

@@ -22,7 +22,7 @@ use Rattle.dsr_cli.specs.Report.{report_text}
 
 -- ---- what is written
 
--- a form in which a play is told: which text is written, by the shape, the run, and how the events ended
+-- a form of a play's output: the text that is written, by the shape, the run, and how the events ended
 abbrev pub Form : Type 1
 Form = Shape → List Step → RunEnd → List ℕ → Type 0
 
@@ -30,7 +30,7 @@ Form = Shape → List Step → RunEnd → List ℕ → Type 0
 abbrev pub IsReport : Form
 IsReport shape run end text = text ≡ report_text shape (log_of run) end
 
--- the transcript, from which the run can be read back: that of the run's record, in version 1 where that has all of its lines
+-- the transcript, from which the run can be read back: that of the run's record, in version 1 if that version has all of its lines
 pub record IsTranscript (shape : Shape) (run : List Step) (end : RunEnd) (text : List ℕ) : Type 0 where
   pub recorded : Record
   pub shape_is : recorded.shape ≡ shape
@@ -39,14 +39,14 @@ pub record IsTranscript (shape : Shape) (run : List Step) (end : RunEnd) (text :
   pub is : text ≡ record_text recorded
   pub spells : SpellsRecord text recorded
 
--- the form in which a play is told, by whether that is the transcript
+-- the form of a play's output: the transcript if the flag is true, else the report
 abbrev pub form_of : Bool → Form
 form_of false = IsReport
 form_of true = IsTranscript
 
 -- ---- the play
 
--- the text spells a play of this shape, whose events made this run of a new world and ended so; in it loyal replicas agree, and what
+-- the text encodes a play of this shape, whose events made this run of a new world and ended like this; in it loyal replicas agree, and what
 -- clients accepted is right
 pub record HasRun (text : List ℕ) (shape : Shape) (run : List Step) (end : RunEnd) : Type 0 where
   pub play : Play
@@ -57,7 +57,7 @@ pub record HasRun (text : List ℕ) (shape : Shape) (run : List Step) (end : Run
   pub right : IsRight shape run
   pub ended : HasEnded shape run [] play.events end
 
--- the text spells a play that was played; so many of its events were refused, and so many of those because memory ran out; and it is told so
+-- the text encodes a play that was played; `refused` of its events were refused, `starved` of them because memory ran out; `told` is its output
 pub record HasPlayed (Tells : Form) (text : List ℕ) (refused starved : ℕ) (told : List ℕ) : Type 0 where
   pub shape : Shape
   pub run : List Step
@@ -69,7 +69,7 @@ pub record HasPlayed (Tells : Form) (text : List ℕ) (refused starved : ℕ) (t
 
 -- ---- what is left
 
--- all events of the play were done, but for so many that were refused for another reason than memory, and all of what tells it went out
+-- all events of the play were done but `refused` ones, which were refused for another reason than memory; and all of its output went out
 pub record PlayedAll (Tells : Form) (refused : ℕ) (s : Streams) : Type 0 where
   pub text : List ℕ
   pub short : length text ≤ most_bytes
@@ -80,7 +80,7 @@ pub record PlayedAll (Tells : Form) (refused : ℕ) (s : Streams) : Type 0 where
   pub played : HasPlayed Tells text refused starved told
   pub went_out : SentAll told s.output s.written
 
--- some events of the play were refused because memory ran out, and all of what tells it went out
+-- some events of the play were refused because memory ran out, and all of its output went out
 pub record PlayedStarved (Tells : Form) (s : Streams) : Type 0 where
   pub text : List ℕ
   pub short : length text ≤ most_bytes
@@ -92,7 +92,7 @@ pub record PlayedStarved (Tells : Form) (s : Streams) : Type 0 where
   pub played : HasPlayed Tells text refused starved told
   pub went_out : SentAll told s.output s.written
 
--- a prefix of what tells it went out; the sink was one that may not take all of it
+-- a prefix of the play's output went out; the sink was one that may not take all of it
 pub record PlayedPart (Tells : Form) (s : Streams) : Type 0 where
   pub text : List ℕ
   pub short : length text ≤ most_bytes
@@ -104,7 +104,7 @@ pub record PlayedPart (Tells : Form) (s : Streams) : Type 0 where
   pub too_many : CanFailToTake (length told) s.output
   pub went_out : SentPrefix told s.output s.written
 
--- the text that the source gave is refused so, and nothing went out
+-- the text that the source gave is refused for this reason, and nothing went out
 pub record RefusedText (refusal : Refusal) (s : Streams) : Type 0 where
   pub text : List ℕ
   pub short : length text ≤ most_bytes
@@ -112,9 +112,9 @@ pub record RefusedText (refusal : Refusal) (s : Streams) : Type 0 where
   pub refused : IsPlayRefusal text refusal
   pub unwritten : Keeps s.output.contents s.written.contents
 
--- what each refusal leaves: a text that is no play was refused, by what is wrong with it, and nothing was written; with no memory
--- nothing was written, or all that tells a play of which some events were refused for that; where reading failed, which it
--- does of a steady source only for too many bytes, nothing was written; where writing failed, a prefix was; there is
+-- what each refusal leaves: a text that is not a play is refused by what is wrong with it, and nothing was written; if memory ran
+-- out, nothing was written, or all of the output of a play of which some events were refused for that; if reading failed, which
+-- a steady source does only for too many bytes, nothing was written; if writing failed, a prefix was; there is
 -- no other refusal
 abbrev pub LeftAfterPlay : Form → Refusal → Streams → Type 0
 LeftAfterPlay Tells BadShape s = RefusedText BadShape s

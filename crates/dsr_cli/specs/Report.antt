@@ -19,25 +19,25 @@ use Rattle.dsr_world.specs.declared.run_end.RunEnd.{RunEnd}
 
 -- ---- lists of texts
 
--- the texts of the items of a list that stands newest first, the oldest one's first; the text of an item may depend on how many are older
+-- the texts of the items of a list with the newest first, from the oldest item on; the text of an item may depend on how many are older
 abbrev pub texts_of : {A : Type 0} → (ℕ → A → List ℕ) → List A → List ℕ
 texts_of text [] = []
 texts_of text (item ∷ older) = texts_of text older ++ text (length older) item
 
--- the texts of the numbers below this one, rising
+-- the texts of the numbers below this one, in rising order
 abbrev pub texts_below : ℕ → (ℕ → List ℕ) → List ℕ
 texts_below zero text = []
 texts_below (suc k) text = texts_below k text ++ text k
 
 -- ---- how the events ended
 
--- the line that says which event was the first that was refused, and why; none, where there is no such event
+-- the line that names the first refused event, and why it was refused; nothing if no event was
 abbrev pub first_text : Option (ℕ × Refusal) → List ℕ
 first_text None = []
 first_text (Some (index, refusal)) =
     codes "first " ++ (decimal index ++ (codes " E" ++ (decimal (code_of refusal) ++ (codes " " ++ (word_of refusal ++ codes "\n")))))
 
--- the first lines of a report: how many events were done and how many refused, and the first of these
+-- the first lines of a report: how many events were done, how many were refused, and the first refused one
 abbrev pub end_text : RunEnd → List ℕ
 end_text end =
     codes "done " ++ (decimal end.done ++ (codes "\nrefused " ++ (decimal end.refused ++ (codes "\n" ++ first_text end.first))))
@@ -49,7 +49,7 @@ abbrev pub accepted_line : ℕ → Reply → List ℕ
 accepted_line client reply =
     codes "accepted " ++ (client_text client ++ (codes " " ++ (decimal reply.number ++ (codes " " ++ (decimal reply.place ++ (codes " " ++ (answer_text reply.answer ++ codes "\n")))))))
 
--- the lines of the replies that a client accepted, which stand latest first, in the order in which it accepted them
+-- the lines of the replies that a client accepted, in the order in which it accepted them; the list has the latest first
 abbrev pub replies_text : ℕ → List Reply → List ℕ
 replies_text client replies = texts_of (λ index reply. accepted_line client reply) replies
 
@@ -61,13 +61,13 @@ accepted_text shape logs = texts_below shape.m (λ c. replies_text c (accepted_b
 abbrev pub seen_line : ℕ → ℕ → List ℕ
 seen_line client front = codes "seen " ++ (client_text client ++ (codes " " ++ (decimal front ++ codes "\n")))
 
--- the lines of what clients have seen
+-- the lines of the clients' seen fronts
 abbrev pub seen_text : Shape → Logs → List ℕ
 seen_text shape logs = texts_below shape.m (λ c. seen_line c (seen_by shape logs c))
 
 -- ---- replicas
 
--- a dash, where no slot is closed
+-- a dash, if no slot is closed
 abbrev pub dash_text : List SlotValue → List ℕ
 dash_text [] = codes " -"
 dash_text (value ∷ older) = []
@@ -81,7 +81,7 @@ abbrev pub decided_line : ℕ → List SlotValue → List ℕ
 decided_line replica values =
     codes "decided " ++ (replica_text replica ++ (dash_text values ++ (texts_of slot_text values ++ codes "\n")))
 
--- the line of what a loyal replica decided; nothing of a traitor
+-- the line of what a loyal replica decided; nothing for a traitor
 abbrev pub decided_of : Shape → Logs → ℕ → List ℕ
 decided_of shape logs p = if is_traitor shape p then [] else decided_line p (decided_at shape logs p)
 
@@ -101,7 +101,7 @@ history_text requests = codes "history " ++ (decimal (length requests) ++ (codes
 
 -- ---- the report
 
--- the report of logs that events led to which ended so
+-- the report of these logs and this outcome of the events
 abbrev pub report_text : Shape → Logs → RunEnd → List ℕ
 report_text shape logs end =
     end_text end ++ (accepted_text shape logs ++ (seen_text shape logs ++ (decided_text shape logs ++ history_text (history shape logs))))

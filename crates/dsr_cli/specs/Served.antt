@@ -30,11 +30,11 @@ use Rattle.dsr_cli.specs.Report.{accepted_text, history_text}
 
 -- ---- what is written
 
--- the report of logs: what clients accepted and which requests acted, in lines as in the report of a play
+-- the report of logs: what clients accepted and which requests acted, in the lines of a play's report
 abbrev pub served_text : Logs → List ℕ
 served_text logs = accepted_text logs.shape (logs_of logs) ++ history_text (history logs.shape (logs_of logs))
 
--- a form in which a service is told: which text is written, by the logs of all actors
+-- a form of a service's output: the text that is written, by the logs of all actors
 abbrev pub ServiceForm : Type 1
 ServiceForm = Logs → List ℕ → Type 0
 
@@ -42,7 +42,7 @@ ServiceForm = Logs → List ℕ → Type 0
 abbrev pub IsServiceReport : ServiceForm
 IsServiceReport logs text = text ≡ served_text logs
 
--- the transcript, from which the steps can be read back: that of the merge of the whole logs, in version 1 where that has all of their lines
+-- the transcript, from which the steps can be read back: that of a merge of the whole logs, in version 1 if that version has all of their lines
 pub record IsServiceTranscript (logs : Logs) (text : List ℕ) : Type 0 where
   pub recorded : Record
   pub shape_is : recorded.shape ≡ logs.shape
@@ -52,14 +52,14 @@ pub record IsServiceTranscript (logs : Logs) (text : List ℕ) : Type 0 where
   pub is : text ≡ record_text recorded
   pub spells : SpellsRecord text recorded
 
--- the form in which a service is told, by whether that is the transcript
+-- the form of a service's output: the transcript if the flag is true, else the report
 abbrev pub service_form_of : Bool → ServiceForm
 service_form_of false = IsServiceReport
 service_form_of true = IsServiceTranscript
 
 -- ---- the service
 
--- logs of a run, in which loyal replicas agree, and what clients accepted is right
+-- logs of a run in which loyal replicas agree and what clients accepted is right
 pub record AreRightLogs (shape : Shape) (logs : LogsOfAll) : Type 0 where
   pub of_run : AreLogs shape logs
   pub agree : (p q : ℕ) → IsLoyal shape (Replica p) → IsLoyal shape (Replica q)
@@ -72,12 +72,12 @@ pub record AreRightLogs (shape : Shape) (logs : LogsOfAll) : Type 0 where
 abbrev pub ServesAll : Script → Logs → Type 0
 ServesAll script logs = (c : ℕ) → c < logs.shape.m → HasAll logs.shape c (logs_of logs (Client c)) (ops_of script c)
 
--- how a service ended: nothing ended it before all clients were served; or this cause did, and no host was stopped
+-- how a service ended: without a cause, all clients were served; else this cause ended it, which is never that the gate stopped a host
 abbrev pub IsEndOf : Script → Logs → Option Refusal → Type 0
 IsEndOf script logs None = ServesAll script logs
 IsEndOf script logs (Some cause) = CauseOf (λ actor. ⊥) script logs cause
 
--- the text spells a script that was served, which gave these logs, and ended so: loyal replicas were eager, and posted to clients only what these were
+-- the text encodes a script that was served, with these logs and this end: loyal replicas were eager, and posted to clients only what these were
 -- owed; traitors posted only what the script says
 pub record HasService (text : List ℕ) (logs : Logs) (cause : Option Refusal) : Type 0 where
   pub script : Script
@@ -89,7 +89,7 @@ pub record HasService (text : List ℕ) (logs : Logs) (cause : Option Refusal) :
   pub planned : AreAllPlanned script logs
   pub ended : IsEndOf script logs cause
 
--- and it is told so
+-- the text encodes a script that was served and ended by this cause, if by any; `told` is the service's output
 pub record HasServed (Tells : ServiceForm) (text : List ℕ) (cause : Option Refusal) (told : List ℕ) : Type 0 where
   pub logs : Logs
   pub served : HasService text logs cause
@@ -97,7 +97,7 @@ pub record HasServed (Tells : ServiceForm) (text : List ℕ) (cause : Option Ref
 
 -- ---- what is left
 
--- the source gave a script that was served, and ended so, and all of what tells it went out
+-- the source gave a script that was served and ended by this cause, if by any, and all of its output went out
 pub record ToldService (Tells : ServiceForm) (cause : Option Refusal) (s : Streams) : Type 0 where
   pub text : List ℕ
   pub short : length text ≤ most_bytes
@@ -106,15 +106,15 @@ pub record ToldService (Tells : ServiceForm) (cause : Option Refusal) (s : Strea
   pub served : HasServed Tells text cause told
   pub went_out : SentAll told s.output s.written
 
--- all clients were served, and all of what tells it went out
+-- all clients were served, and all of the output went out
 abbrev pub ServedAll : ServiceForm → Streams → Type 0
 ServedAll Tells s = ToldService Tells None s
 
--- the service was ended by this cause, and all of what tells the logs until then went out
+-- this cause ended the service, and all of the output on what was done until then went out
 abbrev pub ServiceEnded : ServiceForm → Refusal → Streams → Type 0
 ServiceEnded Tells cause s = ToldService Tells (Some cause) s
 
--- however the service ended, a prefix of what tells it went out; the sink was one that may not take all of it
+-- however the service ended, a prefix of its output went out; the sink was one that may not take all of it
 pub record ServicePart (Tells : ServiceForm) (s : Streams) : Type 0 where
   pub text : List ℕ
   pub short : length text ≤ most_bytes
@@ -125,7 +125,7 @@ pub record ServicePart (Tells : ServiceForm) (s : Streams) : Type 0 where
   pub too_many : CanFailToTake (length told) s.output
   pub went_out : SentPrefix told s.output s.written
 
--- the text that the source gave is no script, and nothing went out
+-- reading the text that the source gave as a script is refused for this reason, and nothing went out
 pub record RefusedScript (refusal : Refusal) (s : Streams) : Type 0 where
   pub text : List ℕ
   pub short : length text ≤ most_bytes
@@ -133,9 +133,9 @@ pub record RefusedScript (refusal : Refusal) (s : Streams) : Type 0 where
   pub refused : IsScriptRefusal text refusal
   pub unwritten : Keeps s.output.contents s.written.contents
 
--- what each refusal leaves: a text that is no script was refused, by what is wrong with it, and nothing was written; a counter at its limit, a
--- client without an answer, or a thread that could not be started ended the service, and all that tells it was written; so did memory that ran
--- out, or nothing was written; where reading failed, which it does of a steady source only for too many bytes, nothing was; where writing
+-- what each refusal leaves: a text that is not a script is refused by what is wrong with it, and nothing was written; a counter at its limit, a
+-- client without an answer, or a thread that could not be started ended the service, and all of its output was written; so did memory that ran
+-- out, or nothing was written; if reading failed, which a steady source does only for too many bytes, nothing was written; if writing
 -- failed, a prefix was; there is no other refusal
 abbrev pub LeftAfterService : ServiceForm → Refusal → Streams → Type 0
 LeftAfterService Tells BadShape s = RefusedScript BadShape s
@@ -150,7 +150,7 @@ LeftAfterService Tells other s = ⊥
 
 -- ---- while it is written; no public contract cites this
 
--- what a refusal leaves where this was to tell a service that ended so: all of it went out, and the refusal is what ended the service; or
+-- what a refusal leaves while `told`, the output of a service with this cause, is written: all of it went out, and the refusal is the cause; or
 -- writing failed, and a prefix of it went out; or memory ran out, and nothing did
 abbrev pub IsAfterTelling : List ℕ → Option Refusal → Output → Output → Refusal → Type 0
 IsAfterTelling told cause before after refusal =

@@ -16,21 +16,21 @@ use Rattle.dsr_cli.specs.Served.{LeftAfterService, ServedAll, service_form_of}
 use Rattle.dsr_cli.specs.declared.Ending.{Ending}
 use Rattle.dsr_cli.specs.declared.Ending.TheVariants.{Done, Unmet}
 
--- what a run of the program had and left: its input and output, and its error stream before and after
+-- what a run of the program was given and left: its input and output, and its error stream before and after
 pub record Run : Type 1 where
   pub io : Streams
   pub errors : Output
   pub told : Output
 
--- these three
+-- the run with these streams
 abbrev pub run_of : Streams → Output → Output → Run
 run_of io errors told = record { io = io; errors = errors; told = told }
 
--- this was told on the error stream, and nothing else
+-- this text was written on the error stream, and nothing else
 abbrev pub Told : List ℕ → Run → Type 0
 Told text run = Sent text run.errors run.told
 
--- nothing was told on the error stream
+-- nothing was written on the error stream
 abbrev pub IsQuiet : Run → Type 0
 IsQuiet run = run.told.contents ≡ run.errors.contents
 
@@ -43,7 +43,7 @@ abbrev pub status_of : Refusal → ℕ
 status_of NoMemory = 3
 status_of other = 1
 
--- the status is that of a refusal, which was told, and what stands after that refusal does
+-- the status is that of a refusal, which was written on the error stream, and `After` of that refusal holds
 pub record EndedBy (After : Refusal → Streams → Type 0) (status : ℕ) (run : Run) : Type 0 where
   pub refusal : Refusal
   pub status_is : status ≡ status_of refusal
@@ -51,8 +51,8 @@ pub record EndedBy (After : Refusal → Streams → Type 0) (status : ℕ) (run 
   pub left : After refusal run.io
 
 -- a task was done: all lines were answered; the whole report of a play, or the transcript of its run, went out, and no event of the play
--- was refused because memory ran out, nor for another reason, where it was to be strict; all clients of a script were served, and the whole report
--- of the service, or its transcript, went out; the whole report on a transcript's run did; or all of an explanation of a play
+-- was refused because memory ran out, nor, if it was to be strict, for another reason; all clients of a script were served, and the whole report
+-- of the service, or its transcript, went out; the whole report on a transcript's run went out; or all of an explanation of a play did
 abbrev pub IsDone : Task → Streams → Type 0
 IsDone Apply s = AppliedAll s
 IsDone (Play false transcript) s = (refused : ℕ) × PlayedAll (form_of transcript) refused s
@@ -61,17 +61,17 @@ IsDone (Serve transcript) s = ServedAll (service_form_of transcript) s
 IsDone Check s = CheckedAll s
 IsDone (Explain narrowing) s = ExplainedAll s
 
--- a play that was to be strict was played, and all of what tells it went out, but some of its events were refused, none because memory ran out
+-- a play that was to be strict was played, and all of its output went out, but some of its events were refused, none because memory ran out
 abbrev pub IsUnmet : Task → Streams → Type 0
 IsUnmet (Play true transcript) s = (refused : ℕ) × (0 < refused) × PlayedAll (form_of transcript) refused s
 IsUnmet other s = ⊥
 
--- how a task ended that was not refused
+-- what the end of a task that was not refused means
 abbrev pub HasEndedAs : Ending → Task → Streams → Type 0
 HasEndedAs Done named s = IsDone named s
 HasEndedAs Unmet named s = IsUnmet named s
 
--- how a play ends of which so many events were refused
+-- the end of a play with `refused` refused events: unmet if it was to be strict and there are any, else done
 abbrev pub ending_of : Bool → ℕ → Ending
 ending_of strict refused = if strict && nat_lt 0 refused then Unmet else Done
 
@@ -88,18 +88,18 @@ LeftAfter (Serve transcript) refusal s = LeftAfterService (service_form_of trans
 LeftAfter Check refusal s = LeftAfterCheck refusal s
 LeftAfter (Explain narrowing) refusal s = LeftAfterExplain refusal s
 
--- the status is that of an ending, nothing was told, and what the ending says holds
+-- the status is that of an ending, nothing was written on the error stream, and what the ending means holds
 pub record EndedSo (named : Task) (status : ℕ) (run : Run) : Type 0 where
   pub ending : Ending
   pub status_is : status ≡ status_after ending
   pub quiet : IsQuiet run
   pub ended : HasEndedAs ending named run.io
 
--- after 0 the task was done, and after 1 with nothing told a strict play had a refused event; else the status is that of a refusal
+-- after 0 the task was done; after 1 with nothing on the error stream, a strict play had a refused event; else the status is that of a refusal
 abbrev pub WhatTaskLeft : Task → ℕ → Run → Type 0
 WhatTaskLeft named status run = EndedSo named status run ⊎ EndedBy (LeftAfter named) status run
 
--- the status is 1, and that writing failed was told: a prefix of the text went out, to a sink that may not take all of it
+-- the status is 1, and the error stream says that writing failed: a prefix of the text went out, to a sink that may not take all of it
 pub record ShowedPart (text : List ℕ) (status : ℕ) (run : Run) : Type 0 where
   pub status_is : status ≡ 1
   pub told : Told (refusal_line WriteFailed) run
@@ -120,7 +120,7 @@ pub record ShowedHelp (status : ℕ) (run : Run) : Type 0 where
   pub is : IsHelp text
   pub left : WhatShowingLeft text status run
 
--- the status is 2, and a text for unknown words was told
+-- the status is 2, and a text for unknown words was written on the error stream
 pub record ToldUsage (status : ℕ) (run : Run) : Type 0 where
   pub text : List ℕ
   pub is : IsUsage text
@@ -128,15 +128,15 @@ pub record ToldUsage (status : ℕ) (run : Run) : Type 0 where
   pub told : Told text run
   pub unwritten : IsUnwritten run
 
--- what the status says, by what was asked: the task was done or refused, the version or help was shown or could not be, or nothing was
--- asked that the program knows; in each case memory may have run out before anything was written
+-- what the status says, by what was asked: the task was done or refused, the version or help was shown or could not be, or the words
+-- asked for nothing that the program knows; in each case memory may have run out before anything was written
 abbrev pub StatusFor : Asked → ℕ → Run → Type 0
 StatusFor (task named) status run = WhatTaskLeft named status run ⊎ RanOut status run
 StatusFor version status run = WhatShowingLeft version_line status run ⊎ RanOut status run
 StatusFor help status run = ShowedHelp status run ⊎ RanOut status run
 StatusFor unknown status run = ToldUsage status run ⊎ RanOut status run
 
--- P, where no task is asked for
+-- P holds, if the words do not ask for a task
 abbrev pub IfNoTask : Asked → Type 0 → Type 0
 IfNoTask (task t) P = Unit {0}
 IfNoTask version P = P

@@ -1,4 +1,4 @@
-//! Checks: from a transcript to the report on its run.
+//! Reads a transcript and reports on its run.
 
 ghost use Rattle.std.specs.Prelude.{◌≡◌, ◌+◌, ◌++◌, ◌≤◌, List, IfOk, IfErr, OnOk, IsOkUnless, reverse, string_bytes};
 ghost use Rattle.dsr_names.specs.Limits.{most_calls};
@@ -17,12 +17,12 @@ use dsr_record::{Record, read};
 use std::alloc::Global;
 use std::fmt::Write;
 
-/// Reads a transcript, and writes the report on its run. Nothing is checked before the end of the text, and nothing written before all steps
-/// are checked.
+/// Reads a transcript, and writes the report on its run. Nothing is checked before the end of the text, and nothing is written before all
+/// steps are checked.
 ///
-/// `BadShape` and `BadText` say what is wrong with the text, and `NotARun` which line has the first step that makes the steps no run; after
-/// them, and after `ReadFailed` and `NoMemory`, nothing was written. After `WriteFailed` a prefix of the report was. What was read is
-/// gone. When `ReadFailed` and `WriteFailed` come, and how often each of the two is called, is as in `run_apply`.
+/// `BadShape` and `BadText` say what is wrong with the text, and `NotARun` names the line of the first step that may not follow those before
+/// it. After them, and after `ReadFailed` and `NoMemory`, nothing was written; after `WriteFailed` a prefix of the report was. What was read
+/// is gone. `run_apply` says when `ReadFailed` and `WriteFailed` come, and how often the source and the sink are called at most.
 pub(crate) fn run_check<S: Source, K: Sink>(
     alloc: Global,
     source: &mut S,
@@ -47,7 +47,7 @@ pub(crate) fn run_check<S: Source, K: Sink>(
     }
 }
 
-/// The report on the recorded steps, if they are a run.
+/// Returns the report on the recorded steps, if they are a run.
 fn report_on(alloc: Global, recorded: &Record) -> Result<String, Refusal>
     ensures checked { IfOk result (λ report. HasChecked recorded.now (string_bytes report)) }
     ensures refused { IfErr result (IsCheckRefusal recorded.now) }
@@ -62,7 +62,7 @@ fn report_on(alloc: Global, recorded: &Record) -> Result<String, Refusal>
     }
 }
 
-/// The verdict as lines of text: how many entries there are, what clients accepted, and the history.
+/// Writes the verdict as lines of text: the number of steps, what clients accepted, and the history.
 fn report_of(alloc: Global, verdict: &Verdict) -> Result<String, Refusal>
     ensures text { (shape : Shape) (run : List Step) → IsVerdict shape run verdict.now → IfOk result (λ report. string_bytes report ≡ run_text shape run) }
     ensures refusal { IsOkUnless result Refusal.NoMemory }

@@ -1,4 +1,4 @@
-//! Plays: from a text to why what came of it came out so.
+//! Reads a play and explains its outcome.
 
 ghost use Rattle.std.specs.Prelude.{◌≡◌, ◌+◌, ◌≤◌, None, IfErr, OnOk, string_bytes};
 ghost use Rattle.dsr_names.specs.Limits.{most_calls};
@@ -13,12 +13,12 @@ use dsr_names::{Refusal, Sink, Source, read_input, write_output};
 use std::alloc::Global;
 use std::mem::forget;
 
-/// Reads a play, and writes why what came of it came out so, narrowed to this. Nothing is written before the end of the text.
+/// Reads a play, and explains its outcome in the parts that `narrowing` names. Nothing is written before the end of the text.
 ///
-/// `BadShape` and `BadText` say what is wrong with the text; where and what was expected there was written before, if anything was. After
-/// `ReadFailed` nothing was written, and after `WriteFailed` a prefix of the explanation. `NoMemory` where memory ran out: all of an
-/// explanation was written, or nothing. What was read is gone. When `ReadFailed` and `WriteFailed` come, and how often each of the two is
-/// called, is as in `run_apply`.
+/// `BadShape` and `BadText` say what is wrong with the text; an explanation of the fault was written before, or nothing was. After
+/// `ReadFailed` nothing was written, and after `WriteFailed` a prefix of the explanation. `NoMemory` if memory ran out: all of an
+/// explanation was written, or nothing. What was read is gone. `run_apply` says when `ReadFailed` and `WriteFailed` come, and how often the
+/// source and the sink are called at most.
 pub(crate) fn run_explain<S: Source, K: Sink>(
     alloc: Global,
     narrowing: &Narrowing,
@@ -47,7 +47,7 @@ pub(crate) fn run_explain<S: Source, K: Sink>(
     done
 }
 
-/// Writes the explanation, and then tells what is wrong with the play, if anything is.
+/// Writes the explanation, and then returns what is wrong with the play, if anything is.
 fn give_out<K: Sink>(sink: &mut K, explained: &Explained) -> Result<(), Refusal>
     ensures done { OnOk result ((explained.now.refusal ≡ None)
         × SentAll (string_bytes explained.now.text) (K.output sink.old) (K.output sink.new)) }

@@ -1,4 +1,4 @@
-//! The program `dsr` over any words, reader and writers.
+//! The program `dsr`, for any words, reader and writers.
 #![tactic(auto)]
 
 mod check;
@@ -35,19 +35,19 @@ use std::convert::AsStr;
 use std::sync::Wait;
 use std::thread::Threads;
 
-/// The exit status where all that was asked for was done.
+/// The exit status if all that was asked for was done.
 const DONE: u8 = 0;
 
 /// The exit status after a refusal other than running out of memory, and after a strict play with a refused event.
 const REFUSED: u8 = 1;
 
-/// The exit status after words that the program does not know, or that are no text.
+/// The exit status after words that the program does not know, or that are not text.
 pub const USAGE_FAULT: u8 = 2;
 
-/// The exit status where memory ran out.
+/// The exit status if memory ran out.
 pub const NO_MEMORY: u8 = 3;
 
-/// How a task ended that was not refused.
+/// The end of a task that was not refused.
 #[derive(Clone, Copy)]
 enum Ending {
     /// What was asked for was done.
@@ -56,20 +56,20 @@ enum Ending {
     Unmet,
 }
 
-/// Does what the words ask for and answers the program's exit status: 0 where it was done, 1 after a refusal other
-/// than running out of memory, 2 after words that the program does not know, and 3 where memory ran out. The words are those
-/// after the program's own name; none means `apply`. A refusal is told on `errors` as `dsr: ` and its text, a usage
-/// fault by its text; the help and the version go to `output`. With 0 nothing is written on `errors`. Only a task
-/// reads the input. Each of the three is called at most `MOST_CALLS` times.
+/// Does what the words ask for and returns the program's exit status: 0 if it was done, 1 after a refusal other
+/// than running out of memory, 2 after words that the program does not know, and 3 if memory ran out. The words are those
+/// after the program's own name; no words mean `apply`. A refusal is written on `errors` as `dsr: ` and its text, and a
+/// usage fault as its text; the help and the version go to `output`. With 0 nothing is written on `errors`. Only a task
+/// reads the input. `input`, `output` and `errors` are called at most `MOST_CALLS` times each.
 ///
-/// The events of a play that are refused are no refusal of the play: its report counts them, and its transcript has nothing of them. Of a
-/// strict play the same is written, but the status is 1, with nothing told. But where memory ran out for some of them, the report or the
-/// transcript is written and then `NoMemory` told. So it is with what ends a service before all clients are served: the report or the
-/// transcript of what was done until then is written, and then the refusal told.
+/// A refused event does not refuse the play: the report counts it, and the transcript does not mention it. A strict play writes the same,
+/// but returns 1, with nothing on `errors`. If memory ran out for an event, the report or the transcript is written and then `NoMemory`
+/// on `errors`. A refusal that ends a service before all clients are served is treated alike: the report or the transcript of what was
+/// done until then is written, and then the refusal on `errors`; if memory ran out, perhaps only the refusal.
 ///
-/// A service starts threads, and waits for them; no other task does.
+/// A service starts threads and waits for them; no other task does.
 ///
-/// It is for a program that ends after it: what a play took is not freed.
+/// A program should end after the call: the memory of a play is not freed.
 pub fn run<R: Threads + Wait + Sync, S: AsStr, I: Source, O: Sink, E: Sink>(
     rt: &R,
     alloc: Global,
@@ -90,7 +90,7 @@ pub fn run<R: Threads + Wait + Sync, S: AsStr, I: Source, O: Sink, E: Sink>(
     obey(rt, alloc, reading, input, output, errors)
 }
 
-/// Does what was read in the words, and answers the status.
+/// Does what the reading of the words says, and returns the status.
 fn obey<R: Threads + Wait + Sync, I: Source, O: Sink, E: Sink>(
     rt: &R,
     alloc: Global,
@@ -154,7 +154,7 @@ fn perform<R: Threads + Wait + Sync, I: Source, O: Sink>(
     }
 }
 
-/// Plays the play, whether it is to be strict or not, and tells it by its transcript or by its report.
+/// Plays the play, strict or not, and writes its transcript or its report.
 fn perform_play<I: Source, O: Sink>(
     alloc: Global,
     strict: bool,
@@ -174,7 +174,7 @@ fn perform_play<I: Source, O: Sink>(
     }
 }
 
-/// Plays the play, tells it by its transcript or by its report, and returns how many of its events were refused.
+/// Plays the play, writes its transcript or its report, and returns how many of its events were refused.
 fn tell_play<I: Source, O: Sink>(
     alloc: Global,
     transcript: bool,
@@ -195,7 +195,7 @@ fn tell_play<I: Source, O: Sink>(
     }
 }
 
-/// How a task ended that can be refused, and else is done.
+/// Returns the end of a task that is either refused or done.
 fn ended(done: Result<(), Refusal>) -> Result<Ending, Refusal>
     ensures done { OnOk done (result ≡ Ok Ending.Done) }
     ensures refused { IfErr done (λ refusal. result ≡ Err refusal) }
@@ -206,7 +206,7 @@ fn ended(done: Result<(), Refusal>) -> Result<Ending, Refusal>
     }
 }
 
-/// How a play ends of which so many events were refused.
+/// Returns the end of a play with `refused` refused events.
 fn play_ending(strict: bool, refused: u64) -> Ending
     ensures { result ≡ ending_of strict refused }
 {
@@ -217,7 +217,7 @@ fn play_ending(strict: bool, refused: u64) -> Ending
     }
 }
 
-/// The status of a task that ended so. A refusal is told, and nothing else is.
+/// Returns the exit status of a task with this end. Writes a refusal on `errors`, and nothing else.
 fn status_after<E: Sink>(done: Result<Ending, Refusal>, errors: &mut E) -> u8
     ensures done { IfOk done (λ ending. result ≡ status_after ending) }
     ensures silent { OnOk done (errors.new ≡ errors.old) }
@@ -233,7 +233,7 @@ fn status_after<E: Sink>(done: Result<Ending, Refusal>, errors: &mut E) -> u8
     }
 }
 
-/// Shows the text of the help or of the version: 0 where all of it went out, and 1 where the sink failed, after a prefix of it.
+/// Shows the text of the help or of the version. Returns 0 if all of it went out, and 1 if the sink failed, after a prefix of it.
 fn show<O: Sink, E: Sink>(text: &str, output: &mut O, errors: &mut E) -> u8
     ensures whole { result ≡ 0 → SentAll text.now (O.output output.old) (O.output output.new) }
     ensures part { 0 < result → (result ≡ 1) × CanFailToTake (length text.now) (O.output output.old)
@@ -249,7 +249,7 @@ fn show<O: Sink, E: Sink>(text: &str, output: &mut O, errors: &mut E) -> u8
     }
 }
 
-/// Tells the refusal, and gives the status that it ends the program with.
+/// Writes the refusal on `errors`, and returns the status with which it ends the program.
 fn refuse<E: Sink>(errors: &mut E, refusal: Refusal) -> u8
     ensures status { result ≡ status_of refusal }
     ensures some { 0 < result }

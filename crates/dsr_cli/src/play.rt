@@ -1,4 +1,4 @@
-//! Plays: from a text to the report of what came of it.
+//! Reads a play and reports its outcome.
 
 ghost use Rattle.std.specs.Prelude.{◌≡◌, ◌⊎◌, ◌+◌, ◌<◌, ◌≤◌, Err, IfOk, IfErr, OnErr, length, string_bytes};
 ghost use Rattle.dsr_names.specs.Limits.{most_calls};
@@ -12,14 +12,14 @@ use dsr_world::{Play, RunEnd, World};
 use std::alloc::Global;
 use std::mem::forget;
 
-/// The world of a play after it, and how the play's events ended.
+/// The world after a play, and how the play's events ended.
 #[derive(Drop)]
 pub(crate) struct Played {
     pub(crate) world: World,
     pub(crate) end: RunEnd,
 }
 
-/// The report of a play, how many of its events were refused, and how many of those because memory ran out.
+/// The report of a play, the number of its refused events, and the number of those refused because memory ran out.
 #[derive(Drop)]
 struct Outcome {
     report: String,
@@ -27,7 +27,7 @@ struct Outcome {
     starved: u64,
 }
 
-/// Plays the play that the text spells, in a world of its own.
+/// Plays the play that the text encodes, in a new world.
 pub(crate) fn play_out(alloc: Global, text: &[u8]) -> Result<Played, Refusal>
     ensures played { IfOk result (λ played. HasRun text.now played.world.shape played.world.run played.end) }
     ensures refused { IfErr result (IsPlayRefusal text.now) }
@@ -45,7 +45,7 @@ pub(crate) fn play_out(alloc: Global, text: &[u8]) -> Result<Played, Refusal>
     Ok(Played { world, end })
 }
 
-/// Plays the play that the text spells, and makes its report.
+/// Plays the play that the text encodes, and makes its report.
 fn outcome_of(alloc: Global, text: &[u8]) -> Result<Outcome, Refusal>
     ensures played { IfOk result (λ outcome. HasPlayed IsReport text.now outcome.refused outcome.starved (string_bytes outcome.report)) }
     ensures refused { IfErr result (IsPlayRefusal text.now) }
@@ -66,13 +66,13 @@ fn outcome_of(alloc: Global, text: &[u8]) -> Result<Outcome, Refusal>
     })
 }
 
-/// Reads a play, plays it in a world of its own, writes the report of what came of it, and answers how many of its events were refused.
-/// Nothing is played before the end of the text, and nothing written before the end of the play.
+/// Reads a play, plays it in a new world, writes the report of its outcome, and returns how many of its events were refused.
+/// Nothing is played before the end of the text, and nothing is written before the end of the play.
 ///
 /// `BadShape` and `BadText` say what is wrong with the text; after them, and after `ReadFailed`, nothing was written. After
-/// `WriteFailed` a prefix of the report was. `NoMemory` where memory ran out: where some events were refused for that, the whole
-/// report was written, and else nothing. What was read is gone. When `ReadFailed` and `WriteFailed` come, and how often each of the
-/// two is called, is as in `run_apply`.
+/// `WriteFailed` a prefix of the report was. `NoMemory` if memory ran out: if some events were refused for that, the whole
+/// report was written, else nothing. What was read is gone. `run_apply` says when `ReadFailed` and `WriteFailed` come, and how
+/// often the source and the sink are called at most.
 pub(crate) fn run_play<S: Source, K: Sink>(
     alloc: Global,
     source: &mut S,
@@ -91,7 +91,7 @@ pub(crate) fn run_play<S: Source, K: Sink>(
     give_out(sink, &outcome)
 }
 
-/// Writes the report, and answers how many events were refused, or `NoMemory` where some were for that.
+/// Writes the report, and returns how many events were refused, or `NoMemory` if some were refused for that.
 fn give_out<K: Sink>(sink: &mut K, outcome: &Outcome) -> Result<u64, Refusal>
     ensures done { IfOk result (λ refused. (refused ≡ outcome.now.refused) × (outcome.now.starved ≡ 0)
         × SentAll (string_bytes outcome.now.report) (K.output sink.old) (K.output sink.new)) }

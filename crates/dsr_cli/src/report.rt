@@ -1,4 +1,4 @@
-//! What came of a play, as lines of text.
+//! The outcome of a play, as lines of text.
 
 ghost use Rattle.std.specs.Prelude.{◌≡◌, ◌<◌, ◌++◌, IfOk, OnOk, IsOkUnless, reverse, string_bytes};
 ghost use Rattle.dsr_run.specs.Step.{log_of};
@@ -13,8 +13,8 @@ use dsr_world::{RunEnd, World};
 use std::alloc::Global;
 use std::fmt::Write;
 
-/// The report of a world after its events ended so: how many were done and refused, what each client accepted, how far each has seen,
-/// what each loyal replica decided, and the history. `NoMemory` where memory runs out.
+/// Returns the report of a world whose events ended as `end` says: how many were done and refused, what each client accepted, each
+/// client's seen front, what each loyal replica decided, and the history. `NoMemory` if memory runs out.
 pub(crate) fn report_of(alloc: Global, world: &World, end: &RunEnd) -> Result<String, Refusal>
     ensures text { IfOk result (λ report. string_bytes report ≡ report_text world.now.shape (log_of world.now.run) end.now) }
     ensures refusal { IsOkUnless result Refusal.NoMemory }
@@ -28,7 +28,7 @@ pub(crate) fn report_of(alloc: Global, world: &World, end: &RunEnd) -> Result<St
     Ok(report)
 }
 
-/// Writes how the events ended: how many were done and how many refused, and the first refusal, if there is one.
+/// Writes how many events were done, how many were refused, and the first refusal, if there is one.
 fn write_end(out: &mut String, end: &RunEnd) -> Result<(), Refusal>
     ensures text { OnOk result (string_bytes out.new ≡ string_bytes out.old ++ end_text end.now) }
     ensures refusal { IsOkUnless result Refusal.NoMemory }
@@ -147,7 +147,7 @@ pub(crate) fn write_history(out: &mut String, history: &[Request]) -> Result<(),
     Ok(())
 }
 
-/// The client of this number, which a shape can have.
+/// Returns the client with this number. Requires that a shape can have it: `number` is below 32.
 fn client(number: u8) -> ClientId
     requires { number < 32 }
     ensures { result ≡ number }
@@ -158,7 +158,7 @@ fn client(number: u8) -> ClientId
     client
 }
 
-/// The replica of this number, which a shape can have.
+/// Returns the replica with this number. Requires that a shape can have it: `number` is below 16.
 fn replica(number: u8) -> ReplicaId
     requires { number < 16 }
     ensures { result ≡ number }

@@ -1,4 +1,4 @@
-//! Services: from a script to the report of what came of it.
+//! Serves a script and reports the outcome.
 
 ghost use Rattle.std.specs.Prelude.{◌≡◌, ◌+◌, ◌≤◌, None, Some, IfOk, IfErr, OnOk, string_bytes};
 ghost use Rattle.dsr_names.specs.Limits.{most_calls};
@@ -18,7 +18,7 @@ use std::mem::forget;
 use std::sync::Wait;
 use std::thread::Threads;
 
-/// A gate that is open to all.
+/// A gate that lets every actor pass.
 #[derive(Drop)]
 struct Open;
 
@@ -31,7 +31,7 @@ impl Gate for Open {
     }
 }
 
-/// What came of a service.
+/// The outcome of a service.
 #[derive(Drop)]
 pub(crate) struct Service {
     /// The logs of all actors.
@@ -40,14 +40,14 @@ pub(crate) struct Service {
     pub(crate) cause: Option<Refusal>,
 }
 
-/// The report of a service, and the fault by which it ended, if there was one.
+/// The report of a service, and the fault that ended it, if there was one.
 #[derive(Drop)]
 struct Outcome {
     report: String,
     cause: Option<Refusal>,
 }
 
-/// Serves the script that the text spells, by a host in a thread of its own for each actor.
+/// Serves the script that the text encodes, by one host for each actor, each in a thread of its own.
 pub(crate) fn serve_out<R: Threads + Wait + Sync>(
     rt: &R,
     alloc: Global,
@@ -68,7 +68,7 @@ pub(crate) fn serve_out<R: Threads + Wait + Sync>(
     Ok(service_of(ended))
 }
 
-/// What came of a service that ended so.
+/// Returns the outcome of a service that ended like this.
 fn service_of(ended: Result<Logs, ServeFault>) -> Service
     ensures served { IfOk ended (λ logs. (result.logs ≡ logs) × (result.cause ≡ None)) }
     ensures fault { IfErr ended (λ fault. (result.logs ≡ fault.logs) × (result.cause ≡ Some fault.cause)) }
@@ -82,7 +82,7 @@ fn service_of(ended: Result<Logs, ServeFault>) -> Service
     }
 }
 
-/// Serves the script that the text spells, and makes its report.
+/// Serves the script that the text encodes, and makes its report.
 fn outcome_of<R: Threads + Wait + Sync>(
     rt: &R,
     alloc: Global,
@@ -103,13 +103,13 @@ fn outcome_of<R: Threads + Wait + Sync>(
     Ok(Outcome { report, cause })
 }
 
-/// Reads a script, serves it by a host in a thread of its own for each actor, and writes the report of what came of it: what clients accepted,
-/// and the history. Nothing is served before the end of the text, and nothing written before the end of the service.
+/// Reads a script, serves it by one host for each actor, each in a thread of its own, and writes the report: what clients accepted, and the
+/// history. Nothing is served before the end of the text, and nothing is written before the end of the service.
 ///
 /// `BadShape` and `BadText` say what is wrong with the text; after them, and after `ReadFailed`, nothing was written. After
-/// `WriteFailed` a prefix of the report was. `Exhausted`, `Unanswered`, `NoThread` and `NoMemory` where that ended the service before all
-/// clients were served: the whole report of what was done until then was written; but with `NoMemory` perhaps nothing. What was read is
-/// gone. When `ReadFailed` and `WriteFailed` come, and how often each of the two is called, is as in `run_apply`.
+/// `WriteFailed` a prefix of the report was. `Exhausted`, `Unanswered`, `NoThread` and `NoMemory` if that ended the service before all
+/// clients were served: the whole report of what was done until then was written, or, with `NoMemory`, perhaps nothing. What was read is
+/// gone. `run_apply` says when `ReadFailed` and `WriteFailed` come, and how often the source and the sink are called at most.
 pub(crate) fn run_serve<R: Threads + Wait + Sync, S: Source, K: Sink>(
     rt: &R,
     alloc: Global,
@@ -129,7 +129,7 @@ pub(crate) fn run_serve<R: Threads + Wait + Sync, S: Source, K: Sink>(
     give_out(sink, &outcome)
 }
 
-/// Writes the report, and then tells what ended the service.
+/// Writes the report, and then returns what ended the service, if anything did.
 fn give_out<K: Sink>(sink: &mut K, outcome: &Outcome) -> Result<(), Refusal>
     ensures done { OnOk result ((outcome.now.cause ≡ None)
         × SentAll (string_bytes outcome.now.report) (K.output sink.old) (K.output sink.new)) }
@@ -142,7 +142,7 @@ fn give_out<K: Sink>(sink: &mut K, outcome: &Outcome) -> Result<(), Refusal>
     }
 }
 
-/// The refusal with which a service ends that this ended.
+/// Returns the cause as `Err`, or `Ok` if there is none.
 pub(crate) fn ended_by(cause: &Option<Refusal>) -> Result<(), Refusal>
     ensures done { OnOk result (cause.now ≡ None) }
     ensures refused { IfErr result (λ refusal. cause.now ≡ Some refusal) }

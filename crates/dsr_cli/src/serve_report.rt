@@ -1,4 +1,4 @@
-//! What came of a service, as lines of text.
+//! The outcome of a service, as lines of text.
 
 ghost use Rattle.std.specs.Prelude.{◌≡◌, ◌<◌, ◌++◌, IfOk, OnOk, IsOkUnless, string_bytes};
 ghost use Rattle.dsr_run.specs.History.{accepted_by};
@@ -11,7 +11,7 @@ use dsr_mail::Logs;
 use dsr_names::{ClientId, Refusal};
 use std::alloc::Global;
 
-/// The report of a service whose actors have these logs: what each client accepted, and the history. `NoMemory` where memory runs out.
+/// Returns the report of a service with these logs: what each client accepted, and the history. `NoMemory` if memory runs out.
 pub(crate) fn report_of(alloc: Global, logs: &Logs) -> Result<String, Refusal>
     ensures text { IfOk result (λ report. string_bytes report ≡ served_text logs.now) }
     ensures refusal { IsOkUnless result Refusal.NoMemory }

@@ -1,4 +1,4 @@
-//! Plays: from a text to the transcript of what their actors did.
+//! Reads a play and writes the transcript of what its actors did.
 
 ghost use Rattle.std.specs.Prelude.{◌≡◌, ◌⊎◌, ◌+◌, ◌<◌, ◌≤◌, Err, IfOk, IfErr, OnErr, length};
 ghost use Rattle.dsr_names.specs.Limits.{most_calls};
@@ -13,7 +13,7 @@ use dsr_record::{Record, transcripts_spell_their_records, write};
 use std::alloc::Global;
 use std::mem::forget;
 
-/// What the actors of a play did, how many of its events were refused, and how many of those because memory ran out.
+/// The steps of a play's actors, the number of its refused events, and the number of those refused because memory ran out.
 #[derive(Drop)]
 struct Recording {
     recorded: Record,
@@ -21,7 +21,7 @@ struct Recording {
     starved: u64,
 }
 
-/// Plays the play that the text spells, and records all steps.
+/// Plays the play that the text encodes, and records all steps.
 fn recording_of(alloc: Global, text: &[u8]) -> Result<Recording, Refusal>
     ensures played { IfOk result (λ recording. HasPlayed IsTranscript text.now recording.refused recording.starved (record_text recording.recorded)) }
     ensures fits { IfOk result (λ recording. Fits recording.recorded) }
@@ -45,8 +45,8 @@ fn recording_of(alloc: Global, text: &[u8]) -> Result<Recording, Refusal>
     })
 }
 
-/// Reads a play, plays it as `run_play` does, and writes the transcript of all steps in place of the report. What is refused, and what stands
-/// after a refusal, is as there. `NoMemory` comes also where there is none for the transcript, and then nothing was written.
+/// Reads a play, plays it as `run_play` does, and writes the transcript of all steps in place of the report. Its refusals, and what remains
+/// after each, are those of `run_play`. `NoMemory` also comes if there is no memory for the transcript; then nothing was written.
 pub(crate) fn transcribe_play<S: Source, K: Sink>(
     alloc: Global,
     source: &mut S,
@@ -67,7 +67,7 @@ pub(crate) fn transcribe_play<S: Source, K: Sink>(
     given
 }
 
-/// Writes the transcript, and answers how many events were refused, or `NoMemory` where some were for that.
+/// Writes the transcript, and returns how many events were refused, or `NoMemory` if some were refused for that.
 fn give_out<K: Sink>(alloc: Global, sink: &mut K, recording: &Recording) -> Result<u64, Refusal>
     requires { Fits recording.now.recorded }
     ensures done { IfOk result (λ refused. (refused ≡ recording.now.refused) × (recording.now.starved ≡ 0)

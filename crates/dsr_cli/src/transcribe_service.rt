@@ -1,4 +1,4 @@
-//! Services: from a script to the transcript of what its actors did.
+//! Serves a script and writes the transcript of what its actors did.
 
 ghost use Rattle.std.specs.Prelude.{◌≡◌, ◌+◌, ◌≤◌, None, IfOk, IfErr, OnOk};
 ghost use Rattle.dsr_names.specs.Limits.{most_calls};
@@ -15,14 +15,14 @@ use std::mem::forget;
 use std::sync::Wait;
 use std::thread::Threads;
 
-/// What the actors of a service did, and the fault by which it ended, if there was one.
+/// The steps of a service's actors, and the fault that ended it, if there was one.
 #[derive(Drop)]
 struct Recording {
     recorded: Record,
     cause: Option<Refusal>,
 }
 
-/// Serves the script that the text spells, and records all steps. Logs of a run are always merged whole, so there is a record where memory
+/// Serves the script that the text encodes, and records all steps. Logs of a run are always merged whole, so there is a record if memory
 /// suffices.
 fn recording_of<R: Threads + Wait + Sync>(
     rt: &R,
@@ -48,8 +48,8 @@ fn recording_of<R: Threads + Wait + Sync>(
     Ok(Recording { recorded, cause })
 }
 
-/// Reads a script, serves it as `run_serve` does, and writes the transcript of all steps in place of the report. What is refused, and what
-/// stands after a refusal, is as there. `NoMemory` comes also where there is none for the transcript, and then nothing was written.
+/// Reads a script, serves it as `run_serve` does, and writes the transcript of all steps in place of the report. Its refusals, and what
+/// remains after each, are those of `run_serve`. `NoMemory` also comes if there is no memory for the transcript; then nothing was written.
 pub(crate) fn transcribe_service<R: Threads + Wait + Sync, S: Source, K: Sink>(
     rt: &R,
     alloc: Global,
@@ -71,7 +71,7 @@ pub(crate) fn transcribe_service<R: Threads + Wait + Sync, S: Source, K: Sink>(
     given
 }
 
-/// Writes the transcript, and then tells what ended the service.
+/// Writes the transcript, and then returns what ended the service, if anything did.
 fn give_out<K: Sink>(alloc: Global, sink: &mut K, recording: &Recording) -> Result<(), Refusal>
     requires { Fits recording.now.recorded }
     ensures done { OnOk result ((recording.now.cause ≡ None)
