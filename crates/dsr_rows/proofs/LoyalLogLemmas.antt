@@ -1,4 +1,4 @@
--- A loyal log gets one entry more.
+-- A loyal log with one more entry is loyal.
 use Rattle.std.proofs.Common.{◌≡◌, ℕ, suc, ◌<◌, List, ◌∷◌, Some, refl, ap, sym, subst}
 use Rattle.dsr_names.specs.declared.actor.Actor.TheVariants.{Replica as ReplicaNumber, Client as ClientNumber}
 use Rattle.dsr_envelope.specs.declared.envelope.Envelope.{Envelope}
@@ -20,7 +20,7 @@ one_entry r after count h entry next stands me shape = record {
   stands = stands;
 }
 
--- after a post to a replica, by the choice for which the envelope was made
+-- after a post to a replica, with the choice for which the envelope was made
 pub one_post : (r after : Replica) (count to : ℕ) (asked pick : Pick) (envelope : Envelope) → HasLog r count → IsPick pick → asked ≡ pick
     → ((log : List Entry) → StandsFor r log → envelope_to r.shape r.me log to asked ≡ Some envelope)
     → ((log : List Entry) (e : Envelope) → StandsFor r log → envelope_to r.shape r.me log to pick ≡ Some e

@@ -1,4 +1,4 @@
-//! Rows, one line after the other.
+//! Answers rows, one line after the other.
 
 use crate::desk::Desk;
 use crate::groups::{OPENINGS, Opened, PLAIN, call_at, call_plain, open};
@@ -10,8 +10,8 @@ use dsr_names::{Refusal, Sink, Source, read_input, write_output};
 use std::alloc::Global;
 use std::fmt::Write;
 
-/// Reads rows, and writes each line of them, and after each call what it answered. `BadText` names the last line if it has no line feed;
-/// what comes before it is answered.
+/// Reads rows, and writes each of their lines, and after each call its answer. `BadText` names the last line if it has no line feed;
+/// the lines before it are answered.
 pub(crate) fn answer_rows<I: Source, O: Sink>(
     alloc: Global,
     input: &mut I,
@@ -50,7 +50,7 @@ fn answer_lines<O: Sink>(
     Ok(())
 }
 
-/// Writes the line, and what its call answered.
+/// Writes the line, and the answer of its call.
 fn answer_line<O: Sink>(
     desk: &Desk,
     opened: &mut Opened,
@@ -70,7 +70,7 @@ fn answer_line<O: Sink>(
     Ok(())
 }
 
-/// The line of an answer.
+/// Returns the line of an answer.
 fn text_of_answer(alloc: Global, answered: &Answered) -> Result<String, Refusal> {
     let mut line = String::new(alloc);
     match answered {
@@ -80,7 +80,7 @@ fn text_of_answer(alloc: Global, answered: &Answered) -> Result<String, Refusal>
     Ok(line)
 }
 
-/// Returns what the call answers. One that was refused for want of memory is made again.
+/// Returns what the call answers. A call that was refused since memory ran out is made a second time.
 fn answer(desk: &Desk, opened: &mut Opened, words: &Words) -> Answered {
     let mut first = *words;
     let mut second = *words;
@@ -105,7 +105,7 @@ fn call(desk: &Desk, opened: &mut Opened, words: &mut Words) -> Answered {
     call_at(desk, opened, verb, words)
 }
 
-/// Opens a value in place of the one before. If that fails there is none.
+/// Opens a value in place of the one before. If that fails, no value is open.
 fn open_value(desk: &Desk, opened: &mut Opened, opening: Opening, words: &mut Words) -> Answered {
     match open(desk.alloc(), opening, words) {
         Ok(value) => {

@@ -10,7 +10,7 @@ use dsr_names::{ReplicaId, Shape};
 use dsr_rotation::{Calendar, Slots};
 use std::alloc::Global;
 
-/// What is told of a global round.
+/// What a calendar says about a global round.
 #[derive(Clone, Copy)]
 struct Plan {
     /// The slots in flight.
@@ -21,7 +21,7 @@ struct Plan {
     sender: ReplicaId,
 }
 
-/// What is told of this global round of the shape.
+/// Returns what the calendar of the shape says about this global round.
 fn plan_of(shape: &Shape, round: u64) -> Plan
     ensures slots { (slot : ℕ) → IsInFlight shape.now slot round
         ↔ ((result.slots.first ≤ slot) × (slot ≤ result.slots.last)) }
@@ -37,7 +37,7 @@ fn plan_of(shape: &Shape, round: u64) -> Plan
     }
 }
 
-/// `calendar SHAPE ROUND`: the slots in flight in this global round, the one that closes with it, and the sender of the one that begins.
+/// Answers `calendar SHAPE ROUND`: the slots in flight in this global round, the one that closes with it, and the sender of the one that begins.
 pub(crate) fn calendar(alloc: Global, words: &mut Words) -> Answered {
     let shape = words.shape()?;
     let plan = plan_of(&shape, words.number()?);
@@ -46,7 +46,7 @@ pub(crate) fn calendar(alloc: Global, words: &mut Words) -> Answered {
     Ok(Said::Text(format!(in alloc; "slots {first} {last} closes {closes} sender {sender}")?))
 }
 
-/// `round-of SHAPE SLOT ROUND`: which of its rounds the slot has in this global round.
+/// Answers `round-of SHAPE SLOT ROUND`: the round of the slot, counted from 1, that this global round is.
 pub(crate) fn round_of(words: &mut Words) -> Answered {
     let calendar = Calendar::new(&words.shape()?);
     let slot = words.number()?;

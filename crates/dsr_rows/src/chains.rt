@@ -1,4 +1,4 @@
-//! The calls of chains and of signed requests.
+//! The calls of chains and signed requests.
 
 ghost use Rattle.std.specs.Prelude.{◌<◌, ◌≤◌, ◌+◌, ◌↔◌, IsSome, IfSome, IsOk, IfErr};
 ghost use Rattle.dsr_chain.specs.Faults.{IsFirstFault};
@@ -13,7 +13,7 @@ use dsr_desk::Content;
 use dsr_names::Shape;
 use std::alloc::Global;
 
-/// `check SHAPE SLOT ROUND CHAIN`: whether the chain is proper for this round of the slot.
+/// Answers `check SHAPE SLOT ROUND CHAIN`: whether the chain is proper for this round of the slot.
 pub(crate) fn check(desk: &Desk, words: &mut Words) -> Answered {
     let shape = words.shape()?;
     let slot = words.number()?;
@@ -25,7 +25,7 @@ pub(crate) fn check(desk: &Desk, words: &mut Words) -> Answered {
     }
 }
 
-/// What the check of the chain finds; `None` if the round is none of the slot's.
+/// Returns what the check of the chain finds; `None` if the slot has no such round.
 fn found(chain: &Chain, shape: &Shape, slot: u64, round: u8) -> Option<Result<(), ChainFault>>
     ensures when { IsSome result ↔ ((0 < round) × (round ≤ shape.now.f + 1)) }
     ensures proper { IfSome result (λ found. IsOk found ↔ IsProper shape.now slot round chain.now) }
@@ -37,20 +37,20 @@ fn found(chain: &Chain, shape: &Shape, slot: u64, round: u8) -> Option<Result<()
     Some(chain.check(shape, slot, round))
 }
 
-/// `asked SHAPE SIGNED-REQUEST`: whether the request has the signature of its client, a client of the shape.
+/// Answers `asked SHAPE SIGNED-REQUEST`: whether the request has the signature of its client, a client of the shape.
 pub(crate) fn asked(desk: &Desk, words: &mut Words) -> Answered {
     let shape = words.shape()?;
     let signed = desk.signed(words.rest())?;
     Ok(Said::Whether(signed.is_asked(&shape)))
 }
 
-/// `parts CHAIN`: its slot, its value, its content, how many signed requests it has, its signers and their number.
+/// Answers `parts CHAIN`: its slot, its value, its content, how many signed requests it has, its signers and their number.
 pub(crate) fn parts(desk: &Desk, words: &Words) -> Answered {
     let chain = desk.chain(words.rest())?;
     parts_of(desk.alloc(), &chain)
 }
 
-/// The parts of the chain.
+/// Returns the parts of the chain as a line.
 fn parts_of(alloc: Global, chain: &Chain) -> Answered {
     let value = text_of_value(alloc, chain.value())?;
     let (slot, content) = (chain.slot(), Content(chain.content()));
@@ -61,7 +61,7 @@ fn parts_of(alloc: Global, chain: &Chain) -> Answered {
     )?))
 }
 
-/// `signature PLACE CHAIN`: the signature at this place of the chain.
+/// Answers `signature PLACE CHAIN`: the signature at this place of the chain.
 pub(crate) fn signature(desk: &Desk, words: &mut Words) -> Answered {
     let place = words.small_number()? as usize;
     let chain = desk.chain(words.rest())?;
@@ -72,20 +72,20 @@ pub(crate) fn signature(desk: &Desk, words: &mut Words) -> Answered {
     Ok(Said::Text(signed.to_string(desk.alloc())?))
 }
 
-/// `has-signer ACTOR CHAIN`: whether a signature of the chain is the actor's.
+/// Answers `has-signer ACTOR CHAIN`: whether a signature of the chain is the actor's.
 pub(crate) fn has_signer(desk: &Desk, words: &mut Words) -> Answered {
     let actor = words.actor()?;
     let chain = desk.chain(words.rest())?;
     Ok(Said::Whether(chain.has_signer(actor)))
 }
 
-/// `has-misfit CHAIN`: whether a signature of the chain does not fit its place.
+/// Answers `has-misfit CHAIN`: whether a signature of the chain does not fit its place.
 pub(crate) fn has_misfit(desk: &Desk, words: &Words) -> Answered {
     let chain = desk.chain(words.rest())?;
     Ok(Said::Whether(chain.has_misfit()))
 }
 
-/// `start ACTOR SLOT VALUE`: the parts of the chain with the actor's signature alone.
+/// Answers `start ACTOR SLOT VALUE`: the parts of the chain with only the actor's signature.
 pub(crate) fn start(desk: &Desk, words: &mut Words) -> Answered {
     let key = desk.key(words.actor()?)?;
     let slot = words.number()?;
@@ -94,8 +94,8 @@ pub(crate) fn start(desk: &Desk, words: &mut Words) -> Answered {
     parts_of(desk.alloc(), &chain)
 }
 
-/// `extend ACTOR CHAIN`: the envelope of round 0 with the chain, longer by the actor's signature. Where memory is refused, the chain that
-/// comes back is extended.
+/// Answers `extend ACTOR CHAIN`: the envelope of round 0 with the chain, longer by the actor's signature. If memory is refused, the chain that
+/// is given back is extended once more.
 pub(crate) fn extend(desk: &Desk, words: &mut Words) -> Answered {
     let key = desk.key(words.actor()?)?;
     let chain = desk.chain(words.rest())?;
@@ -115,14 +115,14 @@ pub(crate) fn extend(desk: &Desk, words: &mut Words) -> Answered {
     }
 }
 
-/// The envelope of round 0 with this chain.
+/// Returns the envelope of round 0 with this chain.
 fn said_chain(alloc: Global, chain: Chain) -> Answered {
     let mut chains = Vec::new(alloc);
     chains.push(chain)?;
     Ok(Said::Envelope(draft_of_round(alloc, 0, chains)?))
 }
 
-/// The faults by their words.
+/// All faults.
 const FAULTS: [ChainFault; 7] = [
     ChainFault::OtherSlot,
     ChainFault::WrongCount,
@@ -133,7 +133,7 @@ const FAULTS: [ChainFault; 7] = [
     ChainFault::BadRequest,
 ];
 
-/// `fault FAULT`: what the fault says.
+/// Answers `fault FAULT`: what the fault says.
 pub(crate) fn fault(alloc: Global, words: &Words) -> Answered {
     for fault in FAULTS {
         if word_of(fault).as_bytes() == words.rest() {

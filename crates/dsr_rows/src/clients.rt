@@ -11,7 +11,7 @@ use dsr_names::{Actor, ClientId, NUMBER_END, Shape};
 use std::alloc::Global;
 use std::marker::Model;
 
-/// A client, its shape, and which of its clients it is.
+/// A client, its shape, and its identity in the shape.
 #[derive(Drop)]
 pub(crate) struct Customer {
     client: Client,
@@ -40,11 +40,11 @@ enum Call {
     Outstanding,
     /// `ask-for REPLICA`: the ask of the outstanding request.
     AskFor,
-    /// `taken ACTOR ENVELOPE`: the reply that is accepted by taking the envelope.
+    /// `taken ACTOR ENVELOPE`: the reply that the client accepts when it takes the envelope.
     Taken,
-    /// `votes REPLY`: how many replicas gave this reply to the outstanding request first.
+    /// `votes REPLY`: how many replicas gave this reply as their first one to the outstanding request.
     Votes,
-    /// `told NUMBER`: another client told its seen front.
+    /// `told NUMBER`: another client reports its seen front.
     Told,
     /// `seen`: the seen front.
     Seen,
@@ -63,7 +63,7 @@ const CALLS: [(&str, Call); 8] = [
 ];
 
 impl Customer {
-    /// `client SHAPE CLIENT`: the client of the shape before its first request.
+    /// Opens `client SHAPE CLIENT`: the client of the shape before its first request.
     pub(crate) fn open(alloc: Global, words: &mut Words) -> Result<Customer, Failure> {
         let shape = words.shape()?;
         let me = words.client()?;
@@ -93,7 +93,7 @@ impl Customer {
         }
     }
 
-    /// `taken ACTOR ENVELOPE`.
+    /// Answers `taken ACTOR ENVELOPE`.
     fn taken(&mut self, from: Actor, envelope: Envelope) -> Answered {
         if !self.shape.has(from) || from == Actor::Client(self.me) || !envelope.fits() {
             return Err(Failure::NoCall);
@@ -101,7 +101,7 @@ impl Customer {
         Ok(Said::of_reply(self.client.taken(from, envelope)))
     }
 
-    /// `told NUMBER`.
+    /// Answers `told NUMBER`.
     fn told(&mut self, front: u64) -> Answered {
         if front >= NUMBER_END {
             return Err(Failure::NoCall);
@@ -111,7 +111,7 @@ impl Customer {
     }
 }
 
-/// The ask, if there is one.
+/// Answers with the ask, if there is one.
 fn said_ask(alloc: Global, ask: Option<SignedRequest>) -> Answered {
     match ask {
         Some(ask) => {

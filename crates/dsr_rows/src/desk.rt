@@ -1,4 +1,4 @@
-//! The keys of all actors that there can be, and what they sign.
+//! The keys of all possible actors, and what they sign.
 
 use crate::said::Failure;
 use dsr_base::split_once;
@@ -9,7 +9,7 @@ use dsr_names::{Actor, ClientId, Refusal, ReplicaId, Shape};
 use dsr_script::{Draft, Known, build};
 use std::alloc::Global;
 
-/// The keys of all actors that there can be.
+/// The keys of all possible actors.
 #[derive(Drop)]
 pub(crate) struct Desk {
     alloc: Global,
@@ -34,7 +34,7 @@ impl Desk {
         Ok(Desk { alloc, keys: all })
     }
 
-    /// Returns where memory comes from.
+    /// Returns the allocator.
     pub(crate) fn alloc(&self) -> Global {
         self.alloc
     }
@@ -47,7 +47,7 @@ impl Desk {
         }
     }
 
-    /// Makes the envelope that the text spells, with all its signatures.
+    /// Makes the envelope that the text encodes, with all its signatures.
     pub(crate) fn envelope(&self, text: &[u8]) -> Result<Envelope, Failure> {
         let draft = draft_of(self.alloc, text)?;
         let known = Known::new(self.alloc);
@@ -57,7 +57,7 @@ impl Desk {
         }
     }
 
-    /// Makes the chain that the text spells.
+    /// Makes the chain that the text encodes.
     pub(crate) fn chain(&self, text: &[u8]) -> Result<Chain, Failure> {
         if text.contains(&b' ') {
             return Err(Failure::BadRow);
@@ -69,7 +69,7 @@ impl Desk {
         }
     }
 
-    /// Makes the chains that the text spells, a space between them.
+    /// Makes the chains that the text encodes, with a space between them.
     pub(crate) fn chains(&self, text: &[u8]) -> Result<Vec<Chain>, Failure> {
         if text.is_empty() {
             return Ok(Vec::new(self.alloc));
@@ -81,7 +81,7 @@ impl Desk {
         }
     }
 
-    /// Makes the signed request that the text spells.
+    /// Makes the signed request that the text encodes.
     pub(crate) fn signed(&self, text: &[u8]) -> Result<SignedRequest, Failure> {
         let ask = joined(self.alloc, b"ask ", text)?;
         match self.envelope(ask.as_slice())? {
@@ -90,14 +90,14 @@ impl Desk {
         }
     }
 
-    /// Makes the value that the text spells.
+    /// Makes the value that the text encodes.
     pub(crate) fn value(&self, text: &[u8]) -> Result<SlotValue, Failure> {
         let mut chain = joined(self.alloc, b"0/", text)?;
         chain.extend_from_slice(b"/-")?;
         Ok(self.chain(chain.as_slice())?.value().copy())
     }
 
-    /// Makes the signature that the text spells: its signer, and the statement in parentheses.
+    /// Makes the signature that the text encodes: its signer, and the statement in parentheses.
     pub(crate) fn signature(&self, text: &[u8]) -> Result<Signature, Failure> {
         let (signer, rest) = split_once(text, b'(').ok_or(Failure::BadRow)?;
         let signer = Actor::read(signer).ok_or(Failure::BadRow)?;
@@ -107,7 +107,7 @@ impl Desk {
     }
 }
 
-/// Reads the draft that the text spells.
+/// Reads the draft that the text encodes.
 pub(crate) fn draft_of(alloc: Global, text: &[u8]) -> Result<Draft, Failure> {
     Draft::read(alloc, text)?.ok_or(Failure::BadRow)
 }

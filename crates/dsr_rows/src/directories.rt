@@ -9,19 +9,19 @@ use std::alloc::Global;
 /// A call at a directory.
 #[derive(Clone, Copy)]
 enum Call {
-    /// `apply OPERATION`: what the operation is answered.
+    /// `apply OPERATION`: the directory's answer to the operation.
     Apply,
     /// `get NAME`: what the register holds.
     Get,
     /// `len`: how many registers hold a value.
     Len,
-    /// `is-empty`: whether none does.
+    /// `is-empty`: whether no register does.
     IsEmpty,
     /// `clear`: takes every value out.
     Clear,
-    /// `write-each FIRST END VALUE`: how many of the registers kFIRST to kEND, without the last, this value was written to.
+    /// `write-each FIRST END VALUE`: writes this value to the registers kFIRST to kEND, without the last, and counts those that took it.
     WriteEach,
-    /// `remove-each FIRST END`: how many of these registers a value was removed from.
+    /// `remove-each FIRST END`: removes these registers, and counts those that held a value.
     RemoveEach,
 }
 
@@ -36,7 +36,7 @@ const CALLS: [(&str, Call); 7] = [
     ("remove-each", Call::RemoveEach),
 ];
 
-/// `directory`: an empty directory.
+/// Opens `directory`: an empty directory.
 pub(crate) fn open(alloc: Global) -> Result<Directory, Failure> {
     Ok(Directory::new(alloc)?)
 }
@@ -73,7 +73,7 @@ pub(crate) fn range(words: &mut Words) -> Result<(u16, u16), Failure> {
     }
 }
 
-/// Returns the names k and this number, for each of the range.
+/// Returns the name `k` followed by the number, for each number in the range.
 fn names(alloc: Global, first: u16, end: u16) -> Result<Vec<Name>, Failure> {
     let mut names = Vec::new(alloc);
     for number in first..end {
@@ -83,7 +83,7 @@ fn names(alloc: Global, first: u16, end: u16) -> Result<Vec<Name>, Failure> {
     Ok(names)
 }
 
-/// `write-each FIRST END VALUE`.
+/// Answers `write-each FIRST END VALUE`.
 fn write_each(alloc: Global, directory: &mut Directory, words: &mut Words) -> Answered {
     let (first, end) = range(words)?;
     let value = words.number()?;
@@ -96,7 +96,7 @@ fn write_each(alloc: Global, directory: &mut Directory, words: &mut Words) -> An
     Ok(Said::Number(count))
 }
 
-/// `remove-each FIRST END`.
+/// Answers `remove-each FIRST END`.
 fn remove_each(alloc: Global, directory: &mut Directory, words: &mut Words) -> Answered {
     let (first, end) = range(words)?;
     let mut count = 0u64;

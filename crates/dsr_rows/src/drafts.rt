@@ -1,4 +1,4 @@
-//! The calls of drafts: who holds these keys builds envelopes, and learns signatures.
+//! The calls of drafts: a holder of keys builds envelopes, and learns signatures.
 
 use crate::desk::{Desk, draft_of};
 use crate::said::{Answered, Failure, Said};
@@ -8,7 +8,7 @@ use dsr_names::Shape;
 use dsr_script::{Draft, Known, build, forged_in};
 use std::alloc::Global;
 
-/// Keys that are held, and signatures that are known.
+/// The keys that someone holds, and the signatures that they know.
 #[derive(Drop)]
 pub(crate) struct Forger {
     keys: Vec<Key>,
@@ -24,7 +24,7 @@ enum Call {
     Learn,
     /// `room`: makes room for the signatures of one more envelope.
     Room,
-    /// `forged ENVELOPE`: a signature of it that is neither by a held key nor known.
+    /// `forged ENVELOPE`: a signature in it that is neither known nor by a held key.
     Forged,
 }
 
@@ -37,7 +37,7 @@ const CALLS: [(&str, Call); 4] = [
 ];
 
 impl Forger {
-    /// `keys ACTORS`: who holds the keys of these actors, and knows nothing.
+    /// Opens `keys ACTORS`: someone who holds the keys of these actors, and knows no signature.
     pub(crate) fn open(alloc: Global, words: &mut Words) -> Result<Forger, Failure> {
         let holders = Signers::read(words.rest()).ok_or(Failure::BadRow)?;
         let mut all = Keys::new(alloc, Shape::new(16, 7, 32, 0)?)?;
@@ -65,7 +65,7 @@ impl Forger {
         }
     }
 
-    /// `build ENVELOPE`: what was built is told if it is another.
+    /// Answers `build ENVELOPE`. An envelope that differs from the given one is returned.
     fn build(&self, alloc: Global, words: &Words) -> Answered {
         let draft = draft_of(alloc, words.rest())?;
         let envelope = build(alloc, &draft, self.keys.as_slice(), &self.known)?;
@@ -80,7 +80,7 @@ impl Forger {
         }
     }
 
-    /// `forged ENVELOPE`.
+    /// Answers `forged ENVELOPE`.
     fn forged(&self, alloc: Global, words: &Words) -> Answered {
         let draft = draft_of(alloc, words.rest())?;
         match forged_in(&draft, self.keys.as_slice(), &self.known) {

@@ -8,15 +8,15 @@ use dsr_envelope::{Chains, Envelope};
 use dsr_names::{Actor, ReplicaId};
 use std::alloc::Global;
 
-/// `plain ENVELOPE`: whether the envelope has no list and no removal.
+/// Answers `plain ENVELOPE`: whether the envelope has no list and no removal.
 pub(crate) fn plain(alloc: Global, words: &Words) -> Answered {
     Ok(Said::Whether(draft_of(alloc, words.rest())?.is_plain()))
 }
 
-/// An envelope by its parts, which need not be within the limits.
+/// A kind of envelope that is made from parts, which may be outside the limits.
 #[derive(Clone, Copy)]
 enum Kind {
-    /// `round ROUND SLOT COUNT`: so many chains that replica 0 starts for the slot, on idle.
+    /// `round ROUND SLOT COUNT`: COUNT chains that replica 0 starts for the slot, with the value idle.
     Round,
     /// `reply REPLY`.
     Reply,
@@ -31,7 +31,7 @@ const KINDS: [(&str, Kind); 3] = [
     ("seen", Kind::Seen),
 ];
 
-/// `fits KIND PARTS`: whether the envelope is within the limits.
+/// Answers `fits KIND PARTS`: whether the envelope is within the limits.
 pub(crate) fn fits(desk: &Desk, words: &mut Words) -> Answered {
     let envelope = match find(&KINDS, words.next())? {
         Kind::Round => round(desk, words)?,
@@ -41,7 +41,7 @@ pub(crate) fn fits(desk: &Desk, words: &mut Words) -> Answered {
     Ok(Said::Whether(envelope.fits()))
 }
 
-/// `round ROUND SLOT COUNT`.
+/// Makes the envelope of `round ROUND SLOT COUNT`.
 fn round(desk: &Desk, words: &mut Words) -> Result<Envelope, Failure> {
     let round = words.number()?;
     let slot = words.number()?;

@@ -1,4 +1,4 @@
-//! Which verb makes which call.
+//! Maps each verb to its call.
 
 use crate::clients::Customer;
 use crate::desk::Desk;
@@ -21,10 +21,10 @@ use dsr_register::Directory;
 use dsr_script::Script;
 use dsr_slot::SlotState;
 
-/// A value at which later calls of a row are made.
+/// The open value, at which later calls of a row are made.
 #[derive(Drop)]
 pub(crate) enum Opened {
-    /// None yet.
+    /// No value is open yet.
     Nothing,
     /// The keys of a shape.
     Keys(Keys),

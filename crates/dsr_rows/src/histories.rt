@@ -22,9 +22,9 @@ pub(crate) struct History {
 /// A call at a history.
 #[derive(Clone, Copy)]
 enum Call {
-    /// `acts REQUESTS`: how many requests the history has with these at its end.
+    /// `acts REQUESTS`: appends these requests to the history, and answers how many it then has.
     Acts,
-    /// `write-each CLIENT FIRST END VALUE`: the same, with writes of the value to the registers kFIRST to kEND, without the last.
+    /// `write-each CLIENT FIRST END VALUE`: the same, for writes of the value to the registers kFIRST to kEND, without the last.
     WriteEach,
     /// `right REPLIES`: whether these replies, each after its client, are right by the history.
     Right,
@@ -38,7 +38,7 @@ const CALLS: [(&str, Call); 3] = [
 ];
 
 impl History {
-    /// `judge`: the history of no request.
+    /// Opens `judge`: an empty history.
     pub(crate) fn open(alloc: Global) -> History {
         History {
             requests: Vec::new(alloc),
@@ -57,21 +57,21 @@ impl History {
         }
     }
 
-    /// Whether these replies, each beside its client, are right by the history.
+    /// Tells whether these replies, each beside its client, are right by the history.
     fn is_right(&self, replies: &[(ClientId, Reply)]) -> bool
         ensures { IsTrue result ↔ IsJudgedRight self.now.requests.items replies.now }
     {
         judge(self.requests.as_slice(), replies)
     }
 
-    /// `acts REQUESTS`.
+    /// Answers `acts REQUESTS`.
     fn acts(&mut self, words: &Words) -> Answered {
         let requests = Requests::read(words.rest()).ok_or(Failure::BadRow)?;
         self.requests.extend_from_slice(requests.as_slice())?;
         Ok(Said::Number(self.requests.len() as u64))
     }
 
-    /// `write-each CLIENT FIRST END VALUE`: the requests are numbered from 1 on.
+    /// Answers `write-each CLIENT FIRST END VALUE`. The requests are numbered from 1 on.
     fn write_each(&mut self, alloc: Global, words: &mut Words) -> Answered {
         let client = words.client()?;
         let (first, end) = range(words)?;
@@ -89,7 +89,7 @@ impl History {
     }
 }
 
-/// Reads replies, each after its client, with a spaced bar between them; a dash if there are none.
+/// Reads replies, each after its client, with a spaced bar between them; a dash means no replies.
 fn replies(alloc: Global, words: &[u8]) -> Result<Vec<(ClientId, Reply)>, Failure> {
     let mut replies = Vec::new(alloc);
     if words == b"-".as_slice() {

@@ -13,7 +13,7 @@ use std::fmt;
 /// A call at the keys of a shape.
 #[derive(Clone, Copy)]
 enum Call {
-    /// `take ACTOR`: whose key is given, if it is.
+    /// `take ACTOR`: the signer of the key that is given, if one is.
     Take,
     /// `whole`: whether no key was taken yet.
     Whole,
@@ -28,7 +28,7 @@ const CALLS: [(&str, Call); 3] = [
     ("shape", Call::Shape),
 ];
 
-/// `keys-of SHAPE`: all keys of the shape.
+/// Opens `keys-of SHAPE`: all keys of the shape.
 pub(crate) fn open(alloc: Global, words: &mut Words) -> Result<Keys, Failure> {
     Ok(Keys::new(alloc, words.shape()?)?)
 }
@@ -45,7 +45,7 @@ pub(crate) fn answer(keys: &mut Keys, verb: &[u8], words: &mut Words) -> Answere
     }
 }
 
-/// A signature as text: its signer, and what is signed in parentheses.
+/// A signature as text: its signer, and the signed statement in parentheses.
 #[derive(Drop)]
 pub(crate) struct Signed(pub(crate) Signature);
 
@@ -56,7 +56,7 @@ impl fmt::Display for Signed {
     }
 }
 
-/// `sign ACTOR STATEMENT`: the actor's signature on the statement.
+/// Answers `sign ACTOR STATEMENT`: the actor's signature on the statement.
 pub(crate) fn sign(desk: &Desk, words: &mut Words) -> Answered {
     let key = desk.key(words.actor()?)?;
     let statement = Statement::read(words.rest()).ok_or(Failure::BadRow)?;
@@ -64,7 +64,7 @@ pub(crate) fn sign(desk: &Desk, words: &mut Words) -> Answered {
     Ok(Said::Text(signed.to_string(desk.alloc())?))
 }
 
-/// `link-fits SLOT CONTENT SIGNERS`: whether the statement has a text.
+/// Answers `link-fits SLOT CONTENT SIGNERS`: whether the statement has a text.
 pub(crate) fn link_fits(words: &mut Words) -> Answered {
     let slot = words.number()?;
     let value = content(words)?;
@@ -87,7 +87,7 @@ fn signers(words: &mut Words) -> Result<Signers, Failure> {
     Signers::read(words.next()).ok_or(Failure::BadRow)
 }
 
-/// `links SLOT CONTENT SIGNERS`: the signatures that these make in turn on the content of the slot.
+/// Answers `links SLOT CONTENT SIGNERS`: the signatures that these signers make in turn on the content of the slot.
 pub(crate) fn links(desk: &Desk, words: &mut Words) -> Answered {
     let slot = words.number()?;
     let content = content(words)?;
@@ -102,7 +102,7 @@ pub(crate) fn links(desk: &Desk, words: &mut Words) -> Answered {
     said_links(desk.alloc(), &links)
 }
 
-/// The signatures, longer by this key's.
+/// Adds the signature of this key to the links.
 fn longer(links: Links, key: &Key) -> Result<Links, Failure> {
     if links.signers().len() >= 16 {
         return Err(Failure::NoCall);
@@ -110,7 +110,7 @@ fn longer(links: Links, key: &Key) -> Result<Links, Failure> {
     Ok(links.extend(key)?)
 }
 
-/// The signatures in their order.
+/// Answers with the signatures in their order.
 fn said_links(alloc: Global, links: &Links) -> Answered {
     let mut signed = Vec::new(alloc);
     for place in 0..links.signers().len() {
@@ -119,7 +119,7 @@ fn said_links(alloc: Global, links: &Links) -> Answered {
     Ok(listed(alloc, signed.as_slice(), " ")?)
 }
 
-/// `are-links SLOT CONTENT SIGNATURE ..`: who signed, if the signatures were made in turn on the content of the slot.
+/// Answers `are-links SLOT CONTENT SIGNATURE ..`: who signed, if the signatures were made in turn on the content of the slot.
 pub(crate) fn are_links(desk: &Desk, words: &mut Words) -> Answered {
     let slot = words.number()?;
     let content = content(words)?;
@@ -133,7 +133,7 @@ pub(crate) fn are_links(desk: &Desk, words: &mut Words) -> Answered {
     }
 }
 
-/// Takes signatures, a space between them.
+/// Takes signatures, with a space between them.
 fn signatures(desk: &Desk, words: &mut Words) -> Result<Vec<Signature>, Failure> {
     let mut signatures = Vec::new(desk.alloc());
     for _ in 0..words.rest().len() {

@@ -28,7 +28,7 @@ impl Model for Replies {
 enum Call {
     /// `acts CLIENT NUMBER`: whether a request of the client with this number would act.
     Acts,
-    /// `note CLIENT REPLY`: the reply is the client's last one.
+    /// `note CLIENT REPLY`: makes the reply the client's last one.
     Note,
     /// `kept CLIENT`: the client's last reply.
     Kept,
@@ -42,7 +42,7 @@ const CALLS: [(&str, Call); 3] = [
 ];
 
 impl Replies {
-    /// `ledger CLIENTS`: no replies of so many clients.
+    /// Opens `ledger CLIENTS`: a ledger for CLIENTS clients, without replies.
     pub(crate) fn open(alloc: Global, words: &mut Words) -> Result<Replies, Failure> {
         let clients = words.small_number()?;
         let ledger = Ledger::new(alloc, clients)?;
@@ -58,7 +58,7 @@ impl Replies {
         }
     }
 
-    /// `acts CLIENT NUMBER`.
+    /// Answers `acts CLIENT NUMBER`.
     fn acts(&self, words: &mut Words) -> Answered {
         let client = words.client()?;
         let number = words.number()?;
@@ -68,7 +68,7 @@ impl Replies {
         Ok(Said::Whether(self.ledger.acts(client, number)))
     }
 
-    /// `note CLIENT REPLY`.
+    /// Answers `note CLIENT REPLY`.
     fn note(&mut self, words: &mut Words) -> Answered {
         let client = words.client()?;
         let reply = words.reply()?;

@@ -1,4 +1,4 @@
-//! A replica, and how long the log is that it stands for.
+//! A replica, and the length of the log that it represents.
 
 ghost use Rattle.std.specs.Prelude.{◌≡◌, suc, IfOk};
 
@@ -9,8 +9,8 @@ use dsr_replica::{Due, Envelope, Pick, Replica};
 use std::alloc::Global;
 use std::marker::Model;
 
-/// A replica, and the number of entries of its log. That the replica stands for a loyal log of so many entries is an
-/// invariant, which each step is proved to keep.
+/// A replica, and the number of entries of its log. It is an invariant that the replica represents a loyal log with
+/// `entries` entries; each step is proved to keep it.
 #[derive(Drop)]
 pub(crate) struct Logged {
     replica: Replica,
@@ -29,7 +29,7 @@ impl Model for Logged {
 }
 
 impl Logged {
-    /// The replica that holds this key, with an empty log.
+    /// Creates the replica that holds this key, with an empty log. `NoCall` if the key's signer is not an actor of the shape.
     pub(crate) fn new(alloc: Global, key: Key, shape: &Shape) -> Result<Logged, Failure> {
         if !shape.has(key.signer()) {
             return Err(Failure::NoCall);
@@ -41,17 +41,17 @@ impl Logged {
         })
     }
 
-    /// The replica.
+    /// Returns the replica.
     pub(crate) fn replica(&self) -> &Replica {
         &self.replica
     }
 
-    /// The number of entries of its log.
+    /// Returns the number of entries of its log.
     pub(crate) fn entries(&self) -> u64 {
         self.entries
     }
 
-    /// Posts to this replica by this choice, and returns the envelope.
+    /// Posts to this replica with this choice, and returns the envelope.
     pub(crate) fn post(
         &mut self,
         alloc: Global,
@@ -68,7 +68,7 @@ impl Logged {
         Ok(envelope)
     }
 
-    /// Takes the envelope from this replica, with room made for what it decides.
+    /// Makes room for what the replica decides, and takes the envelope from the replica `from`.
     pub(crate) fn take(&mut self, from: ReplicaId, envelope: Envelope) -> Result<(), Failure> {
         let entries = one_more(self.entries)?;
         self.replica.room()?;
@@ -80,7 +80,7 @@ impl Logged {
         Ok(())
     }
 
-    /// Takes the envelope from this replica if it would keep none of its chains, and returns whether it did.
+    /// Takes the envelope from the replica `from` if it would keep no chain of it, and returns whether it did.
     pub(crate) fn pass_over(
         &mut self,
         from: ReplicaId,
@@ -109,7 +109,7 @@ impl Logged {
         Ok(())
     }
 
-    /// Posts its reply to this client, if there is one, and returns it.
+    /// Posts its reply to this client, if it has one, and returns it.
     pub(crate) fn reply(&mut self, client: ClientId) -> Result<Option<Envelope>, Failure> {
         let entries = one_more(self.entries)?;
         if client.number() >= self.replica.shape().m() {
@@ -123,7 +123,7 @@ impl Logged {
     }
 }
 
-/// The number of entries of a log with one entry more.
+/// Returns `entries` + 1. `NoCall` if the number would be too great.
 fn one_more(entries: u64) -> Result<u64, Failure>
     ensures { IfOk result (λ more. more ≡ suc entries) }
 {

@@ -31,13 +31,13 @@ impl Model for Works {
 /// A call at a machine.
 #[derive(Clone, Copy)]
 enum Call {
-    /// `accept CONTENT`: how many requests of the value acted.
+    /// `accept CONTENT`: accepts a value with these requests, and answers how many of them acted.
     Accept,
     /// `kept CLIENT`: the client's last reply.
     Kept,
     /// `history`: the requests that acted.
     History,
-    /// `answer-at PLACE`: what the request at this place was answered.
+    /// `answer-at PLACE`: the answer to the request at this place.
     AnswerAt,
     /// `get NAME`: what the register holds.
     Get,
@@ -58,11 +58,11 @@ const CALLS: [(&str, Call); 7] = [
     ("has-room", Call::HasRoom),
 ];
 
-/// More requests than any row has.
+/// A number of requests that no row reaches.
 const MANY: usize = 1_000_000;
 
 impl Works {
-    /// `machine CLIENTS`: a machine of so many clients that accepted nothing.
+    /// Opens `machine CLIENTS`: a machine for CLIENTS clients that has accepted nothing.
     pub(crate) fn open(alloc: Global, words: &mut Words) -> Result<Works, Failure> {
         let clients = words.small_number()?;
         let shape = Shape::new(1, 0, clients, 0)?;
@@ -86,7 +86,7 @@ impl Works {
         }
     }
 
-    /// `accept CONTENT`.
+    /// Answers `accept CONTENT`.
     fn accept(&mut self, words: &mut Words) -> Answered {
         let content = read_content(words.rest()).ok_or(Failure::BadRow)?;
         let count = match content {
@@ -108,7 +108,7 @@ impl Works {
     }
 }
 
-/// Whether all requests are of the first so many clients.
+/// Tells whether the client of each request is below `clients`.
 fn are_of(requests: &[Request], clients: u8) -> bool
     ensures { IsTrue result ↔ All (λ r. r.client < clients) requests.now }
 {

@@ -1,4 +1,4 @@
-//! The program `dsr_rows`: reads rows, makes the calls that they name, and writes the rows with what each call answered.
+//! The program `dsr_rows`: reads rows, makes the calls that they name, and writes the rows with each call's answer.
 #![tactic(auto)]
 
 mod answering;
@@ -33,7 +33,7 @@ use dsr_names::{Outside, tell_refusal};
 use std::io;
 use std::process::ExitCode;
 
-/// The status if something was refused.
+/// The exit status if reading, writing or memory was refused.
 const REFUSED: u8 = 1;
 
 fn main(rt: HostRuntime) -> io::Result<ExitCode> {

@@ -10,17 +10,17 @@ use std::alloc::Global;
 /// A call of shapes, refusals or requests.
 #[derive(Clone, Copy)]
 pub(crate) enum Call {
-    /// `shape-of N F M BITS`: the shape of so many replicas, traitors at most, and clients, whose traitors are these bits.
+    /// `shape-of N F M BITS`: the shape with N replicas, at most F traitors, and M clients, whose traitors are these bits.
     ShapeOf,
-    /// `shape-parts SHAPE`: how many replicas, traitors at most, and clients the shape has, and its traitors as bits.
+    /// `shape-parts SHAPE`: the number of replicas, the maximum number of traitors, the number of clients, and the traitors as bits.
     ShapeParts,
-    /// `replica-of NUMBER`: the replica of this number.
+    /// `replica-of NUMBER`: the replica with this number.
     ReplicaOf,
-    /// `client-of NUMBER`: the client of this number.
+    /// `client-of NUMBER`: the client with this number.
     ClientOf,
     /// `has SHAPE ACTOR`: whether the actor is one of the shape.
     Has,
-    /// `is-loyal SHAPE ACTOR`: whether the actor is one of the shape, and no traitor.
+    /// `is-loyal SHAPE ACTOR`: whether the actor is one of the shape, and not a traitor.
     IsLoyal,
     /// `sender SHAPE SLOT`: the replica that sends in the slot.
     Sender,
@@ -32,13 +32,13 @@ pub(crate) enum Call {
     ActorAt,
     /// `refusal NAME [LINE]`: the number of the refusal, and what it says.
     Refusal,
-    /// `tell NAME [LINE]`: the line that tells of the refusal.
+    /// `tell NAME [LINE]`: the line that reports the refusal.
     Tell,
     /// `request CLIENT NUMBER OPERATION`: the request of this client.
     Request,
-    /// `request-parts REQUEST`: the client of the request, its number, its operation, and the register that this is on.
+    /// `request-parts REQUEST`: the client of the request, its number, its operation, and the name of the operation's register.
     RequestParts,
-    /// `request-line LINE`: the request that a line has.
+    /// `request-line LINE`: the request that the line contains.
     RequestLine,
 }
 
@@ -82,7 +82,7 @@ pub(crate) fn answer(alloc: Global, call: Call, words: &mut Words) -> Answered {
     }
 }
 
-/// `shape-of N F M BITS`.
+/// Answers `shape-of N F M BITS`.
 fn shape_of(words: &mut Words) -> Answered {
     let (n, f, m) = (
         words.small_number()?,
@@ -95,58 +95,58 @@ fn shape_of(words: &mut Words) -> Answered {
     }
 }
 
-/// `shape-parts SHAPE`.
+/// Answers `shape-parts SHAPE`.
 fn shape_parts(alloc: Global, words: &mut Words) -> Answered {
     let shape = words.shape()?;
     let (n, f, m, traitors) = (shape.n(), shape.f(), shape.m(), shape.traitors());
     Ok(Said::Text(format!(in alloc; "n {n} f {f} m {m} traitors {traitors}")?))
 }
 
-/// `replica-of NUMBER`.
+/// Answers `replica-of NUMBER`.
 fn replica_of(words: &mut Words) -> Answered {
     let replica = ReplicaId::new(words.small_number()?)?;
     Ok(Said::Actor(Actor::Replica(replica)))
 }
 
-/// `client-of NUMBER`.
+/// Answers `client-of NUMBER`.
 fn client_of(words: &mut Words) -> Answered {
     let client = ClientId::new(words.small_number()?)?;
     Ok(Said::Actor(Actor::Client(client)))
 }
 
-/// `has SHAPE ACTOR`.
+/// Answers `has SHAPE ACTOR`.
 fn has(words: &mut Words) -> Answered {
     let shape = words.shape()?;
     Ok(Said::Whether(shape.has(words.actor()?)))
 }
 
-/// `is-loyal SHAPE ACTOR`.
+/// Answers `is-loyal SHAPE ACTOR`.
 fn is_loyal(words: &mut Words) -> Answered {
     let shape = words.shape()?;
     Ok(Said::Whether(shape.is_loyal(words.actor()?)))
 }
 
-/// `sender SHAPE SLOT`.
+/// Answers `sender SHAPE SLOT`.
 fn sender(words: &mut Words) -> Answered {
     let shape = words.shape()?;
     let sender = shape.sender(words.number()?);
     Ok(Said::Actor(Actor::Replica(sender)))
 }
 
-/// `size SHAPE`.
+/// Answers `size SHAPE`.
 fn size(words: &mut Words) -> Answered {
     let shape = words.shape()?;
     Ok(Said::Number(shape.size() as u64))
 }
 
-/// `place SHAPE ACTOR`.
+/// Answers `place SHAPE ACTOR`.
 fn place(words: &mut Words) -> Answered {
     let shape = words.shape()?;
     let actor = words.actor()?;
     Ok(Said::Number(shape.place(&actor) as u64))
 }
 
-/// `actor-at SHAPE PLACE`.
+/// Answers `actor-at SHAPE PLACE`.
 fn actor_at(words: &mut Words) -> Answered {
     let shape = words.shape()?;
     let place = words.small_number()? as usize;
@@ -156,14 +156,14 @@ fn actor_at(words: &mut Words) -> Answered {
     Ok(Said::Actor(shape.actor_at(place)))
 }
 
-/// `request CLIENT NUMBER OPERATION`.
+/// Answers `request CLIENT NUMBER OPERATION`.
 fn request(words: &mut Words) -> Answered {
     let client = words.client()?;
     let number = words.number()?;
     Ok(Said::Request(Request::new(client, number, words.op()?)?))
 }
 
-/// `request-parts REQUEST`.
+/// Answers `request-parts REQUEST`.
 fn request_parts(alloc: Global, words: &Words) -> Answered {
     let request = Request::read(words.rest()).ok_or(Failure::BadRow)?;
     let (client, number, op) = (request.client(), request.number(), request.op());
@@ -171,12 +171,12 @@ fn request_parts(alloc: Global, words: &Words) -> Answered {
     Ok(Said::Text(format!(in alloc; "{client} {number} {op} on {name}")?))
 }
 
-/// `request-line LINE`.
+/// Answers `request-line LINE`.
 fn request_line(words: &Words) -> Answered {
     Ok(Said::of_request(Request::read_line(words.rest())))
 }
 
-/// All refusals, those that name a line with this one.
+/// Returns all refusals; those that name a line name this one.
 fn refusals(line: u64) -> [Refusal; 19] {
     [
         Refusal::BadShape,
@@ -213,14 +213,14 @@ fn refusal_of(words: &mut Words) -> Result<Refusal, Failure> {
     Err(Failure::BadRow)
 }
 
-/// `refusal NAME [LINE]`.
+/// Answers `refusal NAME [LINE]`.
 fn refusal(alloc: Global, words: &mut Words) -> Answered {
     let refusal = refusal_of(words)?;
     let code = refusal.code();
     Ok(Said::Text(format!(in alloc; "{code} {refusal}")?))
 }
 
-/// `tell NAME [LINE]`.
+/// Answers `tell NAME [LINE]`.
 fn tell(alloc: Global, words: &mut Words) -> Answered {
     let refusal = refusal_of(words)?;
     let mut errors = Vec::with_capacity(alloc, 64)?;

@@ -15,7 +15,7 @@ enum Call {
     Shape,
     /// `count`: how many events it has.
     Count,
-    /// `events`: its events, each as a line that stands for it alone.
+    /// `events`: its events, each as a line that represents only this event.
     Events,
 }
 
@@ -26,7 +26,7 @@ const CALLS: [(&str, Call); 3] = [
     ("events", Call::Events),
 ];
 
-/// `play TEXT`: the play that the text spells.
+/// Opens `play TEXT`: the play that the text encodes.
 pub(crate) fn open(alloc: Global, words: &Words) -> Result<Play, Failure> {
     let text = text_of(alloc, words.rest())?;
     Ok(Play::read(alloc, text.as_slice())?)
@@ -41,7 +41,7 @@ pub(crate) fn answer(alloc: Global, play: &Play, verb: &[u8]) -> Answered {
     }
 }
 
-/// `events`.
+/// Answers `events`.
 fn events(alloc: Global, events: &[Event]) -> Answered {
     let [first, rest @ ..] = events else {
         return Ok(Said::Nothing);
@@ -69,7 +69,7 @@ fn write_event(out: &mut String, event: &Event) -> Result<(), AllocError> {
     Ok(())
 }
 
-/// Writes a choice, a space before it.
+/// Writes a choice, with a space before it.
 fn write_pick(out: &mut String, pick: &Pick) -> Result<(), AllocError> {
     match pick {
         Pick::Plain => Ok(()),

@@ -22,7 +22,7 @@ enum Call {
     Step,
     /// `text`: its transcript.
     Text,
-    /// `verdict`: whether it is a run, and what the run gave.
+    /// `verdict`: whether it is a run, and the run's outcome.
     Verdict,
 }
 
@@ -36,7 +36,7 @@ const CALLS: [(&str, Call); 6] = [
     ("verdict", Call::Verdict),
 ];
 
-/// `transcript TEXT`: the record whose transcript the text is.
+/// Opens `transcript TEXT`: the record that the transcript encodes.
 pub(crate) fn open(alloc: Global, words: &Words) -> Result<Record, Failure> {
     let text = text_of(alloc, words.rest())?;
     Ok(Record::of_text(alloc, text.as_slice())?)
@@ -57,7 +57,7 @@ pub(crate) fn answer(alloc: Global, recorded: &Record, verb: &[u8], words: &mut 
     }
 }
 
-/// `step PLACE`.
+/// Answers `step PLACE`.
 fn step(alloc: Global, recorded: &Record, place: u64) -> Answered {
     let Ok(place) = usize::try_from(place) else {
         return Ok(Said::Nothing);
@@ -68,7 +68,7 @@ fn step(alloc: Global, recorded: &Record, place: u64) -> Answered {
     }
 }
 
-/// The step: its actor, what it did and with whom, and the envelope.
+/// Answers with the step: its actor, what it did and with whom, and the envelope.
 fn said_step(alloc: Global, step: &NotedStep) -> Answered {
     let (word, other) = match step.entry() {
         NotedEntry::Post { to, .. } => ("post", *to),
@@ -78,7 +78,7 @@ fn said_step(alloc: Global, step: &NotedStep) -> Answered {
     Ok(Said::Text(format!(in alloc; "{actor} {word} {other} {envelope}")?))
 }
 
-/// `text`, if the steps can stand in it.
+/// Answers `text`, if the steps can be written in a transcript.
 fn text(alloc: Global, recorded: &Record) -> Answered {
     if !recorded.fits() {
         return Err(Failure::NoCall);
@@ -88,7 +88,7 @@ fn text(alloc: Global, recorded: &Record) -> Answered {
     Ok(Said::Text(words_of(alloc, text.0.as_slice())?))
 }
 
-/// `verdict`: how many steps, which replies were accepted, and which requests acted.
+/// Answers `verdict`: how many steps there are, which replies were accepted, and which requests acted.
 fn verdict(alloc: Global, verdict: &Verdict) -> Answered {
     let entries = verdict.entries();
     let mut text = format!(in alloc; "run {entries}")?;

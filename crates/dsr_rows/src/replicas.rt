@@ -19,9 +19,9 @@ enum Call {
     Due,
     /// `in-flight`: the slots in flight.
     InFlight,
-    /// `allows REPLICA [from CLIENTS]`: whether it may post to this replica by this choice.
+    /// `allows REPLICA [from CLIENTS]`: whether it may post to this replica with this choice.
     Allows,
-    /// `refused REPLICA [from CLIENTS]`: what that post is refused with.
+    /// `refused REPLICA [from CLIENTS]`: the refusal of that post.
     Refused,
     /// `envelope REPLICA [from CLIENTS]`: what it would post.
     Envelope,
@@ -33,7 +33,7 @@ enum Call {
     PassedOver,
     /// `ask CLIENT SIGNED-REQUEST`: it takes the ask from this client.
     Ask,
-    /// `held CLIENT`: the request that is held of the client.
+    /// `held CLIENT`: the request of the client that it holds.
     Held,
     /// `reply CLIENT`: the reply that it posts to the client.
     Reply,
@@ -41,7 +41,7 @@ enum Call {
     Decided,
     /// `history`: the requests that acted.
     History,
-    /// `entries`: how long its log is.
+    /// `entries`: the number of entries of its log.
     Entries,
 }
 
@@ -63,7 +63,7 @@ const CALLS: [(&str, Call); 14] = [
     ("entries", Call::Entries),
 ];
 
-/// `replica SHAPE REPLICA`: the replica of the shape, with an empty log.
+/// Opens `replica SHAPE REPLICA`: the replica of the shape, with an empty log.
 pub(crate) fn open(alloc: Global, words: &mut Words) -> Result<Logged, Failure> {
     let shape = words.shape()?;
     let actor = Actor::Replica(words.replica()?);
@@ -110,7 +110,7 @@ fn pick(words: &mut Words) -> Result<Pick, Failure> {
     Ok(Pick::From(clients))
 }
 
-/// `in-flight`.
+/// Answers `in-flight`.
 fn in_flight(alloc: Global, replica: &Replica) -> Answered {
     let mut slots = Vec::new(alloc);
     for state in replica.in_flight() {
@@ -119,13 +119,13 @@ fn in_flight(alloc: Global, replica: &Replica) -> Answered {
     Ok(listed(alloc, slots.as_slice(), " ")?)
 }
 
-/// `allows REPLICA [from CLIENTS]`.
+/// Answers `allows REPLICA [from CLIENTS]`.
 fn allows(replica: &Replica, words: &mut Words) -> Answered {
     let to = words.replica()?;
     Ok(Said::Whether(replica.allows(to, pick(words)?)))
 }
 
-/// `refused REPLICA [from CLIENTS]`.
+/// Answers `refused REPLICA [from CLIENTS]`.
 fn refused(replica: &Replica, words: &mut Words) -> Answered {
     let to = words.replica()?;
     match replica.refusal(to, pick(words)?) {
@@ -134,21 +134,21 @@ fn refused(replica: &Replica, words: &mut Words) -> Answered {
     }
 }
 
-/// `envelope REPLICA [from CLIENTS]`.
+/// Answers `envelope REPLICA [from CLIENTS]`.
 fn envelope(alloc: Global, replica: &Replica, words: &mut Words) -> Answered {
     let to = words.replica()?;
     let envelope = replica.envelope_for(alloc, to, pick(words)?)?;
     said_envelope(alloc, Some(envelope))
 }
 
-/// `post REPLICA [from CLIENTS]`.
+/// Answers `post REPLICA [from CLIENTS]`.
 fn post(alloc: Global, logged: &mut Logged, words: &mut Words) -> Answered {
     let to = words.replica()?;
     let envelope = logged.post(alloc, to, &pick(words)?)?;
     said_envelope(alloc, Some(envelope))
 }
 
-/// `taken ACTOR ENVELOPE`.
+/// Answers `taken ACTOR ENVELOPE`.
 fn taken(desk: &Desk, logged: &mut Logged, words: &mut Words) -> Answered {
     let from = words.actor()?;
     let envelope = desk.envelope(words.rest())?;
@@ -159,7 +159,7 @@ fn taken(desk: &Desk, logged: &mut Logged, words: &mut Words) -> Answered {
     Ok(Said::Done)
 }
 
-/// `ask CLIENT SIGNED-REQUEST`.
+/// Answers `ask CLIENT SIGNED-REQUEST`.
 fn ask(desk: &Desk, logged: &mut Logged, words: &mut Words) -> Answered {
     let client = words.client()?;
     let signed = desk.signed(words.rest())?;
@@ -167,7 +167,7 @@ fn ask(desk: &Desk, logged: &mut Logged, words: &mut Words) -> Answered {
     Ok(Said::Done)
 }
 
-/// `decided`.
+/// Answers `decided`.
 fn decided(alloc: Global, replica: &Replica) -> Answered {
     let mut contents = Vec::new(alloc);
     for decision in replica.decided() {
@@ -176,7 +176,7 @@ fn decided(alloc: Global, replica: &Replica) -> Answered {
     Ok(listed(alloc, contents.as_slice(), " ")?)
 }
 
-/// The envelope, if there is one.
+/// Answers with the envelope, if there is one.
 fn said_envelope(alloc: Global, envelope: Option<Envelope>) -> Answered {
     match envelope {
         Some(envelope) => Ok(Said::Envelope(draft_of_envelope(alloc, &envelope)?)),

@@ -1,4 +1,4 @@
-//! What a call answered.
+//! The answers of calls.
 
 use dsr_chain::ChainFault;
 use dsr_desk::Content;
@@ -11,10 +11,10 @@ use dsr_slot::Fate;
 use std::alloc::{AllocError, AllocFailed};
 use std::fmt;
 
-/// What a call answered.
+/// The answer of a call.
 #[derive(Drop)]
 pub(crate) enum Said {
-    /// The call was made, and answers no more.
+    /// The call was made, and answers nothing more.
     Done,
     /// There is no such value.
     Nothing,
@@ -28,9 +28,9 @@ pub(crate) enum Said {
     Actor(Actor),
     /// A shape.
     Shape(Shape),
-    /// What a register holds.
+    /// The contents of a register.
     Old(Old),
-    /// What the directory answered.
+    /// An answer of the directory.
     Answer(Answer),
     /// A request.
     Request(Request),
@@ -46,10 +46,10 @@ pub(crate) enum Said {
     Text(String),
 }
 
-/// Why a call has no answer of its own.
+/// The reason why a call has no answer of its own.
 #[derive(Clone, Copy, Debug, PartialEq, Eq)]
 pub(crate) enum Failure {
-    /// The words after the verb are none that it takes.
+    /// The verb does not take the words after it.
     BadRow,
     /// The call's contract forbids it here, so it was not made.
     NoCall,
@@ -59,7 +59,7 @@ pub(crate) enum Failure {
     Refused(Refusal),
 }
 
-/// What a call comes to.
+/// The answer of a call, or the reason why it has none.
 pub(crate) type Answered = Result<Said, Failure>;
 
 impl From<Refusal> for Failure {
@@ -81,7 +81,7 @@ impl<T: Drop> From<AllocFailed<T>> for Failure {
 }
 
 impl Said {
-    /// What a check found.
+    /// Returns what a check found.
     pub(crate) fn of_check(found: Result<(), ChainFault>) -> Said {
         match found {
             Ok(()) => Said::Done,
@@ -89,7 +89,7 @@ impl Said {
         }
     }
 
-    /// The number, if there is one.
+    /// Returns the number, or `Nothing`.
     pub(crate) fn of_number(number: Option<u64>) -> Said {
         match number {
             Some(number) => Said::Number(number),
@@ -97,7 +97,7 @@ impl Said {
         }
     }
 
-    /// The reply, if there is one.
+    /// Returns the reply, or `Nothing`.
     pub(crate) fn of_reply(reply: Option<Reply>) -> Said {
         match reply {
             Some(reply) => Said::Reply(reply),
@@ -105,7 +105,7 @@ impl Said {
         }
     }
 
-    /// The answer, if there is one.
+    /// Returns the answer, or `Nothing`.
     pub(crate) fn of_answer(answer: Option<Answer>) -> Said {
         match answer {
             Some(answer) => Said::Answer(answer),
@@ -113,7 +113,7 @@ impl Said {
         }
     }
 
-    /// The request, if there is one.
+    /// Returns the request, or `Nothing`.
     pub(crate) fn of_request(request: Option<Request>) -> Said {
         match request {
             Some(request) => Said::Request(request),
@@ -122,7 +122,7 @@ impl Said {
     }
 }
 
-/// The word of a fault.
+/// Returns the word of a fault.
 pub(crate) fn word_of(fault: ChainFault) -> &'static str {
     match fault {
         ChainFault::OtherSlot => "other-slot",
@@ -135,7 +135,7 @@ pub(crate) fn word_of(fault: ChainFault) -> &'static str {
     }
 }
 
-/// The word of a fate.
+/// Returns the word of a fate.
 fn word_of_fate(fate: Fate) -> &'static str {
     match fate {
         Fate::First => "first",

@@ -1,4 +1,4 @@
-//! Whether two values are the same.
+//! Compares two values.
 
 use crate::desk::{Desk, draft_of};
 use crate::said::{Answered, Failure, Said};
@@ -7,7 +7,7 @@ use dsr_desk::Statement;
 use dsr_names::Refusal;
 use dsr_request::{Name, Requests};
 
-/// What is compared.
+/// A kind of values that can be compared.
 #[derive(Clone, Copy)]
 enum Kind {
     /// Names of registers.
@@ -46,7 +46,7 @@ const KINDS: [(&str, Kind); 10] = [
     ("draft", Kind::Draft),
 ];
 
-/// `same KIND ONE | OTHER`: whether a copy of one is the other.
+/// Answers `same KIND ONE | OTHER`: whether the two are the same; of most kinds, a copy of the first is compared.
 pub(crate) fn same(desk: &Desk, words: &mut Words) -> Answered {
     let kind = find(&KINDS, words.next())?;
     let (one, other) = words.pair()?;
@@ -83,13 +83,13 @@ fn statement(bytes: &[u8]) -> Result<Statement, Failure> {
     }
 }
 
-/// Whether the envelopes are the same, the first through a copy.
+/// Tells whether the envelopes are the same; a copy of the first is compared.
 fn are_same_envelopes(desk: &Desk, one: &[u8], other: &[u8]) -> Result<bool, Failure> {
     let copy = desk.envelope(one)?.try_copy(desk.alloc())?;
     Ok(copy.same(&desk.envelope(other)?))
 }
 
-/// Whether the drafts are the same, the first through a copy.
+/// Tells whether the drafts are the same; a copy of the first is compared.
 fn are_same_drafts(desk: &Desk, one: &[u8], other: &[u8]) -> Result<bool, Failure> {
     let copy = draft_of(desk.alloc(), one)?.try_copy()?;
     Ok(copy.same(&draft_of(desk.alloc(), other)?))

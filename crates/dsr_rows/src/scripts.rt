@@ -14,7 +14,7 @@ enum Call {
     Shape,
     /// `ops CLIENT`: the operations of the client.
     Ops,
-    /// `draft TRAITOR ROUND ACTOR`: what the traitor is to post to the actor in this round.
+    /// `draft TRAITOR ROUND ACTOR`: the draft that the traitor is to post to the actor in this round.
     Draft,
 }
 
@@ -25,7 +25,7 @@ const CALLS: [(&str, Call); 3] = [
     ("draft", Call::Draft),
 ];
 
-/// `script TEXT`: the script that the text spells.
+/// Opens `script TEXT`: the script that the text encodes.
 pub(crate) fn open(alloc: Global, words: &Words) -> Result<Script, Failure> {
     let text = text_of(alloc, words.rest())?;
     Ok(Script::read(alloc, text.as_slice())?)
@@ -40,7 +40,7 @@ pub(crate) fn answer(alloc: Global, script: &Script, verb: &[u8], words: &mut Wo
     }
 }
 
-/// `draft TRAITOR ROUND ACTOR`.
+/// Answers `draft TRAITOR ROUND ACTOR`.
 fn draft(script: &Script, words: &mut Words) -> Answered {
     let traitor = words.replica()?;
     let round = words.number()?;
@@ -50,7 +50,7 @@ fn draft(script: &Script, words: &mut Words) -> Answered {
     }
 }
 
-/// `header TITLE | TEXT`: the shape of the header with this title at the beginning of the text.
+/// Answers `header TITLE | TEXT`: the shape of the header with this title at the beginning of the text.
 pub(crate) fn header(alloc: Global, words: &Words) -> Answered {
     let (title, text) = words.pair()?;
     let text = text_of(alloc, text)?;
@@ -60,7 +60,7 @@ pub(crate) fn header(alloc: Global, words: &Words) -> Answered {
     shape_of_header(title, text.as_slice())
 }
 
-/// The shape of the header with this title at the beginning of the text.
+/// Answers with the shape in the header with this title at the beginning of the text.
 fn shape_of_header(title: &[u8], text: &[u8]) -> Answered {
     match read_header(title, text) {
         Ok(header) => Ok(Said::Shape(header.shape)),

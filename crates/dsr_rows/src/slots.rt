@@ -15,15 +15,15 @@ use std::alloc::Global;
 enum Call {
     /// `read CHAIN`: what becomes of the chain in the round after the closed ones.
     Read,
-    /// `would-keep CHAIN`: whether it would be kept there.
+    /// `would-keep CHAIN`: whether the chain would be kept in that round.
     WouldKeep,
-    /// `close`: how many rounds are closed with the one after them.
+    /// `close`: closes the round after the closed ones, and answers how many are closed.
     Close,
     /// `close-round CHAIN ..`: the same, after these chains were read.
     CloseRound,
-    /// `relays REPLICA`: what the replica posts of the slot in the round after the closed ones.
+    /// `relays REPLICA`: what the replica posts for the slot in the round after the closed ones.
     Relays,
-    /// `relays-in ROUND REPLICA`: what it posts in this round.
+    /// `relays-in ROUND REPLICA`: what the replica posts for the slot in this round.
     RelaysIn,
     /// `kept`: the chains that are kept, each in an envelope of the round in which it was read.
     Kept,
@@ -31,7 +31,7 @@ enum Call {
     Decide,
     /// `take-decision`: the same, and the value that is decided, with the number of its signed requests.
     TakeDecision,
-    /// `number`: which slot it is.
+    /// `number`: the slot's number.
     Number,
     /// `shape`: the shape in which it is broadcast.
     Shape,
@@ -52,7 +52,7 @@ const CALLS: [(&str, Call); 11] = [
     ("shape", Call::Shape),
 ];
 
-/// `slot SHAPE SLOT`: the slot before any of its rounds is closed.
+/// Opens `slot SHAPE SLOT`: the slot before any of its rounds is closed.
 pub(crate) fn open(words: &mut Words) -> Result<SlotState, Failure> {
     let shape = words.shape()?;
     Ok(SlotState::new(&shape, words.number()?))
@@ -83,14 +83,14 @@ pub(crate) fn answer(
     }
 }
 
-/// The round after the closed ones.
+/// Returns the round after the closed ones.
 fn next_round(state: &SlotState) -> u8 {
     state.closed_rounds() + 1
 }
 
-/// `read CHAIN`, if a round is left.
+/// Answers `read CHAIN`, if a round is left.
 fn read(state: &mut SlotState, chain: Chain) -> Answered {
-    // that at most f+1 rounds are closed is known from here on
+    // from here on the prover knows that at most f+1 rounds are closed
     let _closed = state.closed_rounds();
     if state.decide().is_some() {
         return Err(Failure::NoCall);
@@ -100,7 +100,7 @@ fn read(state: &mut SlotState, chain: Chain) -> Answered {
     Ok(Said::Fate(fate))
 }
 
-/// `would-keep CHAIN`, if a round is left.
+/// Answers `would-keep CHAIN`, if a round is left.
 fn would_keep(state: &SlotState, chain: &Chain) -> Answered {
     let _closed = state.closed_rounds();
     if state.decide().is_some() {
@@ -109,7 +109,7 @@ fn would_keep(state: &SlotState, chain: &Chain) -> Answered {
     Ok(Said::Whether(state.would_keep(chain)))
 }
 
-/// `close`, if a round is left.
+/// Answers `close`, if a round is left.
 fn close(state: &mut SlotState) -> Answered {
     let _closed = state.closed_rounds();
     if state.decide().is_some() {
@@ -119,7 +119,7 @@ fn close(state: &mut SlotState) -> Answered {
     Ok(Said::Number(u64::from(state.closed_rounds())))
 }
 
-/// `close-round CHAIN ..`, if a round is left.
+/// Answers `close-round CHAIN ..`, if a round is left.
 fn close_round(state: &mut SlotState, mut chains: Vec<Chain>) -> Answered {
     let closed = state.closed_rounds();
     if state.decide().is_some() {
@@ -129,7 +129,7 @@ fn close_round(state: &mut SlotState, mut chains: Vec<Chain>) -> Answered {
     Ok(Said::Number(u64::from(state.closed_rounds())))
 }
 
-/// `relays-in ROUND REPLICA`.
+/// Answers `relays-in ROUND REPLICA`.
 fn relays(desk: &Desk, state: &SlotState, round: u8, words: &mut Words) -> Answered {
     let key = desk.key(Actor::Replica(words.replica()?))?;
     let chains = state.relays(desk.alloc(), round, key)?;
@@ -139,7 +139,7 @@ fn relays(desk: &Desk, state: &SlotState, round: u8, words: &mut Words) -> Answe
     Ok(Said::Envelope(draft_of_round(desk.alloc(), u64::from(round), chains)?))
 }
 
-/// `kept`.
+/// Answers `kept`.
 fn kept(alloc: Global, state: &SlotState) -> Answered {
     let copy = state.try_copy()?;
     match copy.kept() {
@@ -149,7 +149,7 @@ fn kept(alloc: Global, state: &SlotState) -> Answered {
     }
 }
 
-/// One or two kept chains.
+/// Answers with one or two kept chains.
 fn said_kept(alloc: Global, first: &Kept, second: Option<&Kept>) -> Answered {
     let one = draft_of_kept(alloc, first)?;
     match second {
@@ -161,14 +161,14 @@ fn said_kept(alloc: Global, first: &Kept, second: Option<&Kept>) -> Answered {
     }
 }
 
-/// The envelope of the round in which the chain was read, with that chain.
+/// Returns the envelope of the round in which the chain was read, with that chain.
 fn draft_of_kept(alloc: Global, kept: &Kept) -> Result<Draft, Failure> {
     let mut chains = Vec::new(alloc);
     chains.push(kept.chain.try_copy()?)?;
     draft_of_round(alloc, u64::from(kept.round), chains)
 }
 
-/// `decide`.
+/// Answers `decide`.
 fn decide(state: &SlotState) -> Said {
     match state.decide() {
         Some(value) => Said::Content(Content(value.content())),
@@ -176,7 +176,7 @@ fn decide(state: &SlotState) -> Said {
     }
 }
 
-/// `take-decision`, if the last round is closed: a copy of the state is used up.
+/// Answers `take-decision`, if the last round is closed, from a copy of the state, which this consumes.
 fn take_decision(alloc: Global, state: &SlotState) -> Answered {
     let copy = state.try_copy()?;
     let _closed = copy.closed_rounds();
@@ -186,7 +186,7 @@ fn take_decision(alloc: Global, state: &SlotState) -> Answered {
     said_decision(alloc, &copy.into_decision())
 }
 
-/// The content that was decided, the value, and the number of its signed requests.
+/// Answers with the decided content, the value, and the number of its signed requests.
 fn said_decision(alloc: Global, decision: &Decision) -> Answered {
     let value = text_of_value(alloc, decision.value())?;
     let (content, requests) = (Content(decision.content()), decision.signed().len());

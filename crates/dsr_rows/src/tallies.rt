@@ -5,7 +5,7 @@ use crate::words::{Words, find};
 use dsr_quorum::Tally;
 use std::marker::Model;
 
-/// A tally, and among how many replicas it is.
+/// A tally, and the number of its replicas.
 #[derive(Drop)]
 pub(crate) struct Votes {
     tally: Tally,
@@ -25,13 +25,13 @@ impl Model for Votes {
 /// A call at a tally.
 #[derive(Clone, Copy)]
 enum Call {
-    /// `note REPLICA REPLY`: the replica gave the reply.
+    /// `note REPLICA REPLY`: notes that the replica gave the reply.
     Note,
     /// `winner`: the reply that won.
     Winner,
-    /// `votes REPLY`: how many replicas gave it first.
+    /// `votes REPLY`: how many replicas gave this reply as their first.
     Votes,
-    /// `vote-of REPLICA`: the reply that it gave first.
+    /// `vote-of REPLICA`: the reply that the replica gave first.
     VoteOf,
     /// `clear`: forgets all notes.
     Clear,
@@ -47,7 +47,7 @@ const CALLS: [(&str, Call); 5] = [
 ];
 
 impl Votes {
-    /// `tally F N`: no note, among so many replicas, of which so many may lie.
+    /// Opens `tally F N`: an empty tally for N replicas, at most F of which may lie.
     pub(crate) fn open(words: &mut Words) -> Result<Votes, Failure> {
         let f = words.small_number()?;
         let n = words.small_number()?;
@@ -74,7 +74,7 @@ impl Votes {
         }
     }
 
-    /// `note REPLICA REPLY`.
+    /// Answers `note REPLICA REPLY`.
     fn note(&mut self, words: &mut Words) -> Answered {
         let replica = words.replica()?;
         let reply = words.reply()?;
@@ -85,7 +85,7 @@ impl Votes {
         Ok(Said::Done)
     }
 
-    /// `vote-of REPLICA`.
+    /// Answers `vote-of REPLICA`.
     fn vote_of(&self, words: &mut Words) -> Answered {
         let replica = words.replica()?;
         if replica.number() >= self.n {

@@ -4,7 +4,7 @@ use crate::said::{Failure, Said};
 use std::alloc::{AllocError, Global};
 use std::fmt::{Display, Write};
 
-/// Returns the text that the words spell: each ` | `, and a ` |` at the end, stands for a line feed.
+/// Returns the text that the words encode: each ` | `, and a ` |` at the end, represents a line feed.
 pub(crate) fn text_of(alloc: Global, words: &[u8]) -> Result<Vec<u8>, Failure> {
     let mut text = Vec::new(alloc);
     let mut rest = words;
@@ -28,7 +28,7 @@ pub(crate) fn text_of(alloc: Global, words: &[u8]) -> Result<Vec<u8>, Failure> {
     Ok(text)
 }
 
-/// Returns the words that spell the text.
+/// Returns the words that encode the text.
 pub(crate) fn words_of(alloc: Global, text: &[u8]) -> Result<String, AllocError> {
     let mut words = String::new(alloc);
     let mut is_ended = false;

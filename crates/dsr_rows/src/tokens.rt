@@ -1,4 +1,4 @@
-//! Whether a text is a token.
+//! Checks whether a text is a token.
 
 ghost use Rattle.std.specs.Prelude.{◌≡◌, Ok, IsNone, IfSome, false};
 ghost use Rattle.dsr_rows.specs.declared.said.Said.TheVariants.{Done, Whether};
@@ -13,14 +13,14 @@ use dsr_script::Draft;
 use std::alloc::Global;
 use std::fmt::Display;
 
-/// What a token is of.
+/// A kind of token.
 #[derive(Clone, Copy)]
 enum Kind {
     /// A number below 2^40.
     Number,
     /// A number below 2^64.
     Value,
-    /// What a register holds.
+    /// The contents of a register.
     Old,
     /// A replica.
     Replica,
@@ -42,13 +42,13 @@ enum Kind {
     Signers,
     /// A request.
     Request,
-    /// A request as a line has it.
+    /// A request in the form of a line.
     Line,
     /// A list of requests.
     Requests,
     /// The requests of a slot, or idle.
     Content,
-    /// What is signed.
+    /// A statement.
     Statement,
     /// A signed request.
     Signed,
@@ -82,7 +82,7 @@ const KINDS: [(&str, Kind); 20] = [
     ("envelope", Kind::Envelope),
 ];
 
-/// `token KIND BYTES`: whether the bytes are a token of this kind, which is written as the same bytes.
+/// Answers `token KIND BYTES`: whether the bytes are a token of this kind, and its value is written as the same bytes.
 pub(crate) fn token(alloc: Global, words: &mut Words) -> Answered {
     let kind = find(&KINDS, words.next())?;
     let bytes = words.rest();
@@ -110,7 +110,7 @@ pub(crate) fn token(alloc: Global, words: &mut Words) -> Answered {
     }
 }
 
-/// Whether the bytes are the token of this value, which they were read as: otherwise the token is told.
+/// Tells whether the bytes are the token of this value, as which they were read; if not, answers with the token.
 fn spells<T: Display + Drop>(alloc: Global, value: Option<T>, bytes: &[u8]) -> Answered
     ensures none { IsNone value → result ≡ Ok (Whether false) }
     ensures token { result ≡ Ok Done → IfSome value (λ v. IfSome (T.output v) (λ token. token ≡ bytes.now)) }
@@ -126,7 +126,7 @@ fn spells<T: Display + Drop>(alloc: Global, value: Option<T>, bytes: &[u8]) -> A
     }
 }
 
-/// Whether the bytes are what follows this in the text of an envelope.
+/// Tells whether the bytes, after `front`, are the text of an envelope.
 fn spells_after(alloc: Global, front: &str, bytes: &[u8]) -> Answered {
     let mut text = Vec::new(alloc);
     text.extend_from_slice(front.as_bytes())?;
@@ -134,7 +134,7 @@ fn spells_after(alloc: Global, front: &str, bytes: &[u8]) -> Answered {
     spells(alloc, Draft::read(alloc, text.as_slice())?, text.as_slice())
 }
 
-/// Whether the bytes are the token of one chain.
+/// Tells whether the bytes are the token of one chain.
 fn spells_chain(alloc: Global, bytes: &[u8]) -> Answered {
     if bytes.contains(&b' ') {
         return Ok(Said::Whether(false));
@@ -142,7 +142,7 @@ fn spells_chain(alloc: Global, bytes: &[u8]) -> Answered {
     spells_after(alloc, "round 0 ", bytes)
 }
 
-/// Whether the bytes are a request as a line has it.
+/// Tells whether the bytes are a request in the form of a line.
 fn line(bytes: &[u8]) -> Said {
     match Request::read_line(bytes) {
         Some(_) => Said::Done,
@@ -150,7 +150,7 @@ fn line(bytes: &[u8]) -> Said {
     }
 }
 
-/// Reads what a register holds.
+/// Reads the contents of a register.
 fn old(bytes: &[u8]) -> Option<Old> {
     Some(Old(read_old(bytes)?))
 }
@@ -165,7 +165,7 @@ fn content(bytes: &[u8]) -> Option<Content> {
     Some(Content(read_content(bytes)?))
 }
 
-/// Whether the bytes are a name, and its bytes and its text are they; of other bytes the refusal tells.
+/// Tells whether the bytes are a name whose bytes and text are these bytes. Other bytes are refused.
 fn spells_name(alloc: Global, bytes: &[u8]) -> Answered {
     let name = Name::read(bytes)?;
     if name.as_bytes() != bytes || name.as_str().as_bytes() != bytes {
@@ -174,7 +174,7 @@ fn spells_name(alloc: Global, bytes: &[u8]) -> Answered {
     spells(alloc, Some(name), bytes)
 }
 
-/// Reads a shape; of one outside the limits the refusal tells.
+/// Reads a shape. A shape outside the limits is refused.
 fn shape(bytes: &[u8]) -> Result<Option<Shape>, Failure> {
     match Shape::read(bytes) {
         Some(Ok(shape)) => Ok(Some(shape)),

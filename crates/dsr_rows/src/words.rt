@@ -6,19 +6,19 @@ use dsr_ledger::Reply;
 use dsr_names::{Actor, ClientId, ReplicaId, Shape};
 use dsr_request::{Answer, Name, Op};
 
-/// What is left of a line, whose words are apart by one space.
+/// The rest of a line, whose words are separated by single spaces.
 #[derive(Clone, Copy)]
 pub(crate) struct Words<'a> {
     rest: &'a [u8],
 }
 
 impl<'a> Words<'a> {
-    /// The words of this line.
+    /// Returns the words of this line.
     pub(crate) fn of(line: &'a [u8]) -> Words<'a> {
         Words { rest: line }
     }
 
-    /// Takes the next word: what is left, if there is no space in it.
+    /// Takes the next word: all of the rest, if there is no space in it.
     pub(crate) fn next(&mut self) -> &'a [u8] {
         let (word, rest) = match split_once(self.rest, b' ') {
             Some((word, rest)) => (word, rest),
@@ -28,17 +28,17 @@ impl<'a> Words<'a> {
         word
     }
 
-    /// Returns all that is left.
+    /// Returns the rest.
     pub(crate) fn rest(&self) -> &'a [u8] {
         self.rest
     }
 
-    /// Whether nothing is left.
+    /// Tells whether nothing is left.
     pub(crate) fn is_empty(&self) -> bool {
         self.rest.is_empty()
     }
 
-    /// Returns both sides of the spaced bar in what is left.
+    /// Returns the two sides of the first spaced bar in the rest.
     pub(crate) fn pair(&self) -> Result<(&'a [u8], &'a [u8]), Failure> {
         let (front, back) = split_once(self.rest, b'|').ok_or(Failure::BadRow)?;
         let front = front.strip_suffix(b" ".as_slice()).ok_or(Failure::BadRow)?;
@@ -91,7 +91,7 @@ impl<'a> Words<'a> {
         }
     }
 
-    /// Returns the name that is left.
+    /// Returns the name that the rest is.
     pub(crate) fn name(&self) -> Result<Name, Failure> {
         match Name::read(self.rest) {
             Ok(name) => Ok(name),
@@ -99,12 +99,12 @@ impl<'a> Words<'a> {
         }
     }
 
-    /// Returns the spaced operation that is left.
+    /// Returns the spaced operation that the rest is.
     pub(crate) fn op(&self) -> Result<Op, Failure> {
         Op::read(self.rest, b' ').ok_or(Failure::BadRow)
     }
 
-    /// Returns the reply that is left: its number, its place and its answer.
+    /// Returns the reply that the rest is: its number, its place and its answer.
     pub(crate) fn reply(&mut self) -> Result<Reply, Failure> {
         let number = self.number()?;
         let place = self.number()?;
@@ -117,7 +117,7 @@ impl<'a> Words<'a> {
     }
 }
 
-/// Returns what the table has beside the word.
+/// Returns the value of the word in the table. `Skip` if the word is not there.
 pub(crate) fn find<T: Copy>(table: &[(&str, T)], word: &[u8]) -> Result<T, Failure> {
     for (entry, value) in table {
         if entry.as_bytes() == word {
