@@ -2,21 +2,21 @@ use dsr_ledger::Reply;
 use dsr_names::{Actor, ClientId, ReplicaId};
 use dsr_world::{Event, World};
 
-/// What stood before an event, by which it is told what the event changed.
+/// Snapshot before an event, to report what the event changes.
 #[derive(Clone, Copy)]
 pub(crate) struct Before {
-    /// How many slots the replica had decided.
+    /// The number of slots that the replica has decided.
     pub(crate) decided: usize,
-    /// How many requests had acted at the replica.
+    /// The number of requests that have acted at the replica.
     pub(crate) acted: usize,
-    /// The number that was outstanding with the client.
+    /// The number of the client's outstanding request.
     pub(crate) outstanding: Option<u64>,
     /// The vote of the replica from which the client takes.
     pub(crate) vote: Option<Reply>,
 }
 
 impl Before {
-    /// What stands now, before the event.
+    /// Takes the snapshot that the event needs. To be called before the event.
     pub(crate) fn of(world: &World, event: &Event) -> Before {
         match event {
             Event::Take {
@@ -31,7 +31,7 @@ impl Before {
         }
     }
 
-    /// Nothing.
+    /// Returns an empty snapshot.
     fn nothing() -> Before {
         Before {
             decided: 0,
@@ -41,7 +41,7 @@ impl Before {
         }
     }
 
-    /// What stands with a replica.
+    /// Takes the snapshot of a replica; an empty one if it is not loyal.
     fn of_replica(world: &World, replica: ReplicaId) -> Before {
         let mut before = Before::nothing();
         if let Ok(loyal) = world.replica(replica) {
@@ -51,7 +51,7 @@ impl Before {
         before
     }
 
-    /// What stands with a client that takes from the replica.
+    /// Takes the snapshot of a client that takes from the replica.
     fn of_client(world: &World, client: ClientId, replica: ReplicaId) -> Before {
         let mut before = Before::nothing();
         if let Ok(client) = world.client(client) {

@@ -1,4 +1,4 @@
-//! What a client makes of what it took from a replica.
+//! What a client does with an envelope that it took from a replica.
 
 use crate::before::Before;
 use crate::note::{NoVote, Note};
@@ -8,7 +8,7 @@ use dsr_ledger::Reply;
 use dsr_names::{ClientId, Refusal, ReplicaId};
 use dsr_world::World;
 
-/// Tells whether what was taken is a vote, and whether a reply was accepted by it.
+/// Notes whether the envelope is a vote, and whether the client accepted a reply by it.
 pub(crate) fn tell_reply(
     world: &World,
     client: ClientId,
@@ -41,7 +41,7 @@ pub(crate) fn tell_reply(
     Ok(())
 }
 
-/// Tells that it is no vote.
+/// Notes that the envelope is not a vote.
 fn tell_no_vote(
     client: ClientId,
     replica: ReplicaId,
@@ -56,7 +56,7 @@ fn tell_no_vote(
     Ok(())
 }
 
-/// Why the reply is no vote, if it is none.
+/// Returns why the reply is not a vote; `None` if it is one.
 fn no_vote(reply: &Reply, before: &Before) -> Option<NoVote> {
     match before.outstanding {
         None => Some(NoVote::NothingOutstanding),
@@ -68,7 +68,7 @@ fn no_vote(reply: &Reply, before: &Before) -> Option<NoVote> {
     }
 }
 
-/// How many replicas voted for the reply to what is outstanding with the client.
+/// Returns how many replicas voted for the reply, in the client's tally.
 fn votes_for(world: &World, client: ClientId, reply: &Reply) -> u8 {
     match world.client(client) {
         Ok(client) => client.tally().votes(reply),

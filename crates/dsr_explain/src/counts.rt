@@ -3,10 +3,10 @@ use dsr_names::Refusal;
 use dsr_world::Play;
 use std::alloc::Global;
 
-/// How many kinds of lines there are that stand for several events.
+/// The number of kinds of lines that represent several events.
 const KINDS: usize = 8;
 
-/// How many events lines of a play with this header stand for. Lines of one kind stand for as many, so of each kind one is read.
+/// Counts the events that lines of a play with this header represent. All lines of one kind represent equally many, so only one of each kind is read.
 #[derive(Drop)]
 pub(crate) struct Counts<'a> {
     header: &'a [u8],
@@ -14,7 +14,7 @@ pub(crate) struct Counts<'a> {
 }
 
 impl Counts<'_> {
-    /// Nothing known yet.
+    /// Creates the counts for plays with this header; none is known yet.
     pub(crate) fn new(header: &[u8]) -> Counts<'_> {
         Counts {
             header,
@@ -22,7 +22,7 @@ impl Counts<'_> {
         }
     }
 
-    /// How many events this line of the play stands for. `NoMemory` where memory runs out.
+    /// Returns how many events this line of the play represents. `NoMemory` if memory runs out.
     pub(crate) fn count(&mut self, alloc: Global, line: &[u8]) -> Result<usize, Refusal> {
         let Some(kind) = kind_of(line) else {
             return Ok(1);
@@ -39,7 +39,7 @@ impl Counts<'_> {
     }
 }
 
-/// The kind of a line that stands for several events: its word, and whether all replicas are meant. None where it stands for one.
+/// Returns the kind of a line that represents several events, by its word and whether it means all replicas. `None` if it represents one event.
 fn kind_of(line: &[u8]) -> Option<usize> {
     let (word, rest) = split_once(line, b' ')?;
     let is_all = rest == b"*".as_slice();
@@ -60,7 +60,7 @@ fn kind_of(line: &[u8]) -> Option<usize> {
     }
 }
 
-/// How many events this line of a play with this header stands for, found by reading a play of this line alone.
+/// Returns how many events this line of a play with this header represents, by reading a play of only this line.
 fn count_in(alloc: Global, header: &[u8], line: &[u8]) -> Result<usize, Refusal> {
     let mut text = Vec::new(alloc);
     text.extend_from_slice(header)?;

@@ -1,4 +1,4 @@
-//! Notes as data: one line a note, its parts apart by a space.
+//! Notes as data: one line for each note, its parts separated by a space.
 
 use crate::note::{ChainFate, Dropped, Note};
 use crate::pieces::put_number;
@@ -12,7 +12,7 @@ use dsr_slot::Fate;
 use dsr_world::{Event, World};
 use std::fmt::Write;
 
-/// How the line of a chain begins that a replica reads, by the replica's number.
+/// The beginnings of the line for a chain that a replica reads, by the replica's number.
 static CHAIN_AT: [&str; 16] = [
     "chain r0 ",
     "chain r1 ",
@@ -32,13 +32,13 @@ static CHAIN_AT: [&str; 16] = [
     "chain r15 ",
 ];
 
-/// The rounds of slots, by their numbers, behind the slot.
+/// The rounds of a slot, by their numbers, as written after the slot.
 static IN_ROUNDS: [&str; 17] = [
     " 0", " 1", " 2", " 3", " 4", " 5", " 6", " 7", " 8", " 9", " 10", " 11", " 12", " 13", " 14",
     " 15", " 16",
 ];
 
-/// Writes the note of this event, whose envelope is told so, as a line of data.
+/// Writes the note of this event as a line of data; `told` is the text about the event's envelope.
 pub(crate) fn write_data(
     out: &mut String,
     world: &World,
@@ -63,7 +63,7 @@ pub(crate) fn write_data(
     }
 }
 
-/// Writes a note of anything else than a chain that was taken.
+/// Writes a note about anything except a chain that was taken.
 fn write_other(out: &mut String, world: &World, event: &Event, note: &Note) -> Result<(), Refusal> {
     match note {
         Note::Silence { .. } | Note::Kept { .. } => write_kept(out, note),
@@ -77,7 +77,7 @@ fn write_other(out: &mut String, world: &World, event: &Event, note: &Note) -> R
     }
 }
 
-/// Writes a note of what a replica did not count, or kept.
+/// Writes a note about what a replica did not count, or kept.
 fn write_kept(out: &mut String, note: &Note) -> Result<(), Refusal> {
     match note {
         Note::Silence { replica, round } => writeln!(out, "silence {replica} {round}")?,
@@ -96,7 +96,7 @@ fn write_kept(out: &mut String, note: &Note) -> Result<(), Refusal> {
     Ok(())
 }
 
-/// Writes a note of the end of a round.
+/// Writes a note about the end of a round.
 fn write_end(out: &mut String, world: &World, note: &Note) -> Result<(), Refusal> {
     match note {
         Note::Closed { replica, round } => writeln!(out, "close {replica} {round}")?,
@@ -113,7 +113,7 @@ fn write_end(out: &mut String, world: &World, note: &Note) -> Result<(), Refusal
     Ok(())
 }
 
-/// Writes a note of what a replica made of a request.
+/// Writes a note about what a replica did with a request.
 fn write_request(out: &mut String, note: &Note) -> Result<(), Refusal> {
     match note {
         Note::Unproposed {
@@ -142,7 +142,7 @@ fn write_request(out: &mut String, note: &Note) -> Result<(), Refusal> {
     Ok(())
 }
 
-/// Writes a note of a client, or of a refusal.
+/// Writes a note about a client, or about a refusal.
 fn write_client(
     out: &mut String,
     world: &World,
@@ -161,7 +161,7 @@ fn write_client(
     }
 }
 
-/// Writes whether what a client took is a vote.
+/// Writes whether the envelope that a client took is a vote.
 fn write_vote(out: &mut String, note: &Note) -> Result<(), Refusal> {
     match note {
         Note::Vote {
@@ -193,7 +193,7 @@ fn write_accepted(out: &mut String, world: &World, client: ClientId) -> Result<(
     Ok(())
 }
 
-/// Writes what is told of a chain, whatever becomes of it and wherever it is read.
+/// Writes the part of a chain's line that depends neither on what becomes of it nor on where it is read.
 pub(crate) fn write_chain(out: &mut String, chain: &Chain) -> Result<(), Refusal> {
     let signers = chain.signers();
     write!(out, " {signers} ")?;
@@ -239,7 +239,7 @@ fn write_fate(out: &mut String, fate: &ChainFate) -> Result<(), Refusal> {
     Ok(())
 }
 
-/// The name of why something was dropped.
+/// Returns the word for why something was dropped.
 fn dropped_word(why: &Dropped) -> &'static str {
     match why {
         Dropped::NoAsk => "no-ask",

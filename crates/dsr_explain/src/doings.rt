@@ -1,4 +1,4 @@
-//! What actors do, as the lines of events say it.
+//! What actors do, as the lines of events describe it.
 
 use crate::pieces::name_of;
 use crate::wanted::{actor_of, other_of};
@@ -7,23 +7,23 @@ use dsr_world::Event;
 use std::alloc::Global;
 use std::fmt::Write;
 
-/// What the four kinds of events are in words, and as data.
+/// The verbs of the four kinds of events, in words and as data.
 static WORDS: [&str; 4] = [" posts to ", " plants for ", " takes from ", " tells "];
 
 static DATA: [&str; 4] = ["post ", "plant ", "take ", "tell "];
 
-/// What two actors of a shape did in an event, put together when it is first told: in words as `: r0 takes from r1`, as data as
-/// `take r0 r1 done`.
+/// The texts about what two actors of a shape did in an event, each made when it is first used: `: r0 takes from r1` in words,
+/// `take r0 r1 done` as data.
 #[derive(Drop)]
 pub(crate) struct Doings {
     shape: Shape,
     as_data: bool,
-    /// By the kind of the event, the place of who did it, and that of the other. Empty where it was not told yet.
+    /// The texts, by the kind of the event, the place of its actor, and that of the other actor. Empty if not made yet.
     texts: Vec<String>,
 }
 
 impl Doings {
-    /// Nothing told yet, as data or in words. `NoMemory` where memory runs out.
+    /// Creates the table without any text, as data or in words. `NoMemory` if memory runs out.
     pub(crate) fn new(alloc: Global, shape: Shape, as_data: bool) -> Result<Doings, Refusal> {
         let count = shape.size().saturating_mul(shape.size()).saturating_mul(4);
         let mut texts = Vec::with_capacity(alloc, count)?;
@@ -37,7 +37,7 @@ impl Doings {
         })
     }
 
-    /// Writes what was done by this event, whose actors are of the shape.
+    /// Writes what this event did. Its actors are in the shape.
     pub(crate) fn write_done(&mut self, out: &mut String, event: &Event) -> Result<(), Refusal> {
         let (place, as_data) = (self.place(event), self.as_data);
         if let Some(text) = self.texts.get_mut(place) {
@@ -50,7 +50,7 @@ impl Doings {
         Ok(())
     }
 
-    /// The place of what was done by this event.
+    /// Returns the place of this event's text.
     fn place(&self, event: &Event) -> usize {
         let actors = self.shape.size();
         kind_of(event)
@@ -61,7 +61,7 @@ impl Doings {
     }
 }
 
-/// Writes what was not done by this event, and how it was refused.
+/// Writes what this event did not do, and how it was refused.
 pub(crate) fn write_refused(
     out: &mut String,
     as_data: bool,
@@ -95,7 +95,7 @@ fn write_doing(out: &mut String, as_data: bool, event: &Event) -> Result<(), Ref
     Ok(())
 }
 
-/// The word of this kind.
+/// Returns the word of this kind.
 fn word_of(words: &[&'static str], kind: usize) -> &'static str {
     match words.get(kind) {
         Some(word) => *word,
@@ -103,7 +103,7 @@ fn word_of(words: &[&'static str], kind: usize) -> &'static str {
     }
 }
 
-/// The number of the event's kind, below 4.
+/// Returns the number of the event's kind, below 4.
 fn kind_of(event: &Event) -> usize {
     match event {
         Event::Post { .. } => 0,

@@ -1,4 +1,4 @@
-//! What stands at the end of a play: what each slot came to, and who waits for whom.
+//! The end of a play: the outcome of each slot, and who waits for whom.
 
 use crate::reading::round_of;
 use crate::standing::content_of;
@@ -12,7 +12,7 @@ use dsr_world::World;
 use std::fmt::Write;
 
 impl Story {
-    /// Tells what each slot came to, and who waits for whom. `NoMemory` where memory runs out.
+    /// Tells the outcome of each slot, and who waits for whom. `NoMemory` if memory runs out.
     pub(crate) fn end(&mut self) -> Result<(), Refusal> {
         if !self.wanted.data {
             self.tell_refused()?;
@@ -27,7 +27,7 @@ impl Story {
         Ok(())
     }
 
-    /// Tells how many events were refused, and where the first was.
+    /// Tells how many events were refused, and the line of the first.
     fn tell_refused(&mut self) -> Result<(), Refusal> {
         let (refused, line) = (self.refused, self.first_refused);
         if refused > 0 && self.wanted.is_of_all() {
@@ -39,7 +39,7 @@ impl Story {
         Ok(())
     }
 
-    /// Tells what each slot came to.
+    /// Tells the outcome of each slot.
     fn tell_slots(&mut self) -> Result<(), Refusal> {
         for slot in 0..self.kept.len() {
             if !self.wanted.has_end_of(slot as u64) {
@@ -52,7 +52,7 @@ impl Story {
         Ok(())
     }
 
-    /// Tells what the loyal replica of this number does next.
+    /// Tells what the loyal replica with this number does next.
     fn tell_wait_of_replica(&mut self, number: u8) -> Result<(), Refusal> {
         let Ok(replica) = ReplicaId::new(number) else {
             return Ok(());
@@ -70,7 +70,7 @@ impl Story {
         }
     }
 
-    /// Tells what the client of this number waits for.
+    /// Tells what the client with this number waits for.
     fn tell_wait_of_client(&mut self, number: u8) -> Result<(), Refusal> {
         let Ok(id) = ClientId::new(number) else {
             return Ok(());
@@ -93,7 +93,7 @@ impl Story {
     }
 }
 
-/// Writes how the request of this number, which is outstanding with the client, stands with each replica.
+/// Writes how far the client's outstanding request, which has this number, is at each replica.
 fn write_standing(
     out: &mut String,
     world: &World,
@@ -111,7 +111,7 @@ fn write_standing(
     Ok(())
 }
 
-/// How the request stands with the replica.
+/// Returns how far the request is at the replica, in words.
 fn standing_at(world: &World, replica: ReplicaId, client: ClientId, number: u64) -> &'static str {
     if has_voted(world, replica, client) {
         return "has replied";
@@ -129,7 +129,7 @@ fn standing_at(world: &World, replica: ReplicaId, client: ClientId, number: u64)
     }
 }
 
-/// Whether a reply of the replica to the outstanding request was counted.
+/// Tells whether the client has counted a reply of the replica to the outstanding request.
 fn has_voted(world: &World, replica: ReplicaId, client: ClientId) -> bool {
     match world.client(client) {
         Ok(client) if replica.number() < world.shape().n() => {
@@ -139,7 +139,7 @@ fn has_voted(world: &World, replica: ReplicaId, client: ClientId) -> bool {
     }
 }
 
-/// Whether the client's request of this number acted at the replica last.
+/// Tells whether the client's last request that acted at the replica has this number.
 fn has_acted(loyal: &Replica, client: ClientId, number: u64) -> bool {
     match loyal.reply_for(client) {
         Some(Envelope::Reply(reply)) => reply.number == number,
@@ -147,17 +147,17 @@ fn has_acted(loyal: &Replica, client: ClientId, number: u64) -> bool {
     }
 }
 
-/// What a loyal replica does next with the other replicas.
+/// The next step of a loyal replica with the other replicas.
 #[derive(Clone, Copy)]
 struct Next {
     due: Due,
     /// The round in progress.
     round: u64,
-    /// Whether what it takes next is there.
+    /// Whether the envelope that it takes next is in the box.
     is_there: bool,
 }
 
-/// What the replica does next. None where it is a traitor.
+/// Returns what the replica does next; `None` if it is a traitor.
 fn next_of(world: &World, replica: ReplicaId) -> Option<Next> {
     let Ok(loyal) = world.replica(replica) else {
         return None;
@@ -173,7 +173,7 @@ fn next_of(world: &World, replica: ReplicaId) -> Option<Next> {
     })
 }
 
-/// Whether something lies in the box from one replica to another.
+/// Tells whether the box from one replica to another is full.
 fn lies(world: &World, from: ReplicaId, to: ReplicaId) -> bool {
     let (from, to) = (Actor::Replica(from), Actor::Replica(to));
     world.shape().has(from) && world.shape().has(to) && world.in_box(&from, &to).is_some()
@@ -214,7 +214,7 @@ fn write_next_data(out: &mut String, replica: ReplicaId, next: &Next) -> Result<
     Ok(())
 }
 
-/// Writes what a slot came to.
+/// Writes the outcome of a slot.
 fn write_slot(out: &mut String, world: &World, slot: usize, kept: &KeptBy) -> Result<(), Refusal> {
     let sender = world.shape().sender(slot as u64);
     write!(out, "slot {slot}, sent by {sender}")?;
@@ -228,7 +228,7 @@ fn write_slot(out: &mut String, world: &World, slot: usize, kept: &KeptBy) -> Re
     Ok(())
 }
 
-/// Writes how many contents each of so many replicas kept of a slot that it decided.
+/// Writes, for each of the first `replicas` replicas that decided the slot, how many contents it kept.
 fn write_counts(out: &mut String, replicas: u8, kept: &KeptBy) -> Result<(), Refusal> {
     for number in 0..replicas {
         if let Some(Some(count)) = kept.get(number as usize) {
@@ -239,7 +239,7 @@ fn write_counts(out: &mut String, replicas: u8, kept: &KeptBy) -> Result<(), Ref
     Ok(())
 }
 
-/// So many contents, in words.
+/// Returns the number of contents in words.
 fn kept_word(count: u8) -> &'static str {
     match count {
         0 => "nothing",
@@ -248,7 +248,7 @@ fn kept_word(count: u8) -> &'static str {
     }
 }
 
-/// What was decided of the slot, by the first loyal replica that has decided it.
+/// Returns the requests that the first loyal replica with any decided for the slot; `None` if no loyal replica decided any.
 fn decided_content(world: &World, slot: usize) -> Option<Requests> {
     for number in 0..world.shape().n() {
         let Ok(replica) = ReplicaId::new(number) else {

@@ -1,7 +1,7 @@
-//! Why a play came out as it did: each event with its line, what became of each chain that was read, what was decided and which of its
+//! Explains the outcome of a play: each event with its line, what became of each chain that was read, what was decided and which of its
 //! requests acted, who voted for which reply, why an event was refused, and who waits for whom at the end.
 //!
-//! What is told of a chain, of a slot, of a vote and of a box is what the crates that own them return, by their contracts. How it is put into
+//! What is told about a chain, a slot, a vote or a box is what the crates that own them return, by their contracts. How it is put into
 //! words is tested, not proved.
 #![tactic(auto)]
 

@@ -3,10 +3,10 @@ use dsr_names::{Actor, ClientId, ReplicaId};
 use dsr_request::Request;
 use dsr_slot::Fate;
 
-/// What is told of an event in particular.
+/// A note about an event.
 #[derive(Drop)]
 pub(crate) enum Note {
-    /// A loyal replica took an envelope that is not one of the round in progress: it counts as no chains.
+    /// A loyal replica took an envelope that is not one of the round in progress: none of its chains counts.
     Silence {
         replica: ReplicaId,
         /// The round in progress.
@@ -19,14 +19,14 @@ pub(crate) enum Note {
         slot: u64,
         fate: ChainFate,
     },
-    /// A loyal replica has kept this chain of a slot that closes.
+    /// A loyal replica has kept this chain for a slot that closes.
     Kept {
         replica: ReplicaId,
         chain: Chain,
         /// The slot's round in which it was read.
         round: u8,
     },
-    /// A replica chose to propose nothing in its slot, though it holds this request, which acted nowhere and is in no chain that it keeps.
+    /// A replica chose to propose nothing in its slot, though it holds this request, which has not acted there and is in no chain that it keeps.
     Unproposed {
         replica: ReplicaId,
         slot: u64,
@@ -37,7 +37,7 @@ pub(crate) enum Note {
         replica: ReplicaId,
         round: u64,
     },
-    /// A loyal replica decided a slot, for which it had kept so many contents.
+    /// A loyal replica decided a slot, for which it had kept `kept` contents.
     Decided {
         replica: ReplicaId,
         slot: u64,
@@ -50,7 +50,7 @@ pub(crate) enum Note {
         place: u64,
         request: Request,
     },
-    /// A request of a decided slot did not act: its client's number is not above those that acted.
+    /// A request of a decided slot did not act: a request of its client with this or a higher number already acted.
     Stale {
         replica: ReplicaId,
         slot: u64,
@@ -61,19 +61,19 @@ pub(crate) enum Note {
         replica: ReplicaId,
         request: Request,
     },
-    /// A loyal replica dropped what it took of a client.
+    /// A loyal replica dropped the envelope that it took from a client.
     Dropped {
         replica: ReplicaId,
         why: Dropped,
     },
-    /// A reply is a vote: so many replicas voted for it, of those that are needed.
+    /// A reply is a vote: `count` replicas have voted for it, and `needed` votes are needed.
     Vote {
         client: ClientId,
         replica: ReplicaId,
         count: u8,
         needed: u8,
     },
-    /// What a client took of a replica is no vote.
+    /// The envelope that a client took from a replica is not a vote.
     NoVote {
         client: ClientId,
         replica: ReplicaId,
@@ -96,25 +96,25 @@ pub(crate) enum ChainFate {
     NotInFlight,
 }
 
-/// Why a replica dropped what it took of a client.
+/// Why a replica dropped the envelope that it took from a client.
 #[derive(Clone, Copy)]
 pub(crate) enum Dropped {
-    /// It is no ask.
+    /// It is not an ask.
     NoAsk,
-    /// The client did not sign it as its own.
+    /// The request is not signed by this client as its own.
     NotSigned,
-    /// An ask of a greater number is held.
+    /// An ask with a greater number is held.
     Older,
 }
 
-/// Why an envelope that a client took is no vote.
+/// Why an envelope that a client took is not a vote.
 #[derive(Clone, Copy)]
 pub(crate) enum NoVote {
-    /// It is no reply.
+    /// It is not a reply.
     NoReply,
     /// No request is outstanding.
     NothingOutstanding,
-    /// Another number is outstanding than that of the reply.
+    /// The outstanding request has another number than the reply.
     OtherNumber { outstanding: u64 },
     /// The replica has voted already: only its first reply counts.
     HasVoted,
@@ -123,41 +123,41 @@ pub(crate) enum NoVote {
 /// Why an event was refused.
 #[derive(Clone, Copy)]
 pub(crate) enum Why {
-    /// The actor is not one of the shape.
+    /// The actor is not in the shape.
     NoActor(Actor),
     /// The actor is a traitor: it posts by `plant`.
     Traitor(Actor),
     /// The actor is loyal: it posts by `post`.
     Loyal(Actor),
-    /// Clients post nothing to each other, but tell.
+    /// Clients do not post to each other; they tell.
     BothClients,
-    /// Only a client tells another one.
+    /// Only clients tell, and only other clients.
     NotTwoClients,
-    /// A client takes nothing from itself.
+    /// A client does not take from itself.
     FromItself,
-    /// The replica has first to post to this one.
+    /// The replica must first post to this one.
     PostsFirst { to: ReplicaId },
-    /// The replica has first to take from this one.
+    /// The replica must first take from this one.
     TakesFirst { from: ReplicaId },
-    /// The choice is made at the post to r0.
+    /// A choice is made only at the post to r0.
     ChosenBefore,
     /// The slot that begins with the round has another sender.
     OtherSender { slot: u64, sender: ReplicaId },
     /// The replica holds no ask of this client.
     NothingHeld { client: ClientId },
-    /// A replica begins no request.
+    /// A replica does not begin requests.
     BeginsNothing,
     /// No request of the client has acted at the replica.
     NothingActed { client: ClientId },
-    /// A replica chooses nothing at a post to a client.
+    /// A replica has no choice at a post to a client.
     NoChoice,
-    /// A client proposes nothing.
+    /// A client does not propose.
     ProposesNothing,
-    /// The client's request of this number is outstanding.
+    /// The client's request with this number is outstanding.
     Outstanding(u64),
     /// No request of the client is outstanding.
     NothingOutstanding,
-    /// The box holds an envelope that was not taken.
+    /// The box holds an envelope that was not taken yet.
     NotTaken,
     /// The box is empty.
     NothingPosted,
@@ -168,7 +168,7 @@ pub(crate) enum Why {
 }
 
 impl Note {
-    /// The slot of which it is, if it is of one.
+    /// Returns the slot that the note is about, if it is about one.
     pub(crate) fn slot(&self) -> Option<u64> {
         match self {
             Note::Kept { chain, .. } => Some(chain.slot()),

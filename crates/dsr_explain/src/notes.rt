@@ -9,14 +9,14 @@ pub(crate) struct Notes {
 }
 
 impl Notes {
-    /// No notes.
+    /// Creates an empty list.
     pub(crate) fn new(alloc: Global) -> Notes {
         Notes {
             items: Vec::new(alloc),
         }
     }
 
-    /// Adds a note. `NoMemory` where memory runs out.
+    /// Adds a note. `NoMemory` if memory runs out.
     pub(crate) fn push(&mut self, note: Note) -> Result<(), Refusal> {
         match self.items.push(note) {
             Ok(()) => Ok(()),
@@ -29,7 +29,7 @@ impl Notes {
         self.items.clear();
     }
 
-    /// The notes.
+    /// Returns the notes.
     pub(crate) fn as_slice(&self) -> &[Note] {
         self.items.as_slice()
     }

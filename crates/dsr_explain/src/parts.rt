@@ -2,7 +2,7 @@ use dsr_base::split_once;
 use dsr_names::Refusal;
 use std::alloc::Global;
 
-/// A part of a line, which stands between spaces.
+/// A part of a line, between spaces.
 #[derive(Clone, Copy)]
 pub(crate) struct Part<'a> {
     /// The column in which it begins, counted from 1.
@@ -11,7 +11,7 @@ pub(crate) struct Part<'a> {
     pub(crate) token: &'a [u8],
 }
 
-/// The parts of a line, in their order. `NoMemory` where memory runs out.
+/// Returns the parts of a line, in order. `NoMemory` if memory runs out.
 pub(crate) fn parts_of<'a>(alloc: Global, line: &'a [u8]) -> Result<Vec<Part<'a>>, Refusal> {
     let mut parts = Vec::new(alloc);
     let mut rest = line;

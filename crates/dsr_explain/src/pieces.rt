@@ -1,9 +1,9 @@
-//! Pieces of lines, put at the end of a text one after another: `write!` of the same line takes several times as long.
+//! Pieces of lines, appended to a text one after another: `write!` takes several times as long for the same line.
 
 use dsr_names::{Actor, Refusal, ReplicaId};
 use itoa::Buffer;
 
-/// How many actors texts name: 16 replicas and 32 clients.
+/// The maximum number of actors: 16 replicas and 32 clients.
 pub(crate) const MOST_ACTORS: usize = 48;
 
 /// The names of replicas, by their numbers.
@@ -19,7 +19,7 @@ static CLIENTS: [&str; 32] = [
     "c28", "c29", "c30", "c31",
 ];
 
-/// The actor's name.
+/// Returns the actor's name.
 pub(crate) fn name_of(actor: Actor) -> &'static str {
     match actor {
         Actor::Replica(replica) => replica_name(replica),
@@ -27,12 +27,12 @@ pub(crate) fn name_of(actor: Actor) -> &'static str {
     }
 }
 
-/// The replica's name.
+/// Returns the replica's name.
 pub(crate) fn replica_name(replica: ReplicaId) -> &'static str {
     REPLICAS[replica.number() as usize]
 }
 
-/// The place of an actor, whatever the shape: the clients come after 16 replicas.
+/// Returns the place of an actor, the same for every shape: the clients come after 16 replicas.
 pub(crate) fn place_of(actor: Actor) -> usize {
     match actor {
         Actor::Replica(replica) => replica.number() as usize,
@@ -40,7 +40,7 @@ pub(crate) fn place_of(actor: Actor) -> usize {
     }
 }
 
-/// Puts the number.
+/// Appends the number.
 pub(crate) fn put_number(out: &mut String, number: u64) -> Result<(), Refusal> {
     out.push_str(Buffer::new().format(number))?;
     Ok(())

@@ -1,4 +1,4 @@
-//! What becomes of the chains of an envelope, told before it is taken; two of one slot are read by copies of the states of the slots in flight.
+//! Notes what becomes of the chains of an envelope, before it is taken. Two chains of one slot are read by copies of the states of the slots in flight.
 
 use crate::note::{ChainFate, Note};
 use crate::notes::Notes;
@@ -10,8 +10,8 @@ use dsr_slot::{Kept, SlotState};
 use dsr_world::World;
 use std::alloc::Global;
 
-/// Tells what becomes of the chains that the replica is to take from another one, and what it has kept then of the slot that closes with the
-/// round. Tells nothing where there is nothing to take.
+/// Notes what becomes of the chains that the replica is to take from another one, and what it will have kept for the slot that closes with the
+/// round. Notes nothing if there is nothing to take.
 pub(crate) fn read_envelope(
     alloc: Global,
     world: &World,
@@ -35,7 +35,7 @@ pub(crate) fn read_envelope(
         notes.push(Note::Silence { replica, round })?;
     }
     let chains = chains_in(envelope, round);
-    // what becomes of a chain is told by the states themselves, which only one before it of the same slot would have changed
+    // the states themselves tell what becomes of a chain, unless an earlier chain of the same slot would have changed them
     if has_slot_twice(chains) {
         let mut states = copies_of(alloc, loyal.in_flight())?;
         read_chains(chains, replica, &mut states, notes)?;
@@ -48,7 +48,7 @@ pub(crate) fn read_envelope(
     Ok(())
 }
 
-/// Whether two of the chains are of the same slot.
+/// Tells whether two of the chains are of the same slot.
 fn has_slot_twice(chains: &[Chain]) -> bool {
     for place in 1..chains.len() {
         for before in 0..place {
@@ -60,7 +60,7 @@ fn has_slot_twice(chains: &[Chain]) -> bool {
     false
 }
 
-/// The round in progress: a slot begins with each.
+/// Returns the round in progress, by the newest slot: one begins with each round.
 pub(crate) fn round_of(replica: &Replica) -> u64 {
     match replica.in_flight().last() {
         Some(newest) => newest.slot(),
@@ -68,7 +68,7 @@ pub(crate) fn round_of(replica: &Replica) -> u64 {
     }
 }
 
-/// Copies of the states.
+/// Copies the states.
 fn copies_of(alloc: Global, states: &[SlotState]) -> Result<Vec<SlotState>, Refusal> {
     let mut copies = Vec::with_capacity(alloc, states.len())?;
     for state in states {
@@ -77,7 +77,7 @@ fn copies_of(alloc: Global, states: &[SlotState]) -> Result<Vec<SlotState>, Refu
     Ok(copies)
 }
 
-/// Whether the envelope is empty, or of this round: any other counts as no chains.
+/// Tells whether the envelope is empty, or of this round; no chain of any other envelope counts.
 fn counts_in(envelope: &Envelope, round: u64) -> bool {
     match envelope {
         Envelope::Empty => true,
@@ -86,7 +86,7 @@ fn counts_in(envelope: &Envelope, round: u64) -> bool {
     }
 }
 
-/// The chains that the envelope has for this round.
+/// Returns the chains that the envelope has for this round.
 fn chains_in(envelope: &Envelope, round: u64) -> &[Chain] {
     match envelope {
         Envelope::Round {
@@ -97,7 +97,7 @@ fn chains_in(envelope: &Envelope, round: u64) -> &[Chain] {
     }
 }
 
-/// Tells what becomes of each of the chains, which are of different slots.
+/// Notes what becomes of each of the chains, which are of different slots.
 fn tell_chains(
     chains: &[Chain],
     replica: ReplicaId,
@@ -110,7 +110,7 @@ fn tell_chains(
     Ok(())
 }
 
-/// Reads the chains, and tells what became of each.
+/// Reads the chains, and notes what becomes of each.
 fn read_chains(
     chains: &[Chain],
     replica: ReplicaId,
@@ -124,7 +124,7 @@ fn read_chains(
     Ok(())
 }
 
-/// Tells what becomes of the chain at this place of the envelope when it is read in its slot, if that is in flight.
+/// Notes what becomes of the chain at this place of the envelope when it is read in its slot, or that its slot is not in flight.
 fn tell_chain(
     chain: &Chain,
     place: usize,
@@ -143,7 +143,7 @@ fn tell_chain(
     })
 }
 
-/// The state of this slot, if it is in flight: slots in flight follow each other.
+/// Returns the state of this slot, if it is in flight. Slots in flight are consecutive.
 fn state_of(states: &[SlotState], slot: u64) -> Option<&SlotState> {
     let oldest = states.first()?.slot();
     let state = states.get(slot.saturating_sub(oldest) as usize)?;
@@ -154,7 +154,7 @@ fn state_of(states: &[SlotState], slot: u64) -> Option<&SlotState> {
     }
 }
 
-/// Tells what becomes of the chain when it is read in this slot.
+/// Notes what becomes of the chain when it is read in this slot.
 fn tell_fate(
     state: &SlotState,
     chain: &Chain,
@@ -193,7 +193,7 @@ fn read_in(state: &mut SlotState, chain: &Chain) -> Result<(), Refusal> {
     Ok(())
 }
 
-/// Tells what is kept, once these chains are read, of the slot that is in its last round, if one is.
+/// Notes what is kept for the slot that is in its last round, if there is one, once these chains are read.
 fn tell_kept(
     states: &[SlotState],
     chains: &[Chain],
@@ -217,7 +217,7 @@ fn tell_kept(
     tell_one(second, replica, notes)
 }
 
-/// Tells that the chain is kept, if there is one.
+/// Notes that the chain is kept, if there is one.
 fn tell_one(kept: Option<&Kept>, replica: ReplicaId, notes: &mut Notes) -> Result<(), Refusal> {
     if let Some(kept) = kept {
         notes.push(Note::Kept {

@@ -1,5 +1,5 @@
-//! What a loyal replica does at a take, which may close a round, decide a slot, and have requests act, or hold a request; and what it does
-//! not propose.
+//! What a loyal replica does at a take: it may close a round, decide a slot and execute requests, or hold a request. And what it does not
+//! propose.
 
 use crate::before::Before;
 use crate::note::{Dropped, Note};
@@ -12,7 +12,7 @@ use dsr_request::{Request, Requests};
 use dsr_slot::Kept;
 use dsr_world::World;
 
-/// Tells what the take from another replica changed.
+/// Notes what the take from another replica changed.
 pub(crate) fn tell_take(
     world: &World,
     replica: ReplicaId,
@@ -36,7 +36,7 @@ pub(crate) fn tell_take(
     Ok(())
 }
 
-/// Tells what was decided, and which of its requests acted.
+/// Notes what was decided, and which of its requests acted.
 fn tell_decision(
     loyal: &Replica,
     replica: ReplicaId,
@@ -59,7 +59,7 @@ fn tell_decision(
     Ok(())
 }
 
-/// How many of the notes tell of a kept chain.
+/// Returns how many of the notes are about a kept chain.
 fn kept_among(notes: &[Note]) -> u8 {
     let mut count: u8 = 0;
     for note in notes {
@@ -70,7 +70,7 @@ fn kept_among(notes: &[Note]) -> u8 {
     count
 }
 
-/// Tells of each request whether it acted. Those that did are the history's last, in their order.
+/// Notes for each request whether it acted. Those that did are the last in the history, in their order.
 fn tell_requests(
     loyal: &Replica,
     replica: ReplicaId,
@@ -102,7 +102,7 @@ fn tell_requests(
     Ok(())
 }
 
-/// Tells whether the request that was taken of a client is held.
+/// Notes whether the request that was taken from a client is held.
 pub(crate) fn tell_ask(
     world: &World,
     replica: ReplicaId,
@@ -138,7 +138,7 @@ pub(crate) fn tell_ask(
     Ok(())
 }
 
-/// Tells which requests the replica, which chose to propose nothing, could have proposed, where the slot that begins is its own.
+/// Notes which requests the replica, which chose to propose nothing, could have proposed, if the slot that begins is its own.
 pub(crate) fn tell_unproposed(
     world: &World,
     replica: ReplicaId,
@@ -166,7 +166,7 @@ pub(crate) fn tell_unproposed(
     Ok(())
 }
 
-/// The request that the replica holds of the client, where it neither acted there nor is in a chain that is kept.
+/// Returns the client's request that the replica holds, if it neither acted there nor is in a chain that the replica keeps.
 fn waiting_of(loyal: &Replica, client: ClientId) -> Option<Request> {
     let request = loyal.held(client)?;
     if has_passed(loyal, client, &request) || is_kept(loyal, &request) {
@@ -176,7 +176,7 @@ fn waiting_of(loyal: &Replica, client: ClientId) -> Option<Request> {
     }
 }
 
-/// Whether the request, or one of a greater number of the client, acted at the replica.
+/// Tells whether the request, or one of the client with a greater number, acted at the replica.
 fn has_passed(loyal: &Replica, client: ClientId, request: &Request) -> bool {
     match loyal.reply_for(client) {
         Some(Envelope::Reply(reply)) => reply.number >= request.number(),
@@ -184,7 +184,7 @@ fn has_passed(loyal: &Replica, client: ClientId, request: &Request) -> bool {
     }
 }
 
-/// Whether the replica keeps a chain with the request, of a slot in flight.
+/// Tells whether the replica keeps a chain with the request, for a slot in flight.
 fn is_kept(loyal: &Replica, request: &Request) -> bool {
     for state in loyal.in_flight() {
         let (first, second) = state.kept();
@@ -195,7 +195,7 @@ fn is_kept(loyal: &Replica, request: &Request) -> bool {
     false
 }
 
-/// Whether the chain, if there is one, has the request.
+/// Tells whether the chain, if there is one, has the request.
 fn has_request(kept: Option<&Kept>, request: &Request) -> bool {
     let Some(kept) = kept else {
         return false;

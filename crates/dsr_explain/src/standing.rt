@@ -1,4 +1,4 @@
-//! What stands in a world, as notes tell it.
+//! The parts of a world that notes are about.
 
 use dsr_chain::Chain;
 use dsr_envelope::{Entry, Envelope};
@@ -7,7 +7,7 @@ use dsr_names::{ClientId, ReplicaId};
 use dsr_request::Requests;
 use dsr_world::World;
 
-/// What was posted or taken last.
+/// Returns the envelope that was posted or taken last.
 pub(crate) fn last_envelope(world: &World) -> Option<&Envelope> {
     match world.entries().last() {
         Some((_, Entry::Post { envelope, .. })) => Some(envelope.envelope()),
@@ -16,7 +16,7 @@ pub(crate) fn last_envelope(world: &World) -> Option<&Envelope> {
     }
 }
 
-/// The chain at this place of what was posted or taken last.
+/// Returns the chain at this place of the envelope that was posted or taken last.
 pub(crate) fn last_chain(world: &World, place: usize) -> Option<&Chain> {
     match last_envelope(world) {
         Some(Envelope::Round { chains, .. }) => chains.as_slice().get(place),
@@ -24,7 +24,7 @@ pub(crate) fn last_chain(world: &World, place: usize) -> Option<&Chain> {
     }
 }
 
-/// What the replica decided of the slot. None where it was decided idle, or is not decided.
+/// Returns the requests that the replica decided for the slot. `None` if it decided idle, or has not decided the slot.
 pub(crate) fn content_of(world: &World, replica: ReplicaId, slot: u64) -> Option<Requests> {
     match world.replica(replica) {
         Ok(loyal) => match loyal.decided().get(slot as usize) {
@@ -35,7 +35,7 @@ pub(crate) fn content_of(world: &World, replica: ReplicaId, slot: u64) -> Option
     }
 }
 
-/// The reply that the client accepted last.
+/// Returns the reply that the client accepted last.
 pub(crate) fn accepted_last(world: &World, client: ClientId) -> Option<Reply> {
     match world.accepted(client) {
         Ok(replies) => replies.last().copied(),

@@ -1,4 +1,4 @@
-//! The story of a play, told event by event in a world of its own.
+//! The story of a play, told event by event in a new world.
 
 use crate::before::Before;
 use crate::client_notes::tell_reply;
@@ -23,10 +23,10 @@ use std::alloc::Global;
 use std::fmt::Write;
 use std::mem;
 
-/// What is told of an event of a long play, in bytes.
+/// The number of bytes that are reserved for each event of a long play.
 const ROOM_OF_AN_EVENT: usize = 128;
 
-/// How many contents each replica, by its number, had kept of a slot when it decided it. None where it has not decided it.
+/// For each replica, by its number, how many contents it had kept for a slot when it decided the slot. `None` if it has not decided it.
 pub(crate) type KeptBy = [Option<u8>; 16];
 
 /// The story of a play so far.
@@ -34,26 +34,26 @@ pub(crate) type KeptBy = [Option<u8>; 16];
 pub(crate) struct Story {
     pub(crate) world: World,
     pub(crate) wanted: Wanted,
-    /// What was told.
+    /// The text so far.
     pub(crate) out: String,
-    /// The line of the last event, and what the lines of its events say of it.
+    /// The line of the last event, and how the texts of its events name it.
     line: u64,
     head: String,
-    /// How many events there were.
+    /// The number of events so far.
     events: u64,
-    /// How many of them were refused, and the line of the first.
+    /// The number of refused events, and the line of the first.
     pub(crate) refused: u64,
     pub(crate) first_refused: u64,
     texts: Texts,
     doings: Doings,
-    /// The notes of the last event, whose room the next one uses.
+    /// The notes of the last event; the next event uses their room.
     notes: Notes,
-    /// By slot.
+    /// How many contents replicas kept, by slot.
     pub(crate) kept: Vec<KeptBy>,
 }
 
 impl Story {
-    /// The story before any event. `NoMemory` where memory runs out.
+    /// Creates the story before any event. `NoMemory` if memory runs out.
     pub(crate) fn begin(alloc: Global, shape: Shape, wanted: &Wanted) -> Result<Story, Refusal> {
         let out = first_line(alloc, shape, wanted.data)?;
         let texts = Texts::new(alloc, wanted.data)?;
@@ -75,14 +75,14 @@ impl Story {
         })
     }
 
-    /// Makes room for what is told of so many events, if all of it is wanted. Where it is refused, the text grows as it must.
+    /// Makes room for the text about `events` events, if all of it is wanted. If that is refused, the text grows as needed.
     pub(crate) fn make_room(&mut self, events: usize) {
         if self.wanted.is_of_all() && !self.wanted.refused {
             let _ = self.out.reserve(events.saturating_mul(ROOM_OF_AN_EVENT));
         }
     }
 
-    /// Makes the event of this line happen, and tells of it. `NoMemory` where memory runs out: then the story is of no use.
+    /// Makes the event of this line happen, and tells about it. `NoMemory` if memory runs out; the story is of no use then.
     pub(crate) fn tell(&mut self, alloc: Global, line: u64, event: &Event) -> Result<(), Refusal> {
         let mut notes = mem::replace(&mut self.notes, Notes::new(alloc));
         notes.clear();
@@ -97,7 +97,7 @@ impl Story {
         Ok(())
     }
 
-    /// Makes the event happen, and notes what is to be told of it. Returns why it was refused, if it was.
+    /// Makes the event happen, and notes what is to be told about it. Returns the refusal, if it was refused.
     fn step(
         &mut self,
         alloc: Global,
@@ -134,7 +134,7 @@ impl Story {
         self.refused = self.refused.saturating_add(1);
     }
 
-    /// Notes of a decided slot how many contents were kept.
+    /// Stores, if the notes say that a slot was decided, how many contents were kept for it.
     fn note_kept(&mut self, notes: &[Note]) -> Result<(), Refusal> {
         for note in notes {
             if let Note::Decided {
@@ -192,7 +192,7 @@ impl Story {
         write_notes(&mut self.out, &self.world, &self.wanted, event, notes, told)
     }
 
-    /// Sets what the lines of events say of this line of the play.
+    /// Sets how the texts of events name this line of the play.
     fn set_line(&mut self, line: u64) -> Result<(), Refusal> {
         if self.line == line {
             return Ok(());
@@ -208,7 +208,7 @@ impl Story {
     }
 }
 
-/// What is told before any event: as data its version and the shape.
+/// Returns the text before any event: as data, its version and the shape.
 fn first_line(alloc: Global, shape: Shape, as_data: bool) -> Result<String, Refusal> {
     let mut out = String::new(alloc);
     if as_data {
@@ -217,7 +217,7 @@ fn first_line(alloc: Global, shape: Shape, as_data: bool) -> Result<String, Refu
     Ok(out)
 }
 
-/// Writes the end of the event's line: its envelope, or what was to be posted where it was refused.
+/// Writes the end of the event's line: its envelope, or, if it was refused, what was to be posted.
 fn write_end(
     out: &mut String,
     as_data: bool,
@@ -257,7 +257,7 @@ fn write_notes(
     Ok(())
 }
 
-/// Tells what an event that was done changed.
+/// Notes what an event that was done changed.
 fn tell_done(
     world: &World,
     event: &Event,
@@ -287,7 +287,7 @@ fn tell_done(
     }
 }
 
-/// Tells what a post leaves out that it could have proposed: at the post to replica 0 a replica chooses.
+/// Notes which requests a post could have proposed but did not: a replica chooses at its post to replica 0.
 fn tell_post(
     world: &World,
     from: &Actor,

@@ -11,26 +11,26 @@ use dsr_world::{Event, Play};
 use std::alloc::Global;
 use std::mem;
 
-/// What is told of a play, and the refusal that a reader of the play has, if it has one.
+/// The explanation of a play, and the refusal of its text, if it is not a play.
 #[derive(Drop)]
 pub struct Explained {
-    /// What is told: why the play came out as it did, or what is wrong with its text.
+    /// The explanation: why the play came out as it did, or what is wrong with its text.
     pub text: String,
-    /// `BadShape` or `BadText` where the text is no play.
+    /// `BadShape` or `BadText` if the text is not a play.
     pub refusal: Option<Refusal>,
     spent: Option<Spent>,
 }
 
-/// A play that was told, with its world. It is kept for whoever ends soon and would rather forget it: to free a long one takes a while.
+/// A play that was explained, with its world. It is kept for a caller who ends soon and can skip freeing it: to free a long play takes a while.
 #[derive(Drop)]
 struct Spent {
     play: Play,
     story: Story,
 }
 
-/// Plays the play that the text spells, in a world of its own, and tells what is wanted of it: events, each with its line, what came of it and
-/// why; then what each slot came to, and who waits for whom. Where the text is no play, it tells the line, the column and what was expected
-/// there. `NoMemory` where memory runs out.
+/// Plays the play that the text encodes, in a new world, and tells what is wanted about it: the events, each with its line, what came of it and
+/// why; then the outcome of each slot, and who waits for whom. If the text is not a play, it tells the line, the column and what was expected
+/// there. `NoMemory` if memory runs out.
 pub fn explain(alloc: Global, text: &[u8], wanted: &Wanted) -> Result<Explained, Refusal>
     ensures told { IfOk result (λ explained. IfSome explained.refusal (IsPlayRefusal text.now)) }
     ensures refused { IfErr result (IsPlayRefusal text.now) }
@@ -53,7 +53,7 @@ pub fn explain(alloc: Global, text: &[u8], wanted: &Wanted) -> Result<Explained,
     }
 }
 
-/// Tells of each event of the play, line by line.
+/// Tells about each event of the play, line by line.
 fn tell_all(alloc: Global, text: &[u8], play: Play, wanted: &Wanted) -> Result<Explained, Refusal>
     ensures { IfOk result (λ explained. explained.refusal ≡ None) }
 {
@@ -67,7 +67,7 @@ fn tell_all(alloc: Global, text: &[u8], play: Play, wanted: &Wanted) -> Result<E
     })
 }
 
-/// Tells of the events, which are those of the play's text, and of what stands at the end.
+/// Tells about the events of the play's text, and about the end.
 fn tell_story(
     alloc: Global,
     text: &[u8],
@@ -81,7 +81,7 @@ fn tell_story(
     story.end()
 }
 
-/// Tells of the events, which are those of these lines.
+/// Tells about the events, which are those of these lines.
 fn tell_lines(
     alloc: Global,
     header: &[u8],
@@ -107,7 +107,7 @@ fn tell_lines(
     Ok(())
 }
 
-/// Tells of the line's events: those from the first of these places to before the end.
+/// Tells about the line's events: those from the place `first` to before the place `end`.
 fn tell_line(
     alloc: Global,
     number: u64,

@@ -1,4 +1,4 @@
-//! What is told of envelopes, written once for all events that post or take one.
+//! The texts about envelopes, written once for all events that post or take one.
 
 use crate::pieces::{MOST_ACTORS, place_of};
 use crate::wanted::{actor_of, other_of};
@@ -12,20 +12,20 @@ use std::alloc::Global;
 use std::fmt::Write;
 use std::mem;
 
-/// What most lines need no more than, in bytes: so many are reserved at once.
+/// Initial buffer size in bytes; most lines fit.
 const ROOM: usize = 120;
 
-/// What is told of an envelope.
+/// The texts about an envelope.
 #[derive(Drop)]
 pub(crate) struct Told {
-    /// What ends the line of an event that posts or takes it: its text.
+    /// The end of the line of an event that posts or takes it: its text.
     end: String,
-    /// What is told of each of its chains, whatever becomes of it.
+    /// The text about each of its chains, which does not depend on what becomes of the chain.
     chains: Vec<String>,
 }
 
 impl Told {
-    /// What is told of the envelope, as data or in words. `NoMemory` where memory runs out.
+    /// Makes the texts about the envelope, as data or in words. `NoMemory` if memory runs out.
     fn of(alloc: Global, envelope: &Envelope, as_data: bool) -> Result<Told, Refusal> {
         let mut end = String::with_capacity(alloc, ROOM)?;
         if envelope.fits() {
@@ -38,12 +38,12 @@ impl Told {
         Ok(Told { end, chains })
     }
 
-    /// What ends the line of an event that posts or takes the envelope.
+    /// Returns the end of the line of an event that posts or takes the envelope.
     pub(crate) fn end(&self) -> &str {
         self.end.as_str()
     }
 
-    /// What is told of the chain at this place of the envelope, whatever becomes of it.
+    /// Returns the text about the chain at this place of the envelope, which does not depend on what becomes of the chain.
     pub(crate) fn chain(&self, place: usize) -> &str {
         match self.chains.get(place) {
             Some(chain) => chain.as_str(),
@@ -52,20 +52,20 @@ impl Told {
     }
 }
 
-/// Writes what ends the line of an event: the envelope of this draft.
+/// Writes the end of an event's line: the envelope of this draft.
 pub(crate) fn write_draft(out: &mut String, draft: &Draft, as_data: bool) -> Result<(), Refusal> {
     out.push_str(if as_data { " " } else { ": " })?;
     writeln!(out, "{draft}")?;
     Ok(())
 }
 
-/// Writes what ends the line of an event of which no envelope is told.
+/// Writes the end of an event's line that shows no envelope.
 pub(crate) fn write_none(out: &mut String, as_data: bool) -> Result<(), Refusal> {
     out.push_str(if as_data { " -\n" } else { "\n" })?;
     Ok(())
 }
 
-/// What is told of each chain of the envelope.
+/// Makes the text about each chain of the envelope.
 fn tell_chains(alloc: Global, envelope: &Envelope, as_data: bool) -> Result<Vec<String>, Refusal> {
     let mut told = Vec::new(alloc);
     if let Envelope::Round { chains, .. } = envelope {
@@ -76,7 +76,7 @@ fn tell_chains(alloc: Global, envelope: &Envelope, as_data: bool) -> Result<Vec<
     Ok(told)
 }
 
-/// What is told of the chain.
+/// Makes the text about the chain.
 fn tell_chain(alloc: Global, chain: &Chain, as_data: bool) -> Result<String, Refusal> {
     let mut text = String::with_capacity(alloc, ROOM)?;
     if as_data {
@@ -87,18 +87,18 @@ fn tell_chain(alloc: Global, chain: &Chain, as_data: bool) -> Result<String, Ref
     Ok(text)
 }
 
-/// What is told of the envelopes that a loyal actor posts to replicas: the last one, which it may post again, and the one before, which
+/// The texts about the envelopes that a loyal actor posts to replicas: the last one, which it may post again, and the one before, which
 /// may not be taken yet.
 #[derive(Drop)]
 struct Posted {
-    /// How many there were.
+    /// The number of envelopes so far.
     count: u64,
     last: Option<Told>,
     before: Option<Told>,
 }
 
 impl Posted {
-    /// None.
+    /// Creates a record of no posts.
     fn nothing() -> Posted {
         Posted {
             count: 0,
@@ -107,13 +107,13 @@ impl Posted {
         }
     }
 
-    /// Puts what is told of one more, or that it is not told.
+    /// Adds an envelope: its texts, or `None` if they are not made.
     fn put(&mut self, told: Option<Told>) {
         self.before = mem::replace(&mut self.last, told);
         self.count = self.count.saturating_add(1);
     }
 
-    /// What is told of the one of this number, counted from 1.
+    /// Returns the texts about the envelope with this number, counted from 1.
     fn told(&self, number: u64) -> Option<&Told> {
         if number == self.count {
             return self.last.as_ref();
@@ -125,29 +125,29 @@ impl Posted {
     }
 }
 
-/// What is told of what lies in a box.
+/// The texts about the contents of a box.
 #[derive(Drop)]
 enum Lying {
-    /// Nothing.
+    /// The box is empty, or its texts are not made.
     Nothing,
-    /// What is told of the envelope of this number that its poster posted to replicas.
+    /// Those about the envelope with this number among those that its poster posted to replicas.
     Posted(u64),
-    /// This, of an envelope that was posted to this box alone.
+    /// These, about an envelope that was posted only to this box.
     Alone(Told),
 }
 
-/// What is told of the envelopes that may be posted again or taken.
+/// The texts about the envelopes that may be posted again or taken.
 #[derive(Drop)]
 pub(crate) struct Texts {
     as_data: bool,
-    /// By the poster's place.
+    /// What each actor posted to replicas, by the poster's place.
     posted: Vec<Posted>,
-    /// By the places of poster and taker.
+    /// The boxes, by the places of poster and taker.
     boxes: Vec<Lying>,
 }
 
 impl Texts {
-    /// Nothing told, as data or in words. `NoMemory` where memory runs out.
+    /// Creates the table without any text, as data or in words. `NoMemory` if memory runs out.
     pub(crate) fn new(alloc: Global, as_data: bool) -> Result<Texts, Refusal> {
         Ok(Texts {
             as_data,
@@ -156,7 +156,7 @@ impl Texts {
         })
     }
 
-    /// Has the envelope told that this event, which was done, posted or took. `NoMemory` where memory runs out.
+    /// Makes the texts about the envelope that this event, which was done, posted or took. `NoMemory` if memory runs out.
     pub(crate) fn note_done(
         &mut self,
         alloc: Global,
@@ -167,7 +167,7 @@ impl Texts {
             return self.note_posted(alloc, event, envelope);
         }
         if let Event::Take { .. } = event {
-            // What a client asked before its last two requests may lie still, and is told anew.
+            // The box may still hold an ask from before the client's last two requests; its texts are made anew.
             if self.told(event, true).is_some() {
                 return Ok(());
             }
@@ -177,7 +177,7 @@ impl Texts {
         Ok(())
     }
 
-    /// Has the envelope told that a loyal actor posted to a replica.
+    /// Makes the texts about the envelope that a loyal actor posted to a replica.
     fn note_posted(
         &mut self,
         alloc: Global,
@@ -198,7 +198,7 @@ impl Texts {
         Ok(())
     }
 
-    /// What is told of the envelope that this event posted or took, if it was done.
+    /// Returns the texts about the envelope that this event posted or took, if it was done.
     pub(crate) fn told(&self, event: &Event, was_done: bool) -> Option<&Told> {
         if !was_done {
             return None;
@@ -210,7 +210,7 @@ impl Texts {
         }
     }
 
-    /// Forgets what this event, which was done and is not told of, makes old.
+    /// Forgets the texts that are out of date after this event, which was done and is not to be told.
     pub(crate) fn forget(&mut self, event: &Event) {
         if let Event::Take { .. } = event {
             return;
@@ -227,7 +227,7 @@ impl Texts {
         self.lay(event, lying);
     }
 
-    /// Has this lie in the event's box.
+    /// Puts this into the event's box.
     fn lay(&mut self, event: &Event, lying: Lying) {
         if let Some(place) = self.boxes.get_mut(box_of(event)) {
             *place = lying;
@@ -235,7 +235,7 @@ impl Texts {
     }
 }
 
-/// Whether a loyal actor posts by it to a replica.
+/// Tells whether the event is a post of a loyal actor to a replica.
 fn is_to_replica(event: &Event) -> bool {
     match event {
         Event::Post {
@@ -246,8 +246,8 @@ fn is_to_replica(event: &Event) -> bool {
     }
 }
 
-/// Whether a loyal actor posts by it what it posted to a replica before: a replica to another than replica 0 in a round, or a client that
-/// asks again.
+/// Tells whether the event posts again what a loyal actor posted to a replica before: a replica posts to another than replica 0 in a round, or a
+/// client asks again.
 fn is_again(event: &Event) -> bool {
     match event {
         Event::Post {
@@ -264,7 +264,7 @@ fn is_again(event: &Event) -> bool {
     }
 }
 
-/// Whether nothing in particular is chosen.
+/// Tells whether the choice is plain.
 fn is_plain(pick: &Pick) -> bool {
     match pick {
         Pick::Plain => true,
@@ -272,7 +272,7 @@ fn is_plain(pick: &Pick) -> bool {
     }
 }
 
-/// The place of the actor whose box the event fills or empties.
+/// Returns the place of the actor whose box the event fills or empties.
 fn poster_of(event: &Event) -> usize {
     match event {
         Event::Take { .. } => place_of(other_of(event)),
@@ -280,7 +280,7 @@ fn poster_of(event: &Event) -> usize {
     }
 }
 
-/// The place of the box that the event fills or empties.
+/// Returns the place of the box that the event fills or empties.
 fn box_of(event: &Event) -> usize {
     let taker = match event {
         Event::Take { .. } => place_of(actor_of(event)),
@@ -291,7 +291,7 @@ fn box_of(event: &Event) -> usize {
         .saturating_add(taker)
 }
 
-/// Nothing posted, by each poster.
+/// Creates a record of no posts for each poster.
 fn nothing_posted(alloc: Global) -> Result<Vec<Posted>, Refusal> {
     let mut posted = Vec::with_capacity(alloc, MOST_ACTORS)?;
     for _ in 0..MOST_ACTORS {
@@ -300,7 +300,7 @@ fn nothing_posted(alloc: Global) -> Result<Vec<Posted>, Refusal> {
     Ok(posted)
 }
 
-/// Boxes in which nothing lies.
+/// Creates empty boxes.
 fn empty_boxes(alloc: Global) -> Result<Vec<Lying>, Refusal> {
     let mut boxes = Vec::with_capacity(alloc, MOST_ACTORS * MOST_ACTORS)?;
     for _ in 0..MOST_ACTORS * MOST_ACTORS {

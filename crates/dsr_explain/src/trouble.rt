@@ -1,4 +1,4 @@
-//! What is wrong with a text that is no play: the line, the column, and what was expected there.
+//! What is wrong with a text that is not a play: the line, the column, and what was expected there.
 
 use crate::parts::{Part, parts_of};
 use dsr_base::split_once;
@@ -8,7 +8,7 @@ use dsr_script::Draft;
 use std::alloc::Global;
 use std::fmt::Write;
 
-/// How much of a line is shown.
+/// The maximum length of the part of a line that is shown, in bytes.
 const SHOWN: usize = 120;
 
 /// Where a line is wrong: the column, counted from 1, and what was expected there.
@@ -18,7 +18,7 @@ struct Fault {
     expected: &'static str,
 }
 
-/// Tells what is wrong with the text, for which reading the play was refused with this refusal. `NoMemory` where memory runs out.
+/// Tells what is wrong with the text, which was refused as a play with this refusal. `NoMemory` if memory runs out.
 pub(crate) fn trouble_of(alloc: Global, text: &[u8], refusal: &Refusal) -> Result<String, Refusal> {
     let mut out = String::new(alloc);
     match refusal {
@@ -31,7 +31,7 @@ pub(crate) fn trouble_of(alloc: Global, text: &[u8], refusal: &Refusal) -> Resul
     Ok(out)
 }
 
-/// Tells what is wrong with the line of this number, counted from 1.
+/// Tells what is wrong with the line with this number, counted from 1.
 fn tell_line(alloc: Global, text: &[u8], number: u64, out: &mut String) -> Result<(), Refusal> {
     let (line, is_ended) = line_of(text, number);
     let fault = if !is_ended {
@@ -49,7 +49,7 @@ fn tell_line(alloc: Global, text: &[u8], number: u64, out: &mut String) -> Resul
     show(out, line, column)
 }
 
-/// The line of this number, and whether a line feed ends it.
+/// Returns the line with this number, and whether a line feed ends it.
 fn line_of(text: &[u8], number: u64) -> (&[u8], bool) {
     let mut rest = text;
     for _ in 1..number {
@@ -92,7 +92,7 @@ fn write_byte(out: &mut String, byte: u8) -> Result<(), Refusal> {
     Ok(())
 }
 
-/// Where a header is wrong.
+/// Returns the place where a header is wrong.
 fn header_fault(alloc: Global, line: &[u8]) -> Result<Fault, Refusal> {
     let parts = parts_of(alloc, line)?;
     let parts = parts.as_slice();
@@ -124,7 +124,7 @@ fn header_fault(alloc: Global, line: &[u8]) -> Result<Fault, Refusal> {
     ))
 }
 
-/// The fault at the part of this place: at its beginning, or after the line where it lacks.
+/// Returns the fault at this part of the line: at the part's beginning, or after the line's end if the part is missing.
 fn at(parts: &[Part], line: &[u8], place: usize, expected: &'static str) -> Fault {
     let column = if place < parts.len() {
         parts[place].column
@@ -134,7 +134,7 @@ fn at(parts: &[Part], line: &[u8], place: usize, expected: &'static str) -> Faul
     Fault { column, expected }
 }
 
-/// Where a line after the header is wrong.
+/// Returns the place where a line after the header is wrong.
 fn line_fault(alloc: Global, line: &[u8]) -> Result<Fault, Refusal> {
     let parts = parts_of(alloc, line)?;
     let parts = parts.as_slice();
@@ -156,7 +156,7 @@ fn line_fault(alloc: Global, line: &[u8]) -> Result<Fault, Refusal> {
     }
 }
 
-/// Where a line that stands for several events is wrong.
+/// Returns the place where a line that represents several events is wrong.
 fn macro_fault(alloc: Global, word: &[u8], parts: &[Part], line: &[u8]) -> Result<Fault, Refusal> {
     if word == b"posts".as_slice() {
         if is_star(parts) {
@@ -187,7 +187,7 @@ fn macro_fault(alloc: Global, word: &[u8], parts: &[Part], line: &[u8]) -> Resul
     }
 }
 
-/// Whether all replicas are meant.
+/// Tells whether the line means all replicas.
 fn is_star(parts: &[Part]) -> bool {
     match parts.get(1) {
         Some(part) => part.token == b"*".as_slice(),
@@ -195,7 +195,7 @@ fn is_star(parts: &[Part]) -> bool {
     }
 }
 
-/// The fault of the two actors after the word, if they have one.
+/// Returns the fault of the two actors after the word, if there is one.
 fn two_actors(parts: &[Part], line: &[u8]) -> Option<Fault> {
     match an_actor(parts, line, 1) {
         Some(fault) => Some(fault),
@@ -203,7 +203,7 @@ fn two_actors(parts: &[Part], line: &[u8]) -> Option<Fault> {
     }
 }
 
-/// The fault of the actor at this place, if it has one.
+/// Returns the fault of the actor at this place, if there is one.
 fn an_actor(parts: &[Part], line: &[u8], place: usize) -> Option<Fault> {
     if place < parts.len() && Actor::read(parts[place].token).is_some() {
         return None;
@@ -216,7 +216,7 @@ fn an_actor(parts: &[Part], line: &[u8], place: usize) -> Option<Fault> {
     ))
 }
 
-/// The fault of the replica after the word, if it has one.
+/// Returns the fault of the replica after the word, if there is one.
 fn a_replica(parts: &[Part], line: &[u8]) -> Option<Fault> {
     if 1 < parts.len() && ReplicaId::read(parts[1].token).is_some() {
         return None;
@@ -224,7 +224,7 @@ fn a_replica(parts: &[Part], line: &[u8]) -> Option<Fault> {
     Some(at(parts, line, 1, "a replica, r0 to r15"))
 }
 
-/// The fault of the client after the word, if it has one.
+/// Returns the fault of the client after the word, if there is one.
 fn a_client(parts: &[Part], line: &[u8]) -> Option<Fault> {
     if 1 < parts.len() && ClientId::read(parts[1].token).is_some() {
         return None;
@@ -232,12 +232,12 @@ fn a_client(parts: &[Part], line: &[u8]) -> Option<Fault> {
     Some(at(parts, line, 1, "a client, c0 to c31"))
 }
 
-/// The fault that the line does not end before this place.
+/// Returns the fault that the line does not end before this place.
 fn end_fault(parts: &[Part], line: &[u8], place: usize) -> Fault {
     at(parts, line, place, "the end of the line")
 }
 
-/// The fault of a choice.
+/// Returns the fault of a choice.
 fn choice_fault(parts: &[Part], line: &[u8], place: usize) -> Fault {
     if place >= parts.len() {
         return at(parts, line, place, "no space at the end of the line");
@@ -256,7 +256,7 @@ fn choice_fault(parts: &[Part], line: &[u8], place: usize) -> Fault {
     at(parts, line, place, "from, begin, or the end of the line")
 }
 
-/// The fault of an operation.
+/// Returns the fault of an operation.
 fn op_fault(parts: &[Part], line: &[u8], place: usize) -> Fault {
     let Some(verb) = parts.get(place) else {
         return at(
@@ -305,12 +305,12 @@ fn op_fault(parts: &[Part], line: &[u8], place: usize) -> Fault {
     end_fault(parts, line, name.saturating_add(1).saturating_add(values))
 }
 
-/// Whether the token is a value, or none where that may stand.
+/// Tells whether the token is a value, or `none` if that is allowed.
 fn is_value(token: &[u8], may_be_none: bool) -> bool {
     (may_be_none && token == b"none".as_slice()) || dsr_base::read_decimal(token).is_some()
 }
 
-/// The fault of an envelope that begins at this place.
+/// Returns the fault of an envelope that begins at this place.
 fn envelope_fault(
     alloc: Global,
     parts: &[Part],
@@ -365,7 +365,7 @@ fn envelope_fault(
     ))
 }
 
-/// The fault of a round's envelope, whose number stands at this place.
+/// Returns the fault of a round's envelope whose number is at this place.
 fn round_fault(alloc: Global, parts: &[Part], line: &[u8], place: usize) -> Result<Fault, Refusal> {
     let is_round = match parts.get(place) {
         Some(part) => match read_num(part.token) {
@@ -395,7 +395,7 @@ fn round_fault(alloc: Global, parts: &[Part], line: &[u8], place: usize) -> Resu
     ))
 }
 
-/// Whether the token spells a chain.
+/// Tells whether the token encodes a chain.
 fn is_chain(alloc: Global, token: &[u8]) -> Result<bool, Refusal> {
     let mut text = Vec::new(alloc);
     text.extend_from_slice(b"round 0 ".as_slice())?;

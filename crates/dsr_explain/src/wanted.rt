@@ -2,26 +2,26 @@ use crate::note::Note;
 use dsr_names::Actor;
 use dsr_world::Event;
 
-/// Which of a play's events are to be told, and how.
+/// Which events of a play to tell, and how.
 #[derive(Clone, Copy, Debug)]
 pub struct Wanted {
-    /// Only those in which a chain of this slot was read, or it was decided.
+    /// If `Some`: only those that read a chain of this slot or decided it.
     pub slot: Option<u64>,
-    /// Only those in which this actor posts, takes or tells.
+    /// If `Some`: only those in which this actor posts, takes or tells.
     pub actor: Option<Actor>,
-    /// Only those that were refused.
+    /// If true: only those that were refused.
     pub refused: bool,
-    /// As data, one line a note, in place of words.
+    /// Whether to write data, one line for each note, in place of words.
     pub data: bool,
 }
 
 impl Wanted {
-    /// Whether the event is to be told, of which there are these notes.
+    /// Tells whether the event, which has these notes, is to be told.
     pub(crate) fn has(&self, event: &Event, was_refused: bool, notes: &[Note]) -> bool {
         (was_refused || !self.refused) && self.has_actor(event) && self.has_slot(notes)
     }
 
-    /// Whether a note of this slot is to be told; one of no slot is.
+    /// Tells whether the note is to be told; a note that is not about a slot always is.
     pub(crate) fn has_note(&self, note: &Note) -> bool {
         match (self.slot, note.slot()) {
             (Some(wanted), Some(slot)) => slot == wanted,
@@ -29,17 +29,17 @@ impl Wanted {
         }
     }
 
-    /// Whether the events of all slots and actors are to be told.
+    /// Tells whether the events of all slots and actors are to be told.
     pub(crate) fn is_of_all(&self) -> bool {
         self.slot.is_none() && self.actor.is_none()
     }
 
-    /// Whether what this slot came to is to be told.
+    /// Tells whether the outcome of this slot is to be told.
     pub(crate) fn has_end_of(&self, slot: u64) -> bool {
         !self.refused && self.actor.is_none() && (self.slot.is_none() || self.slot == Some(slot))
     }
 
-    /// Whether whom this actor waits for is to be told.
+    /// Tells whether to tell whom this actor waits for.
     pub(crate) fn has_wait_of(&self, actor: Actor) -> bool {
         match self.actor {
             Some(wanted) => wanted == actor,
@@ -47,7 +47,7 @@ impl Wanted {
         }
     }
 
-    /// Whether the event is the wanted actor's, if one is wanted.
+    /// Tells whether the event is by the wanted actor, or no particular actor is wanted.
     fn has_actor(&self, event: &Event) -> bool {
         match self.actor {
             Some(wanted) => actor_of(event) == wanted,
@@ -55,7 +55,7 @@ impl Wanted {
         }
     }
 
-    /// Whether a note is of the wanted slot, if one is wanted.
+    /// Tells whether a note is about the wanted slot, or no particular slot is wanted.
     fn has_slot(&self, notes: &[Note]) -> bool {
         if self.slot.is_none() {
             return true;
@@ -69,7 +69,7 @@ impl Wanted {
     }
 }
 
-/// Who posts, takes or tells.
+/// Returns the actor that posts, takes or tells.
 pub(crate) fn actor_of(event: &Event) -> Actor {
     match event {
         Event::Post { from, .. } => *from,
@@ -79,7 +79,7 @@ pub(crate) fn actor_of(event: &Event) -> Actor {
     }
 }
 
-/// To whom it posts or tells, or from whom it takes.
+/// Returns the actor to whom it posts or tells, or from whom it takes.
 pub(crate) fn other_of(event: &Event) -> Actor {
     match event {
         Event::Post { to, .. } => *to,

@@ -1,4 +1,4 @@
-//! Why an event was refused. The world is as it was before the event, so what it says of its actors is why.
+//! Why an event was refused. The world is as it was before the event, so the state of its actors gives the reason.
 
 use crate::note::Why;
 use crate::reading::round_of;
@@ -8,7 +8,7 @@ use dsr_names::{Actor, ClientId, Refusal, ReplicaId};
 use dsr_replica::Replica;
 use dsr_world::{Event, World};
 
-/// Why the event was refused with this refusal.
+/// Returns why the event was refused with this refusal.
 pub(crate) fn why_of(world: &World, event: &Event, refusal: &Refusal) -> Why {
     match refusal {
         Refusal::NoActor => no_actor(world, event),
@@ -21,7 +21,7 @@ pub(crate) fn why_of(world: &World, event: &Event, refusal: &Refusal) -> Why {
     }
 }
 
-/// Which of the two is no actor of the shape.
+/// Returns which of the two actors is not in the shape.
 fn no_actor(world: &World, event: &Event) -> Why {
     if world.shape().has(actor_of(event)) {
         Why::NoActor(other_of(event))
@@ -30,7 +30,7 @@ fn no_actor(world: &World, event: &Event) -> Why {
     }
 }
 
-/// Why it is not the actor's part.
+/// Returns why the event is not the actor's part.
 fn wrong_role(world: &World, event: &Event) -> Why {
     match event {
         Event::Post { from, .. } => {
@@ -46,7 +46,7 @@ fn wrong_role(world: &World, event: &Event) -> Why {
     }
 }
 
-/// Why the actor's conduct has no such step now.
+/// Returns why the actor's protocol has no such step now.
 fn not_due(world: &World, event: &Event) -> Why {
     match event {
         Event::Post {
@@ -73,7 +73,7 @@ fn not_due(world: &World, event: &Event) -> Why {
     }
 }
 
-/// What the replica does next with the other replicas.
+/// Returns what the replica must do first with the other replicas.
 fn next_of(due: Due) -> Why {
     match due {
         Due::Post(to) => Why::PostsFirst { to },
@@ -81,7 +81,7 @@ fn next_of(due: Due) -> Why {
     }
 }
 
-/// Why a loyal replica does not post so.
+/// Returns why a loyal replica does not make this post.
 fn undue_post(loyal: &Replica, replica: ReplicaId, to: &Actor, pick: &Pick) -> Why {
     match to {
         Actor::Client(client) => match pick {
@@ -97,7 +97,7 @@ fn undue_post(loyal: &Replica, replica: ReplicaId, to: &Actor, pick: &Pick) -> W
     }
 }
 
-/// The clients whose asks the choice proposes.
+/// Returns the clients whose asks the choice proposes.
 fn clients_of(pick: &Pick) -> &[ClientId] {
     match pick {
         Pick::From(clients) => clients.as_slice(),
@@ -105,7 +105,7 @@ fn clients_of(pick: &Pick) -> &[ClientId] {
     }
 }
 
-/// The first of these clients of which the replica holds no ask.
+/// Returns the first of these clients from which the replica holds no ask.
 fn unheld_of(loyal: &Replica, clients: &[ClientId]) -> ClientId {
     for client in clients {
         if loyal.held(*client).is_none() {
@@ -115,7 +115,7 @@ fn unheld_of(loyal: &Replica, clients: &[ClientId]) -> ClientId {
     ClientId::FIRST
 }
 
-/// Why a loyal replica does not choose so at a post that is due.
+/// Returns why a loyal replica does not make this choice at a post that is due.
 fn undue_choice(loyal: &Replica, replica: ReplicaId, to: ReplicaId, pick: &Pick) -> Why {
     if let Pick::Begin(_) = pick {
         return Why::BeginsNothing;
@@ -134,7 +134,7 @@ fn undue_choice(loyal: &Replica, replica: ReplicaId, to: ReplicaId, pick: &Pick)
     }
 }
 
-/// Why a client does not post so.
+/// Returns why a client does not make this post.
 fn undue_ask(world: &World, client: ClientId, pick: &Pick) -> Why {
     let outstanding = match world.client(client) {
         Ok(client) => client.outstanding(),

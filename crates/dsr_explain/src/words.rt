@@ -12,7 +12,7 @@ use dsr_slot::Fate;
 use dsr_world::{Event, World};
 use std::fmt::Write;
 
-/// The rounds of slots, by their numbers.
+/// The rounds of a slot, by their numbers.
 static IN_ROUNDS: [&str; 17] = [
     ": ",
     ", in its round 1: ",
@@ -33,7 +33,7 @@ static IN_ROUNDS: [&str; 17] = [
     ", in its round 16: ",
 ];
 
-/// Writes the note of this event, whose envelope is told so, as an indented line.
+/// Writes the note of this event as an indented line; `told` is the text about the event's envelope.
 pub(crate) fn write_note(
     out: &mut String,
     world: &World,
@@ -52,7 +52,7 @@ pub(crate) fn write_note(
     }
 }
 
-/// Writes a note of anything else than a chain that was taken.
+/// Writes a note about anything except a chain that was taken.
 fn write_other(out: &mut String, world: &World, event: &Event, note: &Note) -> Result<(), Refusal> {
     match note {
         Note::Silence { replica, round } => writeln!(
@@ -90,15 +90,15 @@ fn write_other(out: &mut String, world: &World, event: &Event, note: &Note) -> R
     Ok(())
 }
 
-/// Writes what is told of a chain, whatever becomes of it.
+/// Writes the text about a chain that does not depend on what becomes of it.
 pub(crate) fn write_chain(out: &mut String, chain: &Chain) -> Result<(), Refusal> {
     let (slot, signers) = (chain.slot(), chain.signers());
     write!(out, "    chain of slot {slot}, signed by {signers}")?;
     Ok(())
 }
 
-/// Writes what became of the chain at this place of the envelope, after what is told of it. The content of one that is dropped as its slot is
-/// over, or as its content is kept, stands in the envelope's text alone.
+/// Writes what became of the chain at this place of the envelope, after the text about it. If it is dropped because its slot is over, or
+/// because its content is kept already, only the envelope's text shows its content.
 fn write_chain_fate(
     out: &mut String,
     world: &World,
@@ -121,7 +121,7 @@ fn write_chain_fate(
     Ok(())
 }
 
-/// Whether the chain's content is kept already.
+/// Tells whether the chain's content is kept already.
 fn is_not_new(fate: &Fate) -> bool {
     match fate {
         Fate::NotNew => true,
@@ -145,7 +145,7 @@ pub(crate) fn write_content(out: &mut String, chain: &Chain) -> Result<(), Refus
     Ok(())
 }
 
-/// In which of its slot's rounds, of which there are at most 16, a chain is read.
+/// Returns the words for the round of its slot, at most 16, in which a chain is read.
 fn in_round(round: u8) -> &'static str {
     match IN_ROUNDS.get(round as usize) {
         Some(words) => *words,
@@ -153,7 +153,7 @@ fn in_round(round: u8) -> &'static str {
     }
 }
 
-/// Writes what reading the chain at this place of the envelope does.
+/// Writes the effect of reading the chain at this place of the envelope.
 fn write_fate(out: &mut String, world: &World, place: usize, fate: &Fate) -> Result<(), Refusal> {
     match fate {
         Fate::First => out.push_str("kept, as the first content\n")?,
@@ -174,7 +174,7 @@ fn write_fate(out: &mut String, world: &World, place: usize, fate: &Fate) -> Res
     Ok(())
 }
 
-/// Writes what a fault of the chain is in particular.
+/// Writes the details of a fault of the chain.
 fn write_fault(
     out: &mut String,
     shape: &Shape,
@@ -192,7 +192,7 @@ fn write_fault(
     Ok(())
 }
 
-/// Writes who signed the first statement that does not fit its place, what it is, and what would fit there.
+/// Writes who signed the first statement that does not fit its place, this statement, and the one that would fit there.
 fn write_misfit(out: &mut String, chain: &Chain) -> Result<(), Refusal> {
     if let Some((signature, link)) = misfit_of(chain) {
         let signer = signature.signer();
@@ -202,7 +202,7 @@ fn write_misfit(out: &mut String, chain: &Chain) -> Result<(), Refusal> {
     Ok(())
 }
 
-/// The first signature on a statement that does not fit its place, and the one that would.
+/// Returns the first signature on a statement that does not fit its place, and the statement that would.
 fn misfit_of(chain: &Chain) -> Option<(Signature, Statement)> {
     let mut before = Signers::new();
     for place in 0..chain.signature_count() {
@@ -222,7 +222,7 @@ fn misfit_of(chain: &Chain) -> Option<(Signature, Statement)> {
     None
 }
 
-/// The name of the fault.
+/// Returns the name of the fault.
 pub(crate) fn fault_word(fault: &ChainFault) -> &'static str {
     match fault {
         ChainFault::OtherSlot => "other-slot",
@@ -312,7 +312,7 @@ fn write_decided(out: &mut String, world: &World, note: &Note) -> Result<(), Ref
     Ok(())
 }
 
-/// Writes why a replica dropped what it took of a client.
+/// Writes why a replica dropped the envelope that it took from a client.
 fn write_dropped(out: &mut String, replica: u8, why: &Dropped) -> Result<(), Refusal> {
     match why {
         Dropped::NoAsk => writeln!(out, "    r{replica} drops it: it is no ask")?,
@@ -328,7 +328,7 @@ fn write_dropped(out: &mut String, replica: u8, why: &Dropped) -> Result<(), Ref
     Ok(())
 }
 
-/// Writes what a client made of a reply.
+/// Writes what a client did with a reply.
 fn write_vote(out: &mut String, world: &World, note: &Note) -> Result<(), Refusal> {
     match note {
         Note::Vote {
@@ -365,7 +365,7 @@ fn write_vote(out: &mut String, world: &World, note: &Note) -> Result<(), Refusa
     Ok(())
 }
 
-/// Writes why something is no vote.
+/// Writes why something is not a vote.
 pub(crate) fn write_no_vote(out: &mut String, why: &NoVote) -> Result<(), Refusal> {
     match why {
         NoVote::NoReply => write!(out, "it is no reply")?,
@@ -376,7 +376,7 @@ pub(crate) fn write_no_vote(out: &mut String, why: &NoVote) -> Result<(), Refusa
     Ok(())
 }
 
-/// Writes what was to be chosen by a post that was refused, as the end of its line.
+/// Writes the choice of a post that was refused, as the end of its line.
 pub(crate) fn write_choice(out: &mut String, pick: &Pick) -> Result<(), Refusal> {
     match pick {
         Pick::Plain => {}
@@ -438,7 +438,7 @@ fn write_forged(out: &mut String, world: &World, event: &Event) -> Result<(), Re
     Ok(())
 }
 
-/// Writes why an actor's conduct, or a box, has no such step.
+/// Writes why an actor's protocol, or a box, does not allow the step.
 fn write_undue(out: &mut String, why: &Why) -> Result<(), Refusal> {
     match why {
         Why::PostsFirst { to } => write!(out, "its next step with replicas is the post to {to}")?,
@@ -458,7 +458,7 @@ fn write_undue(out: &mut String, why: &Why) -> Result<(), Refusal> {
     Ok(())
 }
 
-/// Why an event was refused, where that is said alike each time.
+/// Returns why an event was refused, for reasons whose text is always the same.
 fn reason_of(why: &Why) -> &'static str {
     match why {
         Why::BothClients => "clients post nothing to each other: they tell",
