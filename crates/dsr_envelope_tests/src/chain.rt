@@ -6,7 +6,7 @@ use std::alloc::Global;
 use std::process::Abort;
 use std::test::Fail;
 
-/// The client's signed request number 1, to write 5 to `a`.
+/// Returns the client's signed request number 1, to write 5 to `a`.
 fn signed_by(alloc: Global, number: u8) -> Result<SignedRequest, Fail> {
     let client = ClientId::new(number)?;
     let key = key_of(alloc, Actor::Client(client))?;
@@ -26,7 +26,7 @@ fn holds_one_to_eight_requests(rt: HostRuntime) -> Result<(), Fail> {
     holds(&rt, &[first, other])
 }
 
-/// Whether a list can be made of the two, and holds them.
+/// Checks that a list can be made of the two, and holds them.
 fn holds(rt: &impl Abort, two: &[SignedRequest]) -> Result<(), Fail> {
     let batch = Batch::of(two).ok_or("no list")?;
     assert_eq!(rt; batch.len(), 2);

@@ -7,13 +7,13 @@ use dsr_request::{Answer, Name, Op, Request};
 use std::alloc::Global;
 use std::test::Fail;
 
-/// The key of this actor of shape (3,1,2,0).
+/// Returns the key of this actor of shape (3,1,2,0).
 pub(crate) fn key_of(alloc: Global, actor: Actor) -> Result<Key, Fail> {
     let mut keys = Keys::new(alloc, Shape::new(3, 1, 2, 0)?)?;
     Ok(keys.take(actor).ok_or("no key")?)
 }
 
-/// Client 0's signed request of this number, to read `a`.
+/// Returns client 0's signed request with this number, to read `a`.
 fn ask_of(alloc: Global, number: u64) -> Result<SignedRequest, Fail> {
     let key = key_of(alloc, Actor::Client(ClientId::FIRST))?;
     let name = Name::read(b"a")?;
@@ -21,13 +21,13 @@ fn ask_of(alloc: Global, number: u64) -> Result<SignedRequest, Fail> {
     Ok(SignedRequest::by(request, &key))
 }
 
-/// The chain that replica 0 starts for this slot, on idle.
+/// Returns the chain that replica 0 starts for this slot, with the value idle.
 pub(crate) fn chain_of(alloc: Global, slot: u64) -> Result<Chain, Fail> {
     let key = key_of(alloc, Actor::Replica(ReplicaId::FIRST))?;
     Ok(Chain::start(alloc, slot, SlotValue::Idle, &key)?)
 }
 
-/// The chains that replica 0 starts for these slots.
+/// Returns the chains that replica 0 starts for these slots.
 fn chains_of(alloc: Global, slots: &[u64]) -> Result<Chains, Fail> {
     let mut items = Vec::new(alloc);
     for slot in slots {
@@ -36,7 +36,7 @@ fn chains_of(alloc: Global, slots: &[u64]) -> Result<Chains, Fail> {
     Ok(Chains::of(items))
 }
 
-/// The envelope of this round with the chains for these slots.
+/// Returns the envelope of this round with the chains for these slots.
 fn round_of(alloc: Global, round: u64, slots: &[u64]) -> Result<Envelope, Fail> {
     let chains = chains_of(alloc, slots)?;
     Ok(Envelope::Round { round, chains })
@@ -50,7 +50,7 @@ fn reply_of(number: u64, place: u64) -> Envelope {
     })
 }
 
-/// One envelope of each kind, and a second of each kind that has one.
+/// Returns envelopes of each kind: the empty one, four rounds, two asks, two replies and two seen fronts.
 fn samples(alloc: Global) -> Result<Vec<Envelope>, Fail> {
     let mut all = Vec::new(alloc);
     all.push(Envelope::Empty)?;
@@ -105,7 +105,7 @@ fn chains_come_out_as_they_went_in(rt: HostRuntime) -> Result<(), Fail> {
     Ok(())
 }
 
-/// The clients 0 to 8.
+/// Returns the clients 0 to 8.
 fn nine_clients() -> Result<[ClientId; 9], Fail> {
     let mut nine = [ClientId::FIRST; 9];
     for place in 0..9usize {
@@ -134,10 +134,10 @@ fn an_envelope_takes_48_bytes(rt: HostRuntime) {
     assert_eq!(rt; size_of::<Envelope>(), 48);
 }
 
-/// What one thread makes and another takes may be handed over.
+/// Compiles only for what may be handed from one thread to another.
 fn may_send<T: Send>(_: &T) {}
 
-/// What boxes and logs share may be read by both.
+/// Compiles only for what two threads may share: boxes and logs share envelopes.
 fn may_share<T: Send + Sync>(_: &T) {}
 
 #[test]

@@ -10,7 +10,7 @@ use dsr_rotation::{Calendar, Slots};
 use std::process::Abort;
 use std::test::Fail;
 
-/// That the two values differ, and that a copy of each is that value.
+/// Checks that the two values differ, and that a copy of each equals it.
 fn differ<T: Exact>(rt: &impl Abort, one: &T, other: &T) {
     assert!(rt; one.same(one));
     assert!(rt; !one.same(other));
@@ -18,7 +18,7 @@ fn differ<T: Exact>(rt: &impl Abort, one: &T, other: &T) {
     assert!(rt; other.copy().same(other));
 }
 
-/// A request of client 0 under this number, to remove `a`.
+/// Returns the request of client 0 with this number, to remove `a`.
 fn request_of(number: u64) -> Result<Request, Refusal> {
     let name = Name::read(b"a")?;
     Request::new(ClientId::FIRST, number, Op::Remove { name })
@@ -107,12 +107,12 @@ fn choices_are_exact(rt: HostRuntime) -> Result<(), Fail> {
     Ok(())
 }
 
-/// The task of `play` with these flags.
+/// Returns the task of `play` with these flags.
 fn play(strict: bool, transcript: bool) -> Task {
     Task::Play { strict, transcript }
 }
 
-/// What is explained, with these options.
+/// Returns the narrowing with these options.
 fn narrowing(slot: Option<u64>, actor: Option<Actor>, refused: bool, as_data: bool) -> Narrowing {
     Narrowing {
         slot,

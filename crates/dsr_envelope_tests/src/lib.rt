@@ -1,5 +1,5 @@
-//! The tests of lists, texts, streams, keys, chains and envelopes that rows and the program cannot show. They stand apart from the code, since a crate with
-//! tests is proved twice.
+//! The tests of lists, texts, streams, keys, chains and envelopes that rows and the program cannot show. They are apart from the code because a
+//! crate with tests is proved twice.
 #![tactic(auto)]
 
 #[cfg(test)]

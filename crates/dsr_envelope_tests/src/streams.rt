@@ -7,7 +7,7 @@ use std::io::{Read, Write};
 use std::process::Abort;
 use std::test::Fail;
 
-// A source of so many letters x, whose call of this number fails, counted from 1.
+// A source of `left` letters x; the call with the number `fails_at`, counted from 1, fails.
 #[derive(Drop)]
 struct Letters {
     left: usize,
@@ -28,7 +28,7 @@ impl Source for Letters {
     }
 }
 
-// A source of so many letters, whose call of this number fails; none where it is 0.
+// Creates a source of `left` letters; its call number `fails_at` fails, or none if that is 0.
 fn source_of(left: usize, fails_at: usize) -> Letters {
     Letters {
         left,
@@ -37,7 +37,7 @@ fn source_of(left: usize, fails_at: usize) -> Letters {
     }
 }
 
-// All that the source gives is this text.
+// Checks that the source gives exactly this text.
 fn reads<S: Source>(
     rt: &impl Abort,
     alloc: Global,
@@ -59,7 +59,7 @@ fn an_input_is_read_whole(rt: HostRuntime) -> Result<(), Refusal> {
     reads(&rt, alloc, &mut b"".as_slice(), b"")
 }
 
-// 8,192, 8,192, 3,616 and no bytes: four calls, of which each fails in turn.
+// 8,192, 8,192, 3,616 and no bytes: four calls; each of them fails in turn.
 #[test]
 fn each_read_fails_in_turn(rt: HostRuntime) {
     for fails_at in 1..5 {
@@ -88,7 +88,7 @@ fn an_input_has_a_limit(rt: HostRuntime) -> Result<(), Refusal> {
     Ok(())
 }
 
-// A sink that takes at most so many bytes in a call, and whose call of this number fails, counted from 1.
+// A sink that takes at most `most` bytes in a call; its call number `fails_at`, counted from 1, fails.
 #[derive(Drop)]
 struct Narrow {
     taken: Vec<u8>,
@@ -136,7 +136,7 @@ fn a_steady_sink_is_given_everything(rt: HostRuntime) {
     assert!(rt; (sink.calls, sink.taken) == (12, 12));
 }
 
-// A reader and a writer whose first call fails, and no other.
+// A reader and a writer whose first call fails, and no other call.
 #[derive(Drop)]
 struct FailsOnce {
     calls: usize,
@@ -196,7 +196,7 @@ fn an_output_is_written_whole(rt: HostRuntime) -> Result<(), Fail> {
 
 const WRITE_FAILED: Result<(), Refusal> = Err(Refusal::WriteFailed);
 
-// The most bytes of a call, the call that fails or 0, how the writing ends, and what was taken.
+// The maximum number of bytes of a call, the call that fails or 0, how the writing ends, and what was taken.
 const WRITES: [(usize, usize, Result<(), Refusal>, &str); 6] = [
     (5, 0, Ok(()), "hello, world"),
     (5, 1, WRITE_FAILED, ""),
@@ -206,7 +206,7 @@ const WRITES: [(usize, usize, Result<(), Refusal>, &str); 6] = [
     (0, 0, WRITE_FAILED, ""),
 ];
 
-// The sink takes these bytes of a text, and the writing ends so.
+// Checks that the sink takes these bytes of a text, and that the writing ends like this.
 fn takes(rt: &impl Abort, mut sink: Narrow, end: Result<(), Refusal>, taken: &str) {
     let fails_at = sink.fails_at;
     let result = write_output(&mut sink, b"hello, world");

@@ -72,7 +72,7 @@ impl Token for Flag {
     ghost shown = { elim [ true ↦ refl | false ↦ refl ] };
 }
 
-/// The text is split so at its first `+`.
+/// Checks that the text is split into these parts at its first `+`.
 fn splits_once(rt: &impl Abort, text: &str, front: &str, rest: &str) {
     assert!(rt; split_once(text.as_bytes(), b'+') == Some((front.as_bytes(), rest.as_bytes())));
 }
@@ -86,7 +86,7 @@ fn a_text_is_split_at_the_first_mark(rt: HostRuntime) {
     assert!(rt; split_once(b"", b'+').is_none());
 }
 
-/// The text is split so at its first `+` outside parentheses.
+/// Checks that the text is split into these parts at its first `+` outside parentheses.
 fn splits_outside(rt: &impl Abort, text: &str, front: &str, rest: &str) {
     assert!(rt; split_outside(text.as_bytes(), b'+') == Some((front.as_bytes(), rest.as_bytes())));
 }

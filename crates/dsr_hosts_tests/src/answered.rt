@@ -13,7 +13,7 @@ use std::fmt::Write;
 use std::process::Abort;
 use std::test::Fail;
 
-/// The reply to a write, the first request of all.
+/// The reply to a write that is the first request to act.
 const WRITTEN: Reply = Reply {
     number: 1,
     place: 0,
@@ -27,7 +27,7 @@ const HELD: Reply = Reply {
     answer: Answer::Held(Some(5)),
 };
 
-/// What the first post among the entries has, and to whom it went. None where nothing was posted.
+/// Returns the envelope of the first post among the entries, and its addressee; `None` if nothing was posted.
 fn first_post(entries: &[Entry]) -> Option<(&Actor, &Envelope)> {
     for entry in entries {
         if let Entry::Post { to, envelope } = entry {
@@ -37,7 +37,7 @@ fn first_post(entries: &[Entry]) -> Option<(&Actor, &Envelope)> {
     None
 }
 
-/// The text of the envelope. None where it is past a limit.
+/// Returns the text of the envelope; the empty text if the envelope is past a limit.
 fn text_of(alloc: Global, envelope: &Envelope) -> Result<String, Refusal> {
     if !envelope.fits() {
         return Ok(String::new(alloc));
@@ -64,7 +64,7 @@ fn posts_first<R: Abort>(
     Ok(())
 }
 
-/// Each replica, the traitor too, had at least a turn for each entry of its log, and the client one for each of its two operations.
+/// Checks that each replica, also the traitor, had at least one turn for each entry of its log, and the client one for each of its two operations.
 fn had_turns<R: Abort>(rt: &R, logs: &Logs, gate: &Counting) {
     for number in 0..3 {
         let replica = Actor::Replica(ReplicaId::of(number));

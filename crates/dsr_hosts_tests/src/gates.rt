@@ -8,16 +8,16 @@ use std::sync::atomic::Ordering::SeqCst;
 use std::sync::atomic::{AtomicBool, AtomicU64};
 use std::thread;
 
-/// How often one replica looks for the other, at most.
+/// The maximum number of times that one replica looks for the other.
 const MEETING_LOOKS: u64 = 1_000_000;
 
-/// How often a client looks for the last turn of a replica, at most.
+/// The maximum number of times that a client looks for the last turn of a replica.
 const HOLDING_LOOKS: u64 = 100_000_000;
 
-/// How many turns replicas and traitors have together, in full haste, after each turn of a client.
+/// The number of turns that replicas and traitors have together, without a pause, after each turn of a client.
 const HASTY_TURNS: u64 = 3_000;
 
-/// How often others may run first in each turn after those, at most.
+/// The maximum number of times that others may run first in each turn after those.
 const YIELDS: u64 = 10_000;
 
 /// Lets everybody go on.
@@ -44,7 +44,7 @@ impl Gate for Shut {
     }
 }
 
-/// Lets replicas and traitors go on, and no client.
+/// Lets replicas and traitors go on, but no client.
 #[derive(Drop)]
 pub(crate) struct ClientsShut;
 
@@ -59,12 +59,12 @@ impl Gate for ClientsShut {
     }
 }
 
-/// Lets one replica make so many turns, and all others any.
+/// Lets one replica make `turns` turns, and all others any number.
 #[derive(Drop)]
 pub(crate) struct Until {
     /// The replica.
     pub(crate) replica: ReplicaId,
-    /// The number of the turn that it refuses first.
+    /// The number of the first turn that it refuses.
     pub(crate) turns: u64,
 }
 
@@ -81,7 +81,7 @@ impl Gate for Until {
     }
 }
 
-/// Lets everybody go on, but gives a slow client time before the rounds of replicas and traitors are used up.
+/// Lets everybody go on, but gives a slow client time before replicas and traitors have used up their rounds.
 #[derive(Drop)]
 pub(crate) struct Patient {
     /// The turns of replicas and traitors since the last one of a client.
@@ -89,14 +89,14 @@ pub(crate) struct Patient {
 }
 
 impl Patient {
-    /// A gate that was not asked yet.
+    /// Creates a gate that was not asked yet.
     pub(crate) fn new() -> Patient {
         Patient {
             turns: AtomicU64::new(0),
         }
     }
 
-    /// Lets a client run first, for a while, where it has had no turn for long.
+    /// Lets a client run first, for a while, if no client had a turn for long.
     fn give_time(&self) {
         if self.turns.fetch_add(1, SeqCst) < HASTY_TURNS {
             return;
@@ -134,7 +134,7 @@ pub(crate) struct Counting {
 }
 
 impl Counting {
-    /// A gate that was not asked yet.
+    /// Creates a gate that was not asked yet.
     pub(crate) fn new() -> Counting {
         Counting {
             patient: Patient::new(),
@@ -146,17 +146,17 @@ impl Counting {
         }
     }
 
-    /// Whether some turn had another number than its actor's count of turns before it.
+    /// Tells whether some turn had another number than its actor's count of turns before it.
     pub(crate) fn is_amiss(&self) -> bool {
         self.amiss.load(SeqCst)
     }
 
-    /// How many turns the actor had.
+    /// Returns how many turns the actor had.
     pub(crate) fn turns(&self, actor: &Actor) -> u64 {
         self.count(actor).load(SeqCst)
     }
 
-    /// The count of the actor's turns.
+    /// Returns the count of the actor's turns.
     fn count(&self, actor: &Actor) -> &AtomicU64 {
         match actor {
             Actor::Replica(replica) => match replica.number() {
@@ -188,7 +188,7 @@ struct Party {
 }
 
 impl Party {
-    /// One that has not come yet.
+    /// Creates a replica that has not come yet.
     fn new() -> Party {
         Party {
             came: AtomicBool::new(false),
@@ -196,7 +196,7 @@ impl Party {
         }
     }
 
-    /// It comes, and looks for the other one until that has come too. Both meet only if they run at once.
+    /// Comes, and looks for the other one until that has come too. They meet only if they run at the same time.
     fn meet(&self, other: &Party) {
         self.came.store(true, SeqCst);
         for _ in 0..MEETING_LOOKS {
@@ -218,7 +218,7 @@ pub(crate) struct Meeting {
 }
 
 impl Meeting {
-    /// A gate that was not asked yet.
+    /// Creates a gate that was not asked yet.
     pub(crate) fn new() -> Meeting {
         Meeting {
             patient: Patient::new(),
@@ -227,12 +227,12 @@ impl Meeting {
         }
     }
 
-    /// Whether both saw each other.
+    /// Tells whether both saw each other.
     pub(crate) fn both_met(&self) -> bool {
         self.first.met.load(SeqCst) && self.second.met.load(SeqCst)
     }
 
-    /// The replica looks for the other one, if it is one of the two.
+    /// Has the replica look for the other one, if it is one of the two.
     fn meet(&self, replica: &ReplicaId) {
         match replica.number() {
             0 => self.first.meet(&self.second),
@@ -261,7 +261,7 @@ pub(crate) struct Late {
 }
 
 impl Late {
-    /// A gate that was not asked yet, for a replica whose last turn has this number.
+    /// Creates a gate that was not asked yet, for a replica whose last turn has this number.
     pub(crate) fn until(last_turn: u64) -> Late {
         Late {
             last_turn,
@@ -269,12 +269,12 @@ impl Late {
         }
     }
 
-    /// Whether a replica had its last turn.
+    /// Tells whether a replica had its last turn.
     pub(crate) fn came(&self) -> bool {
         self.came.load(SeqCst)
     }
 
-    /// A replica has this turn.
+    /// Notes that a replica has this turn.
     fn note(&self, turn: u64) {
         if turn == self.last_turn {
             self.came.store(true, SeqCst);

@@ -1,4 +1,4 @@
-//! The tests of services in threads. They stand apart from the code, since a crate with tests is proved twice.
+//! The tests of services in threads. They are apart from the code because a crate with tests is proved twice.
 #![tactic(auto)]
 
 #[cfg(test)]

@@ -1,4 +1,4 @@
-//! What came of a service.
+//! The outcome of a service.
 
 use dsr_envelope::{Entry, Envelope};
 use dsr_hosts::serve;
@@ -13,7 +13,7 @@ use std::process::Abort;
 use std::sync::Wait;
 use std::thread::Threads;
 
-/// What came of a service: the logs of all actors, and why it ended before all clients were served.
+/// The outcome of a service: the logs of all actors, and why it ended, if it ended before all clients were served.
 #[derive(Drop)]
 pub(crate) struct Outcome {
     pub(crate) logs: Logs,
@@ -37,7 +37,7 @@ pub(crate) fn serve_text<R: Threads + Wait + Sync, G: Gate + Sync>(
     }
 }
 
-/// The entries of the actor's log. None where it is no actor of the shape.
+/// Returns the entries of the actor's log; no entries if it is not an actor of the shape.
 pub(crate) fn entries<'a>(logs: &'a Logs, actor: &Actor) -> &'a [Entry] {
     if logs.shape().has(*actor) {
         logs.of(*actor)
@@ -49,13 +49,13 @@ pub(crate) fn entries<'a>(logs: &'a Logs, actor: &Actor) -> &'a [Entry] {
 /// The posts to one actor.
 #[derive(Drop)]
 pub(crate) struct Posts {
-    /// How many there are.
+    /// The number of posts.
     pub(crate) count: u64,
-    /// Which of them, counted from 0, have something else than the empty envelope.
+    /// The numbers, counted from 0, of the posts with another envelope than the empty one.
     pub(crate) full: Vec<u64>,
 }
 
-/// The posts of these entries to the actor.
+/// Returns the posts to the actor among these entries.
 pub(crate) fn posts_to(alloc: Global, entries: &[Entry], actor: &Actor) -> Result<Posts, Refusal> {
     let mut posts = Posts {
         count: 0,
@@ -85,7 +85,7 @@ impl Posts {
     }
 }
 
-/// What the first client accepted. Nothing where there is none.
+/// Returns what the first client accepted; nothing if there is no client.
 pub(crate) fn accepted(logs: &Logs) -> &[Reply] {
     if ClientId::FIRST.number() < logs.shape().m() {
         logs.accepted(ClientId::FIRST)
@@ -94,20 +94,20 @@ pub(crate) fn accepted(logs: &Logs) -> &[Reply] {
     }
 }
 
-/// The request of the first client, under number 1, to write 5 to `a`.
+/// Returns the request of the first client with number 1, to write 5 to `a`.
 pub(crate) fn write_5() -> Result<Request, Refusal> {
     let name = Name::read(b"a")?;
     let op = Op::Write { name, value: 5 };
     Request::new(ClientId::FIRST, 1, op)
 }
 
-/// The request of the first client, under number 2, to read `a`.
+/// Returns the request of the first client with number 2, to read `a`.
 pub(crate) fn read() -> Result<Request, Refusal> {
     let name = Name::read(b"a")?;
     Request::new(ClientId::FIRST, 2, Op::Read { name })
 }
 
-/// Compares why a service ended in which no request was done.
+/// Checks that the service ended for this cause, that the first client accepted nothing, and that no request acted.
 pub(crate) fn ended_by<R: Abort>(rt: &R, outcome: &Outcome, cause: &Refusal) {
     assert_eq!(rt; outcome.cause, Some(*cause));
     assert_eq!(rt; accepted(&outcome.logs).len(), 0);

@@ -10,14 +10,14 @@ use std::alloc::Global;
 use std::process::Abort;
 use std::test::Fail;
 
-/// How many rounds each host of a replica or a traitor has.
+/// The number of rounds of each host of a replica or a traitor.
 const ROUNDS: u64 = 4_096;
 
 /// Three loyal replicas, and a client with a write and a read.
 const THREE: &str = "dsr-serve 1 3 1 1 -\nask c0 write a 5\nask c0 read a\n";
 
-/// The script of a service with a traitor, and with an operation more than it has rounds. The operations of one client need a slot each, and
-/// a round begins one slot, so they are never all served. The traitor posts something in its first round and in its last.
+/// Returns the script of a service with a traitor, and with one operation more than there are rounds. Each operation of one client needs a slot,
+/// and a round begins one slot, so they are never all served. The traitor posts something in its first round and in its last.
 fn too_many(alloc: Global) -> Result<String, Refusal> {
     let mut text = String::new(alloc);
     text.push_str("dsr-serve 1 3 1 1 r2\nscript r2 0 r0 seen 1\nscript r2 4095 r0 seen 1\n")?;
@@ -52,7 +52,7 @@ fn all_have_posted<R: Abort>(rt: &R, alloc: Global, logs: &Logs) -> Result<(), F
     has_posted(rt, alloc, logs, &ReplicaId::of(2), Some(full.as_slice()))
 }
 
-/// Merges the logs, in which the hosts made some posts, and checks that they are those of a run.
+/// Merges the logs, in which the hosts made some posts, and checks that they are the logs of a run.
 fn is_a_run<R: Abort>(rt: &R, alloc: Global, logs: &Logs) -> Result<(), Fail> {
     let recorded = Record::of_logs(alloc, logs)?;
     assert!(rt; recorded.entries().len() >= 3);
@@ -85,7 +85,7 @@ fn a_client_that_is_stopped_stops_a_service(rt: HostRuntime) -> Result<(), Fail>
 
 #[test]
 fn one_stopped_replica_stops_a_service(rt: HostRuntime) -> Result<(), Fail> {
-    // r1 posts to all replicas in its turns 1, 2 and 3, but takes from all of them no more than once: so no slot is closed
+    // r1 posts to all replicas in its turns 1, 2 and 3, but takes from each of them at most once: so no slot is closed
     let replica = ReplicaId::of(1);
     let outcome = serve_text(&rt, rt.alloc(), THREE, &Until { replica, turns: 7 })?;
     ended_by(&rt, &outcome, &Refusal::Stopped);
@@ -100,7 +100,7 @@ fn a_client_that_comes_late_is_not_answered(rt: HostRuntime) -> Result<(), Fail>
     let outcome = serve_text(&rt, rt.alloc(), script, &gate)?;
     assert!(rt; gate.came());
     ended_by(&rt, &outcome, &Refusal::Unanswered);
-    // the posts and takes of all rounds came with the fault, and the one ask that nobody took
+    // the fault has the logs: the posts and takes of all rounds, and the one ask that nobody took
     let replica = Actor::Replica(ReplicaId::FIRST);
     assert_eq!(rt; entries(&outcome.logs, &replica).len(), 2 * 4_096);
     let client = Actor::Client(ClientId::FIRST);

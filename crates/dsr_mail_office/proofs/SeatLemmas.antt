@@ -1,4 +1,4 @@
--- How seats stay the same.
+-- Seats stay those of the same actors at the same mail.
 use Rattle.std.proofs.Common.{◌≡◌, ℕ, zero, suc, ◌<◌, Bool, List, [], ◌∷◌, refl, ap, sym, ◌∙◌, subst, arith, length, get_or, set}
 use Rattle.std.proofs.Math.Seq.{map-set_same}
 use Rattle.std.proofs.lemmas.List.Elements.{All-set}
@@ -9,7 +9,7 @@ use Rattle.dsr_boxes.specs.Pass.{SharedBoxes, Pass, IsPassOf, new_pass}
 use Rattle.dsr_mail.specs.Seats.{actors_of, AreSeatsOf}
 use Rattle.dsr_mail_office.specs.Same.{IsSameSeat}
 
--- seats stay those of a mail where one of them stays the same
+-- seats stay those of a mail if one of them is replaced by the same seat
 pub seats_stay : (mail : SharedBoxes) (kind : Shape → Actor → Bool) (xs : List Pass) (place : ℕ) (old new : Pass) → AreSeatsOf mail kind xs
     → place < length xs → old ≡ get_or xs place old → IsSameSeat old new → AreSeatsOf mail kind (set xs place new)
 seats_stay mail kind xs place old new are below at same =
@@ -19,7 +19,7 @@ seats_stay mail kind xs place old new are below at same =
       map-set_same (λ (seat : Pass). seat.actor) xs place new old (same.2 ∙ ap (λ (seat : Pass). seat.actor) at) ∙ are.1,
     )
 
--- a seat that is the same as one that is the same
+-- "the same seat" is transitive
 pub same_twice : (one other last : Pass) → IsSameSeat one other → IsSameSeat other last → IsSameSeat one last
 same_twice one other last first second = (second.0 ∙ first.0, second.1 ∙ first.1, second.2 ∙ first.2)
 

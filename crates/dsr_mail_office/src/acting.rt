@@ -1,4 +1,4 @@
-//! The seats of a replica and of a client in two threads: each makes its calls again until its boxes are as it needs them.
+//! The seats of a replica and a client in two threads: each makes a call again and again until its box is as the call needs it.
 
 ghost use Rattle.std.specs.Prelude.{◌≡◌};
 ghost use Rattle.std.specs.Thread.{IsSync};
@@ -13,16 +13,16 @@ use std::alloc::Global;
 use std::sync::Wait;
 use std::thread::{self, Threads, join_mut};
 
-/// Events that have to happen, and how often.
+/// Events that have to happen, and the number of times.
 #[derive(Clone, Copy)]
 pub struct Part<'a> {
     /// The events, in their order.
     pub events: &'a [Event],
-    /// How often.
+    /// The number of times.
     pub times: u32,
 }
 
-/// Each has its part happen in a thread of its own.
+/// Has both parts happen, each in a thread of its own.
 pub(crate) fn both_act<R: Threads + Wait + Sync>(
     rt: &R,
     alloc: Global,
@@ -50,7 +50,7 @@ pub(crate) fn both_act<R: Threads + Wait + Sync>(
     )
 }
 
-/// The replica has its part happen.
+/// Has the replica's part happen.
 fn replica_acts<R: Wait>(
     rt: &R,
     alloc: Global,
@@ -67,7 +67,7 @@ fn replica_acts<R: Wait>(
     Ok(())
 }
 
-/// The replica has the events happen.
+/// Has the replica's events happen once.
 fn replica_acts_once<R: Wait>(
     rt: &R,
     alloc: Global,
@@ -84,7 +84,7 @@ fn replica_acts_once<R: Wait>(
     Ok(())
 }
 
-/// The replica tries the event until the box is as it needs it.
+/// Tries the replica's event until the box is as the event needs it.
 fn replica_insists<R: Wait>(
     rt: &R,
     alloc: Global,
@@ -104,7 +104,7 @@ fn replica_insists<R: Wait>(
     unreachable!()
 }
 
-/// The replica tries the event, where it is a post or a take.
+/// Tries the replica's event, if it is a post or a take.
 fn replica_tries(
     alloc: Global,
     mail: &Mail,
@@ -121,7 +121,7 @@ fn replica_tries(
     }
 }
 
-/// The client has its part happen.
+/// Has the client's part happen.
 fn client_acts<R: Wait>(
     rt: &R,
     alloc: Global,
@@ -138,7 +138,7 @@ fn client_acts<R: Wait>(
     Ok(())
 }
 
-/// The client has the events happen.
+/// Has the client's events happen once.
 fn client_acts_once<R: Wait>(
     rt: &R,
     alloc: Global,
@@ -155,7 +155,7 @@ fn client_acts_once<R: Wait>(
     Ok(())
 }
 
-/// The client tries the event until the box is as it needs it.
+/// Tries the client's event until the box is as the event needs it.
 fn client_insists<R: Wait>(
     rt: &R,
     alloc: Global,
@@ -175,7 +175,7 @@ fn client_insists<R: Wait>(
     unreachable!()
 }
 
-/// The client tries the event, where it is a post or a take.
+/// Tries the client's event, if it is a post or a take.
 fn client_tries(
     alloc: Global,
     mail: &Mail,

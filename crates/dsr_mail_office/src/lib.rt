@@ -1,5 +1,5 @@
-//! What the tests of seats stand on: an open mail with the seats of all its actors, at which the events of a play happen, in one thread or in two;
-//! and one of two replicas that sleep and wake each other.
+//! Tools for the tests of seats: an open mail with the seats of all its actors, at which the events of a play happen, in one thread or in two;
+//! and a mail of two replicas that sleep and wake each other.
 #![tactic(auto)]
 
 mod acting;

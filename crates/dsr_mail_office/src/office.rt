@@ -28,21 +28,21 @@ pub struct Office {
     ghost clients: { AreSeatsOf mail is_client seats.clients.items },
 }
 
-/// How a play went otherwise than was wanted.
+/// How a play went differently from what was wanted.
 #[derive(Clone, Copy, Debug, PartialEq, Eq)]
 pub enum Otherwise {
-    /// The play could not be read, or its mail not be opened.
+    /// The play could not be read, or its mail could not be opened.
     Refused(Refusal),
-    /// The play has so many events, which is not how many ends are wanted.
+    /// The play has this number of events, which is not the number of wanted results.
     Count(usize),
-    /// The event at this place ended so.
+    /// The event at this place had this result.
     Ended {
         place: usize,
         end: Result<(), Refusal>,
     },
 }
 
-/// What was refused.
+/// Returns `Refused` with this refusal.
 impl From<Refusal> for Otherwise {
     ghost from_gives = { λ refusal e. e ≡ Refused refusal };
 
@@ -63,7 +63,7 @@ pub fn stage(
     Ok(office)
 }
 
-/// Has each event of the play happen at a mail of its own, as long as each ends as wanted.
+/// Has each event of the play happen at a new mail, as long as each ends as wanted.
 pub fn act_out(alloc: Global, text: &str, wanted: &[Result<(), Refusal>]) -> Result<(), Otherwise> {
     stage(alloc, text, wanted)?;
     Ok(())
@@ -100,40 +100,40 @@ fn act(
 }
 
 impl Office {
-    /// The open mail of this shape. `NoMemory` where memory runs out.
+    /// Opens a mail of this shape. `NoMemory` if memory runs out.
     pub fn open(alloc: Global, shape: Shape) -> Result<Office, Refusal> {
         let keys = Keys::new(alloc, shape)?;
         let (mail, seats) = Mail::open(alloc, shape, keys)?;
         Ok(Office { mail, seats })
     }
 
-    /// Closes the mail, to which all seats come back.
+    /// Gives all seats back to the mail, closes it, and returns the logs.
     pub fn close(self) -> Logs {
         let Office { mail, seats } = self;
         mail.close(seats)
     }
 
-    /// The shape of the mail.
+    /// Returns the shape of the mail.
     pub fn shape(&self) -> &Shape {
         self.mail.shape()
     }
 
-    /// The seats of the loyal replicas.
+    /// Returns the seats of the loyal replicas.
     pub fn replicas(&self) -> &[ReplicaSeat] {
         self.seats.replicas.as_slice()
     }
 
-    /// The seats of the traitors.
+    /// Returns the seats of the traitors.
     pub fn traitors(&self) -> &[TraitorSeat] {
         self.seats.traitors.as_slice()
     }
 
-    /// The seats of the clients.
+    /// Returns the seats of the clients.
     pub fn clients(&self) -> &[ClientSeat] {
         self.seats.clients.as_slice()
     }
 
-    /// Has the event happen by the seat of its actor. `NoActor` where the actor has none of that kind.
+    /// Has the event happen by the seat of its actor. `NoActor` if the actor has no seat of that kind.
     pub fn step(&mut self, alloc: Global, event: &Event) -> Result<(), Refusal> {
         match event {
             Event::Post { from, to, pick } => self.post(alloc, from, to, &pick.pick()),
@@ -143,7 +143,7 @@ impl Office {
         }
     }
 
-    /// The post of a loyal replica or of a client.
+    /// Has a loyal replica or a client post.
     fn post(
         &mut self,
         alloc: Global,
@@ -157,7 +157,7 @@ impl Office {
         }
     }
 
-    /// A take of anyone.
+    /// Has any actor take.
     fn take(&mut self, at: &Actor, from: &Actor) -> Result<(), Refusal> {
         match at {
             Actor::Replica(replica) => self.any_replica_take(replica, from),
@@ -168,7 +168,7 @@ impl Office {
         }
     }
 
-    /// The take of a replica, loyal or not.
+    /// Has a replica, loyal or not, take.
     fn any_replica_take(&mut self, replica: &ReplicaId, from: &Actor) -> Result<(), Refusal> {
         if self.mail.shape().is_loyal(Actor::Replica(*replica)) {
             self.replica_take(replica, from)
@@ -177,7 +177,7 @@ impl Office {
         }
     }
 
-    /// A post of a loyal replica.
+    /// Has a loyal replica post.
     fn replica_post(
         &mut self,
         alloc: Global,
@@ -191,7 +191,7 @@ impl Office {
         post(&mut self.seats.replicas[place], alloc, &self.mail, to, pick)
     }
 
-    /// A take of a loyal replica.
+    /// Has a loyal replica take.
     fn replica_take(&mut self, replica: &ReplicaId, from: &Actor) -> Result<(), Refusal> {
         let Some(place) = replica_place(self.seats.replicas.as_slice(), replica) else {
             return Err(Refusal::NoActor);
@@ -199,7 +199,7 @@ impl Office {
         take(&mut self.seats.replicas[place], &self.mail, from)
     }
 
-    /// A post of a traitor.
+    /// Has a traitor post.
     fn plant(
         &mut self,
         alloc: Global,
@@ -219,7 +219,7 @@ impl Office {
         )
     }
 
-    /// A take of a traitor.
+    /// Has a traitor take.
     fn traitor_take(&mut self, replica: &ReplicaId, from: &Actor) -> Result<(), Refusal> {
         let Some(place) = traitor_place(self.seats.traitors.as_slice(), &Actor::Replica(*replica))
         else {
@@ -228,7 +228,7 @@ impl Office {
         traitor_take(&mut self.seats.traitors[place], &self.mail, from)
     }
 
-    /// A post of a client.
+    /// Has a client post.
     fn client_post(
         &mut self,
         alloc: Global,
@@ -242,7 +242,7 @@ impl Office {
         ask(&mut self.seats.clients[place], alloc, &self.mail, to, pick)
     }
 
-    /// A take of a client, and the reply that it accepts by it.
+    /// Has a client take, and returns the reply that it accepts by that.
     pub fn client_take(
         &mut self,
         client: &ClientId,
@@ -254,7 +254,7 @@ impl Office {
         hear(&mut self.seats.clients[place], &self.mail, from)
     }
 
-    /// The first loyal replica and the first client have their parts happen, each in a thread of its own.
+    /// Has the parts of the first loyal replica and the first client happen, each in a thread of its own.
     pub fn both_act<R: Threads + Wait + Sync>(
         &mut self,
         rt: &R,
@@ -269,7 +269,7 @@ impl Office {
         both_act(rt, alloc, &self.mail, replica, client, parts)
     }
 
-    /// A client tells its seen front.
+    /// Has a client tell its seen front.
     fn tell(&mut self, alloc: Global, from: &Actor, to: &Actor) -> Result<(), Refusal> {
         let Actor::Client(client) = from else {
             return Err(Refusal::NoActor);
@@ -281,7 +281,7 @@ impl Office {
     }
 }
 
-/// The place of a loyal replica's seat.
+/// Returns the place of a loyal replica's seat.
 fn replica_place(seats: &[ReplicaSeat], replica: &ReplicaId) -> Option<usize>
     ensures { IfSome result (λ place. place < length seats.now) }
 {
@@ -293,7 +293,7 @@ fn replica_place(seats: &[ReplicaSeat], replica: &ReplicaId) -> Option<usize>
     None
 }
 
-/// The place of a traitor's seat.
+/// Returns the place of a traitor's seat.
 fn traitor_place(seats: &[TraitorSeat], actor: &Actor) -> Option<usize>
     ensures { IfSome result (λ place. place < length seats.now) }
 {
@@ -305,7 +305,7 @@ fn traitor_place(seats: &[TraitorSeat], actor: &Actor) -> Option<usize>
     None
 }
 
-/// The place of a client's seat.
+/// Returns the place of a client's seat.
 fn client_place(seats: &[ClientSeat], client: &ClientId) -> Option<usize>
     ensures { IfSome result (λ place. place < length seats.now) }
 {
@@ -317,7 +317,7 @@ fn client_place(seats: &[ClientSeat], client: &ClientId) -> Option<usize>
     None
 }
 
-/// A loyal replica posts.
+/// Posts from a loyal replica's seat.
 pub(crate) fn post(
     seat: &mut ReplicaSeat,
     alloc: Global,
@@ -334,7 +334,7 @@ pub(crate) fn post(
     }
 }
 
-/// A loyal replica takes.
+/// Takes at a loyal replica's seat.
 pub(crate) fn take(seat: &mut ReplicaSeat, mail: &Mail, from: &Actor) -> Result<(), Refusal>
     requires { IsPassOf mail.now seat.old }
     ensures { IsSameSeat seat.old seat.new }
@@ -345,7 +345,7 @@ pub(crate) fn take(seat: &mut ReplicaSeat, mail: &Mail, from: &Actor) -> Result<
     }
 }
 
-/// A traitor posts what the draft describes.
+/// Posts what the draft describes from a traitor's seat.
 fn plant(
     seat: &mut TraitorSeat,
     alloc: Global,
@@ -362,7 +362,7 @@ fn plant(
     }
 }
 
-/// A traitor takes.
+/// Takes at a traitor's seat.
 fn traitor_take(seat: &mut TraitorSeat, mail: &Mail, from: &Actor) -> Result<(), Refusal>
     requires { IsPassOf mail.now seat.old }
     ensures { IsSameSeat seat.old seat.new }
@@ -373,7 +373,7 @@ fn traitor_take(seat: &mut TraitorSeat, mail: &Mail, from: &Actor) -> Result<(),
     }
 }
 
-/// A client posts.
+/// Posts from a client's seat.
 pub(crate) fn ask(
     seat: &mut ClientSeat,
     alloc: Global,
@@ -390,7 +390,7 @@ pub(crate) fn ask(
     }
 }
 
-/// A client takes.
+/// Takes at a client's seat.
 pub(crate) fn hear(
     seat: &mut ClientSeat,
     mail: &Mail,
@@ -405,7 +405,7 @@ pub(crate) fn hear(
     }
 }
 
-/// A client tells its seen front.
+/// Tells the seen front from a client's seat.
 fn tell(seat: &mut ClientSeat, alloc: Global, mail: &Mail, to: &Actor) -> Result<(), Refusal>
     requires { IsPassOf mail.now seat.old }
     ensures { IsSameSeat seat.old seat.new }
@@ -416,17 +416,17 @@ fn tell(seat: &mut ClientSeat, alloc: Global, mail: &Mail, to: &Actor) -> Result
     }
 }
 
-/// What an actor waits for.
+/// The event that an actor waits for.
 #[derive(Clone, Copy)]
 pub enum Side {
-    /// That its box to the other is empty.
+    /// Its box to the other actor becomes empty.
     To,
-    /// That the other's box to it is full.
+    /// The other actor's box to it becomes full.
     From,
 }
 
 impl Office {
-    /// The wait of a replica, loyal or not. `NotDue` where it has no seat.
+    /// Has a replica, loyal or not, wait. `NotDue` if it has no seat.
     pub fn wait<R: Wait>(
         &self,
         rt: &R,
@@ -442,7 +442,7 @@ impl Office {
         }
     }
 
-    /// The wait of a loyal replica.
+    /// Has a loyal replica wait.
     fn replica_wait<R: Wait>(
         &self,
         rt: &R,
@@ -456,7 +456,7 @@ impl Office {
         replica_wait(rt, &self.seats.replicas[place], &self.mail, side, other)
     }
 
-    /// The wait of a traitor.
+    /// Has a traitor wait.
     fn traitor_wait<R: Wait>(
         &self,
         rt: &R,
@@ -470,12 +470,12 @@ impl Office {
         traitor_wait(rt, &self.seats.traitors[place], &self.mail, side, other)
     }
 
-    /// Whether a loyal replica has mail.
+    /// Tells whether a loyal replica has mail.
     pub fn has_mail(&self) -> bool {
         one_has_mail(&self.mail, self.seats.replicas.as_slice())
     }
 
-    /// Wakes all from each seat.
+    /// Wakes all waiting actors from each seat.
     pub fn wake(&self) {
         wake_from_replicas(&self.mail, self.seats.replicas.as_slice());
         wake_from_traitors(&self.mail, self.seats.traitors.as_slice());
@@ -483,7 +483,7 @@ impl Office {
     }
 }
 
-/// Whether one of these seats has mail.
+/// Tells whether one of these seats has mail.
 fn one_has_mail(mail: &Mail, seats: &[ReplicaSeat]) -> bool
     requires { All (IsPassOf mail.now) seats.now }
 {
@@ -495,7 +495,7 @@ fn one_has_mail(mail: &Mail, seats: &[ReplicaSeat]) -> bool
     false
 }
 
-/// Wakes all from each of these seats.
+/// Wakes all waiting actors from each of these seats.
 fn wake_from_replicas(mail: &Mail, seats: &[ReplicaSeat])
     requires { All (IsPassOf mail.now) seats.now }
 {
@@ -504,7 +504,7 @@ fn wake_from_replicas(mail: &Mail, seats: &[ReplicaSeat])
     }
 }
 
-/// Wakes all from each of these seats.
+/// Wakes all waiting actors from each of these seats.
 fn wake_from_traitors(mail: &Mail, seats: &[TraitorSeat])
     requires { All (IsPassOf mail.now) seats.now }
 {
@@ -513,7 +513,7 @@ fn wake_from_traitors(mail: &Mail, seats: &[TraitorSeat])
     }
 }
 
-/// Wakes all from each of these seats.
+/// Wakes all waiting actors from each of these seats.
 fn wake_from_clients(mail: &Mail, seats: &[ClientSeat])
     requires { All (IsPassOf mail.now) seats.now }
 {
@@ -522,7 +522,7 @@ fn wake_from_clients(mail: &Mail, seats: &[ClientSeat])
     }
 }
 
-/// A loyal replica waits.
+/// Waits at a loyal replica's seat.
 fn replica_wait<R: Wait>(
     rt: &R,
     seat: &ReplicaSeat,
@@ -538,7 +538,7 @@ fn replica_wait<R: Wait>(
     }
 }
 
-/// A traitor waits.
+/// Waits at a traitor's seat.
 fn traitor_wait<R: Wait>(
     rt: &R,
     seat: &TraitorSeat,

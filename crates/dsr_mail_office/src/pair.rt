@@ -25,7 +25,7 @@ pub struct Pair {
 }
 
 impl Pair {
-    /// The pair at a new mail. `NoMemory` where memory runs out.
+    /// Opens the pair at a new mail. `NoMemory` if memory runs out.
     pub fn open(alloc: Global) -> Result<Pair, Refusal> {
         let shape = Shape::new(2, 0, 1, 0)?;
         let keys = Keys::new(alloc, shape)?;
@@ -43,12 +43,12 @@ impl Pair {
         })
     }
 
-    /// What is due at both.
+    /// Returns what is due at each of the two.
     pub fn due(&self) -> (Due, Due) {
         (self.first.due(), self.second.due())
     }
 
-    /// Both go through so many rounds, each in a thread of its own.
+    /// Has both go through `rounds` rounds, each in a thread of its own.
     pub fn go_through<R: Threads + Wait + Sync>(
         &mut self,
         rt: &R,
@@ -65,8 +65,8 @@ impl Pair {
         )
     }
 
-    /// The second sleeps until the first one has posted to it, and then takes that. Whether it found nothing at first, and what its
-    /// take came to.
+    /// Has the second sleep until the first has posted to it, and then take that. Returns whether it found nothing at first, and the
+    /// result of its take.
     pub fn wake_by_post<R: Threads + Wait + Sync>(
         &mut self,
         rt: &R,
@@ -83,14 +83,14 @@ impl Pair {
         )
     }
 
-    /// The second sleeps until the first one, which never posts, wakes it.
+    /// Has the second sleep until the first, which never posts, wakes it.
     pub fn wake_by_hand<R: Threads + Wait + Sync>(&mut self, rt: &R) -> ((), Result<(), Refusal>) {
         let ended = AtomicBool::new(false);
         wake_by_hand(rt, &self.mail, &mut self.first, &mut self.second, &ended)
     }
 }
 
-/// Both replicas go through so many rounds, each in a thread of its own.
+/// Has both replicas go through `rounds` rounds, each in a thread of its own.
 fn both_go_through<R: Threads + Wait + Sync>(
     rt: &R,
     alloc: Global,
@@ -117,7 +117,7 @@ fn both_go_through<R: Threads + Wait + Sync>(
     )
 }
 
-/// The replica goes through so many rounds of two replicas: in each it posts twice, and takes twice.
+/// Has the replica go through `rounds` rounds of two replicas: in each it posts twice, and takes twice.
 fn go_through<R: Wait>(
     rt: &R,
     alloc: Global,
@@ -134,7 +134,7 @@ fn go_through<R: Wait>(
     Ok(())
 }
 
-/// The replica goes through one round of two replicas.
+/// Has the replica go through one round of two replicas.
 fn go_through_one<R: Wait>(
     rt: &R,
     alloc: Global,
@@ -150,7 +150,7 @@ fn go_through_one<R: Wait>(
     Ok(())
 }
 
-/// The replica does what is due, and sleeps until it can.
+/// Does what is due at the replica, and sleeps until that is possible.
 fn follow<R: Wait>(
     rt: &R,
     alloc: Global,
@@ -166,7 +166,7 @@ fn follow<R: Wait>(
     }
 }
 
-/// The replica posts, and sleeps until it can.
+/// Posts from the replica's seat, and sleeps until that is possible.
 fn post<R: Wait>(
     rt: &R,
     alloc: Global,
@@ -188,7 +188,7 @@ fn post<R: Wait>(
     unreachable!()
 }
 
-/// The replica takes, and sleeps until it can.
+/// Takes at the replica's seat, and sleeps until that is possible.
 fn take<R: Wait>(rt: &R, mail: &Mail, seat: &mut ReplicaSeat, from: &Actor) -> Result<(), Refusal>
     requires { IsPassOf mail.now seat.old }
     ensures { IsPassOf mail.now seat.new }
@@ -204,7 +204,7 @@ fn take<R: Wait>(rt: &R, mail: &Mail, seat: &mut ReplicaSeat, from: &Actor) -> R
     unreachable!()
 }
 
-/// The second sleeps until the first one has posted to it, each in a thread of its own.
+/// Has the second sleep until the first has posted to it, each in a thread of its own.
 fn wake_by_post<R: Threads + Wait + Sync>(
     rt: &R,
     alloc: Global,
@@ -231,7 +231,7 @@ fn wake_by_post<R: Threads + Wait + Sync>(
     )
 }
 
-/// The first posts to both, once the second is about to sleep.
+/// Posts from the first to both, once the second is about to sleep.
 fn post_late<R: Wait>(
     rt: &R,
     alloc: Global,
@@ -252,7 +252,7 @@ fn post_late<R: Wait>(
     follow(rt, alloc, mail, seat)
 }
 
-/// The second posts to both, finds that the first posted nothing, says so, and takes from it once it can.
+/// Posts from the second to both, finds that the first has posted nothing, signals that, and takes from the first once that is possible.
 fn take_early<R: Wait>(
     rt: &R,
     alloc: Global,
@@ -272,7 +272,7 @@ fn take_early<R: Wait>(
     }
 }
 
-/// The replica makes its two posts of a round.
+/// Makes the two posts of the replica's round.
 fn post_round<R: Wait>(
     rt: &R,
     alloc: Global,
@@ -286,7 +286,7 @@ fn post_round<R: Wait>(
     follow(rt, alloc, mail, seat)
 }
 
-/// Whether the replica can take nothing from the first one.
+/// Tells whether the replica cannot take anything from the first one.
 fn finds_nothing(mail: &Mail, seat: &mut ReplicaSeat) -> bool
     requires { IsPassOf mail.now seat.old }
     ensures { IsPassOf mail.now seat.new }
@@ -297,7 +297,7 @@ fn finds_nothing(mail: &Mail, seat: &mut ReplicaSeat) -> bool
     }
 }
 
-/// The second sleeps until the first one wakes it, each in a thread of its own.
+/// Has the second sleep until the first wakes it, each in a thread of its own.
 fn wake_by_hand<R: Threads + Wait + Sync>(
     rt: &R,
     mail: &Mail,
@@ -323,7 +323,7 @@ fn wake_by_hand<R: Threads + Wait + Sync>(
     )
 }
 
-/// Wakes all again and again, until the sleep has ended.
+/// Wakes all waiting actors again and again, until the sleep has ended.
 fn wake_until<R: Wait>(rt: &R, mail: &Mail, seat: &mut ReplicaSeat, ended: &AtomicBool)
     requires { IsPassOf mail.now seat.old }
     ensures { IsPassOf mail.now seat.new }
@@ -337,7 +337,7 @@ fn wake_until<R: Wait>(rt: &R, mail: &Mail, seat: &mut ReplicaSeat, ended: &Atom
     }
 }
 
-/// Sleeps on what the first replica is to post, and says when that ended.
+/// Sleeps until the first replica posts or wakes it, and signals when the sleep ended.
 fn sleep_once<R: Wait>(
     rt: &R,
     mail: &Mail,

@@ -1,4 +1,4 @@
-//! Logs that are merged into a record again where memory was refused: the record is the row's, whichever allocation is refused.
+//! Logs that are merged into a record again if memory was refused: the record is the row's, whichever allocation is refused.
 
 ghost use Rattle.std.specs.Prelude.{IfOk};
 ghost use Rattle.dsr_record.specs.RecordText.{Fits};
@@ -11,7 +11,7 @@ use std::alloc::Global;
 use std::process::Abort;
 use std::test::Fail;
 
-/// A play, and the record of what it leaves: its version, how many entries it has, and its transcript.
+/// A play, and the record of its logs: its version, the number of its entries, and its transcript.
 struct Row {
     play: &'static str,
     version: Version,
@@ -19,7 +19,7 @@ struct Row {
     text: &'static str,
 }
 
-/// Nobody did anything.
+/// A play in which no actor does anything.
 const NOTHING: Row = Row {
     play: "dsr-play 1 3 1 2 r1\n",
     version: Version::One,
@@ -45,7 +45,7 @@ const IN_TURN: Row = Row {
         c0 post c1 seen 0\n",
 };
 
-/// What version 1 lacks.
+/// A removal, which version 1 lacks.
 const REMOVAL: Row = Row {
     play: "dsr-play 1 1 0 1 -\n\
         post c0 r0 begin remove a\n\
@@ -65,7 +65,7 @@ const REMOVAL: Row = Row {
         c0 take r0 reply 1 0 removed none\n",
 };
 
-/// The record of the logs.
+/// Returns the record of the logs; tries again if memory was refused.
 fn record_again(alloc: Global, logs: &Logs) -> Result<Record, Refusal>
     ensures { IfOk result Fits }
 {
@@ -75,7 +75,7 @@ fn record_again(alloc: Global, logs: &Logs) -> Result<Record, Refusal>
     }
 }
 
-/// The record's transcript.
+/// Returns the record's transcript.
 fn text_of(alloc: Global, recorded: &Record) -> Result<Vec<u8>, Refusal>
     requires { Fits recorded.now }
 {
@@ -84,7 +84,7 @@ fn text_of(alloc: Global, recorded: &Record) -> Result<Vec<u8>, Refusal>
     Ok(text.0)
 }
 
-/// The same.
+/// Returns the record's transcript; tries again if memory was refused.
 fn text_again(alloc: Global, recorded: &Record) -> Result<Vec<u8>, Refusal>
     requires { Fits recorded.now }
 {

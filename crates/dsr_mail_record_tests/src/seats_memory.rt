@@ -1,4 +1,4 @@
-//! Seats whose calls are made again where memory was refused: what comes of it is the same, whichever allocation is refused.
+//! Seats whose calls are made again if memory was refused: the outcome is the same, whichever allocation is refused.
 
 use crate::transcripts::{ONE_REPLICA, transcript};
 use dsr_mail::Logs;
@@ -9,7 +9,7 @@ use std::alloc::Global;
 use std::process::Abort;
 use std::test::Fail;
 
-/// The play that the text spells.
+/// Reads the play that the text encodes; tries again if memory was refused.
 fn read_again(alloc: Global, text: &str) -> Result<Play, Refusal> {
     match Play::read(alloc, text.as_bytes()) {
         Err(Refusal::NoMemory) => Play::read(alloc, text.as_bytes()),
@@ -17,7 +17,7 @@ fn read_again(alloc: Global, text: &str) -> Result<Play, Refusal> {
     }
 }
 
-/// The open mail of this shape.
+/// Opens a mail of this shape; tries again if memory was refused.
 fn open_again(alloc: Global, shape: Shape) -> Result<Office, Refusal> {
     match Office::open(alloc, shape) {
         Err(Refusal::NoMemory) => Office::open(alloc, shape),
@@ -25,7 +25,7 @@ fn open_again(alloc: Global, shape: Shape) -> Result<Office, Refusal> {
     }
 }
 
-/// The transcript of the logs.
+/// Returns the transcript of the logs; tries again if memory was refused.
 fn transcript_again(alloc: Global, logs: &Logs) -> Result<Vec<u8>, Refusal> {
     match transcript(alloc, logs) {
         Err(Refusal::NoMemory) | Err(Refusal::WriteFailed) => transcript(alloc, logs),
@@ -33,7 +33,7 @@ fn transcript_again(alloc: Global, logs: &Logs) -> Result<Vec<u8>, Refusal> {
     }
 }
 
-/// Has the event happen.
+/// Has the event happen; tries again if memory was refused.
 fn step_again(alloc: Global, office: &mut Office, event: &Event) -> Result<(), Refusal> {
     match office.step(alloc, event) {
         Err(Refusal::NoMemory) => office.step(alloc, event),
@@ -41,14 +41,14 @@ fn step_again(alloc: Global, office: &mut Office, event: &Event) -> Result<(), R
     }
 }
 
-/// Has all events happen. None may be refused for anything else than memory.
+/// Has all events happen. No event may be refused for another reason than memory.
 fn act_again<R: Abort>(rt: &R, alloc: Global, office: &mut Office, events: &[Event]) {
     for event in events {
         assert_eq!(rt; step_again(alloc, office, event), Ok(()));
     }
 }
 
-/// The logs of what the seats of a mail do in this play.
+/// Returns the logs of what the seats of a mail do in this play.
 pub(crate) fn logs_again<R: Abort>(rt: &R, alloc: Global, play: &str) -> Result<Logs, Refusal> {
     let play = read_again(alloc, play)?;
     let mut office = open_again(alloc, play.shape())?;

@@ -1,12 +1,12 @@
-//! The transcript of what seats did in two threads. Whoever cannot go on where memory was refused leaves the other one waiting, so this test is of
-//! ample memory.
+//! The transcript of what seats did in two threads. An actor that cannot go on since memory was refused leaves the other one waiting, so this test
+//! has ample memory.
 
 use crate::transcripts::{ONE_REPLICA, transcript};
 use dsr_mail_office::{Office, Part};
 use dsr_play::Play;
 use std::test::Fail;
 
-/// The events of the play, to happen once.
+/// Returns the events of the play, to happen once.
 fn part(play: &Play) -> Part<'_> {
     let events = play.events();
     Part { events, times: 1 }

@@ -17,7 +17,7 @@ const BY_HAND: &str = "dsr-play 1 1 0 1 -\n\
     post r0 c0\n\
     take c0 r0\n";
 
-/// Its transcript.
+/// The transcript of that write.
 pub(crate) const ONE_REPLICA: &str = "dsr-transcript 1 1 0 1 -\n\
     c0 post r0 ask c0#1:write:a:7~c0\n\
     r0 take c0 ask c0#1:write:a:7~c0\n\
@@ -26,7 +26,7 @@ pub(crate) const ONE_REPLICA: &str = "dsr-transcript 1 1 0 1 -\n\
     r0 post c0 reply 1 0 written\n\
     c0 take r0 reply 1 0 written\n";
 
-/// The transcript of the logs.
+/// Returns the transcript of the logs.
 pub(crate) fn transcript(alloc: Global, logs: &Logs) -> Result<Vec<u8>, Refusal> {
     let recorded = Record::of_logs(alloc, logs)?;
     let mut text = Outside(Vec::new(alloc));

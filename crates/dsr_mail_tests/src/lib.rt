@@ -1,4 +1,4 @@
-//! The tests of seats, in one thread and in two. They stand apart from the code, since a crate with tests is proved twice.
+//! The tests of seats, in one thread and in two. They are apart from the code because a crate with tests is proved twice.
 #![tactic(auto)]
 
 #[cfg(test)]

@@ -1,4 +1,4 @@
-//! The logs of closed mails, and of none.
+//! The logs of closed mails, and empty logs.
 
 use dsr_envelope::{Entry, Envelope};
 use dsr_ledger::Reply;
@@ -9,12 +9,12 @@ use dsr_request::{Answer, Name, Op, Request};
 use std::process::Abort;
 use std::test::Fail;
 
-/// A write of client 0 from its ask to its reply, and a read of client 1 that is only asked for.
+/// A play of a write of client 0, from its ask to its reply, and a read of client 1 that is only asked for.
 const TWO: &str = "dsr-play 1 1 0 2 -\n\
     asks c0 begin write a 7\nhears c0\nposts r0 from c0\ntakes r0\nreplies c0\ntakes c0\n\
     asks c1 begin read a\n";
 
-/// The entries of the actor's log. None where it is no actor of the shape.
+/// Returns the entries of the actor's log; no entries if it is not an actor of the shape.
 pub(crate) fn entries<'a>(logs: &'a Logs, actor: &Actor) -> &'a [Entry] {
     if logs.shape().has(*actor) {
         logs.of(*actor)
@@ -23,7 +23,7 @@ pub(crate) fn entries<'a>(logs: &'a Logs, actor: &Actor) -> &'a [Entry] {
     }
 }
 
-/// What the client accepted. Nothing where it is no client of the shape.
+/// Returns what the client accepted; nothing if it is not a client of the shape.
 fn accepted<'a>(logs: &'a Logs, client: &ClientId) -> &'a [Reply] {
     if client.number() < logs.shape().m() {
         logs.accepted(*client)
@@ -32,7 +32,7 @@ fn accepted<'a>(logs: &'a Logs, client: &ClientId) -> &'a [Reply] {
     }
 }
 
-/// Whether the entry is the post of this envelope to this actor.
+/// Tells whether the entry is the post of this envelope to this actor.
 fn is_post(entry: &Entry, whom: &Actor, what: &Envelope) -> bool {
     match entry {
         Entry::Post { to, envelope } => *to == *whom && envelope.envelope().same(what),
@@ -50,7 +50,7 @@ fn are_long<R: Abort>(rt: &R, logs: &Logs, wanted: [usize; 3]) {
     assert_eq!(rt; entries(logs, &second).len(), wanted[2]);
 }
 
-/// The request of client 0 to write 7 to `a`, under number 1.
+/// Returns the request of client 0 with number 1, to write 7 to `a`.
 fn write_7() -> Result<Request, Fail> {
     let op = Op::Write {
         name: Name::read(b"a")?,
@@ -65,7 +65,7 @@ fn the_logs_of_a_closed_mail_are_those_of_its_seats(rt: HostRuntime) -> Result<(
     end_with_the_reply(&rt, &office.close())
 }
 
-/// Compares how long the logs are, and the last entry of the replica's.
+/// Compares how long the logs are, and the last entry of the replica's log.
 fn end_with_the_reply<R: Abort>(rt: &R, logs: &Logs) -> Result<(), Fail> {
     assert_eq!(rt; *logs.shape(), Shape::new(1, 0, 2, 0)?);
     are_long(rt, logs, [4, 2, 1]);

@@ -17,17 +17,17 @@ const WRITTEN: Reply = Reply {
     answer: Answer::Written,
 };
 
-/// The seat of the first client.
+/// Returns the seat of the first client.
 fn client(office: &Office) -> Result<&ClientSeat, Fail> {
     Ok(office.clients().first().ok_or("no client")?)
 }
 
-/// The seat of the first loyal replica.
+/// Returns the seat of the first loyal replica.
 fn replica(office: &Office) -> Result<&ReplicaSeat, Fail> {
     Ok(office.replicas().first().ok_or("no replica")?)
 }
 
-/// The request of client 0 to write 7 to `a`, under number 1.
+/// Returns the request of client 0 with number 1, to write 7 to `a`.
 fn first_request() -> Result<Request, Fail> {
     let op = Op::Write {
         name: Name::read(b"a")?,
@@ -36,7 +36,7 @@ fn first_request() -> Result<Request, Fail> {
     Ok(Request::new(ClientId::FIRST, 1, op)?)
 }
 
-/// Compares what is outstanding with the client, which of the first two replicas it asked, and what it has seen.
+/// Compares the client's outstanding request, which of the first two replicas it asked, and its seen front.
 fn client_is<R: Abort>(
     rt: &R,
     seat: &ClientSeat,
@@ -56,7 +56,7 @@ fn seats_stand_by_kind_and_number(rt: HostRuntime) -> Result<(), Fail> {
     stand_by_kind_and_number(&rt, &office)
 }
 
-/// Compares the seats of two loyal replicas, of which the second is r2, of the traitor r1, and of two clients.
+/// Compares the seats of two loyal replicas, the second of which is r2, of the traitor r1, and of two clients.
 fn stand_by_kind_and_number<R: Abort>(rt: &R, office: &Office) -> Result<(), Fail> {
     assert_eq!(rt; *office.shape(), Shape::new(3, 1, 2, 0b010)?);
     let counts = (
@@ -68,7 +68,7 @@ fn stand_by_kind_and_number<R: Abort>(rt: &R, office: &Office) -> Result<(), Fai
     are_named(rt, office)
 }
 
-/// Compares whose seats the last of each kind are.
+/// Compares the actors of the last seat of each kind.
 fn are_named<R: Abort>(rt: &R, office: &Office) -> Result<(), Fail> {
     let last = office.replicas().last().ok_or("no replica")?;
     assert_eq!(rt; last.actor(), Actor::Replica(ReplicaId::of(2)));
@@ -89,7 +89,7 @@ fn a_client_tells_whom_it_asked(rt: HostRuntime) -> Result<(), Fail> {
     asks_both(&rt, rt.alloc(), &mut office)
 }
 
-/// The client asks r1 and then r0, and tells so.
+/// The client asks r1 and then r0, and its seat says so.
 fn asks_both<R: Abort>(rt: &R, alloc: Global, office: &mut Office) -> Result<(), Fail> {
     let text = "dsr-play 1 2 0 1 -\npost c0 r1 begin write a 7\n";
     go_on(alloc, office, text, &[Ok(())])?;
@@ -113,7 +113,7 @@ fn a_client_accepts_a_reply(rt: HostRuntime) -> Result<(), Fail> {
     accepts_once(&rt, rt.alloc(), &mut office)
 }
 
-/// The client accepts the reply that it is posted, and not the same reply once more.
+/// The client accepts the reply that is posted to it, but not the same reply a second time.
 fn accepts_once<R: Abort>(rt: &R, alloc: Global, office: &mut Office) -> Result<(), Fail> {
     let first = Actor::Replica(ReplicaId::FIRST);
     assert_eq!(rt;
@@ -141,7 +141,7 @@ fn a_told_front_is_seen(rt: HostRuntime) -> Result<(), Fail> {
     sees_what_it_was_told(&rt, &mut office)
 }
 
-/// Client 1 has seen what client 0 told it, and then the place of its own reply too.
+/// Client 1 has seen what client 0 told it, and later also the place of its own reply.
 fn sees_what_it_was_told<R: Abort>(rt: &R, office: &mut Office) -> Result<(), Fail> {
     assert_eq!(rt; client(office)?.seen(), 3);
     let other = office.clients().last().ok_or("no client")?;
@@ -161,7 +161,7 @@ fn sees_what_it_was_told<R: Abort>(rt: &R, office: &mut Office) -> Result<(), Fa
     Ok(())
 }
 
-/// Compares what is due at the replica, whether the asks of client 0 may be its choice for replica 0, and whether nothing may.
+/// Compares what is due at the replica, whether it may choose the request of client 0 for its post to replica 0, and whether the plain choice.
 fn replica_is<R: Abort>(
     rt: &R,
     seat: &ReplicaSeat,
@@ -182,7 +182,7 @@ fn a_replica_tells_what_it_may_post(rt: HostRuntime) -> Result<(), Fail> {
     tells_what_it_may_post(&rt, rt.alloc(), &mut office)
 }
 
-/// The replica goes through a round, and tells at each step what it may post.
+/// The replica goes through a round, and its seat says at each step what it may post.
 fn tells_what_it_may_post<R: Abort>(
     rt: &R,
     alloc: Global,
@@ -208,7 +208,7 @@ fn a_replica_tells_what_it_holds_and_replies(rt: HostRuntime) -> Result<(), Fail
     holds_and_replies(&rt, rt.alloc(), &mut office)
 }
 
-/// The replica tells which request it holds, and its reply once that is decided.
+/// The replica's seat says which request the replica holds, and its reply once that is decided.
 fn holds_and_replies<R: Abort>(rt: &R, alloc: Global, office: &mut Office) -> Result<(), Fail> {
     assert_eq!(rt; replica(office)?.held(ClientId::FIRST), None);
     let text = "dsr-play 1 1 0 1 -\ntake r0 c0\npost r0 r0 from c0\n";
@@ -221,7 +221,7 @@ fn holds_and_replies<R: Abort>(rt: &R, alloc: Global, office: &mut Office) -> Re
     replies_once_decided(rt, alloc, office)
 }
 
-/// The replica tells its reply once it has taken its own envelope.
+/// The replica's seat says its reply once the replica has taken its own envelope.
 fn replies_once_decided<R: Abort>(rt: &R, alloc: Global, office: &mut Office) -> Result<(), Fail> {
     let text = "dsr-play 1 1 0 1 -\ntake r0 r0\n";
     go_on(alloc, office, text, &[Ok(())])?;
@@ -254,7 +254,7 @@ fn a_replica_tells_whom_it_has_not_answered(rt: HostRuntime) -> Result<(), Fail>
     has_not_answered(&rt, rt.alloc(), &mut office)
 }
 
-/// The replica takes a request, picks it, and replies, and tells at each step whom it has not answered.
+/// The replica takes a request, picks it, and replies; its seat says at each step whom it has not answered.
 fn has_not_answered<R: Abort>(rt: &R, alloc: Global, office: &mut Office) -> Result<(), Fail> {
     serves(rt, office, true, false, None)?;
     go_on(alloc, office, "dsr-play 1 1 0 1 -\ntake r0 c0\n", &[Ok(())])?;

@@ -1,4 +1,4 @@
-//! Seats in two threads. Whoever cannot go on where memory was refused leaves the other one waiting, so these tests are of ample memory.
+//! Seats in two threads. An actor that cannot go on since memory was refused leaves the other one waiting, so these tests have ample memory.
 
 use crate::logs::entries;
 use dsr_envelope::Due;
@@ -7,7 +7,7 @@ use dsr_names::{Actor, ClientId, ReplicaId};
 use dsr_play::Play;
 use std::test::Fail;
 
-/// The events of the play, to happen so often.
+/// Returns the events of the play, to happen `times` times.
 fn part(play: &Play, times: u32) -> Part<'_> {
     let events = play.events();
     Part { events, times }

@@ -1,4 +1,4 @@
-//! The seat of a traitor: it posts what it can sign, or took.
+//! The seat of a traitor: it posts what it can sign itself, or took before.
 
 use dsr_mail_office::{act_out, go_on, stage};
 use dsr_names::Refusal;

@@ -1,4 +1,4 @@
-//! How waits end where there is nothing to wait for.
+//! How waits end if there is nothing to wait for.
 
 use dsr_mail_office::{Office, Side, stage};
 use dsr_names::{Actor, Refusal};
@@ -6,7 +6,7 @@ use std::process::Abort;
 use std::sync::Wait;
 use std::test::Fail;
 
-/// Compares how the waits of the actor end, for each other one that a row names.
+/// Compares how the waits of the actor for each other one end, as a row says.
 fn waits_end<R: Abort + Wait>(
     rt: &R,
     office: &Office,

@@ -1,4 +1,4 @@
--- How seats stay the same.
+-- Seats stay those of the same actors at the same mail.
 use Rattle.std.proofs.Common.{◌≡◌, ℕ, zero, suc, ◌<◌, Bool, List, [], ◌∷◌, ◌++◌, length, take, get_or, set, inl, inr, refl, ap, ap₂, sym, ◌∙◌, subst, arith, get_or-set_same, get_or-set_other, length-set}
 use Rattle.std.proofs.lemmas.List.{get_or_default, take_at}
 use Rattle.std.proofs.lemmas.Bool.{cases_eq}
@@ -9,7 +9,7 @@ use Rattle.dsr_boxes.specs.Pass.{SharedBoxes, Pass, new_pass}
 use Rattle.dsr_mail.specs.Seats.{actors_of, AreSeatsOf}
 use Rattle.dsr_mail_tries.specs.Same.{IsSameSeat, AreOfMail, AreSameSeats}
 
--- a seat that is the same as one that is the same
+-- "the same seat" is transitive
 pub same_twice : (one other last : Pass) → IsSameSeat one other → IsSameSeat other last → IsSameSeat one last
 same_twice one other last first second = (second.0 ∙ first.0, second.1 ∙ first.1, second.2 ∙ first.2)
 
@@ -26,7 +26,7 @@ module _ {P : Type 0} (pass : P → Pass) where
       let a = are k d short in
       (s.0 ∙ a.0, s.1 ∙ a.1)
 
-  -- they stay the same where one of them does
+-- they stay the same if one of them is replaced by the same seat
   pub same_at : (xs ys : List P) (place : ℕ) (old new : P) → AreSameSeats pass xs ys → place < length ys
       → IsSameSeat (pass (get_or ys place old)) (pass new) → AreSameSeats pass xs (set ys place new)
   same_at xs ys place old new same below one = (
@@ -44,7 +44,7 @@ module _ {P : Type 0} (pass : P → Pass) where
     ],
   )
 
--- new seats of a mail are its own
+-- new seats of a mail are seats of this mail
 pub new_of_mail : (mail : SharedBoxes) (actors : List Actor) (xs : List Pass) → xs ≡ map (new_pass mail) actors → AreOfMail (λ seat. seat) mail xs
 new_of_mail mail actors xs is = subst (AreOfMail (λ seat. seat) mail) (sym is) (all_new actors)
   where
@@ -71,7 +71,7 @@ come_back mail kind xs ys is same = (
   same_actors mail (actors_of kind mail.shape) ys (subst (λ l. AreSameSeats (λ seat. seat) l ys) is same),
 )
 
--- also where a list of them was written through a slice
+-- also if a list of them was written through a slice
 pub come_back_written : (mail : SharedBoxes) (kind : Shape → Actor → Bool) (xs ys zs : List Pass) (n : ℕ)
     → xs ≡ map (new_pass mail) (actors_of kind mail.shape) → length xs ≡ n → AreSameSeats (λ seat. seat) xs ys
     → AreSeatsOf mail kind (take n (ys ++ zs))

@@ -14,7 +14,7 @@ use std::alloc::Global;
 impl Player for ClientSeat {
     ghost pass = { λ s. s };
 
-    /// Something of a replica, and sometimes something of a client, or anything.
+    /// Tries a call that involves a replica, or, less often, one that involves a client or any actor.
     fn try_once(&mut self, alloc: Global, mail: &Mail, dice: &mut Dice) {
         match dice.below(16) {
             0..=4 => ask(self, alloc, mail, dice),
@@ -27,7 +27,7 @@ impl Player for ClientSeat {
     }
 }
 
-/// Tries to ask a replica: what is outstanding, or a new request where nothing is.
+/// Tries to ask a replica for the outstanding request, or for a new one if there is none.
 fn ask(seat: &mut ClientSeat, alloc: Global, mail: &Mail, dice: &mut Dice)
     requires { IsPassOf mail.now seat.old }
     ensures { IsSameSeat seat.old seat.new }
@@ -40,7 +40,7 @@ fn ask(seat: &mut ClientSeat, alloc: Global, mail: &Mail, dice: &mut Dice)
     post(seat, alloc, mail, to, pick);
 }
 
-/// Tries to post to anyone by any choice.
+/// Tries to post to any actor with any choice.
 fn stray(seat: &mut ClientSeat, alloc: Global, mail: &Mail, dice: &mut Dice)
     requires { IsPassOf mail.now seat.old }
     ensures { IsSameSeat seat.old seat.new }
@@ -53,7 +53,7 @@ fn stray(seat: &mut ClientSeat, alloc: Global, mail: &Mail, dice: &mut Dice)
     post(seat, alloc, mail, dice.anyone(), pick);
 }
 
-/// The choice of a new request.
+/// Returns the choice of a new request.
 fn request(dice: &mut Dice) -> Pick {
     let letter = b'a' + dice.below(4) as u8;
     let Ok(name) = Name::read(&[letter]) else {

@@ -5,16 +5,16 @@ ghost use Rattle.dsr_names.specs.Shape.{IsActor};
 
 use dsr_names::{Actor, ClientId, ReplicaId, Shape};
 
-/// Numbers that look random: the same seed and stream give the same ones (xorshift, Marsaglia 2003).
+/// Pseudo-random numbers: the same seed and stream give the same numbers (xorshift, Marsaglia 2003).
 #[derive(Drop)]
 pub(crate) struct Dice {
     state: u64,
 }
 
 impl Dice {
-    /// The numbers of this seed and stream.
+    /// Creates the numbers of this seed and stream.
     pub(crate) fn new(seed: u64, stream: u64) -> Dice {
-        // Bits of the golden ratio take near streams apart, and the last bit keeps the state from 0, where it would stay.
+        // Bits of the golden ratio separate neighbouring streams, and the last bit keeps the state from 0, where it would stay.
         let apart = stream.wrapping_add(1).wrapping_mul(0x9e37_79b9_7f4a_7c15);
         let mut dice = Dice {
             state: (seed ^ apart) | 1,
@@ -25,7 +25,7 @@ impl Dice {
         dice
     }
 
-    /// The next number.
+    /// Returns the next number.
     fn roll(&mut self) -> u64 {
         let mut state = self.state;
         state ^= state << 13;
@@ -35,7 +35,7 @@ impl Dice {
         state >> 11
     }
 
-    /// A number below the end.
+    /// Returns a number below `end`.
     pub(crate) fn below(&mut self, end: u64) -> u64
         requires { 0 < end }
         ensures { result < end }
@@ -43,19 +43,19 @@ impl Dice {
         self.roll() % end
     }
 
-    /// A replica of the shape.
+    /// Returns a replica of the shape.
     pub(crate) fn replica(&mut self, shape: &Shape) -> ReplicaId {
         let number = self.below(shape.n() as u64);
         ReplicaId::of(number as u8)
     }
 
-    /// A client of the shape.
+    /// Returns a client of the shape.
     pub(crate) fn client(&mut self, shape: &Shape) -> ClientId {
         let number = self.below(shape.m() as u64);
         ClientId::of(number as u8)
     }
 
-    /// Any actor, also one that the shape may lack.
+    /// Returns any actor, including actors that the shape may lack.
     pub(crate) fn anyone(&mut self) -> Actor {
         let number = self.below(48);
         if number < 16 {

@@ -1,6 +1,6 @@
-//! The program `dsr_mail_tries SEED TRIES SEATS SHAPE`: opens a mail of the shape, as in `4 1 2 r0`, has each thread make so many random tries
-//! at its seats, of which it has at most so many, and writes the transcript of what came of it. The same words give the same tries, but
-//! not the same run: which try succeeds is up to the threads. No try waits.
+//! The program `dsr_mail_tries SEED TRIES SEATS SHAPE`: opens a mail of the shape, such as `4 1 2 r0`, has each thread make TRIES random tries
+//! at its seats, at most SEATS of them, and writes the transcript of the resulting run. The same words give the same random choices, but
+//! not the same run: which try succeeds depends on the threads. No try waits.
 #![tactic(auto)]
 
 mod client;
@@ -20,10 +20,10 @@ use std::process::ExitCode;
 use std::thread::Threads;
 use std::{env, io};
 
-/// The status where something was refused.
+/// The exit status if reading, writing or memory was refused.
 const REFUSED: u8 = 1;
 
-/// The status where the words are not as they should be.
+/// The exit status if the words are wrong.
 const USAGE_FAULT: u8 = 2;
 
 /// Makes the tries of the plan, and writes the transcript of the run.
@@ -38,7 +38,7 @@ fn run<R: Threads + Sync, S: Sink>(
     write(alloc, &recorded, output)
 }
 
-/// The plan that the words of the command line say, if they say one.
+/// Returns the plan in the words of the command line, if they give one.
 fn plan_of(rt: &HostRuntime) -> Option<Plan> {
     let words = env::args(rt).ok()?;
     let words: Result<Vec<String>, AllocError> = words.skip(1).collect(rt.alloc());

@@ -5,22 +5,22 @@ ghost use Rattle.std.specs.Prelude.{◌<◌};
 use dsr_base::read_decimal;
 use dsr_names::Shape;
 
-/// What tries are made.
+/// The tries to make.
 #[derive(Drop)]
 pub(crate) struct Plan {
-    /// Where the random choices begin.
+    /// The seed of the random choices.
     pub(crate) seed: u64,
-    /// How many tries each thread makes.
+    /// The number of tries that each thread makes.
     pub(crate) tries: u64,
     /// The shape of the mail.
     pub(crate) shape: Shape,
-    /// At how many seats a thread takes turns, at most.
+    /// The maximum number of seats at which a thread takes turns.
     seats: usize,
     ghost some: { 0 < seats },
 }
 
 impl Plan {
-    /// The plan of these words: the seed, the tries of a thread, the seats of a thread, and the shape.
+    /// Reads a plan: the seed, the tries of a thread, the maximum number of seats of a thread, and the shape. `None` if the words are wrong.
     pub(crate) fn read(words: &[String]) -> Option<Plan> {
         let [seed, tries, seats, shape] = words else {
             return None;
@@ -37,7 +37,7 @@ impl Plan {
         })
     }
 
-    /// At how many seats a thread takes turns, at most.
+    /// Returns the maximum number of seats at which a thread takes turns.
     pub(crate) fn seats(&self) -> usize
         ensures { 0 < result }
     {

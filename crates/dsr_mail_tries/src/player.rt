@@ -1,4 +1,4 @@
-//! Who makes tries at a mail.
+//! Seats that make tries at a mail.
 
 ghost use Rattle.dsr_boxes.specs.Pass.{Pass, IsPassOf};
 ghost use Rattle.dsr_mail_tries.specs.Same.{IsSameSeat};
@@ -7,12 +7,12 @@ use crate::dice::Dice;
 use dsr_mail::Mail;
 use std::alloc::Global;
 
-/// A seat that random tries are made at.
+/// A seat at which random tries are made.
 pub(crate) trait Player {
-    // The seat as its pass.
+    // the pass that represents the seat
     ghost pass: { Self → Pass };
 
-    /// Makes one try: a call that succeeds, or is refused. It waits for nobody.
+    /// Makes one try: a call that succeeds or is refused. It never waits.
     fn try_once(&mut self, alloc: Global, mail: &Mail, dice: &mut Dice)
         requires { IsPassOf mail.now (pass self.old) }
         ensures { IsSameSeat (pass self.old) (pass self.new) };

@@ -13,7 +13,7 @@ use std::alloc::Global;
 impl Player for ReplicaSeat {
     ghost pass = { λ s. s };
 
-    /// What is due, something of a client, or sometimes anything.
+    /// Tries what is due, a call that involves a client, or, less often, any call.
     fn try_once(&mut self, alloc: Global, mail: &Mail, dice: &mut Dice) {
         match dice.below(16) {
             0..=5 => follow(self, alloc, mail, dice),
@@ -48,7 +48,7 @@ fn reply(seat: &mut ReplicaSeat, alloc: Global, mail: &Mail, dice: &mut Dice)
     post(seat, alloc, mail, Actor::Client(client), Pick::Plain);
 }
 
-/// Tries to post to anyone by any choice.
+/// Tries to post to any actor with any choice.
 fn stray(seat: &mut ReplicaSeat, alloc: Global, mail: &Mail, dice: &mut Dice)
     requires { IsPassOf mail.now seat.old }
     ensures { IsSameSeat seat.old seat.new }
@@ -57,7 +57,7 @@ fn stray(seat: &mut ReplicaSeat, alloc: Global, mail: &Mail, dice: &mut Dice)
     post(seat, alloc, mail, dice.anyone(), pick);
 }
 
-/// A choice by which it may post to this replica: the requests of some clients, or else nothing in particular.
+/// Returns a choice with which it may post to this replica: the requests of some clients, or else the plain choice.
 fn proposal(seat: &ReplicaSeat, shape: &Shape, dice: &mut Dice, to: ReplicaId) -> Pick {
     for _ in 0..4 {
         let pick = some_clients(shape, dice);
@@ -68,12 +68,12 @@ fn proposal(seat: &ReplicaSeat, shape: &Shape, dice: &mut Dice, to: ReplicaId) -
     Pick::Plain
 }
 
-/// Whether it may post to this replica by this choice.
+/// Tells whether it may post to this replica with this choice.
 fn is_allowed(seat: &ReplicaSeat, to: ReplicaId, pick: &Pick) -> bool {
     seat.allows(to, *pick)
 }
 
-/// The choice of one client or two.
+/// Returns the choice of one client or two.
 fn some_clients(shape: &Shape, dice: &mut Dice) -> Pick {
     let (one, other) = (dice.client(shape), dice.client(shape));
     let both = [one, other];

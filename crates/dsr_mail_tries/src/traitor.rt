@@ -15,7 +15,7 @@ use std::fmt::Write;
 impl Player for TraitorSeat {
     ghost pass = { λ s. s };
 
-    /// Takes or posts, mostly of a replica.
+    /// Tries to take or to post, mostly with a replica.
     fn try_once(&mut self, alloc: Global, mail: &Mail, dice: &mut Dice) {
         let replica = Actor::Replica(dice.replica(mail.shape()));
         match dice.below(16) {
@@ -37,7 +37,7 @@ fn send(seat: &mut TraitorSeat, alloc: Global, mail: &Mail, to: Actor, dice: &mu
     }
 }
 
-/// A small draft: of its own signature, of one that it may have taken, or of one that it would have to forge.
+/// Returns a small draft, with its own signature, with one that it may have taken, or with one that it would have to forge.
 fn some_draft(
     alloc: Global,
     shape: &Shape,

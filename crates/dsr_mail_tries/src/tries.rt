@@ -15,7 +15,7 @@ use dsr_names::Refusal;
 use std::alloc::Global;
 use std::thread::{Threads, for_each_chunk_mut, join_mut};
 
-/// Which random choices the seats of a kind have: those of one kind have others than those of another.
+/// The kind of a seat; seats of different kinds have different random choices.
 #[derive(Clone, Copy)]
 enum Kind {
     Replicas,
@@ -24,7 +24,7 @@ enum Kind {
 }
 
 impl Kind {
-    /// The stream of random choices for the seats of this kind from this place on.
+    /// Returns the stream of random choices for the seats of this kind from the place `start` on.
     fn stream(self, start: usize) -> u64 {
         let kind = match self {
             Kind::Replicas => 0,
@@ -35,7 +35,7 @@ impl Kind {
     }
 }
 
-/// Makes the tries of the plan at a mail of its own, and gives the logs that come of it. `NoMemory` where memory for the mail runs out.
+/// Makes the tries of the plan at a new mail, and returns the logs. `NoMemory` if memory for the mail runs out.
 pub(crate) fn logs_of<R: Threads + Sync>(
     rt: &R,
     alloc: Global,
@@ -48,7 +48,7 @@ pub(crate) fn logs_of<R: Threads + Sync>(
     Ok(mail.close(seats))
 }
 
-/// Makes the tries at all seats of a mail, at which nothing was done yet. All come back.
+/// Makes the tries at all seats of a mail at which nothing was done yet. All seats are given back.
 fn try_all<R: Threads + Sync>(rt: &R, alloc: Global, mail: &Mail, plan: &Plan, seats: &mut Seats)
     requires replicas { seats.old.replicas.items ≡ map (new_pass mail.now) (actors_of is_loyal_replica mail.now.shape) }
     requires traitors { seats.old.traitors.items ≡ map (new_pass mail.now) (actors_of is_traitor_replica mail.now.shape) }
@@ -121,7 +121,7 @@ fn try_others<R: Threads + Sync>(
     );
 }
 
-/// Makes the tries at the seats of a kind, in threads that have some of them each.
+/// Makes the tries at the seats of a kind, in threads that have some of the seats each.
 fn spread<R: Threads + Sync, P: Player + Send>(
     rt: &R,
     alloc: Global,

@@ -1,5 +1,5 @@
 //! A service of one's own: `dsr_own_service COUNT [transcript]` serves the script on standard input in threads, through a gate that stops every host
-//! once it was asked so many times, and prints the replies that the clients accepted, or the transcript of the run.
+//! once it was asked COUNT times, and prints the replies that the clients accepted, or the transcript of the run.
 #![tactic(auto)]
 
 use dsr_base::read_decimal;
@@ -20,20 +20,20 @@ use std::sync::atomic::Ordering::SeqCst;
 use std::thread::Threads;
 use std::{env, io};
 
-/// The status where something was refused.
+/// The exit status if something was refused.
 const REFUSED: u8 = 1;
 
-/// The status where the words are not as they should be.
+/// The exit status if the words are wrong.
 const USAGE_FAULT: u8 = 2;
 
-/// What the words ask for.
+/// The task that the words ask for.
 #[derive(Drop)]
 struct Wanted {
     passes: u64,
     transcript: bool,
 }
 
-/// A gate that lets hosts go on so many times, whichever ask, and then none.
+/// A gate that passes the first `most` checks, whichever hosts ask, then refuses all.
 #[derive(Drop)]
 struct Count {
     most: u64,
@@ -41,7 +41,7 @@ struct Count {
 }
 
 impl Gate for Count {
-    // It may refuse anybody.
+    // it may refuse any actor
     ghost may_refuse = { λ gate actor. Unit {0} };
 
     fn pass(&self, _actor: Actor, _turn: u64) -> bool {
@@ -49,7 +49,7 @@ impl Gate for Count {
     }
 }
 
-/// Serves the script that the source has, and writes what came of it, also where the service was ended by a fault.
+/// Serves the script that the source has, and writes the outcome, also if a fault ended the service.
 fn run<R: Threads + Wait + Sync, I: Source, O: Sink>(
     rt: &R,
     alloc: Global,
@@ -72,7 +72,7 @@ fn run<R: Threads + Wait + Sync, I: Source, O: Sink>(
     }
 }
 
-/// Writes what the words ask for of these logs.
+/// Writes the replies or the transcript of these logs, as the words ask.
 fn tell_of<O: Sink>(
     alloc: Global,
     wanted: &Wanted,
@@ -100,7 +100,7 @@ fn write_accepted<O: Sink>(alloc: Global, logs: &Logs, output: &mut O) -> Result
     write_output(output, text.as_bytes())
 }
 
-/// What the words of the command line ask for, if they ask for something.
+/// Returns what the words of the command line ask for; `None` if they are wrong.
 fn read_words(rt: &HostRuntime) -> Option<Wanted> {
     let words = env::args(rt).ok()?;
     let words: Result<Vec<String>, AllocError> = words.skip(1).collect(rt.alloc());

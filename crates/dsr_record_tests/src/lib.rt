@@ -1,4 +1,4 @@
-//! The tests of what may go into threads, of worlds, and of records, that rows and the program cannot show. They stand apart from the code, since a crate
+//! The tests of what may go into threads, of worlds, and of records, that rows and the program cannot show. They are apart from the code because a crate
 //! with tests is proved twice.
 #![tactic(auto)]
 

@@ -9,7 +9,7 @@ use dsr_script::Draft;
 use std::alloc::Global;
 use std::test::Fail;
 
-/// The transcript of the record.
+/// Returns the transcript of the record.
 fn written(alloc: Global, recorded: &Record) -> Result<Vec<u8>, Fail> {
     let mut text = Outside(Vec::new(alloc));
     if !recorded.fits() {

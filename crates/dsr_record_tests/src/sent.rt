@@ -1,4 +1,4 @@
-//! What may be handed to another thread. These tests run none.
+//! What may be handed to another thread. These tests start no thread.
 
 use dsr_client::Client;
 use dsr_desk::Keys;
@@ -9,12 +9,12 @@ use dsr_script::{Draft, Known};
 use std::alloc::Global;
 use std::test::Fail;
 
-/// What goes into a thread of its own.
+/// Compiles only for what may go into a thread.
 fn may_be_sent<T: Send>(_: &T) {}
 
-/// Client 0 of this shape.
+/// Returns client 0 of this shape.
 fn client_of(alloc: Global, shape: &Shape) -> Result<Client, Fail> {
-    // that there is a client 0 is known from here on
+    // from here on the prover knows that there is a client 0
     let _m = shape.m();
     let mut keys = Keys::new(alloc, *shape)?;
     let key = keys.take(Actor::Client(ClientId::FIRST)).ok_or("no key")?;
@@ -28,7 +28,7 @@ fn a_client_may_go_into_a_thread(rt: HostRuntime) -> Result<(), Fail> {
     Ok(())
 }
 
-/// The replica of shape (1,0,1,0).
+/// Returns the replica of shape (1,0,1,0).
 fn replica_alone(alloc: Global) -> Result<Replica, Fail> {
     let shape = Shape::new(1, 0, 1, 0)?;
     let mut keys = Keys::new(alloc, shape)?;

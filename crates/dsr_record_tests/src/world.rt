@@ -1,4 +1,4 @@
-//! What a world lends: its replicas, its clients, and what lies in its boxes. What comes of plays is shown by examples/.
+//! What a world lends: its replicas, its clients, and the contents of its boxes. The outcomes of plays are shown by examples/.
 
 use dsr_client::Client;
 use dsr_desk::Keys;
@@ -11,7 +11,7 @@ use dsr_world::World;
 use std::alloc::Global;
 use std::test::Fail;
 
-/// The world after the play that the text spells. Fails where memory runs out.
+/// Returns the world after the play that the text encodes. Fails if memory runs out.
 fn play_out(alloc: Global, text: &[u8]) -> Result<World, Fail> {
     let play = Play::read(alloc, text)?;
     let mut world = World::open(alloc, play.shape())?;
@@ -39,7 +39,7 @@ fn what_a_stranger_or_a_traitor_decided_is_refused(rt: HostRuntime) -> Result<()
     Ok(())
 }
 
-/// With a new client nothing is outstanding: it has nothing to ask again, and may begin.
+/// A new client has no outstanding request: it has nothing to ask again, and may begin.
 #[test]
 fn a_new_clients_node_may_only_begin(rt: HostRuntime) -> Result<(), Fail> {
     let shape = Shape::new(1, 0, 1, 0)?;
@@ -56,7 +56,7 @@ fn a_new_clients_node_may_only_begin(rt: HostRuntime) -> Result<(), Fail> {
     Ok(())
 }
 
-/// Whether something lies in the box from one actor to another. Nothing does where one is no actor of the shape.
+/// Tells whether the box from one actor to another is full; false if one of them is not an actor of the shape.
 fn lies(world: &World, from: &Actor, to: &Actor) -> bool {
     world.shape().has(*from) && world.shape().has(*to) && world.in_box(from, to).is_some()
 }

@@ -1,4 +1,4 @@
--- How seats stay the same.
+-- Seats stay those of the same actors at the same mail.
 use Rattle.std.proofs.Common.{◌≡◌, ℕ, zero, suc, ◌<◌, Bool, List, [], ◌∷◌, refl, ap, sym, ◌∙◌, subst, arith, length, get_or, set}
 use Rattle.std.proofs.Math.Seq.{map-set_same}
 use Rattle.std.proofs.lemmas.List.Elements.{All-set}
@@ -9,7 +9,7 @@ use Rattle.dsr_boxes.specs.Pass.{SharedBoxes, Pass, IsPassOf, new_pass}
 use Rattle.dsr_mail.specs.Seats.{actors_of, AreSeatsOf}
 use Rattle.dsr_rounds_tests.specs.Same.{IsSameSeat}
 
--- seats stay those of a mail where one of them stays the same
+-- seats stay those of a mail if one of them is replaced by the same seat
 pub seats_stay : (mail : SharedBoxes) (kind : Shape → Actor → Bool) (xs : List Pass) (place : ℕ) (old new : Pass) → AreSeatsOf mail kind xs
     → place < length xs → old ≡ get_or xs place old → IsSameSeat old new → AreSeatsOf mail kind (set xs place new)
 seats_stay mail kind xs place old new are below at same =

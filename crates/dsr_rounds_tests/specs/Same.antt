@@ -1,4 +1,4 @@
--- Seats stay those of the same actors at the same mail, whatever is tried at them (this project).
+-- Tries keep each seat that of the same actor at the same mail (this project).
 use Rattle.std.specs.Prelude.{◌≡◌}
 use Rattle.dsr_boxes.specs.Pass.{Pass}
 

@@ -1,4 +1,4 @@
-//! The calls of a client: each round of the one replica answers one; and whom of three replicas, which do nothing, they ask.
+//! The calls of a client: with one replica, each of its rounds answers one call; with three replicas that do nothing, whom a call asks.
 
 use crate::gates::Open;
 use crate::office::Office;
@@ -11,7 +11,7 @@ use std::process::Abort;
 use std::sync::Wait;
 use std::test::Fail;
 
-/// The reply to a write, the first request of all.
+/// The reply to a write that is the first request to act.
 const WRITTEN: Reply = Reply {
     number: 1,
     place: 0,
@@ -25,36 +25,36 @@ const HELD: Reply = Reply {
     answer: Answer::Held(Some(7)),
 };
 
-/// What the client does that asks r0 alone.
+/// The log of a client that asks only r0.
 const ONE: &str = "post r0 ask c0#1:write:a:7~c0\n";
 
-/// What the client does that asks r0 and r1.
+/// The log of a client that asks r0 and r1.
 const TWO: &str = "post r0 ask c0#1:write:a:7~c0\npost r1 ask c0#1:write:a:7~c0\n";
 
-/// What the client does that asks all three.
+/// The log of a client that asks all three.
 const THREE: &str = "post r0 ask c0#1:write:a:7~c0\n\
     post r1 ask c0#1:write:a:7~c0\n\
     post r2 ask c0#1:write:a:7~c0\n";
 
-/// A write of 7 to `a`.
+/// Returns a write of 7 to `a`.
 fn write_7() -> Result<Op, Refusal> {
     let name = Name::read(b"a")?;
     Ok(Op::Write { name, value: 7 })
 }
 
-/// A read of `a`.
+/// Returns a read of `a`.
 fn read() -> Result<Op, Refusal> {
     let name = Name::read(b"a")?;
     Ok(Op::Read { name })
 }
 
-/// A mail of one replica and one client.
+/// Opens a mail of one replica and one client.
 fn one(alloc: Global) -> Result<Office, Refusal> {
     let shape = Shape::new(1, 0, 1, 0)?;
     Office::open(alloc, shape)
 }
 
-/// A mail of three replicas and one client.
+/// Opens a mail of three replicas and one client.
 fn three(alloc: Global) -> Result<Office, Refusal> {
     let shape = Shape::new(3, 1, 1, 0)?;
     Office::open(alloc, shape)
@@ -68,7 +68,7 @@ fn has_done<R: Abort>(rt: &R, alloc: Global, office: Office, text: &str) -> Resu
     Ok(())
 }
 
-/// Compares what the client did in a call of so many turns, and, where there is one, in a second that goes on.
+/// Compares what the client did in a call with the first number of turns and, if there is a second number, in a call that goes on.
 fn has_asked<R: Abort>(
     rt: &R,
     alloc: Global,
@@ -149,7 +149,7 @@ fn a_reply_in_the_last_turn_is_accepted(rt: HostRuntime) -> Result<(), Fail> {
 
 #[test]
 fn a_call_has_a_turn_for_each_post_and_for_each_take(rt: HostRuntime) -> Result<(), Fail> {
-    // it goes to r0, r1 and r2, and then to r0 again, where it asked already
+    // it goes to r0, r1 and r2, and then to r0 again, which it has asked already
     for (turns, text) in [
         (1, ONE),
         (2, ONE),
@@ -166,7 +166,7 @@ fn a_call_has_a_turn_for_each_post_and_for_each_take(rt: HostRuntime) -> Result<
 
 #[test]
 fn each_call_begins_at_r0(rt: HostRuntime) -> Result<(), Fail> {
-    // where it asked before, it has no turn for a post
+    // at a replica that it asked before, it needs no turn for a post
     has_asked(&rt, rt.alloc(), 1, Some(1), ONE)?;
     has_asked(&rt, rt.alloc(), 2, Some(1), ONE)?;
     has_asked(&rt, rt.alloc(), 1, Some(2), TWO)?;

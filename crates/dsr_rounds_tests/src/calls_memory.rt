@@ -1,4 +1,4 @@
-//! The calls of a client, made again where memory was refused. `tests/faults.py allocations` refuses each allocation of these tests in
+//! The calls of a client, made again if memory was refused. `tests/faults.py allocations` refuses each allocation of these tests in
 //! turn, one in each run, and every run must pass: a refused turn left the client as it was, and what is made again gives the
 //! row's reply.
 
@@ -17,7 +17,7 @@ use std::test::Fail;
 /// An operation, and the reply to it: its number, its place in the history, and the answer.
 type Row = (&'static str, u64, u64, Answer);
 
-/// What the client asks for, one after the other. `a` holds nothing at first.
+/// The client's operations, one after the other. `a` holds nothing at first.
 const ROWS: [Row; 6] = [
     ("write a 7", 1, 0, Answer::Written),
     ("read a", 2, 1, Answer::Held(Some(7))),
@@ -27,11 +27,11 @@ const ROWS: [Row; 6] = [
     ("read a", 6, 5, Answer::Held(None)),
 ];
 
-/// What the client does that asks r0 and r1.
+/// The log of a client that asks r0 and r1.
 const TWO: &str = "post r0 ask c0#1:write:a:7~c0\npost r1 ask c0#1:write:a:7~c0\n";
 
-/// What is seen of the client: its outstanding request, which of three replicas it asked for that, how many replies it accepted,
-/// and its seen front.
+/// The state of the client that the tests compare: its outstanding request, which of three replicas it asked for that, how many replies it
+/// accepted, and its seen front.
 #[derive(Clone, Copy, PartialEq, Eq)]
 struct Seen {
     outstanding: Option<u64>,
@@ -54,12 +54,12 @@ fn look(office: &Office) -> Option<Seen> {
     })
 }
 
-/// The operation that the text spells.
+/// Returns the operation that the text encodes.
 fn op_of(text: &str) -> Result<Op, Fail> {
     Ok(Op::read(text.as_bytes(), b' ').ok_or("no operation")?)
 }
 
-/// A mail of this shape.
+/// Opens a mail of this shape; tries again if memory was refused.
 fn open_again(alloc: Global, shape: Shape) -> Result<Office, Refusal> {
     match Office::open(alloc, shape) {
         Err(Refusal::NoMemory) => Office::open(alloc, shape),
@@ -67,7 +67,7 @@ fn open_again(alloc: Global, shape: Shape) -> Result<Office, Refusal> {
     }
 }
 
-/// The client asks, in one turn.
+/// Has the client ask, in one turn; if memory was refused, checks that nothing changed and asks again.
 fn ask_again<R: Abort>(
     rt: &R,
     alloc: Global,
@@ -84,7 +84,7 @@ fn ask_again<R: Abort>(
     }
 }
 
-/// The client goes on, in so many turns, of which at most the last does anything.
+/// Has the client go on, in `turns` turns, of which at most the last does anything; if memory was refused, checks that nothing changed and tries again.
 fn go_on_again<R: Abort>(
     rt: &R,
     alloc: Global,
@@ -101,7 +101,7 @@ fn go_on_again<R: Abort>(
     }
 }
 
-/// The client asks, in three turns. Where memory was refused after the first post, which began the request, it goes on.
+/// Has the client ask, in three turns. If memory was refused after the first post, which began the request, it goes on.
 fn ask_or_go_on(alloc: Global, office: &mut Office, op: &Op) -> Result<Reply, Refusal> {
     match office.ask(alloc, op, 3) {
         Err(Refusal::NoMemory) => match office.outstanding() {
@@ -112,7 +112,7 @@ fn ask_or_go_on(alloc: Global, office: &mut Office, op: &Op) -> Result<Reply, Re
     }
 }
 
-/// The replica makes a round.
+/// Has the replica make a round; tries again if memory was refused.
 fn run_again<R: Wait>(rt: &R, alloc: Global, office: &mut Office) -> Result<(), Refusal> {
     match office.run_replica(rt, alloc, &Open, 1) {
         Err(Refusal::NoMemory) => office.run_replica(rt, alloc, &Open, 1),
@@ -120,7 +120,7 @@ fn run_again<R: Wait>(rt: &R, alloc: Global, office: &mut Office) -> Result<(), 
     }
 }
 
-/// What the client did.
+/// Returns the client's log as text; tries again if memory was refused.
 fn told_again(alloc: Global, logs: &Logs) -> Result<String, Refusal> {
     let client = Actor::Client(ClientId::FIRST);
     match log_text(alloc, logs, &client) {

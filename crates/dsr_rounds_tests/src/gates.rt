@@ -19,10 +19,10 @@ impl Gate for Open {
     }
 }
 
-/// Lets everybody make so many turns.
+/// Lets everybody make `turns` turns.
 #[derive(Drop)]
 pub(crate) struct Until {
-    /// The number of the turn that it refuses first.
+    /// The number of the first turn that it refuses.
     pub(crate) turns: u64,
 }
 
@@ -34,7 +34,7 @@ impl Gate for Until {
     }
 }
 
-/// Counts what it is asked of one actor, and refuses it a turn of another number than its own count. It refuses all other actors.
+/// Counts the turns that one actor asks for, and refuses a turn whose number is not this count. It refuses all other actors.
 #[derive(Drop)]
 pub(crate) struct Counting {
     actor: Actor,
@@ -42,7 +42,7 @@ pub(crate) struct Counting {
 }
 
 impl Counting {
-    /// A gate for this actor, that was not asked yet.
+    /// Creates a gate for this actor that was not asked yet.
     pub(crate) fn of(actor: Actor) -> Counting {
         Counting {
             actor,
@@ -50,7 +50,7 @@ impl Counting {
         }
     }
 
-    /// How often it was asked of the actor.
+    /// Returns how many turns the actor asked for.
     pub(crate) fn turns(&self) -> u64 {
         self.turns.load(SeqCst)
     }

@@ -1,4 +1,4 @@
-//! The tests of the calls of clients, and of the hosts of replicas and traitors. They stand apart from the code, since a crate with tests is
+//! The tests of the calls of clients, and of the hosts of replicas and traitors. They are apart from the code because a crate with tests is
 //! proved twice.
 #![tactic(auto)]
 

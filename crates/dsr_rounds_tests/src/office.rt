@@ -29,20 +29,20 @@ pub(crate) struct Office {
 }
 
 impl Office {
-    /// The open mail of this shape. `NoMemory` where memory runs out.
+    /// Opens a mail of this shape. `NoMemory` if memory runs out.
     pub(crate) fn open(alloc: Global, shape: Shape) -> Result<Office, Refusal> {
         let keys = Keys::new(alloc, shape)?;
         let (mail, seats) = Mail::open(alloc, shape, keys)?;
         Ok(Office { mail, seats })
     }
 
-    /// Closes the mail, to which all seats come back.
+    /// Gives all seats back to the mail, closes it, and returns the logs.
     pub(crate) fn close(self) -> Logs {
         let Office { mail, seats } = self;
         mail.close(seats)
     }
 
-    /// What is due at the first loyal replica.
+    /// Returns what is due at the first loyal replica.
     pub(crate) fn due(&self) -> Option<Due> {
         match self.seats.replicas.first() {
             Some(seat) => Some(seat.due()),
@@ -50,7 +50,7 @@ impl Office {
         }
     }
 
-    /// The number of the first client's outstanding request.
+    /// Returns the number of the first client's outstanding request.
     pub(crate) fn outstanding(&self) -> Option<u64> {
         match self.seats.clients.first() {
             Some(seat) => seat.outstanding(),
@@ -58,12 +58,12 @@ impl Office {
         }
     }
 
-    /// The first client's seat.
+    /// Returns the first client's seat.
     pub(crate) fn client(&self) -> Option<&ClientSeat> {
         self.seats.clients.first()
     }
 
-    /// A loyal replica posts to another, without a proposal. `NoActor` where it has no seat.
+    /// Has a loyal replica post to another, without a proposal. `NoActor` if it has no seat.
     pub(crate) fn post(
         &mut self,
         alloc: Global,
@@ -76,7 +76,7 @@ impl Office {
         post_plain(&mut self.seats.replicas[place], alloc, &self.mail, to)
     }
 
-    /// A loyal replica takes from another. `NoActor` where it has no seat.
+    /// Has a loyal replica take from another. `NoActor` if it has no seat.
     pub(crate) fn take(&mut self, replica: &ReplicaId, from: &Actor) -> Result<(), Refusal> {
         let Some(place) = replica_place(self.seats.replicas.as_slice(), replica) else {
             return Err(Refusal::NoActor);
@@ -84,12 +84,12 @@ impl Office {
         take_from(&mut self.seats.replicas[place], &self.mail, from)
     }
 
-    /// The first client asks. `NoActor` where there is none.
+    /// Has the first client ask. `NoActor` if there is no client.
     pub(crate) fn ask(&mut self, alloc: Global, op: &Op, turns: u64) -> Result<Reply, Refusal> {
         self.ask_by(alloc, &ClientId::FIRST, op, turns)
     }
 
-    /// A client asks. `NoActor` where it has no seat.
+    /// Has a client ask. `NoActor` if it has no seat.
     pub(crate) fn ask_by(
         &mut self,
         alloc: Global,
@@ -103,12 +103,12 @@ impl Office {
         client_asks(&mut self.seats.clients[place], alloc, &self.mail, op, turns)
     }
 
-    /// The first client goes on. `NoActor` where there is none.
+    /// Has the first client go on. `NoActor` if there is no client.
     pub(crate) fn go_on(&mut self, alloc: Global, turns: u64) -> Result<Reply, Refusal> {
         self.go_on_by(alloc, &ClientId::FIRST, turns)
     }
 
-    /// A client goes on. `NoActor` where it has no seat.
+    /// Has a client go on. `NoActor` if it has no seat.
     pub(crate) fn go_on_by(
         &mut self,
         alloc: Global,
@@ -121,7 +121,7 @@ impl Office {
         client_goes_on(&mut self.seats.clients[place], alloc, &self.mail, turns)
     }
 
-    /// Replica 0 makes rounds. `NoActor` where it has no seat.
+    /// Has replica 0 make rounds. `NoActor` if it has no seat.
     pub(crate) fn run_replica<R: Wait, G: Gate>(
         &mut self,
         rt: &R,
@@ -142,7 +142,7 @@ impl Office {
         )
     }
 
-    /// A traitor makes rounds by a script. `NoActor` where it has no seat.
+    /// Has a traitor make rounds by a script. `NoActor` if it has no seat.
     pub(crate) fn run_traitor<R: Wait, G: Gate>(
         &mut self,
         rt: &R,
@@ -167,7 +167,7 @@ impl Office {
     }
 }
 
-/// The transcript of the logs.
+/// Returns the transcript of the logs.
 pub(crate) fn transcript(alloc: Global, logs: &Logs) -> Result<Vec<u8>, Refusal> {
     let recorded = Record::of_logs(alloc, logs)?;
     let mut text = Outside(Vec::new(alloc));
@@ -175,7 +175,7 @@ pub(crate) fn transcript(alloc: Global, logs: &Logs) -> Result<Vec<u8>, Refusal>
     Ok(text.0)
 }
 
-/// The place of a loyal replica's seat.
+/// Returns the place of a loyal replica's seat.
 fn replica_place(seats: &[ReplicaSeat], replica: &ReplicaId) -> Option<usize>
     ensures { IfSome result (λ place. place < length seats.now) }
 {
@@ -187,7 +187,7 @@ fn replica_place(seats: &[ReplicaSeat], replica: &ReplicaId) -> Option<usize>
     None
 }
 
-/// The place of a traitor's seat.
+/// Returns the place of a traitor's seat.
 fn traitor_place(seats: &[TraitorSeat], actor: &Actor) -> Option<usize>
     ensures { IfSome result (λ place. place < length seats.now) }
 {
@@ -199,7 +199,7 @@ fn traitor_place(seats: &[TraitorSeat], actor: &Actor) -> Option<usize>
     None
 }
 
-/// The place of a client's seat.
+/// Returns the place of a client's seat.
 fn client_place(seats: &[ClientSeat], client: &ClientId) -> Option<usize>
     ensures { IfSome result (λ place. place < length seats.now) }
 {
@@ -211,7 +211,7 @@ fn client_place(seats: &[ClientSeat], client: &ClientId) -> Option<usize>
     None
 }
 
-/// A loyal replica posts without a proposal.
+/// Posts from a loyal replica's seat without a proposal.
 fn post_plain(seat: &mut ReplicaSeat, alloc: Global, mail: &Mail, to: &Actor) -> Result<(), Refusal>
     requires { IsPassOf mail.now seat.old }
     ensures { IsSameSeat seat.old seat.new }
@@ -222,7 +222,7 @@ fn post_plain(seat: &mut ReplicaSeat, alloc: Global, mail: &Mail, to: &Actor) ->
     }
 }
 
-/// A loyal replica takes.
+/// Takes at a loyal replica's seat.
 fn take_from(seat: &mut ReplicaSeat, mail: &Mail, from: &Actor) -> Result<(), Refusal>
     requires { IsPassOf mail.now seat.old }
     ensures { IsSameSeat seat.old seat.new }
@@ -233,7 +233,7 @@ fn take_from(seat: &mut ReplicaSeat, mail: &Mail, from: &Actor) -> Result<(), Re
     }
 }
 
-/// A client asks.
+/// Asks from a client's seat.
 fn client_asks(
     seat: &mut ClientSeat,
     alloc: Global,
@@ -247,7 +247,7 @@ fn client_asks(
     ask(alloc, mail, seat, *op, turns)
 }
 
-/// A client goes on.
+/// Goes on with the outstanding request at a client's seat.
 fn client_goes_on(
     seat: &mut ClientSeat,
     alloc: Global,
@@ -260,7 +260,7 @@ fn client_goes_on(
     go_on(alloc, mail, seat, turns)
 }
 
-/// A loyal replica makes rounds.
+/// Makes rounds at a loyal replica's seat.
 fn replica_runs<R: Wait, G: Gate>(
     rt: &R,
     alloc: Global,
@@ -275,7 +275,7 @@ fn replica_runs<R: Wait, G: Gate>(
     run_replica(rt, alloc, mail, seat, gate, rounds)
 }
 
-/// A traitor makes rounds by a script.
+/// Makes rounds at a traitor's seat by a script.
 fn traitor_runs<R: Wait, G: Gate>(
     rt: &R,
     alloc: Global,

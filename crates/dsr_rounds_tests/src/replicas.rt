@@ -1,4 +1,4 @@
-//! The host of a replica, and its gate. With one client that asks nothing a round has three turns: a take from the client, a post and a take.
+//! The host of a replica, and its gate. With one client that asks nothing, a round has three turns: a take from the client, a post and a take.
 
 use crate::gates::{Counting, Open, Until};
 use crate::office::{Office, transcript};
@@ -8,13 +8,13 @@ use std::alloc::Global;
 use std::process::Abort;
 use std::test::Fail;
 
-/// A mail of one replica and one client.
+/// Opens a mail of one replica and one client.
 fn one(alloc: Global) -> Result<Office, Refusal> {
     let shape = Shape::new(1, 0, 1, 0)?;
     Office::open(alloc, shape)
 }
 
-/// The gate that counts the turns of the replica.
+/// Creates a gate that counts the turns of the replica.
 fn counting() -> Counting {
     Counting::of(Actor::Replica(ReplicaId::FIRST))
 }

@@ -1,4 +1,4 @@
-//! When a replica replies to its client. It is the only one, so each of its rounds decides what it proposed in it.
+//! When a replica replies to its client. It is the only replica, so each of its rounds decides what it proposed in that round.
 
 use crate::gates::{Counting, Open};
 use crate::office::Office;
@@ -17,7 +17,7 @@ const REPLICA: Actor = Actor::Replica(ReplicaId::FIRST);
 /// The client.
 const CLIENT: Actor = Actor::Client(ClientId::FIRST);
 
-/// A mail of one replica and one client.
+/// Opens a mail of one replica and one client.
 fn one(alloc: Global) -> Result<Office, Refusal> {
     let shape = Shape::new(1, 0, 1, 0)?;
     Office::open(alloc, shape)
@@ -31,12 +31,12 @@ fn ask<R: Abort>(rt: &R, alloc: Global, office: &mut Office) -> Result<(), Fail>
     Ok(())
 }
 
-/// The replica makes so many rounds in one call.
+/// The replica makes `rounds` rounds in one call.
 fn run<R: Abort + Wait>(rt: &R, alloc: Global, office: &mut Office, rounds: u64) {
     assert_eq!(rt; office.run_replica(rt, alloc, &Open, rounds), Ok(()));
 }
 
-/// The client has the reply to its request of this number, at this place of the history.
+/// Checks that the client has the reply to its request with this number, at this place of the history.
 fn is_answered<R: Abort>(rt: &R, alloc: Global, office: &mut Office, number: u64, place: u64) {
     let reply = Reply {
         number,
@@ -56,7 +56,7 @@ fn answers_once<R: Abort + Wait>(rt: &R, alloc: Global, office: &mut Office) -> 
     Ok(())
 }
 
-/// The reply to the first request fills the box once more while the second is decided.
+/// The reply to the first request fills the box again while the second request is decided.
 fn answers_late<R: Abort + Wait>(rt: &R, alloc: Global, office: &mut Office) -> Result<(), Fail> {
     ask(rt, alloc, office)?;
     run(rt, alloc, office, 1);

@@ -1,4 +1,5 @@
-//! Whose requests a replica proposes. It is the only one, so each of its rounds is a slot, and whoever is served in it has the next place of the history.
+//! Whose requests a replica proposes. It is the only replica, so each of its rounds is a slot, and the requests served in it have the next places of
+//! the history.
 
 use crate::gates::Open;
 use crate::office::Office;
@@ -10,10 +11,10 @@ use std::process::Abort;
 use std::sync::Wait;
 use std::test::Fail;
 
-/// A client that is served: under which number, and at which place of the history.
+/// A client that is served, the number of its request, and the request's place in the history.
 type Served = (u8, u64, u64);
 
-/// What the first slot serves, where eight clients or more asked.
+/// What the first slot serves, if eight clients or more asked.
 const FIRST: [Served; 8] = [
     (0, 1, 0),
     (1, 1, 1),
@@ -25,7 +26,7 @@ const FIRST: [Served; 8] = [
     (7, 1, 7),
 ];
 
-/// What the second slot serves, where the same eight asked again, and no others.
+/// What the second slot serves, if the same eight asked again, and no others.
 const SAME_AGAIN: [Served; 8] = [
     (0, 2, 8),
     (1, 2, 9),
@@ -37,7 +38,7 @@ const SAME_AGAIN: [Served; 8] = [
     (7, 2, 15),
 ];
 
-/// What the second slot serves, where they asked again, and two others wait.
+/// What the second slot serves, if they asked again, and two others wait.
 const WAITED: [Served; 8] = [
     (8, 1, 8),
     (9, 1, 9),
@@ -52,13 +53,13 @@ const WAITED: [Served; 8] = [
 /// What is left for the third slot then.
 const LEFT: [Served; 2] = [(6, 2, 16), (7, 2, 17)];
 
-/// A mail of one replica and so many clients.
+/// Opens a mail of one replica and `m` clients.
 fn of_clients(alloc: Global, m: u8) -> Result<Office, Refusal> {
     let shape = Shape::new(1, 0, m, 0)?;
     Office::open(alloc, shape)
 }
 
-/// The first clients ask, so many of them: each for a read of `a`.
+/// The first `count` clients ask, each for a read of `a`.
 fn ask<R: Abort>(rt: &R, alloc: Global, office: &mut Office, count: u8) -> Result<(), Fail> {
     let name = Name::read(b"a")?;
     let op = Op::Read { name };
@@ -70,7 +71,7 @@ fn ask<R: Abort>(rt: &R, alloc: Global, office: &mut Office, count: u8) -> Resul
     Ok(())
 }
 
-/// The replica makes a round, after which these clients have their replies.
+/// The replica makes a round; then these clients have their replies.
 fn serves<R: Abort + Wait>(
     rt: &R,
     alloc: Global,
@@ -102,7 +103,7 @@ fn serves_all_twice<R: Abort + Wait>(
     serves(rt, alloc, office, &SAME_AGAIN)
 }
 
-/// Three rounds, of ten clients: those that wait come before those that were served.
+/// Three rounds with ten clients: those that wait come before those that were served.
 fn serves_in_turn<R: Abort + Wait>(rt: &R, alloc: Global, office: &mut Office) -> Result<(), Fail> {
     ask(rt, alloc, office, 10)?;
     serves(rt, alloc, office, &FIRST)?;

@@ -1,4 +1,4 @@
-//! A replica that makes each round in a call of its own, beside two whose rounds are made by hand. A slot has two rounds, so what the replica takes in one
+//! A replica that makes each round in a separate call, beside two whose rounds are made by hand. A slot has two rounds, so what the replica takes in one
 //! call is decided in a later one.
 
 use crate::gates::Open;
@@ -42,7 +42,7 @@ fn make_round<R: Abort + Wait>(rt: &R, alloc: Global, office: &mut Office) {
     take_all(rt, office, &ReplicaId::of(2));
 }
 
-/// The client asks the first replica for a write, and so many rounds are made.
+/// The client asks the first replica for a write, and `rounds` rounds are made.
 fn make_rounds<R: Abort + Wait>(
     rt: &R,
     alloc: Global,
@@ -58,7 +58,7 @@ fn make_rounds<R: Abort + Wait>(
     Ok(())
 }
 
-/// Compares what the replica posts to the client in so many rounds.
+/// Compares what the replica posts to the client in `rounds` rounds.
 fn is_posted<R: Abort + Wait>(rt: &R, alloc: Global, rounds: u32, text: &str) -> Result<(), Fail> {
     let mut office = Office::open(alloc, Shape::new(3, 1, 1, 0)?)?;
     make_rounds(rt, alloc, &mut office, rounds)?;

@@ -1,4 +1,4 @@
-//! What the logs say, as text.
+//! Logs as text.
 
 use dsr_envelope::{Entry, Envelope};
 use dsr_mail::Logs;
@@ -7,7 +7,7 @@ use dsr_script::Draft;
 use std::alloc::Global;
 use std::fmt::Write;
 
-/// A line for each entry of the actor's log, as in a transcript, but without the actor.
+/// Returns a line for each entry of the actor's log, as in a transcript, but without the actor.
 pub(crate) fn log_text(alloc: Global, logs: &Logs, actor: &Actor) -> Result<String, Refusal> {
     let mut text = String::new(alloc);
     for entry in entries(logs, actor) {
@@ -16,7 +16,7 @@ pub(crate) fn log_text(alloc: Global, logs: &Logs, actor: &Actor) -> Result<Stri
     Ok(text)
 }
 
-/// A line for each post of the actor to another: the envelope.
+/// Returns a line for each post of the actor to another: the envelope.
 pub(crate) fn posted_text(
     alloc: Global,
     logs: &Logs,
@@ -30,7 +30,7 @@ pub(crate) fn posted_text(
     Ok(text)
 }
 
-/// The entries of the actor's log. None where it is no actor of the shape.
+/// Returns the entries of the actor's log; no entries if it is not an actor of the shape.
 fn entries<'a>(logs: &'a Logs, actor: &Actor) -> &'a [Entry] {
     if logs.shape().has(*actor) {
         logs.of(*actor)
@@ -53,7 +53,7 @@ fn write_entry(alloc: Global, text: &mut String, entry: &Entry) -> Result<(), Re
     }
 }
 
-/// Writes the line of the envelope, where the entry is a post to the other actor.
+/// Writes the line of the envelope, if the entry is a post to the other actor.
 fn write_if_posted(
     alloc: Global,
     text: &mut String,

@@ -19,7 +19,7 @@ fn post_all<R: Abort>(rt: &R, alloc: Global, office: &mut Office, replica: &Repl
     }
 }
 
-/// A mail of three replicas, of which r2 is a traitor, and a client. The loyal ones posted in round 0.
+/// Opens a mail of a client and three replicas: the traitor r2, and two loyal ones, which have posted in round 0.
 fn posted<R: Abort>(rt: &R, alloc: Global) -> Result<Office, Refusal> {
     let shape = Shape::new(3, 1, 1, 0b100)?;
     let mut office = Office::open(alloc, shape)?;
@@ -28,7 +28,7 @@ fn posted<R: Abort>(rt: &R, alloc: Global) -> Result<Office, Refusal> {
     Ok(office)
 }
 
-/// The traitor makes a round by the script of this text. Compares the transcript.
+/// The traitor makes a round by the script in this text. Compares the transcript.
 fn is_told<R: Abort + Wait>(rt: &R, alloc: Global, script: &str, text: &str) -> Result<(), Fail> {
     let script = Script::read(alloc, script.as_bytes())?;
     let mut office = posted(rt, alloc)?;
@@ -41,7 +41,7 @@ fn is_told<R: Abort + Wait>(rt: &R, alloc: Global, script: &str, text: &str) -> 
     Ok(())
 }
 
-/// Compares how many turns the traitor has in a round by the script of this text. They are numbered from 0.
+/// Compares how many turns the traitor has in a round by the script in this text. They are numbered from 0.
 fn has_turns<R: Abort + Wait>(rt: &R, alloc: Global, script: &str, turns: u64) -> Result<(), Fail> {
     let script = Script::read(alloc, script.as_bytes())?;
     let mut office = posted(rt, alloc)?;
@@ -53,7 +53,7 @@ fn has_turns<R: Abort + Wait>(rt: &R, alloc: Global, script: &str, turns: u64) -
     Ok(())
 }
 
-/// The client asks all three replicas: a turn goes to each post, and one to each take between them.
+/// The client asks all three replicas: each post takes one turn, and so does each take between them.
 fn ask_all<R: Abort>(rt: &R, alloc: Global, office: &mut Office) -> Result<(), Fail> {
     let name = Name::read(b"a")?;
     let op = Op::Write { name, value: 7 };
@@ -61,7 +61,7 @@ fn ask_all<R: Abort>(rt: &R, alloc: Global, office: &mut Office) -> Result<(), F
     Ok(())
 }
 
-/// The traitor makes a round by the script of this text, after the client asked it too.
+/// The traitor makes a round by the script in this text, after the client has asked it too.
 fn takes_and_posts<R: Abort + Wait>(
     rt: &R,
     alloc: Global,
@@ -107,7 +107,7 @@ fn a_traitor_posts_by_its_script(rt: HostRuntime) -> Result<(), Fail> {
 
 #[test]
 fn a_forged_draft_is_not_posted(rt: HostRuntime) -> Result<(), Fail> {
-    // in the place of a forged draft to a replica stands the empty envelope, in that of one to a client nothing
+    // in place of a forged draft the traitor posts the empty envelope to a replica, and nothing to a client
     let script = "dsr-serve 1 3 1 1 r2\n\
         script r2 0 r0 round 0 2/idle/r1\n\
         script r2 0 r1 round 0 2/idle/r2\n\
