@@ -1,4 +1,4 @@
--- What is left of an explanation that was told, or could not be.
+-- What is left after an explanation that was written, or could not be.
 use Rattle.std.proofs.Common.{◌≡◌, ◌≤◌, ℕ, List, length, inl, inr, subst, sym}
 use Rattle.std.specs.Prelude.{Option, None, Some, Result, Ok, Err, IfErr, IfSome, OnOk}
 use Rattle.dsr_names.specs.Limits.{most_bytes}
@@ -11,7 +11,7 @@ use Rattle.dsr_cli.specs.Explained.{ExplainedAll, ExplainedTo, LeftAfterExplain}
 use Rattle.dsr_cli.specs.Served.{IsAfterTelling}
 use Rattle.dsr_cli.proofs.PlayedLemmas.{kept}
 
--- a text with this fault, of which an explanation was told, is what the refusal of that name leaves: other faults there are none
+-- an explanation of a text with this fault is what the refusal with that name leaves; other faults are impossible
 fault_left : (s : Streams) (fault : Refusal) → ExplainedTo (Some fault) s → LeftAfterExplain fault s
 fault_left s BadShape h = inr h
 fault_left s (BadText line) h = inr h
@@ -39,7 +39,7 @@ module _ (s : Streams) (text : List ℕ) (fault : Option Refusal) (told : List �
   all_told : SentAll told s.output s.written → ExplainedTo fault s
   all_told out = record { text = text; short = short; given = given; refused = refused; told = told; went_out = out }
 
-  -- and there is no fault
+  -- all of it went out, and there is no fault
   pub all_explained : (r : Result (Unit {0}) Refusal) → OnOk r ((fault ≡ None) × SentAll told s.output s.written) → OnOk r (ExplainedAll s)
   all_explained (Ok nothing) h = subst (λ (f : Option Refusal). ExplainedTo f s) h.0 (all_told h.1)
   all_explained (Err refusal) h = tt

@@ -1,4 +1,4 @@
--- That the logs of a run are merged whole: the merge does not stop before it has all their entries.
+-- The logs of a run are merged whole: the merge does not stop before it has all their entries.
 use Rattle.std.proofs.Common.{◌≡◌, ℕ, List, [], ◌∷◌, ◌++◌, inl, inr, refl, ap, sym, ◌∙◌, subst, arith, length, length-append, append-nil, append_assoc}
 use Rattle.dsr_base.specs.Growth.{Extends, IsPrefixOf}
 use Rattle.dsr_names.specs.Shape.{Shape}
@@ -24,14 +24,14 @@ abbrev rest_of : List Entry → List Entry
 rest_of [] = []
 rest_of (x ∷ xs) = xs
 
--- what stands before the same end of one list is the same entry
+-- entries before the same end of one list are equal
 same_next : (xs ys end : List Entry) (a b : Entry) → xs ++ a ∷ end ≡ ys ++ b ∷ end → a ≡ b
 same_next [] [] end a b e = ap (first_of a) e
 same_next [] (y ∷ ys) end a b e = let long = ap length e in absurd (omega (arith, long, length-append ys (b ∷ end)))
 same_next (x ∷ xs) [] end a b e = let long = ap length e in absurd (omega (arith, long, length-append xs (a ∷ end)))
 same_next (x ∷ xs) (y ∷ ys) end a b e = same_next xs ys end a b (ap rest_of e)
 
--- a list that has more than an end, of a list in which an entry stands before that end, has that entry there too
+-- if an entry precedes an end of a list, a longer end of the list also has that entry there
 has_next : (y : Entry) (ys before later end : List Entry) (entry : Entry) → before ++ ((y ∷ ys) ++ end) ≡ later ++ entry ∷ end
     → Extends ((y ∷ ys) ++ end) (entry ∷ end)
 has_next y [] before later end entry e = ([], ap (λ x. x ∷ end) (same_next before later end y entry e))
@@ -41,7 +41,7 @@ has_next y (z ∷ zs) before later end entry e =
 
 -- ---- boxes
 
--- what was taken from an actor stays the first part of what is, as a log grows
+-- what was taken from an actor stays the first part of all that is taken from it, as a log grows
 taken_grows : (a : Actor) (newer log : List Entry) → IsPrefixOf (taken_from a log) (taken_from a (newer ++ log))
 taken_grows a [] log = ([], sym (append-nil (taken_from a log)))
 taken_grows a (Post to x ∷ newer) log = taken_grows a newer log
@@ -52,7 +52,7 @@ taken_grows a (Take from x ∷ newer) log =
       | inr other ↦ (before.0, other.1 ∙ before.1)
     ]
 
--- and what was posted to one
+-- the same for what was posted to an actor
 posted_grows : (a : Actor) (newer log : List Entry) → IsPrefixOf (posted_to a log) (posted_to a (newer ++ log))
 posted_grows a [] log = ([], sym (append-nil (posted_to a log)))
 posted_grows a (Take from x ∷ newer) log = posted_grows a newer log
@@ -63,12 +63,12 @@ posted_grows a (Post to x ∷ newer) log =
       | inr other ↦ (before.0, other.1 ∙ before.1)
     ]
 
--- each step keeps its box
+-- each step respects its box
 abbrev KeepBoxes : List Step → Type 0
 KeepBoxes [] = Unit {0}
 KeepBoxes ((actor, entry) ∷ older) = KeepBoxes older × KeepsBox (log_of older) actor entry
 
--- so does each that is merged
+-- each merged step respects its box
 merged_keep : (shape : Shape) (logs : Logs) (merged : List Step) → IsMerge shape logs merged → KeepBoxes merged
 merged_keep shape logs [] merge = tt
 merged_keep shape logs ((actor, entry) ∷ older) merge =
@@ -82,7 +82,7 @@ same_box : (posted taken posted_then taken_then : List Envelope) → posted ≡ 
 same_box posted taken posted_then taken_then e f (inl empty) = inl (e ∙ (empty ∙ sym f))
 same_box posted taken posted_then taken_then e f (inr full) = inr (full.0, e ∙ (full.1 ∙ ap (λ xs. xs ++ full.0 ∷ []) (sym f)))
 
--- then each box is empty, or holds one envelope
+-- if each step respects its box, each box is empty or holds one envelope
 kept_boxes : (steps : List Step) → KeepBoxes steps → (a b : Actor) → IsBox (posted_to b (log_of steps a)) (taken_from a (log_of steps b))
 kept_boxes [] keep a b = inl refl
 kept_boxes ((actor, Post to x) ∷ older) keep a b =
@@ -116,7 +116,7 @@ extends_twice : (one other last : List Entry) → Extends one other → Extends 
 extends_twice one other last first second =
     (first.0 ++ second.0, first.1 ∙ (ap (λ l. first.0 ++ l) second.1 ∙ sym (append_assoc first.0 second.0 last)))
 
--- what is merged of a log is the first part of it
+-- the merged entries of a log are its first part
 merged_part : (shape : Shape) (logs : Logs) (merged : List Step) → IsMerge shape logs merged → (a : Actor) → Extends (logs a) (log_of merged a)
 merged_part shape logs [] merge a = (logs a, sym (append-nil (logs a)))
 merged_part shape logs ((actor, entry) ∷ older) merge a = elim (log_cases (actor, entry) older a) [
@@ -125,7 +125,7 @@ merged_part shape logs ((actor, entry) ∷ older) merge a = elim (log_cases (act
   | inr other ↦ subst (Extends (logs a)) (sym other.1) (merged_part shape logs older merge.0 a)
 ]
 
--- what a box was posted and not taken, later on, where its taker has taken no more
+-- if all that was posted to a box was taken, later takes from it take nothing more
 post_box : (posted taken taken_later : List Envelope) → posted ≡ taken → IsPrefixOf taken taken_later → IsBox posted taken_later → posted ≡ taken_later
 post_box posted taken taken_later empty grown (inl same) = same
 post_box posted taken taken_later empty grown (inr full) =
@@ -146,7 +146,7 @@ take_box posted posted_later taken x full (y ∷ more, grown) (inr other) =
     absurd (omega (arith, long, old, length-append posted (y ∷ more), length-append taken (x ∷ []), length-append taken (other.0 ∷ [])))
 
 module _ (shape : Shape) (logs : Logs) (merged : List Step) (merge : IsMerge shape logs merged) (stuck : IsStuck shape logs merged) where
-  -- an entry that kept its box in a part of what is merged keeps it now, where its actor has made no step since
+  -- an entry that respected its box in a part of what is merged respects it now, if its actor has made no step since
   still_kept : (actor : Actor) (entry : Entry) (older : List Step) → KeepsBox (log_of older) actor entry
       → ((a : Actor) → Extends (log_of merged a) (log_of older a)) → log_of merged actor ≡ log_of older actor → KeepsBox (log_of merged) actor entry
   still_kept actor (Post to x) older kept before same =

@@ -1,4 +1,4 @@
--- What a play leaves whose transcript was written, or could not be.
+-- What is left after a play whose transcript was written, or could not be.
 use Rattle.std.proofs.Common.{◌≡◌, ◌<◌, ◌≤◌, ◌⊎◌, ℕ, List, length, inl, inr, refl, ap, subst, sym}
 use Rattle.std.specs.Prelude.{Option, None, Some, Result, Ok, Err, IfErr, IfOk, OnErr}
 use Rattle.std.specs.Io.KnownBytes.{Keeps}
@@ -9,7 +9,7 @@ use Rattle.dsr_names.specs.declared.refusal.Refusal.TheVariants.{NoMemory, Write
 use Rattle.dsr_history.specs.Applied.{IsTextOf}
 use Rattle.dsr_cli.specs.Played.{Form, HasPlayed, LeftAfterPlay, PlayedAll}
 
--- contents that are the same are kept
+-- equal contents are kept
 pub kept : (before after : Option (List ℕ)) → after ≡ before → Keeps before after
 kept before after same = subst (λ contents. Keeps before contents) (sym same) (itself before)
   where
@@ -31,7 +31,7 @@ module _ (Tells : Form) (s : Streams) (text : List ℕ) (refused starved : ℕ) 
       (record { text = text; short = short; given = given; starved = starved; none_starved = h.1; told = told; played = played; went_out = h.2 })
   all_out (Err refusal) h = tt
 
-  -- memory ran out: before any of it was written, or for some events alone
+  -- memory ran out: before any of it was written, or only for some events
   starved_left : (s.written.contents ≡ s.output.contents) ⊎ ((0 < starved) × SentAll told s.output s.written) → LeftAfterPlay Tells NoMemory s
   starved_left (inl same) = inl (kept s.output.contents s.written.contents same)
   starved_left (inr h) =

@@ -1,4 +1,4 @@
--- What a service leaves that was told, or could not be.
+-- What is left after a service whose output was written, or could not be.
 use Rattle.std.proofs.Common.{◌≡◌, ◌≤◌, ℕ, List, length, inl, inr, subst, sym}
 use Rattle.std.specs.Prelude.{Option, None, Some, Result, Ok, Err, IfErr, OnOk}
 use Rattle.dsr_names.specs.Limits.{most_bytes}
@@ -9,7 +9,7 @@ use Rattle.dsr_history.specs.Applied.{IsTextOf}
 use Rattle.dsr_cli.specs.Served.{HasServed, IsAfterTelling, LeftAfterService, ServedAll, ServiceForm, ToldService}
 use Rattle.dsr_cli.proofs.PlayedLemmas.{kept}
 
--- a service that was ended by this cause, and told, is what the refusal of that name leaves: other causes there are none
+-- the output of a service that this cause ended is what the refusal with that name leaves; other causes are impossible
 ended_left : (Tells : ServiceForm) (s : Streams) (cause : Refusal) → ToldService Tells (Some cause) s → LeftAfterService Tells cause s
 ended_left Tells s Exhausted h = h
 ended_left Tells s Unanswered h = h

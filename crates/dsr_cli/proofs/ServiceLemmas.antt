@@ -1,4 +1,4 @@
--- What came of a service, whichever way it ended.
+-- The outcome of a service, however it ended.
 use Rattle.std.proofs.Common.{◌≡◌, ℕ, List, subst, sym}
 use Rattle.std.specs.Prelude.{Option, None, Some, Result, Ok, Err, IfErr, IfOk}
 use Rattle.dsr_names.specs.Shape.{Shape, HasFewTraitors}
@@ -47,7 +47,7 @@ module _ (text : List ℕ) (script : Script) (spells : Spells text script)
       subst (λ (l : Logs). HasService text l cause) (sym fault.0)
       (subst (λ (c : Option Refusal). HasService text f.logs c) (sym fault.1) (ended_so f.logs (Some f.cause) fault_same fault_are fault_owed fault_eager fault_planned why))
 
--- logs of a run are refused a record for want of memory alone
+-- making a record of the logs of a run is refused only if memory runs out
 pub unmerged : (text : List ℕ) (logs : Logs) (refusal : Refusal) → AreLogs logs.shape (logs_of logs)
     → IsMergeRefusal logs.shape (logs_of logs) refusal → IsScriptRefusal text refusal
 unmerged text logs NoMemory are h = tt

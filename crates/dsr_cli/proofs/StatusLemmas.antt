@@ -1,4 +1,4 @@
--- What was left by a task, by showing a text, and what each reading of the words leads to.
+-- What is left after a task and after showing a text, and what each reading of the words leads to.
 use Rattle.std.proofs.Common.{◌≡◌, ◌<◌, ℕ, zero, suc, Bool, false, true, List, ap, length, inl, inr, refl, subst, sym, zero-lt-suc}
 use Rattle.std.specs.Prelude.{Result, Ok, Err, IfErr, IfOk, OnOk, if◌then◌else◌, string_bytes}
 use Rattle.std.proofs.lemmas.Bool.Decides.{Decides-ltb}
@@ -20,7 +20,7 @@ use Rattle.dsr_cli.specs.declared.Ending.TheVariants.{Done, Unmet}
 
 -- ---- how tasks end
 
--- a task that is refused or else done
+-- the end of a task that is either refused or done
 pub ended_done : (named : Task) (s : Streams) (done : Result (Unit {0}) Refusal) (r : Result Ending Refusal) → OnOk done (r ≡ Ok Done)
     → IfErr done (λ refusal. r ≡ Err refusal) → OnOk done (IsDone named s) → IfOk r (λ ending. HasEndedAs ending named s)
 ended_done named s (Ok nothing) r is refused all = subst (λ (q : Result Ending Refusal). IfOk q (λ ending. HasEndedAs ending named s)) (sym is) all
@@ -31,7 +31,7 @@ pub ended_refused : (named : Task) (s : Streams) (done : Result (Unit {0}) Refus
 ended_refused named s (Ok nothing) r is refused left = subst (λ (q : Result Ending Refusal). IfErr q (λ refusal. LeftAfter named refusal s)) (sym is) tt
 ended_refused named s (Err refusal) r is refused left = subst (λ (q : Result Ending Refusal). IfErr q (λ refusal. LeftAfter named refusal s)) (sym refused) left
 
--- a play of which so many events were refused
+-- the end of a play with `refused` refused events
 pub play_ended : (strict transcript : Bool) (s : Streams) (refused : ℕ) → PlayedAll (form_of transcript) refused s
     → HasEndedAs (ending_of strict refused) (Play strict transcript) s
 play_ended false transcript s refused all = (refused, all)
@@ -40,7 +40,7 @@ play_ended true transcript s (suc n) all =
     subst (λ (ending : Ending). HasEndedAs ending (Play true transcript) s)
     (sym (ap (λ b. if b then Unmet else Done) ((Decides-ltb 0 (suc n)).1 (zero-lt-suc n)))) (suc n, zero-lt-suc n, all)
 
--- what the clauses of `perform` stand on
+-- what the clauses of `perform` follow from
 pub ruleset endings = (ended_done, ended_refused)
 
 -- ---- what is left
@@ -56,7 +56,7 @@ showing_left text (suc n) run whole part =
     let h = part (zero-lt-suc n) in
     inr (record { status_is = h.0; told = h.3; too_many = h.1; went_out = h.2 })
 
--- what is said of a task that is not refused may say less
+-- a statement about a task that is not refused may be weakened
 pub on_ok : {P Q : Type 0} (done : Result Ending Refusal) → (P → Q) → OnOk done P → OnOk done Q
 on_ok (Ok ending) f h = f h
 on_ok (Err refusal) f h = tt
@@ -72,7 +72,7 @@ task_left named (Ok ending) status run all left is quiet refused =
 task_left named (Err refusal) status run all left is quiet refused =
     inr (record { refusal = refusal; status_is = refused.0; told = refused.1; left = left })
 
--- where memory ran out as the words were read, whatever they ask for
+-- if memory ran out while the words were read, for anything that they ask for
 ran_out : (asked : Asked) (status : ℕ) (run : Run) → RanOut status run → StatusFor asked status run
 ran_out (task named) status run h = inr h
 ran_out version status run h = inr h

@@ -1,4 +1,4 @@
--- A verdict on a run, told line by line, is the report on that run.
+-- A verdict on a run, written line by line, is the report on that run.
 use Rattle.std.proofs.Common.{◌≡◌, ◌∙◌, ℕ, zero, suc, refl, sym, ap, ap₂, List, [], ◌∷◌, ◌++◌, append-nil, append_assoc, codes, map, reverse}
 use Rattle.std.specs.Fmt.{decimal}
 use Rattle.std.proofs.lemmas.List.{map-append, reverse-append, reverse-reverse}
@@ -11,22 +11,22 @@ use Rattle.dsr_check.specs.Verdict.{Verdict, IsVerdict, accepted_of}
 use Rattle.dsr_cli.specs.Checked.{run_text}
 use Rattle.dsr_cli.specs.Report.{accepted_line, accepted_text, history_text, replies_text, texts_below, texts_of}
 
--- the lines of replies with their clients, which stand latest first
+-- the lines of replies with their clients; the list has the latest first
 abbrev pub pairs_text : List (ℕ × Reply) → List ℕ
 pairs_text pairs = texts_of (λ index pair. accepted_line pair.0 pair.1) pairs
 
--- those of two lists, one after the other
+-- the lines of two lists, one after the other
 pairs_text-append : (newer older : List (ℕ × Reply)) → pairs_text (newer ++ older) ≡ pairs_text older ++ pairs_text newer
 pairs_text-append [] older = sym (append-nil (pairs_text older))
 pairs_text-append (pair ∷ newer) older =
     ap (λ text. text ++ accepted_line pair.0 pair.1) (pairs_text-append newer older) ∙ append_assoc (pairs_text older) (pairs_text newer) (accepted_line pair.0 pair.1)
 
--- those of one client are the lines of its replies
+-- the lines for one client are the lines of its replies
 pairs_text-map : (client : ℕ) (replies : List Reply) → pairs_text (map (λ reply. (client, reply)) replies) ≡ replies_text client replies
 pairs_text-map client [] = refl
 pairs_text-map client (reply ∷ older) = ap (λ text. text ++ accepted_line client reply) (pairs_text-map client older)
 
--- a list that is turned round, mapped, and turned round again
+-- mapping commutes with reversing a list
 reverse-map : {A B : Type 0} (f : A → B) (xs : List A) → reverse (map f xs) ≡ map f (reverse xs)
 reverse-map f [] = refl
 reverse-map f (x ∷ xs) =
@@ -36,7 +36,7 @@ reverse-map f (x ∷ xs) =
 turned_twice : {A B : Type 0} (f : A → B) (xs : List A) → reverse (map f (reverse xs)) ≡ map f xs
 turned_twice f xs = reverse-map f (reverse xs) ∙ ap (map f) (reverse-reverse xs)
 
--- those of all clients are the lines that the report of a play has
+-- the lines for all clients are the lines in the report of a play
 pairs_text-accepted : (shape : Shape) (logs : Logs) (count : ℕ)
     → pairs_text (reverse (accepted_of shape logs count)) ≡ texts_below count (λ c. replies_text c (accepted_by shape logs c))
 pairs_text-accepted shape logs zero = refl

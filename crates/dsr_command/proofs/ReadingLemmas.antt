@@ -24,7 +24,7 @@ use Rattle.dsr_command.specs.declared.Reading.TheVariants as reading
 use Rattle.dsr_command.specs.declared.Task.{Task}
 use Rattle.dsr_command.proofs.WordLemmas.{Comes, IsEntered, IsRefused, asked, entered_as_asked, is_other, is_refusal}
 
--- what is said of a help text may say less
+-- a statement about a help may be weakened
 on_help : (r : Reading) (P Q : Type 0) → (P → Q) → OnHelp r P → OnHelp r Q
 on_help (reading.Do t) P Q f h = h
 on_help (reading.Version text) P Q f h = h
@@ -32,7 +32,7 @@ on_help (reading.Help text) P Q f h = f h
 on_help (reading.Usage text) P Q f h = h
 on_help reading.NoMemory P Q f h = h
 
--- the same of a usage fault
+-- the same for a usage fault
 on_usage : (r : Reading) (P Q : Type 0) → (P → Q) → OnUsage r P → OnUsage r Q
 on_usage (reading.Do t) P Q f h = h
 on_usage (reading.Version text) P Q f h = h
@@ -40,15 +40,15 @@ on_usage (reading.Help text) P Q f h = h
 on_usage (reading.Usage text) P Q f h = f h
 on_usage reading.NoMemory P Q f h = h
 
--- a call for help has a kind
+-- the kinds of a call for help are not empty
 call_is_some : (kinds : Kinds) → kinds ≡ DisplayHelp ∷ [] → kinds ≡ [] → ⊥
 call_is_some kinds is none = let bad : length {A = ErrorKind} [] ≡ length (DisplayHelp ∷ []) = ap length (sym none ∙ is) in omega (arith, bad)
 
--- so has a refusal
+-- nor are those of a refusal
 refused_is_some : (kinds : Kinds) → IsRefused kinds → kinds ≡ [] → ⊥
 refused_is_some kinds h none = true≢false (sym h ∙ ap is_refusal none)
 
--- where the parse passes and no word is `--`, the task that it entered was asked for
+-- if the parse passes and no word is `--`, the words ask for the task that it entered
 taken : (words : List Text) (a : Asked) (sep : Bool) (kinds : Kinds) → Comes a sep kinds → IsEntered words a → kinds ≡ [] → sep ≡ false
     → a ≡ task (task_entered (subcommand_of command_line words))
 taken words (task named) sep kinds h entered none without = entered
@@ -57,33 +57,33 @@ taken words help sep kinds h entered none without = absurd (call_is_some kinds h
 taken words unknown sep kinds (inl h) entered none without = absurd (refused_is_some kinds h none)
 taken words unknown sep kinds (inr h) entered none without = absurd (true≢false (sym h.1 ∙ without))
 
--- where it passes and a word is `--`, nothing known was
+-- if it passes and a word is `--`, they ask for nothing known
 separator_taken : (a : Asked) (sep : Bool) (kinds : Kinds) → Comes a sep kinds → kinds ≡ [] → sep ≡ true → a ≡ unknown
 separator_taken (task t) sep kinds h none with = absurd (true≢false (sym with ∙ h.1))
 separator_taken version sep kinds h none with = absurd h
 separator_taken help sep kinds h none with = absurd (call_is_some kinds h none)
 separator_taken unknown sep kinds h none with = refl
 
--- no kind is among none
+-- an empty list of kinds has no kind
 none_among : (k : ErrorKind) (kinds : Kinds) → kinds ≡ [] → IsAmong k kinds → ⊥
 none_among k kinds none h = subst (λ (ks : Kinds). IsAmong k ks) none h
 
--- another kind than that of the help is not it
+-- a kind that passes `is_other` is not that of the help
 no_call : (k : ErrorKind) → is_other k ≡ true → DisplayHelp ≡ k → ⊥
 no_call k other is = true≢false (sym other ∙ sym (ap is_other is))
 
--- and none of a refusal is
+-- the kind of the help is not among other kinds
 none_of_them : (kinds : Kinds) → list_all is_other kinds ≡ true → IsAmong DisplayHelp kinds → ⊥
 none_of_them [] h among = elim among [ ]
 none_of_them (k ∷ ks) h (inl is) = no_call k (both (is_other k) (list_all is_other ks) h).0 is
 none_of_them (k ∷ ks) h (inr among) = none_of_them ks (both (is_other k) (list_all is_other ks) h).1 among
 
--- the same of the refusal
+-- the kind of the help is not among those of a refusal
 refused_is_other : (kinds : Kinds) → IsRefused kinds → IsAmong DisplayHelp kinds → ⊥
 refused_is_other [] h among = elim among [ ]
 refused_is_other (k ∷ ks) h among = none_of_them (k ∷ ks) h among
 
--- where the parse shows the help, the help was asked for
+-- if the parse shows the help, the words ask for the help
 called : (a : Asked) (sep : Bool) (kinds : Kinds) → Comes a sep kinds → IsAmong DisplayHelp kinds → a ≡ help
 called (task t) sep kinds h among = absurd (none_among _ kinds h.0 among)
 called version sep kinds h among = absurd h
@@ -91,7 +91,7 @@ called help sep kinds h among = refl
 called unknown sep kinds (inl h) among = absurd (refused_is_other kinds h among)
 called unknown sep kinds (inr h) among = absurd (none_among _ kinds h.0 among)
 
--- where it fails otherwise, nothing known was
+-- if it fails otherwise, they ask for nothing known
 faulted : (a : Asked) (sep : Bool) (kinds : Kinds) (k : ErrorKind) → Comes a sep kinds → IsAmong k kinds → k ≢ DisplayHelp → a ≡ unknown
 faulted (task t) sep kinds k h among other = absurd (none_among _ kinds h.0 among)
 faulted version sep kinds k h among other = absurd h
@@ -115,7 +115,7 @@ pub separator_is_unknown : (words : List Text) → is_for_explain words ≡ fals
 separator_is_unknown words no_explain apart none with =
     separator_taken _ (has_two_hyphens words) (fault_of command_line words) (asked words no_explain apart) none with
 
--- a usage fault where one is due
+-- what holds anyway holds of a usage fault
 pub on_separator : (r : Reading) (P : Type 0) → P → OnUsage r P
 on_separator (reading.Do t) P h = tt
 on_separator (reading.Version text) P h = tt
@@ -144,7 +144,7 @@ fault_is_unknown words e r no_explain apart has h = on_usage r _ _ (go has) h
     go (inl memory) other = absurd (other.1 memory)
     go (inr among) other = faulted _ (has_two_hyphens words) (fault_of command_line words) (kind_of e) (asked words no_explain apart) among other.0
 
--- what the clauses of `read_by_clap` stand on
+-- what the clauses of `read_by_clap` follow from
 pub ruleset readings = (taken_is_task, separator_is_unknown, on_separator, call_is_help, fault_is_unknown)
 
 -- ---- flags
@@ -165,6 +165,6 @@ given_read f name text wanted same is given compared = compared ∙ go text ∙ 
 
 -- ---- the command
 
--- `clap`'s exact contracts hold of this command
+-- `clap`'s exact contracts hold for this command
 pub command_line_is_simple : is_simple_and_free command_line ≡ true
 command_line_is_simple = refl

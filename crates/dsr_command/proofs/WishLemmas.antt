@@ -21,11 +21,11 @@ use Rattle.dsr_command.specs.Wishes.{first_of, is_short_help}
 
 -- ---- values
 
--- the digits of a number write it
+-- the decimal of a number has this number as its value
 value_of : (n : ℕ) → n < 2 ^ 64 → digits_value 10 (decimal n) ≡ n
 value_of n small = (decimal_is_IsNumeral n small).1
 
--- what is read as a value is what this test of a candidate says, where the candidate is the only one that it can be
+-- what is read as a value is the candidate if this test passes, and nothing else, if no other value is possible
 by_candidate : {X : Type 0} (is : X → Type 0) (text : X → List ℕ) (word : List ℕ) (r : Option X) (x : X) (b : Bool) → Reads is text word r
     → Decides b (is x × (word ≡ text x)) → ((y : X) → is y → word ≡ text y → x ≡ y) → r ≡ (if b then Some x else None)
 by_candidate is text word r x true reads decides only = (reads x).1 (decides.0 refl)
@@ -34,7 +34,7 @@ by_candidate is text word (Some y) x false reads decides only =
     let h = (reads y).0 refl in
     absurd (true≢false (sym (decides.1 (subst is (sym (only y h.0 h.1)) h.0, h.1 ∙ ap text (sym (only y h.0 h.1))))))
 
--- the same of two candidates
+-- the same for two candidates
 by_candidates : {X : Type 0} (is : X → Type 0) (text : X → List ℕ) (word : List ℕ) (r : Option X) (x y : X) (b d : Bool) → Reads is text word r
     → Decides b (is x × (word ≡ text x)) → Decides d (is y × (word ≡ text y)) → ((z : X) → is z → word ≡ text z → (x ≡ z) ⊎ (y ≡ z))
     → r ≡ (if b then Some x else (if d then Some y else None))
@@ -60,7 +60,7 @@ slot_read word r reads =
     (Decides-and (nat_lt n (2 ^ 40)) (bytes_eq word (decimal n)) (Decides-ltb n (2 ^ 40)) (bytes_eq-Decides word (decimal n)))
     (λ y small is. ap (digits_value 10) is ∙ value_of y (omega (arith, small)))
 
--- the actor of a word is one of two, by the digits after its letter
+-- the actor of a word is one of two, given by the digits after its letter
 one_of_two : (word : List ℕ) (y : Actor) → IsNumbered y → word ≡ actor_text y
     → (Replica (digits_value 10 (drop 1 word)) ≡ y) ⊎ (Client (digits_value 10 (drop 1 word)) ≡ y)
 one_of_two word (Replica m) small is =
@@ -79,12 +79,12 @@ actor_read word r reads =
 
 -- ---- the first word
 
--- it is the first of all
+-- the first word of a list that is not empty
 pub first_is : {X : Type 0} (text : X → List ℕ) (xs : List X) (x : X) → 1 ≤ length xs → x ≡ get_or xs 0 x → first_of (map text xs) ≡ Some (text x)
 first_is text [] x some is = absurd (omega arith)
 first_is text (y ∷ ys) x some is = ap (λ z. Some (text z)) (sym is)
 
--- the others, as the code has them
+-- the words after the first, as the code takes them
 abbrev pub rest_of : {X : Type 0} → List X → List X
 rest_of xs = take (length xs - 1) (drop 1 xs)
 
@@ -95,12 +95,12 @@ rest_whole : {X : Type 0} (xs : List X) → rest_of xs ≡ drop 1 xs
 rest_whole [] = refl
 rest_whole (x ∷ xs) = rest_is x xs
 
--- without the first one
+-- dropping the first word commutes with taking texts
 drop_map : {X : Type 0} (text : X → List ℕ) (xs : List X) → drop 1 (map text xs) ≡ map text (drop 1 xs)
 drop_map text [] = refl
 drop_map text (x ∷ xs) = refl
 
--- the words after `--slot`, where no slot was named before
+-- the words after `--slot`, if no slot was named before
 after_slot : (so_far : Narrowing) (word : List ℕ) (rest : List (List ℕ)) (slot : Option ℕ) → word ≡ codes "--slot" → is_some so_far.slot ≡ false
     → slot ≡ option_and_then slot_of (first_of rest)
     → asked_after_explain an_option so_far (word ∷ rest)
@@ -108,7 +108,7 @@ after_slot : (so_far : Narrowing) (word : List ℕ) (rest : List (List ℕ)) (sl
 after_slot so_far word [] slot named none is = rw (named, none, is) refl
 after_slot so_far word (value ∷ rest) slot named none is = rw (named, none, is) refl
 
--- the same of words as the code has them
+-- the same for words as the code has them
 pub slot_words : {X : Type 0} (text : X → List ℕ) (words : List X) (first : X) (word : List ℕ) (so_far : Narrowing) (slot : Option ℕ)
     → 1 ≤ length words → first ≡ get_or words 0 first → word ≡ text first → true ≡ bytes_eq word (codes "--slot") → is_some so_far.slot ≡ false
     → slot ≡ option_and_then slot_of (first_of (map text (rest_of words)))
@@ -123,7 +123,7 @@ slot_words text (x ∷ xs) first word so_far slot some is spelled named none giv
     ∙ ap (λ l. option_map_or (λ n. asked_after_explain an_option (record so_far { slot = Some n }) l) slot unknown)
     (drop_map text xs ∙ ap (map text) (sym (rest_whole xs) ∙ ap rest_of (sym (rest_is x xs))))
 
--- the words after `--actor`, where no actor was named before
+-- the words after `--actor`, if no actor was named before
 after_actor : (so_far : Narrowing) (word : List ℕ) (rest : List (List ℕ)) (actor : Option Actor) → word ≡ codes "--actor" → is_some so_far.actor ≡ false
     → actor ≡ option_and_then actor_of (first_of rest)
     → asked_after_explain an_option so_far (word ∷ rest)
@@ -131,7 +131,7 @@ after_actor : (so_far : Narrowing) (word : List ℕ) (rest : List (List ℕ)) (a
 after_actor so_far word [] actor named none is = rw (named, none, is) refl
 after_actor so_far word (value ∷ rest) actor named none is = rw (named, none, is) refl
 
--- the same of words as the code has them
+-- the same for words as the code has them
 pub actor_words : {X : Type 0} (text : X → List ℕ) (words : List X) (first : X) (word : List ℕ) (so_far : Narrowing) (actor : Option Actor)
     → 1 ≤ length words → first ≡ get_or words 0 first → word ≡ text first → true ≡ bytes_eq word (codes "--actor") → is_some so_far.actor ≡ false
     → actor ≡ option_and_then actor_of (first_of (map text (rest_of words)))
@@ -148,7 +148,7 @@ actor_words text (x ∷ xs) first word so_far actor some is spelled named none g
 
 -- ---- calls for help
 
--- a text begins with a hyphen where it is one and then the rest
+-- a text that is not a hyphen followed by a rest does not begin with a hyphen
 pub no_hyphen : (word : List ℕ) → ((rest : List ℕ) → word ≢ 45 ∷ rest) → is_short_help word ≡ false
 no_hyphen [] none = refl
 no_hyphen (x ∷ xs) none = go (45 == x) refl

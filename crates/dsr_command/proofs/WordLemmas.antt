@@ -1,4 +1,4 @@
--- What `clap` makes of the words that it reads is what `asked_of` says.
+-- The result of `clap` on the words that it reads is what `asked_of` says.
 use Rattle.std.proofs.Common.{◌≡◌, ◌∙◌, ◌⊎◌, ◌||◌, ◌++◌, ℕ, Bool, true, false, refl, sym, ap, ap₂, subst, arith, inl, inr, List, [], ◌∷◌, Option, None, Some, codes, length, fold, is_some, not, take, true≢false}
 use Rattle.std.specs.Prelude.{◌==◌, if◌then◌else◌}
 use Rattle.std.specs.List.{before_first, list_all, list_any, prefix_len}
@@ -26,7 +26,7 @@ use Rattle.dsr_command.specs.declared.Task.TheVariants.{Apply, Check, Play, Serv
 abbrev app : App
 app = built command_line
 
--- which flags a command takes beside the help: none, as the command itself; `--transcript`; or `--strict` too
+-- which flags a command takes beside the help: none, like the program itself; `--transcript`; or also `--strict`
 data Takes : Type 0 where
   takes_none : Takes
   takes_one : Takes
@@ -38,7 +38,7 @@ flags takes_none = app.top.rules
 flags takes_one = filled_from 1 (flag_rule (codes "transcript") ∷ help_rule ∷ [])
 flags takes_both = filled_from 1 (flag_rule (codes "strict") ∷ flag_rule (codes "transcript") ∷ help_rule ∷ [])
 
--- the command or a subcommand, which differ in no more than these
+-- the shape of the program or of a subcommand; they differ only in these three
 abbrev shape : Takes → Text → Bool → Shape
 shape takes name is_leaf = record app.top { name = name; is_leaf = is_leaf; rules = flags takes }
 
@@ -46,23 +46,23 @@ shape takes name is_leaf = record app.top { name = name; is_leaf = is_leaf; rule
 abbrev held : List Row → Held
 held rows = record { rows = rows; pending = None; skip = 0 }
 
--- the kind is not that of a call for help
+-- the kind differs from that of a call for help
 abbrev pub is_other : ErrorKind → Bool
 is_other DisplayHelp = false
 is_other _ = true
 
--- the kinds are those of a fault that is no call for help
+-- the kinds are those of a fault other than a call for help
 abbrev pub is_refusal : Kinds → Bool
 is_refusal [] = false
 is_refusal (kind ∷ kinds) = list_all is_other (kind ∷ kinds)
 
--- as a statement
+-- the same, as a statement
 abbrev pub IsRefused : Kinds → Type 0
 IsRefused kinds = is_refusal kinds ≡ true
 
 -- ---- the flags
 
--- what the flags make of a word: the help, a fault, or nothing
+-- what the flags lead to for a word: the help, a fault, or nothing
 abbrev FlagAs : Bool → Kinds → Step → Type 0
 FlagAs true kinds step = kinds ≡ DisplayHelp ∷ []
 FlagAs false kinds step = IsRefused kinds ⊎ ((kinds ≡ []) × (step ≡ value))
@@ -82,7 +82,7 @@ is_flag takes_both word = bytes_eq word (codes "--strict") || bytes_eq word (cod
 abbrev is_equals : ℕ → Bool
 is_equals x = x == 61
 
--- in a text with no `=`, all of it stands before the first
+-- in a text without `=`, all of the text is before the first one
 whole_prefix : (t : Text) → list_any is_equals t ≡ false → prefix_len (λ x. not (is_equals x)) t ≡ length t
 whole_prefix [] none = refl
 whole_prefix (x ∷ xs) none = go (x == 61) refl (whole_prefix xs)
@@ -94,7 +94,7 @@ whole_prefix (x ∷ xs) none = go (x == 61) refl (whole_prefix xs)
         let rest : list_any is_equals xs ≡ false = sym (ap (λ b. b || list_any is_equals xs) e) ∙ none in
         rw (e, before rest) (omega arith)
 
--- the same, of the text itself
+-- the same, about the text itself
 without_equals : (t : Text) → list_any is_equals t ≡ false → before_first is_equals t ≡ t
 without_equals t none = ap (λ n. take n t) (whole_prefix t none) ∙ take_all (length t) t (omega arith)
 
@@ -106,16 +106,16 @@ flipped a b other = go (b == a) refl
     go false e = refl
     go true e = absurd (true≢false (sym ((Decides-eqb a b).1 (sym ((Decides-eqb b a).0 e))) ∙ other))
 
--- what a test of the name before `=` says of a name that it passes and that is the whole text
+-- if the name before `=` passes the test against a known name, and there is no `=`, the whole text is that name
 name_is : (known t : Text) → bytes_eq known (before_first is_equals t) ≡ true → has_byte 61 t ≡ false → t ≡ known
 name_is known t named valued = sym ((bytes_eq-Decides known (before_first is_equals t)).0 named ∙ without_equals t valued)
 
--- two that are false, where one or the other is
+-- if neither of two holds, each of them is false
 neither : (a b : Bool) → (a || b) ≡ false → (a ≡ false) × (b ≡ false)
 neither false b e = (refl, e)
 neither true b e = absurd (true≢false e)
 
--- what a word `--name`, with a value or without, comes to, where this is the flag of its name
+-- what a word `--name`, with a value or without, leads to, if this is the flag with its name
 abbrev LongAs : List Rule → Option Rule → List Row → ℕ → Text → Type 0
 LongAs c found rows n ns =
     let met = long_met c found (name_and_value (n ∷ ns)).1 (held rows) in
@@ -126,7 +126,7 @@ LongAs c found rows n ns =
 help_text : (n : ℕ) (ns : Text) → bytes_eq (n ∷ ns) (codes "help") ≡ true → n ∷ ns ≡ codes "help"
 help_text n ns e = (bytes_eq-Decides (n ∷ ns) (codes "help")).0 e
 
--- the flag of the name, where there is none but the help
+-- the flag with the name, if the help is the only flag
 help_long : (c : List Rule) (rows : List Row) (n : ℕ) (ns : Text) → LongAs c (arg_by_long (flags takes_none) (before_first is_equals (n ∷ ns))) rows n ns
 unfolding clap_on_literals
 help_long c rows n ns = go (bytes_eq (codes "help") (before_first is_equals (n ∷ ns))) (has_byte 61 (n ∷ ns)) (bytes_eq (n ∷ ns) (codes "help")) refl refl refl
@@ -141,7 +141,7 @@ help_long c rows n ns = go (bytes_eq (codes "help") (before_first is_equals (n �
     go true false false named valued same =
         absurd (true≢false (sym ((bytes_eq-Decides (n ∷ ns) (codes "help")).1 (name_is (codes "help") (n ∷ ns) named valued)) ∙ same))
 
--- one flag more, which is not the word: with a value it is refused, and else the others decide
+-- with one more flag, which is not the word: if the word has the flag's name and a value, it is refused; else the other flags decide
 flag_long : (c rest : List Rule) (name : Text) (rows : List Row) (n : ℕ) (ns : Text) → bytes_eq (n ∷ ns) name ≡ false
     → LongAs c (arg_by_long rest (before_first is_equals (n ∷ ns))) rows n ns
     → LongAs c (arg_by_long (with_index 1 (filled (flag_rule name)) ∷ rest) (before_first is_equals (n ∷ ns))) rows n ns
@@ -157,7 +157,7 @@ flag_long c rest name rows n ns other others = go (bytes_eq name (before_first i
     go true false s named valued same =
         absurd (true≢false (sym ((bytes_eq-Decides (n ∷ ns) name).1 (name_is name (n ∷ ns) named valued)) ∙ other))
 
--- `--name`, but for the flags themselves
+-- `--name`, except the flags themselves
 long_flag : (takes : Takes) (rows : List Row) (n : ℕ) (ns : Text) → is_flag takes (45 ∷ 45 ∷ n ∷ ns) ≡ false → FlagWord takes rows (45 ∷ 45 ∷ n ∷ ns)
 unfolding clap_on_literals
 long_flag takes_none rows n ns other = help_long (flags takes_none) rows n ns
@@ -187,7 +187,7 @@ short_flag takes rows x xs other = go takes (chars (x ∷ xs)) refl
     go takes_both [] e = simp (other, e) (inr (refl, refl))
     go takes (c ∷ cs) e = at takes c cs (104 == c) e refl
 
--- any word but `--` and the flags themselves
+-- any word except `--` and the flags themselves
 flag_word : (takes : Takes) (rows : List Row) (word : Text) → bytes_eq word (codes "--") ≡ false → is_flag takes word ≡ false → FlagWord takes rows word
 unfolding clap_on_literals
 flag_word takes rows [] other no_flag = inr (refl, refl)
@@ -214,14 +214,14 @@ flag_word takes rows (a ∷ rest) other no_flag = first (a == 45) refl
         let is : a ≡ 45 = (Decides-eqb a 45).0 e in
         subst (λ (y : ℕ). bytes_eq (y ∷ rest) (codes "--") ≡ false → is_flag takes (y ∷ rest) ≡ false → FlagWord takes rows (y ∷ rest)) (sym is) (after rest) other no_flag
 
--- ---- a word that names no subcommand
+-- ---- a word that does not name a subcommand
 
--- what the turn of a word that names no subcommand comes to: the help, or a refusal
+-- what the turn of a word that does not name a subcommand leads to: the help, or a refusal
 abbrev TurnAs : Bool → Kinds → Type 0
 TurnAs true kinds = kinds ≡ DisplayHelp ∷ []
 TurnAs false kinds = IsRefused kinds
 
--- the first kinds refuse, whatever follows
+-- if the first kinds refuse, so do they with any kinds after them
 refused_first : (kinds more : Kinds) → IsRefused kinds → IsRefused (or_else kinds more)
 refused_first [] more h = absurd (true≢false (sym h))
 refused_first (k ∷ ks) more h = h
@@ -238,7 +238,7 @@ turn_of takes_one name false false kinds met (inr h) = rw (h.0, h.1) refl
 turn_of takes_both name true false kinds met (inr h) = rw (h.0, h.1) refl
 turn_of takes_both name false false kinds met (inr h) = rw (h.0, h.1) refl
 
--- so it is at either level
+-- the turn of such a word, in the program or in a subcommand
 turn : (takes : Takes) (name : Text) (leaf : Bool) (rows : List Row) (names : Names) (word : Text) → subcommand_met names idle word ≡ None
     → bytes_eq word (codes "--") ≡ false → is_flag takes word ≡ false
     → TurnAs (is_help word) (turn_fault (shape takes name leaf) names (walk_from (held rows)) word)
@@ -248,7 +248,7 @@ turn takes name leaf rows names word unmet other no_flag =
 
 -- ---- the words
 
--- what the kinds of a parse's fault say of what is asked for; `sep` is whether a word is `--`. The version is never asked for so.
+-- what the kinds of a parse's fault say about what is asked for; `sep` is whether a word is `--`. No parse asks for the version.
 abbrev pub Comes : Asked → Bool → Kinds → Type 0
 Comes (task t) sep kinds = (kinds ≡ []) × (sep ≡ false)
 Comes version sep kinds = ⊥
@@ -264,7 +264,7 @@ by_turn false sep kinds more rest h = inl (refused_first (or_else kinds more) re
 abbrev leaf : Takes → Text → Shape
 leaf takes name = shape takes name true
 
--- the kinds of the parse, by those of its walk over the words and where the walk ends
+-- the kinds of the parse, by those of its walk over the words and by the end of the walk
 abbrev after_walk : Kinds → Walk → Kinds
 after_walk failed end = or_else failed (or_else (entered_fault app end.stopped) (or_else (settle_fault (flags takes_none) false end.held)
     (or_else (defaults_fault (settled (flags takes_none) end.held).rows (flags takes_none)) (check_fault app.top (finished (flags takes_none) end.held) (is_some (entered app end.stopped))))))
@@ -274,7 +274,7 @@ or_else-nil : (kinds : Kinds) → or_else kinds [] ≡ kinds
 or_else-nil [] = refl
 or_else-nil (k ∷ ks) = refl
 
--- the kinds of the parse where its walk stops at a subcommand's name
+-- the kinds of the parse if its walk stops at a subcommand's name
 abbrev stopped_kinds : Text → List Text → Kinds
 stopped_kinds name rest = after_walk [] (record (walk_from nothing_held) { stopped = Some (name, rest) })
 
@@ -310,11 +310,11 @@ check_word_fault rest = after_name (codes "check") rest ∙ or_else-nil (level_f
 abbrev rows_after : Takes → List Row → Text → List Row
 rows_after takes rows word = (long_or_other (flags takes) idle word (long_of word) (held rows)).0.rows
 
--- words that come, after a task's name and what led to these rows, to what is asked for
+-- the parse of these words, after a task's name and what led to these rows, leads to what is asked for
 abbrev Says : Takes → Text → List Row → Asked → List Text → Type 0
 Says takes name rows asked words = Comes asked (has_two_hyphens words) (level_fault (leaf takes name) [] (held rows) words false [])
 
--- a word that asks for no task decides
+-- a word that does not ask for a task decides
 other_word : (takes : Takes) (name : Text) (rows : List Row) (word : Text) (rest : List Text) → bytes_eq word (codes "--") ≡ false → is_flag takes word ≡ false
     → Says takes name rows (asked_by_other word) (word ∷ rest)
 unfolding clap_on_literals
@@ -322,12 +322,12 @@ other_word takes name rows word rest other no_flag =
     by_turn (is_help word) (has_two_hyphens (word ∷ rest)) (turn_fault (leaf takes name) [] (walk_from (held rows)) word) _ _
     (turn takes name true rows [] word refl other no_flag)
 
--- what holds of no words, and of any first one and more, holds of all
+-- what holds for the empty list of words, and for a first word and others, holds for all lists
 by_rest : (P : List Text → Type 0) → P [] → ((more : Text) (rest : List Text) → P (more ∷ rest)) → (words : List Text) → P words
 by_rest P none some [] = none
 by_rest P none some (more ∷ rest) = some more rest
 
--- what holds of a name, and of any word that is not the name, holds of the word
+-- what holds for a name, and for the word if it is not the name, holds for the word
 by_name : (P : Text → Type 0) (name word : Text) → P name → (bytes_eq word name ≡ false → P word) → P word
 by_name P name word is other = go (bytes_eq word name) refl
   where
@@ -335,7 +335,7 @@ by_name P name word is other = go (bytes_eq word name) refl
     go true e = subst P (sym ((bytes_eq-Decides word name).0 e)) is
     go false e = other e
 
--- the words after a task's name ask for this: by cases where they are none, where the first is `--`, where it is a flag, and else
+-- the words after a task's name ask for this: by cases if there are none, if the first is `--`, if it is a flag, and else
 words_by : (takes : Takes) (name : Text) (rows : List Row) (says : List Text → Asked) → Says takes name rows (says []) []
     → ((rest : List Text) → Says takes name rows (says (codes "--" ∷ rest)) (codes "--" ∷ rest))
     → ((word : Text) (rest : List Text) → is_flag takes word ≡ true → Says takes name rows (says (word ∷ rest)) (word ∷ rest))
@@ -361,7 +361,7 @@ says_plain name named words =
     words_by takes_none name [] (asked_after named) (refl, refl) (by_rest (IsApart takes_none name []) (inr (refl, refl)) (λ more rest. inl refl))
     (λ word rest flag. absurd (true≢false (sym flag))) (λ word rest other. refl) words
 
--- the words after `serve` and what led to these rows, by the first word where it is the flag
+-- the words after `serve` and what led to these rows, given the case that the first word is the flag
 says_serve : (rows : List Row) (transcript : Bool) → Says takes_one (codes "serve") rows (task (Serve transcript)) []
     → ((rest : List Text) → IsApart takes_one (codes "serve") rows rest)
     → ((rest : List Text) → Says takes_one (codes "serve") rows (asked_after_serve transcript (codes "--transcript" ∷ rest)) (codes "--transcript" ∷ rest))
@@ -389,7 +389,7 @@ unfolding clap_on_literals
 serve_words words =
     says_serve [] false (refl, refl) (by_rest (IsApart takes_one (codes "serve") []) (inr (refl, refl)) (λ more rest. inl refl)) (λ rest. serve_given rest) words
 
--- the words after `play` and what led to these rows, by the first word where it is a flag
+-- the words after `play` and what led to these rows, given the cases that the first word is a flag
 says_play : (rows : List Row) (strict transcript : Bool) → Says takes_both (codes "play") rows (task (Play strict transcript)) []
     → ((rest : List Text) → IsApart takes_both (codes "play") rows rest)
     → ((rest : List Text) → Says takes_both (codes "play") rows (asked_after_play strict transcript (codes "--strict" ∷ rest)) (codes "--strict" ∷ rest))
@@ -456,7 +456,7 @@ play_words words =
     says_play [] false false (refl, refl) (by_rest (IsApart takes_both (codes "play") []) (inr (refl, refl)) (λ more rest. inl refl))
     (λ rest. play_strict rest) (λ rest. play_transcript rest) words
 
--- the parse of these words comes to what they ask for
+-- the parse of these words leads to what they ask for
 abbrev Asks : List Text → Type 0
 Asks words = Comes (asked_of words) (has_two_hyphens words) (fault_of command_line words)
 
@@ -483,7 +483,7 @@ unfolding clap_on_literals
 after_separator [] = inr (refl, refl)
 after_separator (word ∷ rest) = inl refl
 
--- a text that is not the other one is not, the other way round
+-- if a text differs from another, the other differs from it
 turned_eq : (a b : Text) → bytes_eq a b ≡ false → bytes_eq b a ≡ false
 turned_eq a b other = go (bytes_eq b a) refl
   where
@@ -491,7 +491,7 @@ turned_eq a b other = go (bytes_eq b a) refl
     go false e = refl
     go true e = absurd (true≢false (sym ((bytes_eq-Decides a b).1 (sym ((bytes_eq-Decides b a).0 e))) ∙ other))
 
--- a word that names no task and is neither `--` nor `--version`
+-- a word that does not name a task and is neither `--` nor `--version`
 after_other : (word : Text) (rest : List Text) → bytes_eq word (codes "apply") ≡ false → bytes_eq word (codes "play") ≡ false
     → bytes_eq word (codes "serve") ≡ false → bytes_eq word (codes "check") ≡ false → bytes_eq word (codes "explain") ≡ false
     → bytes_eq word (codes "--version") ≡ false → bytes_eq word (codes "--") ≡ false → Asks (word ∷ rest)
@@ -530,12 +530,12 @@ abbrev pub IsEntered : List Text → Asked → Type 0
 IsEntered words (task named) = task named ≡ task (task_entered (subcommand_of command_line words))
 IsEntered words other = Unit {0}
 
--- a word that asks for the help or for nothing known asks for no task
+-- a word that asks for the help or for nothing known does not ask for a task
 by_help : (words : List Text) (b : Bool) → IsEntered words (if b then help else unknown)
 by_help words true = tt
 by_help words false = tt
 
--- where the words enter a task, further words after them ask for it only if there are none
+-- if the words enter a task, further words after them ask for a task only if there are none
 plain_entered : (words : List Text) (named : Task) → IsEntered (words ++ []) (task named) → (rest : List Text) → IsEntered (words ++ rest) (asked_after named rest)
 plain_entered words named alone [] = alone
 plain_entered words named alone (word ∷ rest) = by_help (words ++ (word ∷ rest)) (is_help word)
@@ -548,7 +548,7 @@ check_entered : (rest : List Text) → IsEntered (codes "check" ∷ rest) (asked
 unfolding clap_on_literals
 check_entered rest = plain_entered (codes "check" ∷ []) Check refl rest
 
--- where the words enter `serve` so, and do with the flag after them, further words ask for what they enter, or for no task
+-- if the words enter `serve`, also with the flag after them, further words ask for the task that they enter, or not for a task
 serve_entered_by : (words : List Text) (transcript : Bool) → IsEntered (words ++ []) (task (Serve transcript))
     → ((rest : List Text) → IsEntered (words ++ codes "--transcript" ∷ rest) (asked_after_serve transcript (codes "--transcript" ∷ rest)))
     → (rest : List Text) → IsEntered (words ++ rest) (asked_after_serve transcript rest)
@@ -563,7 +563,7 @@ serve_entered rest =
     serve_entered_by (codes "serve" ∷ []) false refl
     (λ rest. serve_entered_by (codes "serve" ∷ codes "--transcript" ∷ []) true refl (λ more. tt) rest) rest
 
--- the same of `play` with its two flags
+-- the same for `play` with its two flags
 play_entered_by : (words : List Text) (strict transcript : Bool) → IsEntered (words ++ []) (task (Play strict transcript))
     → ((rest : List Text) → IsEntered (words ++ codes "--strict" ∷ rest) (asked_after_play strict transcript (codes "--strict" ∷ rest)))
     → ((rest : List Text) → IsEntered (words ++ codes "--transcript" ∷ rest) (asked_after_play strict transcript (codes "--transcript" ∷ rest)))
@@ -595,7 +595,7 @@ version_entered : (rest : List Text) → IsEntered (codes "--version" ∷ rest) 
 version_entered [] = tt
 version_entered (more ∷ rest) = tt
 
--- a word that names no task enters none that it asks for
+-- a word that does not name a task does not ask for another task than the parse enters
 other_entered : (word : Text) (rest : List Text) → bytes_eq word (codes "apply") ≡ false → bytes_eq word (codes "play") ≡ false
     → bytes_eq word (codes "serve") ≡ false → bytes_eq word (codes "check") ≡ false → bytes_eq word (codes "explain") ≡ false
     → bytes_eq word (codes "--version") ≡ false → IsEntered (word ∷ rest) (asked_of (word ∷ rest))

@@ -4,7 +4,7 @@ use Rattle.std.proofs.lemmas.List.Folds.{list_any-from_Any}
 use Rattle.clap.proofs.WalkLemmas.{list_any-map}
 use Rattle.dsr_command.proofs.has_separator.Goals as goal
 
--- the word at hand is one
+-- the current word is `--`
 pub returns-then-eq : goal.returns-then-eq
 returns-then-eq g c =
     let here : bytes_eq (g.S.AsStr.text c.word-item.result) (codes "--") ≡ true = rw (← c.as_str.ensures) (sym c.eq.ensures ∙ c.if-eq.true) in
