@@ -23,7 +23,7 @@ use std::thread::Threads;
 struct Open;
 
 impl Gate for Open {
-    // It refuses nobody.
+    // It refuses no actor.
     ghost may_refuse = { λ gate actor. ⊥ };
 
     fn pass(&self, _actor: Actor, _turn: u64) -> bool {
@@ -36,7 +36,7 @@ impl Gate for Open {
 pub(crate) struct Service {
     /// The logs of all actors.
     pub(crate) logs: Logs,
-    /// The fault by which it ended, if there was one.
+    /// The fault that ended it before all clients were served, if one did.
     pub(crate) cause: Option<Refusal>,
 }
 
@@ -63,7 +63,7 @@ pub(crate) fn serve_out<R: Threads + Wait + Sync>(
     // For the proof: what its contract says.
     logs_are_right();
     let ended = serve(rt, alloc, &script, &Open);
-    // The program ends soon, as after a play.
+    // It is not freed, like a play: the program ends soon.
     forget(script);
     Ok(service_of(ended))
 }

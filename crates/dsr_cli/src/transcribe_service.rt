@@ -15,7 +15,7 @@ use std::mem::forget;
 use std::sync::Wait;
 use std::thread::Threads;
 
-/// The steps of a service's actors, and the fault that ended it, if there was one.
+/// The steps of a service's actors, and the fault that ended it, if one did.
 #[derive(Drop)]
 struct Recording {
     recorded: Record,

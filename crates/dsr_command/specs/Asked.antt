@@ -75,7 +75,7 @@ asked_after_explain an_actor so_far [] = unknown
 asked_after_explain an_actor so_far (word ∷ rest) =
     option_map_or (λ actor. asked_after_explain an_option (record so_far { actor = Some actor }) rest) (actor_of word) unknown
 
--- what is asked for by `--version` and the words after it: the version, if no words follow
+-- what is asked for by `--version` and the words after it: the version if no words follow, else nothing known
 abbrev pub asked_after_version : List (List ℕ) → Asked
 asked_after_version [] = version
 asked_after_version (word ∷ rest) = unknown

@@ -1,7 +1,7 @@
 -- The texts that are shown if the words ask for the version or the help, or are unknown (this project).
 use Rattle.std.specs.Prelude.{◌≡◌, ◌++◌, ◌≤◌, List, ℕ, codes, length}
 
--- the line of the version: the program's, and the toolchain that it is proved with
+-- the version line: the program's version, and the toolchain that it is proved with
 abbrev pub version_line : List ℕ
 version_line = codes "dsr 1.0.0 (rattle-kit-13f logic dac8208d650f15bf)\n"
 

@@ -89,7 +89,7 @@ fn a_client_tells_whom_it_asked(rt: HostRuntime) -> Result<(), Fail> {
     asks_both(&rt, rt.alloc(), &mut office)
 }
 
-/// The client asks r1 and then r0, and its seat says so.
+/// Has the client ask r1 and then r0, and checks that its seat says so.
 fn asks_both<R: Abort>(rt: &R, alloc: Global, office: &mut Office) -> Result<(), Fail> {
     let text = "dsr-play 1 2 0 1 -\npost c0 r1 begin write a 7\n";
     go_on(alloc, office, text, &[Ok(())])?;
@@ -113,7 +113,7 @@ fn a_client_accepts_a_reply(rt: HostRuntime) -> Result<(), Fail> {
     accepts_once(&rt, rt.alloc(), &mut office)
 }
 
-/// The client accepts the reply that is posted to it, but not the same reply a second time.
+/// Checks that the client accepts the reply that is posted to it, but not the same reply a second time.
 fn accepts_once<R: Abort>(rt: &R, alloc: Global, office: &mut Office) -> Result<(), Fail> {
     let first = Actor::Replica(ReplicaId::FIRST);
     assert_eq!(rt;
@@ -141,7 +141,7 @@ fn a_told_front_is_seen(rt: HostRuntime) -> Result<(), Fail> {
     sees_what_it_was_told(&rt, &mut office)
 }
 
-/// Client 1 has seen what client 0 told it, and later also the place of its own reply.
+/// Checks that client 1 has seen what client 0 told it, and later also the place of its own reply.
 fn sees_what_it_was_told<R: Abort>(rt: &R, office: &mut Office) -> Result<(), Fail> {
     assert_eq!(rt; client(office)?.seen(), 3);
     let other = office.clients().last().ok_or("no client")?;
@@ -182,7 +182,7 @@ fn a_replica_tells_what_it_may_post(rt: HostRuntime) -> Result<(), Fail> {
     tells_what_it_may_post(&rt, rt.alloc(), &mut office)
 }
 
-/// The replica goes through a round, and its seat says at each step what it may post.
+/// Has the replica go through a round, and checks at each step that its seat says what it may post.
 fn tells_what_it_may_post<R: Abort>(
     rt: &R,
     alloc: Global,
@@ -208,7 +208,7 @@ fn a_replica_tells_what_it_holds_and_replies(rt: HostRuntime) -> Result<(), Fail
     holds_and_replies(&rt, rt.alloc(), &mut office)
 }
 
-/// The replica's seat says which request the replica holds, and its reply once that is decided.
+/// Checks that the replica's seat says which request the replica holds, and its reply once that is decided.
 fn holds_and_replies<R: Abort>(rt: &R, alloc: Global, office: &mut Office) -> Result<(), Fail> {
     assert_eq!(rt; replica(office)?.held(ClientId::FIRST), None);
     let text = "dsr-play 1 1 0 1 -\ntake r0 c0\npost r0 r0 from c0\n";
@@ -221,7 +221,7 @@ fn holds_and_replies<R: Abort>(rt: &R, alloc: Global, office: &mut Office) -> Re
     replies_once_decided(rt, alloc, office)
 }
 
-/// The replica's seat says its reply once the replica has taken its own envelope.
+/// Checks that the replica's seat gives its reply once the replica has taken its own envelope.
 fn replies_once_decided<R: Abort>(rt: &R, alloc: Global, office: &mut Office) -> Result<(), Fail> {
     let text = "dsr-play 1 1 0 1 -\ntake r0 r0\n";
     go_on(alloc, office, text, &[Ok(())])?;
@@ -254,7 +254,7 @@ fn a_replica_tells_whom_it_has_not_answered(rt: HostRuntime) -> Result<(), Fail>
     has_not_answered(&rt, rt.alloc(), &mut office)
 }
 
-/// The replica takes a request, picks it, and replies; its seat says at each step whom it has not answered.
+/// Has the replica take a request, pick it, and reply, and checks at each step that its seat says whom it has not answered.
 fn has_not_answered<R: Abort>(rt: &R, alloc: Global, office: &mut Office) -> Result<(), Fail> {
     serves(rt, office, true, false, None)?;
     go_on(alloc, office, "dsr-play 1 1 0 1 -\ntake r0 c0\n", &[Ok(())])?;

@@ -20,7 +20,7 @@ use std::sync::atomic::Ordering::SeqCst;
 use std::thread::Threads;
 use std::{env, io};
 
-/// The exit status if something was refused.
+/// The exit status after a refusal.
 const REFUSED: u8 = 1;
 
 /// The exit status if the words are wrong.

@@ -23,7 +23,7 @@ fn one(alloc: Global) -> Result<Office, Refusal> {
     Office::open(alloc, shape)
 }
 
-/// The client asks for a write of 7 to `a`.
+/// Has the client ask for a write of 7 to `a`.
 fn ask<R: Abort>(rt: &R, alloc: Global, office: &mut Office) -> Result<(), Fail> {
     let name = Name::read(b"a")?;
     let op = Op::Write { name, value: 7 };
@@ -31,7 +31,7 @@ fn ask<R: Abort>(rt: &R, alloc: Global, office: &mut Office) -> Result<(), Fail>
     Ok(())
 }
 
-/// The replica makes `rounds` rounds in one call.
+/// Has the replica make `rounds` rounds in one call.
 fn run<R: Abort + Wait>(rt: &R, alloc: Global, office: &mut Office, rounds: u64) {
     assert_eq!(rt; office.run_replica(rt, alloc, &Open, rounds), Ok(()));
 }
@@ -46,7 +46,7 @@ fn is_answered<R: Abort>(rt: &R, alloc: Global, office: &mut Office, number: u64
     assert_eq!(rt; office.go_on(alloc, 1), Ok(reply));
 }
 
-/// A round in which the client is answered, and three calls of rounds in which nothing is asked.
+/// Makes a round that answers the client, and then, in two calls, three rounds in which the client asks nothing.
 fn answers_once<R: Abort + Wait>(rt: &R, alloc: Global, office: &mut Office) -> Result<(), Fail> {
     ask(rt, alloc, office)?;
     run(rt, alloc, office, 1);
@@ -56,7 +56,7 @@ fn answers_once<R: Abort + Wait>(rt: &R, alloc: Global, office: &mut Office) -> 
     Ok(())
 }
 
-/// The reply to the first request fills the box again while the second request is decided.
+/// Has the reply to the first request fill the box again while the second request is decided.
 fn answers_late<R: Abort + Wait>(rt: &R, alloc: Global, office: &mut Office) -> Result<(), Fail> {
     ask(rt, alloc, office)?;
     run(rt, alloc, office, 1);

@@ -59,7 +59,7 @@ fn of_clients(alloc: Global, m: u8) -> Result<Office, Refusal> {
     Office::open(alloc, shape)
 }
 
-/// The first `count` clients ask, each for a read of `a`.
+/// Has the first `count` clients ask, each for a read of `a`.
 fn ask<R: Abort>(rt: &R, alloc: Global, office: &mut Office, count: u8) -> Result<(), Fail> {
     let name = Name::read(b"a")?;
     let op = Op::Read { name };
@@ -71,7 +71,7 @@ fn ask<R: Abort>(rt: &R, alloc: Global, office: &mut Office, count: u8) -> Resul
     Ok(())
 }
 
-/// The replica makes a round; then these clients have their replies.
+/// Has the replica make a round, and checks that these clients then have their replies.
 fn serves<R: Abort + Wait>(
     rt: &R,
     alloc: Global,
@@ -91,7 +91,7 @@ fn serves<R: Abort + Wait>(
     Ok(())
 }
 
-/// Two rounds, each of which serves all eight clients.
+/// Makes two rounds, and checks that each serves all eight clients.
 fn serves_all_twice<R: Abort + Wait>(
     rt: &R,
     alloc: Global,
@@ -103,7 +103,7 @@ fn serves_all_twice<R: Abort + Wait>(
     serves(rt, alloc, office, &SAME_AGAIN)
 }
 
-/// Three rounds with ten clients: those that wait come before those that were served.
+/// Makes three rounds with ten clients, and checks that those that wait come before those that were served.
 fn serves_in_turn<R: Abort + Wait>(rt: &R, alloc: Global, office: &mut Office) -> Result<(), Fail> {
     ask(rt, alloc, office, 10)?;
     serves(rt, alloc, office, &FIRST)?;

@@ -17,7 +17,7 @@ const REPLICA: Actor = Actor::Replica(ReplicaId::FIRST);
 /// The client.
 const CLIENT: Actor = Actor::Client(ClientId::FIRST);
 
-/// Another replica makes all posts of its round.
+/// Has another replica make all posts of its round.
 fn post_all<R: Abort>(rt: &R, alloc: Global, office: &mut Office, replica: &ReplicaId) {
     for number in 0..3 {
         let to = Actor::Replica(ReplicaId::of(number));
@@ -25,7 +25,7 @@ fn post_all<R: Abort>(rt: &R, alloc: Global, office: &mut Office, replica: &Repl
     }
 }
 
-/// Another replica makes all takes of its round.
+/// Has another replica make all takes of its round.
 fn take_all<R: Abort>(rt: &R, office: &mut Office, replica: &ReplicaId) {
     for number in 0..3 {
         let from = Actor::Replica(ReplicaId::of(number));
@@ -33,7 +33,7 @@ fn take_all<R: Abort>(rt: &R, office: &mut Office, replica: &ReplicaId) {
     }
 }
 
-/// All three make a round, the first one by a call.
+/// Has all three make a round, the first one by a call.
 fn make_round<R: Abort + Wait>(rt: &R, alloc: Global, office: &mut Office) {
     post_all(rt, alloc, office, &ReplicaId::of(1));
     post_all(rt, alloc, office, &ReplicaId::of(2));
@@ -42,7 +42,7 @@ fn make_round<R: Abort + Wait>(rt: &R, alloc: Global, office: &mut Office) {
     take_all(rt, office, &ReplicaId::of(2));
 }
 
-/// The client asks the first replica for a write, and `rounds` rounds are made.
+/// Has the client ask the first replica for a write, and makes `rounds` rounds.
 fn make_rounds<R: Abort + Wait>(
     rt: &R,
     alloc: Global,

@@ -11,7 +11,7 @@ use std::process::Abort;
 use std::sync::Wait;
 use std::test::Fail;
 
-/// The loyal replica posts to all three replicas, as is due.
+/// Has the loyal replica post to all three replicas, as is due.
 fn post_all<R: Abort>(rt: &R, alloc: Global, office: &mut Office, replica: &ReplicaId) {
     for number in 0..3 {
         let to = Actor::Replica(ReplicaId::of(number));
@@ -28,7 +28,7 @@ fn posted<R: Abort>(rt: &R, alloc: Global) -> Result<Office, Refusal> {
     Ok(office)
 }
 
-/// The traitor makes a round by the script in this text. Compares the transcript.
+/// Has the traitor make a round by the script in this text, and compares the transcript.
 fn is_told<R: Abort + Wait>(rt: &R, alloc: Global, script: &str, text: &str) -> Result<(), Fail> {
     let script = Script::read(alloc, script.as_bytes())?;
     let mut office = posted(rt, alloc)?;
@@ -53,7 +53,7 @@ fn has_turns<R: Abort + Wait>(rt: &R, alloc: Global, script: &str, turns: u64) -
     Ok(())
 }
 
-/// The client asks all three replicas: each post takes one turn, and so does each take between them.
+/// Has the client ask all three replicas: each post takes one turn, and so does each take between them.
 fn ask_all<R: Abort>(rt: &R, alloc: Global, office: &mut Office) -> Result<(), Fail> {
     let name = Name::read(b"a")?;
     let op = Op::Write { name, value: 7 };
@@ -61,7 +61,7 @@ fn ask_all<R: Abort>(rt: &R, alloc: Global, office: &mut Office) -> Result<(), F
     Ok(())
 }
 
-/// The traitor makes a round by the script in this text, after the client has asked it too.
+/// Has the traitor make a round by the script in this text, after the client has asked it too.
 fn takes_and_posts<R: Abort + Wait>(
     rt: &R,
     alloc: Global,

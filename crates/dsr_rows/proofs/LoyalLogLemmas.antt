@@ -1,4 +1,4 @@
--- A loyal log with one more entry is loyal.
+-- A replica's loyal log gets one more entry and stays loyal.
 use Rattle.std.proofs.Common.{◌≡◌, ℕ, suc, ◌<◌, List, ◌∷◌, Some, refl, ap, sym, subst}
 use Rattle.dsr_names.specs.declared.actor.Actor.TheVariants.{Replica as ReplicaNumber, Client as ClientNumber}
 use Rattle.dsr_envelope.specs.declared.envelope.Envelope.{Envelope}

@@ -33,7 +33,7 @@ use dsr_names::{Outside, tell_refusal};
 use std::io;
 use std::process::ExitCode;
 
-/// The exit status if reading, writing or memory was refused.
+/// The exit status after a refusal.
 const REFUSED: u8 = 1;
 
 fn main(rt: HostRuntime) -> io::Result<ExitCode> {
