@@ -62,10 +62,10 @@ enum Ending {
 /// usage fault as its text; the help and the version go to `output`. With 0 nothing is written on `errors`. Only a task
 /// reads the input. `input`, `output` and `errors` are called at most `MOST_CALLS` times each.
 ///
-/// A refused event does not refuse the play: the report counts it, and the transcript does not mention it. A strict play writes the same,
-/// but returns 1, with nothing on `errors`. If memory ran out for an event, the report or the transcript is written and then `NoMemory`
-/// on `errors`. A refusal that ends a service before all clients are served is treated alike: the report or the transcript of what was
-/// done until then is written, and then the refusal on `errors`; if memory ran out, perhaps only the refusal.
+/// A refused event does not refuse the play: the report counts it, and the transcript does not mention it. A strict play with a refused event
+/// writes the same, but returns 1, with nothing on `errors`. If memory ran out for an event, the report or the transcript is written and then
+/// `NoMemory` on `errors`. A refusal that ends a service before all clients are served is treated alike: the report or the transcript of what
+/// was done until then is written, and then the refusal on `errors`; if memory ran out, perhaps only the refusal.
 ///
 /// A service starts threads and waits for them; no other task does.
 ///

@@ -36,7 +36,7 @@ impl Gate for Open {
 pub(crate) struct Service {
     /// The logs of all actors.
     pub(crate) logs: Logs,
-    /// The fault that ended it before all clients were served, if one did.
+    /// The fault that ended it, if one did.
     pub(crate) cause: Option<Refusal>,
 }
 
