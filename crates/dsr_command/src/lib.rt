@@ -137,9 +137,9 @@ const SERVE_EXAMPLE: &str =
 The other lines may be in any order. Each line ends with a line feed, the last one too.\n\n  \
 ask C OP           the client C asks for OP, written as in `dsr apply --help`; one operation after another\n  \
 script R NUM TO E  the traitor R posts the envelope E, written as in plays, to the actor TO in its round NUM, from 0 on\n\n\
-At most one such line is allowed per traitor, round and actor. Without one, or if E would need a forged signature, the\n\
-traitor posts `empty` to a replica and nothing to a client. Nor does it post to a client whose box is full: one that has\n\
-not yet taken what this traitor posted to it before.\n\n\
+At most one line `script` is allowed per traitor, round and actor. Without one, or if E would need a forged signature,\n\
+the traitor posts `empty` to a replica and nothing to a client. Nor does it post to a client whose box is full: one that\n\
+has not yet taken what this traitor posted to it before.\n\n\
 Each replica, traitor and client is a thread of its own. A client asks the replicas for its next operation as soon as it\n\
 has accepted the answer to the one before. The replicas make rounds until all clients are served, at most 4,096. Which\n\
 of two clients comes first depends on the threads, and may differ each time.\n\n\
