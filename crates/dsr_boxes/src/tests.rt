@@ -531,7 +531,11 @@ fn looks_so(boxes: &SharedBoxes, full: bool) -> Result<(), Fail>
 }
 
 /// Has the traitor post to the first client. Fails unless the box looks empty before and full after that.
-fn plant_into_an_empty_box(alloc: Global, boxes: &SharedBoxes, traitor: &mut Pass) -> Result<(), Fail>
+fn plant_into_an_empty_box(
+    alloc: Global,
+    boxes: &SharedBoxes,
+    traitor: &mut Pass,
+) -> Result<(), Fail>
     requires boxes { IsPassOf boxes.now traitor.old }
     requires shape { traitor.old.shape ≡ shape_of 3 1 2 1 }
     requires traitor { traitor.old.actor ≡ Replica 0 }
