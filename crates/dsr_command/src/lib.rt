@@ -199,8 +199,7 @@ on standard output, and the exit status is 1. The same happens if line L is bad,
 N, F, M or TRAITORS are outside their limits, with `dsr: the shape is not allowed`. The input may have at most\n\
 16,777,216 bytes.";
 
-const EXPLAIN_ABOUT: &str =
-    "Read a play from standard input, and explain its outcome";
+const EXPLAIN_ABOUT: &str = "Read a play from standard input, and explain its outcome";
 
 const EXPLAIN_EXAMPLE: &str =
     "The play is written and played as `dsr play --help` says. In place of the report, the output explains the outcome: why\n\

@@ -26,7 +26,7 @@ module _ {P : Type 0} (pass : P → Pass) where
       let a = are k d short in
       (s.0 ∙ a.0, s.1 ∙ a.1)
 
--- they stay the same if one of them is replaced by the same seat
+  -- they stay the same if one of them is replaced by the same seat
   pub same_at : (xs ys : List P) (place : ℕ) (old new : P) → AreSameSeats pass xs ys → place < length ys
       → IsSameSeat (pass (get_or ys place old)) (pass new) → AreSameSeats pass xs (set ys place new)
   same_at xs ys place old new same below one = (

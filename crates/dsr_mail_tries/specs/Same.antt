@@ -11,6 +11,6 @@ module _ {P : Type 0} (pass : P → Pass) where
   abbrev pub AreOfMail : SharedBoxes → List P → Type 0
   AreOfMail mail seats = (k : ℕ) (d : P) → k < length seats → IsPassOf mail (pass (slice_index_or seats k d))
 
--- the two lists are equally long, and seats at the same index are those of the same actor at the same mail
+  -- the two lists are equally long, and seats at the same index are those of the same actor at the same mail
   abbrev pub AreSameSeats : List P → List P → Type 0
   AreSameSeats old new = (length new ≡ length old) × ((k : ℕ) (d : P) → k < length old → IsSameSeat (pass (slice_index_or old k d)) (pass (slice_index_or new k d)))
