@@ -1,14 +1,14 @@
 -- What the logs of a closed mail are.
-use Rattle.std.proofs.Common.{◌≡◌, List, [], reverse, if◌then◌else◌, ap, ◌∙◌}
+use Rattle.std.proofs.Common.{◌≡◌, List, [], length, reverse, if◌then◌else◌, ap, sym, ◌∙◌}
 use Rattle.std.specs.Prelude.{slice_index_or}
-use Rattle.std.proofs.lemmas.List.{reverse-reverse}
-use Rattle.dsr_names.specs.Places.{place_of}
+use Rattle.std.proofs.lemmas.List.{length-reverse, reverse-reverse}
+use Rattle.dsr_names.specs.Places.{size, place_of}
 use Rattle.dsr_names.specs.Shape.{Shape, IsActor}
 use Rattle.dsr_names.specs.declared.actor.Actor.{Actor}
 use Rattle.dsr_envelope.specs.declared.entry.Entry.{Entry}
 use Rattle.dsr_boxes.specs.Pass.{Pass, logs_in}
 use Rattle.dsr_mail.specs.Leaving.{IsLogged}
-use Rattle.dsr_mail.specs.Logs.{Logs, logs_of}
+use Rattle.dsr_mail.specs.Logs.{Logs, logs_of, HasAllLogs}
 use Rattle.dsr_mail.proofs.Clearing.{actor_test}
 
 -- the log of an actor of the shape is that at its place
@@ -24,3 +24,8 @@ pub own_log : (closed : Logs) (shape : Shape) (logs : List (List Entry)) (seat :
 own_log closed shape logs seat same lists is =
     ap (λ s. logs_in s closed.lists seat.actor) same
     ∙ (ap (λ l. logs_in shape l seat.actor) lists ∙ (log_there shape logs seat.actor is.actor ∙ is.log))
+
+-- there are as many logs as places
+pub all_logs : (closed : Logs) (shape : Shape) (logs : List (List Entry)) → closed.shape ≡ shape → closed.lists ≡ reverse logs → length logs ≡ size shape
+    → HasAllLogs closed
+all_logs closed shape logs same lists count = ap length lists ∙ (length-reverse logs ∙ (count ∙ ap size (sym same)))

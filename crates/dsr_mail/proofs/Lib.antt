@@ -3,5 +3,6 @@ pub mod Asking
 pub mod Clearing
 pub mod Closing
 pub mod Planting
+pub mod Responding
 pub mod Seating
 pub mod ServingLemmas

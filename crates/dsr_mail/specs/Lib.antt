@@ -6,6 +6,7 @@ pub mod LogsFields
 pub mod Loyal
 pub mod Played
 pub mod Refusals
+pub mod Responses
 pub mod Seats
 pub mod Serving
 pub mod Traitor

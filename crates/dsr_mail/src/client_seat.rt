@@ -1,8 +1,12 @@
 ghost use Rattle.std.specs.Prelude.{◌≡◌, ◌↔◌, [], reverse, None, Some, Ok, Err, IfOk, IfErr, IsTrue, OnOk, OnErr};
 ghost use Rattle.std.specs.Option.{option_map};
+ghost use Rattle.dsr_base.specs.Growth.{Extends};
+ghost use Rattle.dsr_base.specs.Member.{In};
 ghost use Rattle.dsr_names.specs.Shape.{IsActor};
 ghost use Rattle.dsr_names.specs.declared.actor.Actor.TheVariants.{Client};
 ghost use Rattle.dsr_names.specs.declared.refusal.Refusal.{Refusal};
+ghost use Rattle.dsr_request.specs.Request.{Request};
+ghost use Rattle.dsr_ledger.specs.declared.reply.Reply.{Reply as AReply};
 ghost use Rattle.dsr_envelope.specs.declared.envelope.Envelope.{Envelope};
 ghost use Rattle.dsr_envelope.specs.declared.envelope.Envelope.TheVariants.{Seen};
 ghost use Rattle.dsr_envelope.specs.declared.entry.Entry.TheVariants.{Post, Take};
@@ -10,13 +14,19 @@ ghost use Rattle.dsr_envelope.specs.Limits.{IsEnvelope};
 ghost use Rattle.dsr_client.specs.Conduct.{IsClientLog};
 ghost use Rattle.dsr_client.specs.State.{accepted, outstanding, seen};
 ghost use Rattle.dsr_node.specs.Conduct.{post_of, AcceptsBy};
+ghost use Rattle.dsr_run.specs.Linearizable.{HasResponse};
+ghost use Rattle.dsr_run.specs.Run.{IsRun};
+ghost use Rattle.dsr_run.specs.Step.{log_of};
+ghost use Rattle.dsr_boxes.specs.Moment.{IsMomentOf};
 ghost use Rattle.dsr_boxes.specs.Pass.{IsPassOf, IsInRun, with_entry};
 ghost use Rattle.dsr_mail.specs.Loyal.{IsClientActor};
+ghost use Rattle.dsr_mail.specs.Responses.{HasReceived};
 ghost use Rattle.dsr_mail.specs.Refusals.{IsRefusedBy, HasAsked, post_refused, take_refused, tell_refused};
 
 use crate::asked::Asked;
 use crate::loyal::Loyal;
 use crate::mail::Mail;
+use dsr_boxes::Moment;
 use dsr_envelope::Pick;
 use dsr_ledger::Reply;
 use dsr_names::{Actor, ClientId, Refusal, ReplicaId};
@@ -178,6 +188,35 @@ impl ClientSeat {
     }
 
     /// Wakes everybody who sleeps at the mail now, so that each tries again. It may miss who is about to sleep: whoever has to end others calls it
+    /// The present moment, which another thread may be handed: at it the client's log is that of this seat, so each reply that it has accepted is the
+    /// response to a request of its own. Requires a seat of this mail.
+    pub fn moment(&mut self, mail: &Mail) -> Moment
+        requires mail { IsPassOf mail.now self.old }
+        ensures same { self.new ≡ self.old }
+        ensures mail { IsMomentOf mail.now result }
+        ensures run { IsRun mail.now.shape result.run }
+        ensures own { log_of result.run self.old.actor ≡ self.old.log }
+        ensures answered { (reply : AReply) → In reply (accepted self.old.shape self.old.log)
+            → (request : Request) × (self.old.actor ≡ Client request.client) × HasResponse self.old.shape (log_of result.run) request reply }
+        ensures responses { (request : Request) (reply : AReply) → self.old.actor ≡ Client request.client
+            → HasReceived self.old.shape self.old.log request reply → HasResponse self.old.shape (log_of result.run) request reply }
+    {
+        // For the proof: what its contract says.
+        let _client = self.client();
+        self.loyal.moment(mail.boxes())
+    }
+
+    /// Shows the seat a moment, which is then past: what the client had done at that moment is the oldest part of what it has done. Whatever it asks
+    /// for the first time after this comes after what the moment shows (`Mail::close_after`). Requires a seat and a moment of this mail.
+    pub fn recall(&mut self, mail: &Mail, moment: Moment)
+        requires mail { IsPassOf mail.now self.old }
+        requires moment { IsMomentOf mail.now moment }
+        ensures same { self.new ≡ self.old }
+        ensures past { Extends self.old.log (log_of moment.run self.old.actor) }
+    {
+        self.loyal.recall(mail.boxes(), moment);
+    }
+
     /// again until they have ended. Requires a seat of this mail.
     pub fn wake(&self, mail: &Mail)
         requires mail { IsPassOf mail.now self.now }

@@ -4,6 +4,7 @@
 mod actors;
 mod asked;
 mod client_seat;
+mod laws;
 mod leaving;
 mod log;
 mod logs;
@@ -16,6 +17,7 @@ mod serving;
 mod traitor_seat;
 
 pub use client_seat::ClientSeat;
+pub use laws::moments_order_clients;
 pub use logs::Logs;
 pub use mail::Mail;
 pub use replica_seat::ReplicaSeat;

@@ -1,4 +1,5 @@
 ghost use Rattle.std.specs.Prelude.{◌≡◌, None, Some, if◌then◌else◌, Err, IfOk, IfErr, IsOk, OnOk, OnErr};
+ghost use Rattle.dsr_base.specs.Growth.{Extends};
 ghost use Rattle.dsr_names.specs.Shape.{IsActor};
 ghost use Rattle.dsr_names.specs.declared.refusal.Refusal.{Refusal};
 ghost use Rattle.dsr_envelope.specs.declared.envelope.Envelope.{Envelope};
@@ -8,6 +9,9 @@ ghost use Rattle.dsr_envelope.specs.Limits.{IsEnvelope};
 ghost use Rattle.dsr_client.specs.State.{seen};
 ghost use Rattle.dsr_node.specs.Conduct.{post_of};
 ghost use Rattle.dsr_node.specs.Node.{IsReplicaNumber, TakesReply};
+ghost use Rattle.dsr_run.specs.Run.{IsRun};
+ghost use Rattle.dsr_run.specs.Step.{log_of};
+ghost use Rattle.dsr_boxes.specs.Moment.{IsMomentOf};
 ghost use Rattle.dsr_boxes.specs.Pass.{IsPassOf, with_entry};
 ghost use Rattle.dsr_mail.specs.Loyal.{IsLoyalSeat, IsReplicaOf, IsClientOf, IsClientActor};
 ghost use Rattle.dsr_mail.specs.Seats.{KeepsLog};
@@ -15,7 +19,7 @@ ghost use Rattle.dsr_mail.specs.Refusals.{IsRefusedBy, is_spent, post_refused, t
 
 use crate::actors::{are_clients, is_own_client, look_at};
 use crate::seat::Seat;
-use dsr_boxes::SharedBoxes;
+use dsr_boxes::{Moment, SharedBoxes};
 use dsr_envelope::{Envelope, Pick};
 use dsr_ledger::Reply;
 use dsr_names::{Actor, Refusal};
@@ -191,6 +195,27 @@ impl Loyal {
             Err(refusal) => return Err(refusal),
         }
         Ok(())
+    }
+
+    /// The present moment, at which the actor's log is that of this seat.
+    pub(crate) fn moment(&mut self, boxes: &SharedBoxes) -> Moment
+        requires boxes { IsPassOf boxes.now self.old }
+        ensures same { self.new ≡ self.old }
+        ensures boxes { IsMomentOf boxes.now result }
+        ensures run { IsRun boxes.now.shape result.run }
+        ensures own { log_of result.run self.old.actor ≡ self.old.log }
+    {
+        self.seat.moment(boxes)
+    }
+
+    /// Shows the seat a moment, which is then past: what the actor had done at that moment is the oldest part of what it has done.
+    pub(crate) fn recall(&mut self, boxes: &SharedBoxes, moment: Moment)
+        requires boxes { IsPassOf boxes.now self.old }
+        requires moment { IsMomentOf boxes.now moment }
+        ensures same { self.new ≡ self.old }
+        ensures past { Extends self.old.log (log_of moment.run self.old.actor) }
+    {
+        self.seat.recall(boxes, moment);
     }
 
     /// What the own log refuses a post with, if it does.

@@ -1,18 +1,27 @@
-ghost use Rattle.std.specs.Prelude.{◌≡◌, ◌++◌, [], map, reverse, vec_capacity, IfOk, IsOkUnless};
+ghost use Rattle.std.specs.Prelude.{◌≡◌, ◌<◌, ◌++◌, List, [], map, reverse, vec_capacity, IfOk, IsOkUnless};
+ghost use Rattle.dsr_base.specs.Growth.{Extends};
 ghost use Rattle.dsr_base.specs.Member.{In};
 ghost use Rattle.dsr_names.specs.Places.{size};
+ghost use Rattle.dsr_names.specs.declared.actor.Actor.TheVariants.{Client};
+ghost use Rattle.dsr_request.specs.Request.{Request};
+ghost use Rattle.dsr_ledger.specs.declared.reply.Reply.{Reply as AReply};
 ghost use Rattle.dsr_desk.specs.Keys.{IsWhole};
+ghost use Rattle.dsr_envelope.specs.declared.entry.Entry.{Entry};
+ghost use Rattle.dsr_run.specs.Linearizable.{HasResponse};
 ghost use Rattle.dsr_run.specs.Run.{AreLogs};
+ghost use Rattle.dsr_run.specs.Step.{log_of};
+ghost use Rattle.dsr_boxes.specs.Moment.{IsMomentOf, AreLogsAfter};
 ghost use Rattle.dsr_boxes.specs.Pass.{Pass, IsReturnedTo, new_pass};
 ghost use Rattle.dsr_mail.specs.Leaving.{IsLogged, IsRoomForAll, AreJoined};
-ghost use Rattle.dsr_mail.specs.Logs.{logs_of};
+ghost use Rattle.dsr_mail.specs.Logs.{logs_of, HasAllLogs};
+ghost use Rattle.dsr_mail.specs.Responses.{HasInvoked};
 ghost use Rattle.dsr_mail.specs.Seats.{is_loyal_replica, is_traitor_replica, is_client, actors_of, AreSeatsOf};
 
 use crate::leaving::Leaving;
 use crate::log::Log;
 use crate::logs::Logs;
 use crate::seats::Seats;
-use dsr_boxes::{Returned, SharedBoxes};
+use dsr_boxes::{Moment, Returned, SharedBoxes};
 use dsr_desk::Keys;
 use dsr_names::{Refusal, Shape};
 use dsr_node::Node;
@@ -78,6 +87,7 @@ impl Mail {
         ensures shape { result.shape ≡ self.shape }
         ensures own { (seat : Pass) → In seat (seats.replicas.items ++ (seats.traitors.items ++ seats.clients.items))
             → logs_of result seat.actor ≡ seat.log }
+        ensures all { HasAllLogs result }
         ensures run { AreLogs result.shape (logs_of result) }
     {
         let shape = *self.boxes.shape();
@@ -86,6 +96,54 @@ impl Mail {
         let returned = return_all(&self.boxes, seats, &mut logs, &mut nodes);
         self.boxes.close(returned);
         Logs::joined(shape, nodes, logs)
+    }
+
+    /// Closes the mail as `close` does, and the run whose logs are returned goes on from the moment. So what had a response at the moment comes before
+    /// whatever a client that recalled the moment asked for only after that: it has the lower place. Requires a moment of this mail, and that the
+    /// seat of each actor has come back.
+    pub fn close_after(self, seats: Seats, moment: Moment) -> Logs
+        requires replicas { AreSeatsOf self is_loyal_replica seats.replicas.items }
+        requires traitors { AreSeatsOf self is_traitor_replica seats.traitors.items }
+        requires clients { AreSeatsOf self is_client seats.clients.items }
+        requires moment { IsMomentOf self moment }
+        ensures shape { result.shape ≡ self.shape }
+        ensures own { (seat : Pass) → In seat (seats.replicas.items ++ (seats.traitors.items ++ seats.clients.items))
+            → logs_of result seat.actor ≡ seat.log }
+        ensures all { HasAllLogs result }
+        ensures after { AreLogsAfter self.shape moment.run (logs_of result) }
+        ensures places { (first second : Request) (reply later : AReply) (own : List Entry) → HasResponse self.shape (log_of moment.run) first reply
+            → Extends own (log_of moment.run (Client second.client)) → ¬ HasInvoked own second → HasResponse self.shape (logs_of result) second later
+            → reply.place < later.place }
+    {
+        let shape = *self.boxes.shape();
+        // For the proof: that at most f replicas are traitors.
+        let _n = shape.n();
+        let mut logs = self.logs;
+        let mut nodes = self.nodes;
+        let returned = return_all(&self.boxes, seats, &mut logs, &mut nodes);
+        self.boxes.close_after(returned, moment);
+        Logs::joined(shape, nodes, logs)
+    }
+
+    /// The same moment once more, for another thread, or to close the mail after it. Requires a moment of this mail.
+    pub fn copy_moment(&self, moment: &mut Moment) -> Moment
+        requires moment { IsMomentOf self.now moment.old }
+        ensures same { moment.new ≡ moment.old }
+        ensures copy { result ≡ moment.old }
+    {
+        moment.copy(&self.boxes)
+    }
+
+    /// Replaces the moment by the present one, which comes after it and after the other: so one moment is enough to close the mail after both.
+    /// Requires moments of this mail.
+    pub fn meet_moments(&self, moment: &mut Moment, other: Moment)
+        requires moment { IsMomentOf self.now moment.old }
+        requires other { IsMomentOf self.now other }
+        ensures mail { IsMomentOf self.now moment.new }
+        ensures own { Extends moment.new.run moment.old.run }
+        ensures other { Extends moment.new.run other.run }
+    {
+        moment.meet(&self.boxes, other);
     }
 
     /// The boxes.

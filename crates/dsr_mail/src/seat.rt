@@ -1,14 +1,18 @@
 ghost use Rattle.std.specs.Prelude.{◌≡◌, ◌⊎◌, ◌<◌, [], ◌∷◌, vec_len, vec_capacity, reverse, IfOk, IfErr, IfNone, IsOk, OnOk, OnErr, IsOkUnless, None, Some, Ok, Err};
+ghost use Rattle.dsr_base.specs.Growth.{Extends};
 ghost use Rattle.dsr_names.specs.Shape.{IsActor};
 ghost use Rattle.dsr_names.specs.declared.refusal.Refusal.{Refusal};
 ghost use Rattle.dsr_envelope.specs.declared.entry.Entry.TheVariants.{Post, Take};
 ghost use Rattle.dsr_envelope.specs.Limits.{IsEnvelope};
 ghost use Rattle.dsr_run.specs.OwnStep.{MayPost, HasPostsLeft};
+ghost use Rattle.dsr_run.specs.Run.{IsRun};
+ghost use Rattle.dsr_run.specs.Step.{log_of};
+ghost use Rattle.dsr_boxes.specs.Moment.{IsMomentOf};
 ghost use Rattle.dsr_boxes.specs.Pass.{IsPassOf, IsInRun, with_entry, MayTake};
 ghost use Rattle.dsr_mail.specs.Refusals.{is_spent, wait_refused};
 
 use crate::log::Log;
-use dsr_boxes::{Parcel, Pass, SharedBoxes};
+use dsr_boxes::{Moment, Parcel, Pass, SharedBoxes};
 use dsr_envelope::{Entry, Envelope};
 use dsr_names::{Actor, ClientId, NUMBER_END, Refusal, ReplicaId, Shape};
 use std::alloc::Global;
@@ -164,6 +168,27 @@ impl Seat {
             envelope: letter,
         });
         Ok(envelope)
+    }
+
+    /// The present moment, at which the actor's log is that of this seat.
+    pub(crate) fn moment(&mut self, boxes: &SharedBoxes) -> Moment
+        requires boxes { IsPassOf boxes.now self.old }
+        ensures same { self.new ≡ self.old }
+        ensures boxes { IsMomentOf boxes.now result }
+        ensures run { IsRun boxes.now.shape result.run }
+        ensures own { log_of result.run self.old.actor ≡ self.old.log }
+    {
+        self.pass.moment(boxes)
+    }
+
+    /// Shows the seat a moment, which is then past: what the actor had done at that moment is the oldest part of what it has done.
+    pub(crate) fn recall(&mut self, boxes: &SharedBoxes, moment: Moment)
+        requires boxes { IsPassOf boxes.now self.old }
+        requires moment { IsMomentOf boxes.now moment }
+        ensures same { self.new ≡ self.old }
+        ensures past { Extends self.old.log (log_of moment.run self.old.actor) }
+    {
+        self.pass.recall(boxes, moment);
     }
 
     /// Sleeps while the own box to a replica does not stand empty. It may return earlier. `NoActor` where there is no such actor,

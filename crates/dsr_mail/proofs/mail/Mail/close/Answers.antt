@@ -1,6 +1,6 @@
 use Rattle.std.proofs.Common.{◌++◌, inl, inr, ◌∙◌}
 use Rattle.dsr_base.proofs.MemberLemmas.{In-append_cases}
-use Rattle.dsr_mail.proofs.Closing.{own_log}
+use Rattle.dsr_mail.proofs.Closing.{own_log, all_logs}
 use Rattle.dsr_mail.proofs.mail.Mail.close.Goals as goal
 
 pub returns-clause-own : goal.returns-clause-own
@@ -17,3 +17,9 @@ returns-clause-own c seat inside =
         | inr client ↦ all.clients seat client
       ]
     ])
+
+pub returns-clause-all : goal.returns-clause-all
+returns-clause-all c =
+    let logs = c.return_all-returned.new.logs.items in
+    all_logs c.joined.result c.self.inside.boxes.shape logs (c.joined.ensures.shape ∙ c.shape-shape.ensures) c.joined.ensures.lists
+    c.return_all-returned.ensures.joined.logged
