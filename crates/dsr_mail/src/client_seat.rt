@@ -96,8 +96,8 @@ impl ClientSeat {
 
     /// Posts to an actor by a choice. It waits for nobody. Refused with the first of these that holds: `NoActor` where there is no such
     /// actor; `WrongRole` where it is a client, whom `try_tell` is for; `NotDue` where the conduct has no such post now; `Exhausted` where a
-    /// counter would pass its limit; `NoMemory` where memory runs out; `BoxFull` where what it posted there last was not taken, or is still being taken
-    /// out. Requires a seat of this mail. After each of them nothing changed.
+    /// counter would pass its limit. Else, in an order that no clause says, `BoxFull` where what it posted there last was not taken, or is still being
+    /// taken out, and `NoMemory` where memory runs out. After each of them nothing changed. Requires a seat of this mail.
     pub fn try_post(
         &mut self,
         alloc: Global,
@@ -122,8 +122,8 @@ impl ClientSeat {
 
     /// Takes from an actor what it posted to this client, and returns the reply that the client accepts by it, if it accepts one. It waits
     /// for nobody. Refused with the first of these that holds: `NoActor` where there is no such actor; `WrongRole` where it is the client
-    /// itself; `NoMemory` where memory runs out; `BoxEmpty` where nothing was posted there, or it is still being filled.
-    /// Requires a seat of this mail. After each of them nothing changed.
+    /// itself. Else, in an order that no clause says, `BoxEmpty` where nothing was posted there, or it is still being filled, and `NoMemory` where
+    /// memory runs out. After each of them nothing changed. Requires a seat of this mail.
     pub fn try_take(&mut self, mail: &Mail, from: Actor) -> Result<Option<Reply>, Refusal>
         requires mail { IsPassOf mail.now self.old }
         ensures ok { IfOk result (λ reply. (x : Envelope) × IsEnvelope x × (self.new ≡ with_entry self.old (Take from x))
@@ -141,8 +141,9 @@ impl ClientSeat {
     }
 
     /// Tells another client the seen front. It waits for nobody. Refused with the first of these that holds: `NoActor` where there is no such
-    /// actor; `WrongRole` where it is no client, or the client itself; `Exhausted` where the box has had all its posts; `NoMemory` where
-    /// memory runs out; `BoxFull` where what it posted there last was not taken, or is still being taken out. Requires a seat of this mail. After each of them nothing changed.
+    /// actor; `WrongRole` where it is no client, or the client itself; `Exhausted` where the box has had all its posts. Else, in an order that no
+    /// clause says, `NoMemory` where memory runs out, and `BoxFull` where what it posted there last was not taken, or is still being taken out. After
+    /// each of them nothing changed. Requires a seat of this mail.
     pub fn try_tell(&mut self, alloc: Global, mail: &Mail, to: Actor) -> Result<(), Refusal>
         requires mail { IsPassOf mail.now self.old }
         ensures ok { OnOk result (self.new ≡ with_entry self.old (Post to (Seen (seen self.old.shape self.old.log)))) }
@@ -187,7 +188,6 @@ impl ClientSeat {
         self.loyal.client().accepted()
     }
 
-    /// Wakes everybody who sleeps at the mail now, so that each tries again. It may miss who is about to sleep: whoever has to end others calls it
     /// The present moment, which another thread may be handed: at it the client's log is that of this seat, so each reply that it has accepted is the
     /// response to a request of its own. Requires a seat of this mail.
     pub fn moment(&mut self, mail: &Mail) -> Moment
@@ -217,6 +217,7 @@ impl ClientSeat {
         self.loyal.recall(mail.boxes(), moment);
     }
 
+    /// Wakes everybody who sleeps at the mail now, so that each tries again. It may miss who is about to sleep: whoever has to end others calls it
     /// again until they have ended. Requires a seat of this mail.
     pub fn wake(&self, mail: &Mail)
         requires mail { IsPassOf mail.now self.now }

@@ -97,8 +97,8 @@ impl Loyal {
     }
 
     /// Posts to an actor by a choice. Refused with the first of these that holds: `NoActor` where there is no such actor; `WrongRole` where
-    /// both are clients; `NotDue` where the conduct has no such post now; `Exhausted` where a counter would pass its limit; `NoMemory`;
-    /// `BoxFull`. After each of them nothing changed.
+    /// both are clients; `NotDue` where the conduct has no such post now; `Exhausted` where a counter would pass its limit. Else with `BoxFull`,
+    /// which a look finds before memory is asked for, or `NoMemory`. After each of them nothing changed.
     pub(crate) fn try_post(
         &mut self,
         alloc: Global,
@@ -138,8 +138,8 @@ impl Loyal {
     }
 
     /// Takes from an actor, and returns the reply that a client accepts by it. Refused with the first of these that holds: `NoActor` where
-    /// there is no such actor; `WrongRole` where it is the client itself; `NotDue` where the conduct has no such take now; `NoMemory`;
-    /// `BoxEmpty`. After each of them nothing changed.
+    /// there is no such actor; `WrongRole` where it is the client itself; `NotDue` where the conduct has no such take now. Else with `BoxEmpty`,
+    /// which a look finds before memory is asked for, or `NoMemory`. After each of them nothing changed.
     pub(crate) fn try_take(
         &mut self,
         boxes: &SharedBoxes,
@@ -171,8 +171,8 @@ impl Loyal {
     }
 
     /// Tells another client the seen front. Refused with the first of these that holds: `NoActor` where there is no such actor; `WrongRole`
-    /// where the two are not different clients; `Exhausted` where the box has had all its posts; `NoMemory`; `BoxFull`. After each of them
-    /// nothing changed.
+    /// where the two are not different clients; `Exhausted` where the box has had all its posts. Else with `NoMemory`, or `BoxFull`. After each of
+    /// them nothing changed.
     pub(crate) fn try_tell(
         &mut self,
         alloc: Global,

@@ -144,8 +144,9 @@ impl ReplicaSeat {
     }
 
     /// Posts to an actor by a choice. It waits for nobody. Refused with the first of these that holds: `NoActor` where there is no such
-    /// actor; `NotDue` where the conduct has no such post now; `Exhausted` where a counter would pass its limit; `NoMemory` where memory runs
-    /// out; `BoxFull` where what it posted there last was not taken, or is still being taken out. Requires a seat of this mail. After each of them nothing changed.
+    /// actor; `NotDue` where the conduct has no such post now; `Exhausted` where a counter would pass its limit. Else, in an order that no clause says,
+    /// `BoxFull` where what it posted there last was not taken, or is still being taken out, and `NoMemory` where memory runs out. After each of them
+    /// nothing changed. Requires a seat of this mail.
     pub fn try_post(
         &mut self,
         alloc: Global,
@@ -169,8 +170,9 @@ impl ReplicaSeat {
     }
 
     /// Takes from an actor what it posted to this replica. It waits for nobody. Refused with the first of these that holds: `NoActor` where
-    /// there is no such actor; `NotDue` where it is a replica and the take is not due; `NoMemory` where memory runs out; `BoxEmpty` where nothing
-    /// was posted there, or it is still being filled. Requires a seat of this mail. After each of them nothing changed.
+    /// there is no such actor; `NotDue` where it is a replica and the take is not due. Else, in an order that no clause says, `BoxEmpty` where nothing was
+    /// posted there, or it is still being filled, and `NoMemory` where memory runs out. After each of them nothing changed. Requires a seat of this
+    /// mail.
     pub fn try_take(&mut self, mail: &Mail, from: Actor) -> Result<(), Refusal>
         requires mail { IsPassOf mail.now self.old }
         ensures ok { OnOk result ((x : Envelope) × IsEnvelope x × (self.new ≡ with_entry self.old (Take from x))) }

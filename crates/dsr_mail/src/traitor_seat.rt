@@ -84,9 +84,9 @@ impl TraitorSeat {
     }
 
     /// Posts what the draft describes to an actor. It waits for nobody. Refused with the first of these that holds: `NoActor` where there is
-    /// no such actor; `Exhausted` where the box has had all its posts; `Forged` where a signature is neither its own nor in what it took;
-    /// `NoMemory` where memory runs out; `BoxFull` where what it posted there last was not taken, or is still being taken out.
-    /// Requires a seat of this mail. After each of them nothing changed.
+    /// no such actor; `Exhausted` where the box has had all its posts; `Forged` where a signature is neither its own nor in what it took. Else, in an
+    /// order that no clause says, `NoMemory` where memory runs out, and `BoxFull` where what it posted there last was not taken, or is still being taken
+    /// out. After each of them nothing changed. Requires a seat of this mail.
     pub fn try_post(
         &mut self,
         alloc: Global,
@@ -119,9 +119,9 @@ impl TraitorSeat {
         Ok(())
     }
 
-    /// Takes from an actor what it posted to this traitor. It waits for nobody. Refused with the first of these that holds: `NoActor` where
-    /// there is no such actor; `NoMemory` where memory runs out; `BoxEmpty` where nothing was posted there, or it is still being filled.
-    /// Requires a seat of this mail. After each of them nothing changed.
+    /// Takes from an actor what it posted to this traitor. It waits for nobody. `NoActor` where there is no such actor. Else, in an order that no
+    /// clause says, `BoxEmpty` where nothing was posted there, or it is still being filled, and `NoMemory` where memory runs out. After each of them
+    /// nothing changed. Requires a seat of this mail.
     pub fn try_take(&mut self, mail: &Mail, from: Actor) -> Result<(), Refusal>
         requires mail { IsPassOf mail.now self.old }
         ensures ok { OnOk result ((x : Envelope) × IsEnvelope x × (self.new ≡ with_entry self.old (Take from x))) }
