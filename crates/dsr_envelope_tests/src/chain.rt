@@ -1,6 +1,7 @@
 use crate::envelope::{chain_of, key_of};
-use dsr_chain::{Batch, SignedRequest};
-use dsr_names::{Actor, ClientId};
+use dsr_chain::{Batch, Chain, SignedRequest, SlotValue};
+use dsr_desk::{Key, Signers, Statement};
+use dsr_names::{Actor, ClientId, ReplicaId};
 use dsr_request::{Name, Op, Request};
 use std::alloc::Global;
 use std::process::Abort;
@@ -34,6 +35,31 @@ fn holds(rt: &impl Abort, two: &[SignedRequest]) -> Result<(), Fail> {
     assert!(rt; batch.get(0) == two.first().copied());
     assert!(rt; batch.get(1) == two.last().copied());
     assert!(rt; batch.get(2).is_none());
+    Ok(())
+}
+
+/// Returns the chain of slot 7 that the key's holder starts on client 0's request.
+fn started_by(alloc: Global, key: &Key) -> Result<Chain, Fail> {
+    let batch = Batch::of(&[signed_by(alloc, 0)?]).ok_or("no list")?;
+    Ok(Chain::start(alloc, 7, SlotValue::Act(batch), key)?)
+}
+
+/// Checks that the chain of slot 7 has one signature: the key's, on the chain's requests and no signers before it.
+fn is_signed_by(rt: &impl Abort, chain: &Chain, key: &Key) {
+    let link = Statement::Link {
+        slot: 7,
+        value: chain.content(),
+        before: Signers::new(),
+    };
+    assert_eq!(rt; chain.signature_count(), 1);
+    assert!(rt; chain.signature(0).same(&key.sign(link)));
+}
+
+#[test]
+fn starts_with_a_signature_on_its_requests(rt: HostRuntime) -> Result<(), Fail> {
+    let key = key_of(rt.alloc(), Actor::Replica(ReplicaId::FIRST))?;
+    let chain = started_by(rt.alloc(), &key)?;
+    is_signed_by(&rt, &chain, &key);
     Ok(())
 }
 
