@@ -282,16 +282,15 @@ def fault_of_page(data):
     if status or errors:
         return f"tools/picture ends with status {status}: {errors[:300]!r}"
     page = output.decode()
-    code, _, rest = page.partition("const run = ")
-    drawn, _, code_after = rest.partition(";\n")
+    code, _, rest = page.partition("const run = picture.dataOf(")
+    drawn, _, code_after = rest.partition(");\n")
     found = ELSEWHERE.search(code + code_after)
     if found:
         return f"the page asks for {found[0]}"
     if "</" in drawn or "<title>a &lt;title&gt;</title>" not in code:
         return "the page does not escape what stands in it"
-    held, events = json.loads(drawn.replace("<\\!--", "<!--")), data.count(b"\nevent ")
-    if len(held["events"]) != events or sum(last - first + 1 for _, first, last, *_ in held["bands"]) != events:
-        return f"the page has {len(held['events'])} events of {events}"
+    if json.loads(f"[{drawn}]".replace("<\\!--", "<!--")) != [data.decode(), "a <title>"]:
+        return "the page has other data lines, or another title"
     return None
 
 

@@ -1,4 +1,5 @@
-"""What tools/picture draws: the data lines, read, and what happened in plain words.
+"""What tools/picture --svg draws: the data lines, read, and what happened in plain words. page/parts/picture.js does the same for pages, and tests/page.py
+compares the two.
 
 The events stand in bands: stretches of events that are all posts, or all takes. So a round of replicas is two bands, and an envelope goes from
 the band of its post to that of its take.
@@ -10,17 +11,7 @@ TITLE = "dsr-explain 1 "
 REFUSALS = {"E1": "BadShape", "E4": "Busy", "E5": "NotDue", "E6": "BoxFull", "E7": "BoxEmpty", "E8": "Forged", "E9": "Exhausted", "E12": "NoMemory",
             "E15": "NoActor", "E16": "WrongRole"}
 KEPT, UNKEPT = ("first", "second"), ("not-new", "one-too-many")
-# What is said of a chain that is not kept for a fault, after `is dropped: `.
-FAULTS = {
-    "wrong-count": lambda run, c: f"{counted(len(c.signers), 'signature')}, and round {c.round} of a slot needs {c.round}",
-    "wrong-sender": lambda run, c: f"the first signer is not {run.sender(c.slot)}, whose slot it is",
-    "no-replica": lambda run, c: "a signer is no replica of the shape",
-    "signed-twice": lambda run, c: "a signer signed twice",
-    "misfit": lambda run, c: "a signature is on something else than what stands before it",
-    "bad-request": lambda run, c: "a request is not signed by its client, or that client is not of the shape",
-    "other-slot": lambda run, c: "it is of another slot",
-    "not-in-flight": lambda run, c: f"slot {c.slot} is not in flight",
-}
+FAULTS = ("wrong-count", "wrong-sender", "no-replica", "signed-twice", "misfit", "bad-request", "other-slot", "not-in-flight")
 # Notes that are not drawn, and how many parts each has.
 UNDRAWN = {"silence": 2, "kept": 5, "hold": 2, "drop": 2, "unproposed": 3}
 MOST_LETTERS = 26
@@ -127,7 +118,7 @@ class Run:
         self.clients = [f"c{number}" for number in range(self.m)]
         self.actors = self.replicas + self.clients
         self.loyal = [replica for replica in self.replicas if replica not in self.traitors]
-        self.events, self.waits = [], []
+        self.events = []
         for number, line in enumerate(lines[1:-1], 2):
             try:
                 self.read(line)
@@ -150,8 +141,9 @@ class Run:
                 raise ValueError
             self.events.append(Event(int(index), int(at), kind, a, b, outcome, "" if envelope == "-" else envelope))
         elif word == "waits":
-            replica, told, other, number = rest.split(" ")
-            self.waits.append((replica, told, other, number))
+            # what is waited for at the end is told beside the page alone
+            if len(rest.split(" ")) != 4:
+                raise ValueError
         elif word in UNDRAWN:
             # what the event and other notes show already
             if len(rest.split(" ")) != UNDRAWN[word] or not self.events:
@@ -414,69 +406,6 @@ class Run:
     def refusal(event):
         name = REFUSALS.get(event.outcome)
         return f"{event.outcome} {name}" if name else event.outcome
-
-    # ---- the sentences of one event
-
-    def sentence(self, event):
-        """What the event is."""
-        words = self.envelope_words(event, 8)
-        if event.kind == "take":
-            return f"{event.a} takes from {event.b}" + (f": {words}" if event.is_done else "")
-        verb = {"post": "posts to", "plant": "plants for", "tell": "tells"}.get(event.kind, event.kind)
-        return f"{event.a} {verb} {event.b}" + (f": {words}" if event.envelope else "")
-
-    def sentences(self, event):
-        """What came of it: pairs of a kind and a text."""
-        found = []
-        if not event.is_done:
-            found.append(("refused", f"Refused, {self.refusal(event)}: {'; '.join(event.of('why')) or 'nothing is changed'}."))
-        reason = self.reason_to_ignore(event)
-        if reason:
-            found.append(("dropped", f"{event.a} ignores it: {reason}."))
-        return found + [self.note_sentence(word, note) for word, note in event.notes if word != "why"]
-
-    def note_sentence(self, word, note):
-        if word == "chain":
-            return self.chain_sentence(note)
-        if word == "close":
-            return "plain", f"{note[0]} closes round {note[1]}."
-        if word == "decide":
-            replica, slot, kept, content = note
-            told = counted(int(kept), "content") if kept != "0" else "nothing"
-            return "idle" if content == "idle" else "decided", f"{replica} decides slot {slot}: {self.content_name(content)}. It kept {told}."
-        if word == "act":
-            return "acts", f"{self.content_name(note[2])} acts at {note[0]}, at place {note[1]} of its history."
-        if word == "stale":
-            return "stale", f"{self.content_name(note[1])} does not act at {note[0]}: its number is not above those that acted."
-        if word == "vote":
-            return "vote", f"The reply of {note[1]} is a vote at {note[0]}: {note[2]} of the {note[3]} that are needed."
-        if word == "no-vote":
-            return "no-vote", f"The reply of {note[1]} is no vote at {note[0]}: {note[2]}."
-        return "accepted", f"{note[0]} accepts: number {note[1]} stands at place {note[2]}, and the answer is {note[3]}."
-
-    def chain_sentence(self, chain):
-        name = f"{self.content_name(chain.content)}/{'+'.join(chain.signers) or '-'} of slot {chain.slot}"
-        if chain.fate == "first":
-            return "kept", f"{chain.replica} keeps {name}, in round {chain.round} of the slot: the first content."
-        if chain.fate == "second":
-            return "second", f"{chain.replica} keeps {name}, in round {chain.round} of the slot: a second content, so it will decide idle."
-        if chain.fate == "not-new":
-            return "plain", f"{name}: this content is kept already."
-        if chain.fate == "one-too-many":
-            return "plain", f"{name}: two other contents are kept already."
-        return "dropped", f"{name} is dropped: {FAULTS[chain.fate](self, chain)}."
-
-    def waits_sentences(self):
-        """What replicas wait for at the end, and what they have still to do."""
-        groups = {}
-        for replica, word, other, number in self.waits:
-            groups.setdefault((word, other, number), []).append(replica)
-        for (word, other, number), replicas in groups.items():
-            one = len(replicas) == 1
-            if word == "take":
-                yield f"{span(replicas)} {'waits' if one else 'wait'} for {other}'s envelope of round {number}."
-            else:
-                yield f"{span(replicas)} {'has' if one else 'have'} still to post to {other} in round {number}."
 
     def shape_words(self):
         traitors = [replica for replica in self.replicas if replica in self.traitors]
