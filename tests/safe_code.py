@@ -3,8 +3,9 @@
 
 What is proved of a key, or of any type with a private field, holds only if no code goes behind the compiler's back. So no
 file in Rattle (each *.rt and *.rs of crates/, tests/ and bench/) may have the word `unsafe` or `extern` anywhere, not even in
-a comment. The one exception is the library for programs in C, which has to give the name of its one function: the two lines
-of ALLOWED are there once each in its file, one right after the other. They let nobody call anything else, and no pointer is in that function's hands.
+a comment. The exceptions are the two static libraries, the checker for programs in C and the tasks for the page: each has to give the name of its
+one function. Of each file in ALLOWED the two lines are there once each, one right after the other. They let nobody call anything else, and no pointer is
+in those functions' hands.
 """
 
 import os
@@ -16,9 +17,11 @@ from kit.report import main, say
 
 FOLDERS = ["crates", "tests", "bench"]
 REFUSED = re.compile(r"\b(unsafe|extern)\b")
-# How the library for programs in C names its one function, and where.
-EXPORT = "crates/dsr_check_c/src/lib.rt"
-ALLOWED = ["#[unsafe(no_mangle)]", 'pub extern "C" fn dsr_check_text(alloc: Global, text: &[u8], report: &mut Report)']
+# How each static library names its one function, and where.
+ALLOWED = {
+    "crates/dsr_check_c/src/lib.rt": ["#[unsafe(no_mangle)]", 'pub extern "C" fn dsr_check_text(alloc: Global, text: &[u8], report: &mut Report)'],
+    "crates/dsr_page/src/lib.rt": ["#[unsafe(no_mangle)]", 'pub extern "C" fn dsr_page_run('],
+}
 
 
 def sources():
@@ -32,9 +35,9 @@ def sources():
 def refused_in(path, lines):
     """The lines of the file, counted from 1, that have either word and may not."""
     refused = [at for at, line in enumerate(lines, 1) if REFUSED.search(line)]
-    if name_of(path) != EXPORT or len(refused) != 2 or refused[1] != refused[0] + 1:
+    if len(refused) != 2 or refused[1] != refused[0] + 1:
         return refused
-    return [] if [lines[at - 1].strip() for at in refused] == ALLOWED else refused
+    return [] if [lines[at - 1].strip() for at in refused] == ALLOWED.get(name_of(path)) else refused
 
 
 def words(report, _):

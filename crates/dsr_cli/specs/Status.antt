@@ -50,6 +50,11 @@ pub record EndedBy (After : Refusal → Streams → Type 0) (status : ℕ) (run 
   pub told : Told (refusal_line refusal) run
   pub left : After refusal run.io
 
+-- the task starts no threads
+abbrev pub IsAlone : Task → Type 0
+IsAlone (Serve transcript) = ⊥
+IsAlone other = Unit {0}
+
 -- a task was done: all lines were answered; the whole report of a play, or the transcript of its run, went out, and no event of the play
 -- was refused because memory ran out, nor, if it was to be strict, for another reason; all clients of a script were served, and the whole report
 -- of the service, or its transcript, went out; the whole report on a transcript's run went out; or all of an explanation of a play did

@@ -19,7 +19,7 @@ ghost use Rattle.dsr_command.specs.Asked.{asked_of};
 ghost use Rattle.dsr_command.specs.declared.Task.TheVariants.{Play};
 ghost use Rattle.dsr_command.specs.Readings.{IfDo, IfHelp, IfUsage, IfVersion, OnNoMemory, OnNoTask};
 ghost use Rattle.dsr_cli.specs.Played.{LeftAfterPlay, PlayedAll, form_of};
-ghost use Rattle.dsr_cli.specs.Status.{StatusFor, RanOut, HasEndedAs, LeftAfter, WhatShowingLeft, WhatTaskLeft, IfNoTask, ending_of, run_of, status_after, status_of};
+ghost use Rattle.dsr_cli.specs.Status.{StatusFor, RanOut, HasEndedAs, IsAlone, LeftAfter, WhatShowingLeft, WhatTaskLeft, IfNoTask, ending_of, run_of, status_after, status_of};
 
 use crate::check::run_check;
 use crate::explain::run_explain;
@@ -90,6 +90,27 @@ pub fn run<R: Threads + Wait + Sync, S: AsStr, I: Source, O: Sink, E: Sink>(
     obey(rt, alloc, reading, input, output, errors)
 }
 
+/// Does the task, and returns the status that `run` returns after words that ask for this task. Requires a task that starts no threads, so it is
+/// for callers that have none. What is said of a strict play, of memory and of calls at `run` holds here too.
+pub fn run_task<I: Source, O: Sink, E: Sink>(
+    alloc: Global,
+    task: Task,
+    input: &mut I,
+    output: &mut O,
+    errors: &mut E,
+) -> u8
+    requires { IsAlone task }
+    ensures task { WhatTaskLeft task result
+        (run_of (streams (I.input input.old) (O.output output.old) (O.output output.new)) (E.output errors.old) (E.output errors.new)) }
+    ensures quiet { result ≡ 0 → errors.new ≡ errors.old }
+    ensures reads { (I.input input.new).calls ≤ (I.input input.old).calls + most_calls }
+    ensures writes { (O.output output.new).calls ≤ (O.output output.old).calls + most_calls }
+    ensures tells { (E.output errors.new).calls ≤ (E.output errors.old).calls + most_calls }
+{
+    let done = perform_alone(alloc, task, input, output);
+    status_after(done, errors)
+}
+
 /// Does what the reading of the words says, and returns the status.
 fn obey<R: Threads + Wait + Sync, I: Source, O: Sink, E: Sink>(
     rt: &R,
@@ -145,10 +166,32 @@ fn perform<R: Threads + Wait + Sync, I: Source, O: Sink>(
     ensures writes { (O.output output.new).calls ≤ (O.output output.old).calls + most_calls }
 {
     match task {
-        Task::Apply => ended(run_apply(alloc, input, output)),
-        Task::Play { strict, transcript } => perform_play(alloc, strict, transcript, input, output),
         Task::Serve { transcript: false } => ended(run_serve(rt, alloc, input, output)),
         Task::Serve { transcript: true } => ended(transcribe_service(rt, alloc, input, output)),
+        Task::Apply | Task::Play { .. } | Task::Check | Task::Explain(_) => {
+            perform_alone(alloc, task, input, output)
+        }
+    }
+}
+
+/// Does a task that starts no threads.
+#[tactic(auto, using(crate::proofs::StatusLemmas::endings))]
+fn perform_alone<I: Source, O: Sink>(
+    alloc: Global,
+    task: Task,
+    input: &mut I,
+    output: &mut O,
+) -> Result<Ending, Refusal>
+    requires { IsAlone task }
+    ensures done { IfOk result (λ ending. HasEndedAs ending task (streams (I.input input.old) (O.output output.old) (O.output output.new))) }
+    ensures refused { IfErr result (λ refusal. LeftAfter task refusal (streams (I.input input.old) (O.output output.old) (O.output output.new))) }
+    ensures reads { (I.input input.new).calls ≤ (I.input input.old).calls + most_calls }
+    ensures writes { (O.output output.new).calls ≤ (O.output output.old).calls + most_calls }
+{
+    match task {
+        Task::Apply => ended(run_apply(alloc, input, output)),
+        Task::Play { strict, transcript } => perform_play(alloc, strict, transcript, input, output),
+        Task::Serve { .. } => unreachable!(),
         Task::Check => ended(run_check(alloc, input, output)),
         Task::Explain(narrowing) => ended(run_explain(alloc, &narrowing, input, output)),
     }
