@@ -222,15 +222,16 @@ def build(top, wanted, progress):
             return Lanes(module, crates, progress).run()
 
 
-def build_archive(top, name, to):
+def build_archive(top, name, to, toolchain_in=None):
     """Proves the static library of this name and compiles it to this file, over the libraries below it as rt left them in out/, which must be
-    there. Gives what the toolchain said where that fails, else None."""
+    there; by the compilers in this folder, or else by the toolchain's own. Gives what the toolchain said where that fails, else None."""
     with other_toolchain():
         module = toolchain()
         crate = crates_of(module, top)[name]
         with alone_with(module, [*crate.below(), crate]):
             def make(crate, jobs):
-                words = [*crate.words(["--jobs", str(jobs)], keeps=False), "--toolchain", f"{module.KIT}/toolchain", "--backend", "llvm"]
+                compilers = toolchain_in or f"{module.KIT}/toolchain"
+                words = [*crate.words(["--jobs", str(jobs)], keeps=False), "--toolchain", compilers, "--backend", "llvm"]
                 return crate.call(module.RATTLE, "build", *words, "-o", to)
             status, said = made(make, crate, processors())
             return said if status else None
