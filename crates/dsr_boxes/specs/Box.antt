@@ -1,4 +1,4 @@
--- A box by its word, in plain terms (this project).
+-- What a box's word says, in plain terms (this project).
 use Rattle.std.specs.Prelude.{◌≡◌, ◌⊎◌, ℕ, List, [], ◌∷◌, ◌++◌}
 use Rattle.dsr_envelope.specs.declared.envelope.Envelope.{Envelope}
 use Rattle.dsr_boxes.specs.declared.box_state.BoxState.{BoxState}
@@ -8,12 +8,13 @@ use Rattle.dsr_boxes.specs.declared.box_state.BoxState.TheVariants.{Empty, Being
 abbrev pub HasOne : List Envelope → List Envelope → Type 0
 HasOne posted taken = (envelope : Envelope) × (posted ≡ taken ++ envelope ∷ [])
 
--- a box by its word, as to what was posted there and taken: empty (0), being filled (1) and being emptied (3), all was taken; full (2), all but one
+-- what a box's word says about the envelopes posted there and taken: empty (0), being filled (1), being emptied (3): all were taken; full (2):
+-- all but one
 abbrev pub IsBox : ℕ → List Envelope → List Envelope → Type 0
 IsBox word posted taken =
     ((word ≡ 0) × (posted ≡ taken)) ⊎ (((word ≡ 1) × (posted ≡ taken)) ⊎ (((word ≡ 2) × HasOne posted taken) ⊎ ((word ≡ 3) × (posted ≡ taken))))
 
--- what each state of a box says of what was posted there and taken
+-- what each state of a box says about the envelopes posted there and taken
 abbrev pub IsBoxIn : BoxState → List Envelope → List Envelope → Type 0
 IsBoxIn Empty posted taken = posted ≡ taken
 IsBoxIn BeingFilled posted taken = posted ≡ taken

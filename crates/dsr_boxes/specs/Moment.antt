@@ -8,7 +8,7 @@ use Rattle.dsr_run.specs.Run.{IsRun}
 use Rattle.dsr_run.specs.Step.{Step, Logs, log_of}
 use Rattle.dsr_boxes.specs.Pass.{SharedBoxes}
 
--- a moment of some boxes: all steps that had been taken by then, the newest first
+-- a moment of some boxes: all steps taken up to it, the newest first
 pub record Moment : Type 0 where
   pub id : TableId
   pub shape : Shape

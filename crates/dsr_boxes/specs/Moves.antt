@@ -1,4 +1,4 @@
--- What each atomic step makes of the boxes, and of the run (this project).
+-- What each atomic step does to the boxes, and to the run (this project).
 use Rattle.std.specs.Prelude.{◌≡◌, ℕ, List, ◌++◌, ◌<◌, length, slice_index}
 use mathlib.Core.Option.{some}
 use lib.ListN.{get_elem?}
@@ -16,8 +16,8 @@ use Rattle.dsr_boxes.specs.Rule.{Table, Kept, log_at}
 use Rattle.dsr_boxes.specs.declared.view.View.{View}
 use Rattle.dsr_boxes.specs.View.{sitting, keeping}
 
--- at this moment these are the logs of a run: each pass has its actor's, and so have the passes that came back and only wait, and each box's word agrees
--- with what was posted there and taken
+-- at this moment these are the logs of a run: the pass of one actor has its actor's log, what represents several actors has theirs, and each box's
+-- word agrees with what was posted there and taken
 pub record IsMoment (shape : Shape) (table : Table) (logs : Logs) : Type 0 where
   pub are : AreLogs shape logs
   pub own : (i : ℕ) (me : Actor) (log : List Entry) (doing : Doing) → get_elem? table.views i ≡ some (sitting shape me log doing) → logs me ≡ log

@@ -1,4 +1,4 @@
--- The boxes that threads share, as their callers see them, and what an actor posts and takes with (this project).
+-- The boxes that threads share, as their callers see them, and an actor's pass to them (this project).
 use Rattle.std.specs.Prelude.{◌≡◌, ℕ, zero, suc, List, [], ◌∷◌, ◌++◌, if◌then◌else◌}
 use Rattle.atomic_table.specs.Seated.{TableId}
 use Rattle.dsr_names.specs.Places.{actor_at}
@@ -47,21 +47,21 @@ with_entry pass entry = record pass { log = entry ∷ pass.log }
 abbrev pub new_pass : SharedBoxes → Actor → Pass
 new_pass boxes actor = record { id = boxes.id; shape = boxes.shape; actor = actor; log = [] }
 
--- those of the lowest places, as many as the number says, by their places
+-- new passes of the actors of the lowest places, as many as the number says, in order of place
 abbrev pub new_passes : SharedBoxes → ℕ → List Pass
 new_passes boxes zero = []
 new_passes boxes (suc place) = new_passes boxes place ++ new_pass boxes (actor_at boxes.shape place) ∷ []
 
--- the actor may take from the other, by its own log, whatever the envelope
+-- by its own log the actor may take from the other, whatever the envelope
 abbrev pub MayTake : Shape → Actor → List Entry → Actor → Type 0
 MayTake shape me log from = (envelope : Envelope) → KeepsOwn shape me log (Take from envelope)
 
--- there is a run in which this is the actor's log: whatever holds of the logs of every run holds of those
+-- there is a run in which this is the actor's log: what is true of the logs of every run is true of these
 pub record IsInRun (shape : Shape) (actor : Actor) (log : List Entry) : Type 0 where
   pub logs : Logs
   pub are : AreLogs shape logs
   pub own : logs actor ≡ log
 
--- these logs as those of all actors: who is not of the shape has done nothing
+-- these logs as a function of actors: an actor outside the shape has done nothing
 abbrev pub logs_in : Shape → List (List Entry) → Logs
 logs_in shape logs a = if is_actor shape a then log_at shape logs a else []

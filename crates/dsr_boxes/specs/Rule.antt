@@ -34,39 +34,39 @@ log_at shape logs a = slice_index_or (reverse logs) (place_of shape a) []
 abbrev pub first_view : Shape → View
 first_view shape = keeping shape (replicate (size shape) [])
 
--- for which actors a view stands: nobody else's does
+-- the view represents this actor
 abbrev pub IsOf : Shape → Part → Actor → Type 0
 IsOf shape (Keeping logs) a = IsActor shape a × (place_of shape a < length logs)
 IsOf shape (Sitting me log doing) a = me ≡ a
 IsOf shape (Watching logs moments) a = IsActor shape a × (place_of shape a < length logs)
 
--- what an actor does between two steps of a run, as its box's word shows it: 1 while it fills the box, 3 while it empties it. What it was shown is
--- a past of the run
+-- what an actor does between two steps of a run, as its box's word shows: 1 while it fills the box, 3 while it empties it. The moment that it was
+-- shown is a past of the run
 abbrev pub IsDoing : Shape → List ℕ → List Step → Actor → Doing → Type 0
 IsDoing shape words run me Resting = Unit {0}
 IsDoing shape words run me (Filling to) = IsActor shape to × (slice_index words (word_of shape me to) ≡ 1)
 IsDoing shape words run me (Emptying from) = IsActor shape from × (slice_index words (word_of shape from me) ≡ 3)
 IsDoing shape words run me (Recalling past) = Extends run past
 
--- each of these is a past of the run: the run is that, with newer steps
+-- each of these is a past of the run: the run is that past, with newer steps
 abbrev pub ArePast : List Step → List (List Step) → Type 0
 ArePast run [] = Unit {0}
 ArePast run (past ∷ moments) = Extends run past × ArePast run moments
 
--- the logs of the actors of the lowest places are these
+-- in the run, the actors of the lowest places have these logs
 abbrev pub HasLogs : Shape → List Step → List (List Entry) → Type 0
 HasLogs shape run kept = (a : Actor) → IsActor shape a → place_of shape a < length kept → log_of run a ≡ log_at shape kept a
 
--- the view has the logs of its actors in the run; one of one actor is of an actor of the shape, whose box's word shows what it does. What it
--- knows of the past is a past of the run, and stays one, whatever is done later
+-- the view has the logs of its actors in the run. The view of one actor is that of an actor of the shape, and its box's word shows what it does. Each
+-- moment that a view knows is a past of the run
 abbrev pub Stands : Shape → List ℕ → List Step → Part → Type 0
 Stands shape words run (Keeping kept) = HasLogs shape run kept
 Stands shape words run (Sitting me log doing) = IsActor shape me × (log_of run me ≡ log) × IsDoing shape words run me doing
 Stands shape words run (Watching kept moments) = HasLogs shape run kept × ArePast run moments
 
--- a box's word, what was posted there, what was taken, and what lies in its slot if nobody holds it. Where the word is 0 all that was posted was
--- taken, and nothing lies there; where it is 2 one envelope was not taken, and lies there; where it is 1, while its poster fills it, or 3, while
--- its taker empties it, all was taken. It is no other number
+-- a box's word agrees with what was posted there, what was taken, and the content of its slot unless someone holds the slot. 0: all that was posted
+-- was taken, and the slot is empty; 2: one envelope was not taken, and is in the slot; 1, while its poster fills it, and 3, while its taker empties
+-- it: all was taken. The word is no other number
 abbrev pub Agrees : ℕ → List Envelope → List Envelope → maybe.Option (maybe.Option (Option Envelope)) → Type 0
 Agrees zero posted taken home = (posted ≡ taken) × (home ≡ some (some None))
 Agrees (suc zero) posted taken home = posted ≡ taken
@@ -74,14 +74,14 @@ Agrees (suc (suc zero)) posted taken home = (envelope : Envelope) × (posted ≡
 Agrees (suc (suc (suc zero))) posted taken home = posted ≡ taken
 Agrees (suc (suc (suc (suc more)))) posted taken home = ⊥
 
--- the first four words tell the shape, and never change
+-- the first four words hold the shape
 pub record IsHead (shape : Shape) (words : List ℕ) : Type 0 where
   pub n : slice_index words 0 ≡ shape.n
   pub f : slice_index words 1 ≡ shape.f
   pub m : slice_index words 2 ≡ shape.m
   pub traitors : slice_index words 3 ≡ shape.traitors
 
--- the rule: there is a run, each view has its actors' logs in it, no two views stand for one actor, and each box agrees with what was posted there
+-- the rule: there is a run, each view has its actors' logs in it, no two views represent one actor, and each box agrees with what was posted there
 -- and taken; besides, the shape is within the limits, the words begin with it, and there is a word and a slot for each box
 pub record Kept (shape : Shape) (table : Table) : Type 0 where
   pub allowed : IsAllowed shape

@@ -1,4 +1,4 @@
--- What each pass knows of the boxes, and what it holds of them (this project). No value of it is made: it stands in proofs alone.
+-- What each pass knows of the boxes, and what it holds of them (this project). No code makes a value of it: it is for proofs.
 use Rattle.std.specs.Prelude.{ℕ, List, [], ◌∷◌, Option, None, Some}
 use Rattle.atomic_table.specs.Table.{Me}
 use Rattle.dsr_names.specs.Shape.{Shape}
@@ -23,7 +23,7 @@ Holding = Me (Option Envelope) View
 abbrev pub sitting : Shape → Actor → List Entry → Doing → View
 sitting shape me log doing = record { shape = shape; part = Sitting me log doing }
 
--- the view of all actors of the lowest places, as many as there are logs; the log of the highest place stands first
+-- the view of all actors of the lowest places, as many as there are logs; the log of the highest place comes first
 abbrev pub keeping : Shape → List (List Entry) → View
 keeping shape logs = record { shape = shape; part = Keeping logs }
 
@@ -31,19 +31,19 @@ keeping shape logs = record { shape = shape; part = Keeping logs }
 abbrev pub watching : Shape → List (List Entry) → List (List Step) → View
 watching shape logs moments = record { shape = shape; part = Watching logs moments }
 
--- the actor of a view of one; of others it says nothing
+-- the actor of a view of one actor; for other views it means nothing
 abbrev pub actor_in : Part → Actor
 actor_in (Keeping logs) = Replica 0
 actor_in (Sitting me log doing) = me
 actor_in (Watching logs moments) = Replica 0
 
--- its log; empty of others
+-- the log in a view of one actor; empty for other views
 abbrev pub log_in : Part → List Entry
 log_in (Keeping logs) = []
 log_in (Sitting me log doing) = log
 log_in (Watching logs moments) = []
 
--- the logs of a view of many; none of others
+-- the logs in a view of several actors; none for a view of one actor
 abbrev pub logs_kept : Part → List (List Entry)
 logs_kept (Keeping logs) = logs
 logs_kept (Sitting me log doing) = []
@@ -58,7 +58,7 @@ moments_in (Sitting me log (Emptying from)) = []
 moments_in (Sitting me log (Recalling past)) = past ∷ []
 moments_in (Watching logs moments) = moments
 
--- the first of them; where there is none, that of no step
+-- the first of these moments; if there is none, the moment of no step
 abbrev pub first_moment : List (List Step) → List Step
 first_moment [] = []
 first_moment (past ∷ moments) = past
@@ -67,7 +67,7 @@ first_moment (past ∷ moments) = past
 abbrev pub moment_in : Part → List Step
 moment_in part = first_moment (moments_in part)
 
--- the other end of the box that an actor fills or empties; of one that does neither it says nothing
+-- the other end of the box that an actor fills or empties; for other views it means nothing
 abbrev pub end_in : Part → Actor
 end_in (Keeping logs) = Replica 0
 end_in (Sitting me log Resting) = me
@@ -76,7 +76,7 @@ end_in (Sitting me log (Emptying from)) = from
 end_in (Sitting me log (Recalling past)) = me
 end_in (Watching logs moments) = Replica 0
 
--- the envelope in the slot that was taken last; the empty one where there is none
+-- the envelope in the slot that was taken last; if there is none, the empty one
 abbrev pub content_in : List (ℕ × Option Envelope) → Envelope
 content_in [] = Empty
 content_in ((slot, None) ∷ held) = Empty
@@ -86,11 +86,11 @@ content_in ((slot, Some envelope) ∷ held) = envelope
 abbrev pub resting : Shape → Actor → List Entry → Holding
 resting shape me log = (sitting shape me log Resting, [])
 
--- an actor that has claimed its box to another, with what lies in the slot
+-- an actor that has claimed its box to another, with the content of the slot
 abbrev pub filling : Shape → Actor → List Entry → Actor → Option Envelope → Holding
 filling shape me log to content = (sitting shape me log (Filling to), (slot_of shape me to, content) ∷ [])
 
--- an actor that has fetched the box from another, with what lies in the slot
+-- an actor that has fetched the box from another, with the content of the slot
 abbrev pub emptying : Shape → Actor → List Entry → Actor → Option Envelope → Holding
 emptying shape me log from content = (sitting shape me log (Emptying from), (slot_of shape from me, content) ∷ [])
 
@@ -98,6 +98,6 @@ emptying shape me log from content = (sitting shape me log (Emptying from), (slo
 abbrev pub recalling : Shape → Actor → List Entry → List Step → Holding
 recalling shape me log past = (sitting shape me log (Recalling past), [])
 
--- what stands for nobody, and knows this past moment
+-- what represents nobody, and knows this past moment
 abbrev pub looking_back : Shape → List Step → Holding
 looking_back shape past = (watching shape [] (past ∷ []), [])

@@ -1,11 +1,11 @@
-/// How a box looks.
+/// The state of a box.
 #[derive(Drop)]
 pub enum BoxState {
-    /// Nothing lies in it: all that was posted there was taken.
+    /// It holds nothing: all that was posted there was taken.
     Empty,
     /// Its poster fills it: all that was posted there was taken.
     BeingFilled,
-    /// An envelope lies in it: all that was posted there was taken but this one.
+    /// It holds an envelope: all that was posted there was taken but this one.
     Full,
     /// Its taker empties it: all that was posted there was taken.
     BeingEmptied,

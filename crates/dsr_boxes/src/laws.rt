@@ -1,5 +1,5 @@
-//! What holds of the boxes at every moment: the rule, in plain terms, and what each atomic step makes of it. Laws, as the contracts of functions
-//! that do nothing.
+//! Laws of the boxes, as the contracts of functions that do nothing: the rule, in plain terms, which holds at every moment; what each atomic step
+//! does to it; and how moments order requests.
 
 ghost use Rattle.std.specs.Prelude.{◌≡◌, ℕ, ◌+◌, ◌*◌, ◌<◌, List, [], ◌∷◌, ◌++◌, None, Some, length, replicate, slice_index, slice_set};
 ghost use mathlib.Core.Option.{some};
@@ -31,14 +31,14 @@ ghost use Rattle.dsr_boxes.specs.Play.{spent};
 ghost use Rattle.dsr_boxes.specs.Rule.{Table as ATable, Kept, IsOf, Stands, first_view};
 ghost use Rattle.dsr_boxes.specs.View.{sitting, keeping};
 
-/// Whatever the boxes are while they keep the rule, there are logs of a run that the passes have, and each box agrees with them.
+/// If the boxes keep the rule, there are logs of a run: the passes have these logs, and each box agrees with them.
 pub fn every_moment_is_of_a_run()
     ensures { (shape : Shape) (table : ATable) → Kept shape table → (logs : Logs) × IsMoment shape table logs }
 {}
 
-/// Each atomic step on a box keeps the rule. A publish adds the poster's post to the run, and a fetch the taker's take of what lies in the box. A claim,
-/// a release, and an exchange or a look that leaves the word as it is, add nothing; nor does what parts a pass, takes one back, makes a new one for
-/// nobody, or changes what one knows to something true.
+/// Each atomic step on a box keeps the rule. A publish adds the poster's post to the run, and a fetch adds the taker's take of the box's envelope. A
+/// claim, a release, and an exchange or a look that leaves the word as it is, add nothing. Nor does it add anything to split a pass, to take one
+/// back, to make a new one for nobody, or to change what a pass knows to something true. New boxes keep the rule, and their run has no step.
 pub fn steps_keep_the_rule()
     ensures claim { (shape : Shape) (table : ATable) (kept : Kept shape table) (id : ℕ) (me to : AnActor) (log : List Entry) → IsActor shape me → IsActor shape to
         → get_elem? table.views id ≡ some (sitting shape me log Resting) → slice_index table.words (word_of shape me to) ≡ 0
@@ -75,9 +75,10 @@ pub fn steps_keep_the_rule()
         → Stands shape table.words kept.run w.part → GoesOn shape table kept (with_views table (table.views ++ w ∷ [])) [] }
 {}
 
-/// A moment that is handed on orders requests. Let a first request have a response at some moment, and let the client of a second request, which was
-/// shown this moment, not have asked for it before that, by its own log. Then the first request precedes the second in real time, in the run that goes
-/// on from the moment to the end. If at most f replicas are traitors and the second request has a response at the end, it has the greater place.
+/// A moment that is handed on orders requests. Let a first request have a response at some moment, and let the client of a second request be shown
+/// this moment while, by its own log, it has not asked for the second request. Then the first request precedes the second in real time, in the run
+/// that goes on from the moment to the end. If at most f replicas are traitors and the second request has a response at the end, it has the greater
+/// place.
 pub fn moments_order_requests()
     ensures precedes { (shape : Shape) (past : List Step) (logs : Logs) (own : List Entry) (first second : Request) (reply : AReply)
         → HasResponse shape (log_of past) first reply → Extends own (log_of past (Client second.client)) → ((ask : SignedRequest) → ask.request ≡ second → ¬ WasPosted own ask)

@@ -1,5 +1,5 @@
-//! Moments: tokens without bytes that represent the run so far, and that threads hand on. Whoever has a moment knows that the run, whatever it is later,
-//! goes on from it. No clause says that a moment is the present one: a moment of no step is one too.
+//! Moments: tokens without bytes that represent the run so far and that threads hand on. Whatever is done later, the run goes on from each moment. No
+//! clause says that a moment is the present one: what `SharedBoxes::moment` ensures is true of a moment of no step too.
 
 ghost use Rattle.std.specs.Prelude.{◌≡◌, length};
 ghost use Rattle.dsr_base.specs.Growth.{Extends};
@@ -21,7 +21,7 @@ use crate::steps::{EMPTY, EMPTYING, FILLING, FULL};
 use dsr_names::Actor;
 use std::marker::Model;
 
-/// A moment of the boxes: it represents all steps that had been taken by then.
+/// A moment of the boxes. It represents all steps taken up to it.
 #[derive(Drop)]
 pub struct Moment {
     pub(crate) token: Token,
@@ -42,7 +42,7 @@ impl Model for Moment {
 }
 
 impl SharedBoxes {
-    /// The present moment.
+    /// Returns the present moment.
     pub fn moment(&self) -> Moment
         ensures boxes { IsMomentOf self.now result }
         ensures run { IsRun self.now.shape result.run }
@@ -52,7 +52,7 @@ impl SharedBoxes {
         Moment { token }
     }
 
-    /// How the box from one actor to another looks, and the moment of this look. Requires actors of the shape.
+    /// Looks at the box from `from` to `to`, and returns its state and the moment of this look. Requires actors of the shape.
     pub fn look_at(&self, from: &Actor, to: &Actor) -> (BoxState, Moment)
         requires from { IsActor self.now.shape from.now }
         requires to { IsActor self.now.shape to.now }
@@ -90,7 +90,7 @@ impl SharedBoxes {
 }
 
 impl Pass {
-    /// The present moment, at which the actor's log is that of this pass. Requires a pass of these boxes.
+    /// Returns the present moment, at which the actor's log is that of this pass. Requires a pass of these boxes.
     pub fn moment(&mut self, boxes: &SharedBoxes) -> Moment
         requires boxes { IsPassOf boxes.now self.old }
         ensures same { self.new ≡ self.old }
@@ -103,7 +103,7 @@ impl Pass {
         Moment { token }
     }
 
-    /// Shows the pass a moment, which is then past: what the actor had done at that moment is the oldest part of what the pass has done, at most all of
+    /// Shows the pass a moment, which is past from then on: the actor's log at that moment is the oldest part of the log of this pass, at most all of
     /// it. Requires a pass and a moment of these boxes.
     pub fn recall(&mut self, boxes: &SharedBoxes, moment: Moment)
         requires boxes { IsPassOf boxes.now self.old }
@@ -121,7 +121,7 @@ impl Pass {
 }
 
 impl Moment {
-    /// The same moment once more, for another thread. Requires a moment of these boxes.
+    /// Returns a copy of this moment, for another thread. Requires a moment of these boxes.
     pub fn copy(&mut self, boxes: &SharedBoxes) -> Moment
         requires boxes { IsMomentOf boxes.now self.old }
         ensures same { self.new ≡ self.old }
@@ -131,7 +131,7 @@ impl Moment {
         Moment { token }
     }
 
-    /// Replaces this moment by the present one, which comes after this one and after the other. Requires moments of these boxes.
+    /// Replaces this moment by the present one, which goes on from this moment and from `other`. Requires moments of these boxes.
     pub fn meet(&mut self, boxes: &SharedBoxes, other: Moment)
         requires boxes { IsMomentOf boxes.now self.old }
         requires other { IsMomentOf boxes.now other }

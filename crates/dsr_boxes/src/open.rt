@@ -1,4 +1,4 @@
-//! The making of the boxes, with one pass for each actor.
+//! How the boxes are made, with one pass for each actor.
 
 ghost use Rattle.std.specs.Prelude.{◌≡◌, ◌<◌, ◌*◌, [], ◌∷◌, IfOk, OnOk, IsOkUnless, replicate, vec_len};
 ghost use Rattle.dsr_names.specs.Places.{size, actor_at};
@@ -14,8 +14,8 @@ use std::alloc::Global;
 use std::sync::atomic::AtomicU64;
 
 impl SharedBoxes {
-    /// The boxes between the actors of the shape, all empty, and a pass for each actor, by its place, whose log is empty. `NoMemory` where memory
-    /// runs out.
+    /// Makes the boxes between the actors of the shape, all empty, and a pass with an empty log for each actor, in order of place. `NoMemory` if
+    /// memory runs out.
     pub fn open(alloc: Global, shape: Shape) -> Result<(SharedBoxes, Vec<Pass>), Refusal>
         ensures shape { IfOk result (λ made. made.0.shape ≡ shape) }
         ensures passes { IfOk result (λ made. made.1.items ≡ new_passes made.0 (size made.0.shape)) }
@@ -39,7 +39,7 @@ impl SharedBoxes {
         Ok((boxes, passes))
     }
 
-    /// Parts the first token into a pass for each actor.
+    /// Splits the first token into a pass for each actor. `NoMemory` if memory runs out.
     fn deal(&self, alloc: Global, token: Token) -> Result<Vec<Pass>, Refusal>
         requires id { token.table_id ≡ self.now.id }
         requires all { token.me ≡ (keeping self.now.shape (replicate (size self.now.shape) []), []) }
@@ -58,7 +58,7 @@ impl SharedBoxes {
         Ok(passes)
     }
 
-    /// The pass of the actor at this place, parted from the token of all up to it.
+    /// Returns the pass of the actor at `place`, split from the token of all actors up to it.
     fn part(&self, token: &mut Token, place: usize) -> Pass
         requires id { token.old.table_id ≡ self.now.id }
         requires place { place < size self.now.shape }
@@ -73,7 +73,7 @@ impl SharedBoxes {
     }
 }
 
-/// The first words of the boxes: four that tell the shape, and one for each box. `NoMemory` where memory runs out.
+/// Makes the words of new boxes: four that hold the shape, and a 0 for each box. `NoMemory` if memory runs out.
 fn first_words(alloc: Global, shape: &Shape) -> Result<Vec<u64>, Refusal>
     ensures words { IfOk result (λ words. words.items
         ≡ shape.now.n ∷ shape.now.f ∷ shape.now.m ∷ shape.now.traitors ∷ replicate (size shape.now * size shape.now) 0) }
@@ -88,7 +88,7 @@ fn first_words(alloc: Global, shape: &Shape) -> Result<Vec<u64>, Refusal>
     Ok(words)
 }
 
-/// A place for each actor to note where it sleeps.
+/// Makes `places` notes of actors that do not sleep. `NoMemory` if memory runs out.
 fn no_sleepers(alloc: Global, places: usize) -> Result<Vec<AtomicU64>, Refusal>
     ensures count { IfOk result (λ sleepers. vec_len sleepers ≡ places) }
     ensures refusal { IsOkUnless result Refusal.NoMemory }

@@ -5,8 +5,8 @@ use dsr_names::Refusal;
 use std::alloc::Global;
 use std::marker::Model;
 
-/// What lies in a box: an envelope for the taker to consume, and the same as a letter for the taker's log, so that nothing has to be allocated
-/// between the two steps of a take.
+/// The contents of a box: an envelope for the taker to consume, and an equal one as a letter (a shared handle) for the taker's log, so that
+/// nothing has to be allocated between the two steps of a take.
 #[derive(Drop)]
 pub struct Parcel {
     envelope: Envelope,
@@ -25,8 +25,8 @@ impl Model for Parcel {
 }
 
 impl Parcel {
-    /// The envelope as a parcel, and a letter of it for the poster's own log. `NoMemory` where memory runs out or one handle more is refused:
-    /// then the envelope is gone.
+    /// Makes a parcel of the envelope, and a letter of it for the poster's own log. `NoMemory` if memory runs out or one more handle is
+    /// refused: then the envelope is dropped.
     pub fn of(alloc: Global, envelope: Envelope) -> Result<(Parcel, Letter), Refusal>
         ensures parcel { IfOk result (λ made. made.0 ≡ envelope) }
         ensures own { IfOk result (λ made. made.1 ≡ envelope) }
@@ -44,7 +44,7 @@ impl Parcel {
         ))
     }
 
-    /// The envelope, and the letter of it.
+    /// Returns the envelope and the letter of it.
     pub fn into_parts(self) -> (Envelope, Letter)
         ensures envelope { result.0 ≡ self }
         ensures letter { result.1 ≡ self }

@@ -1,12 +1,13 @@
-//! Looking at a box, sleeping until it is as one wants it, and waking who sleeps. None of these changes a box, and no contract speaks of it.
+//! How actors look at a box, sleep until it is in the wanted state, and wake each other. None of this changes a box, and no contract says anything
+//! about it.
 //!
-//! Who waits looks a few times first, as sleeping and being woken takes longer than most waits. Who sleeps first notes at its own place the
-//! word on which it does; then the system looks whether the word is still as it was found, and only then has it sleep. Who publishes or
-//! releases looks afterwards whether the box's other end has noted that word. Words, notes and the system's look are in one order: so either
-//! the change comes before the look, and the sleeper does not sleep, or the note before the changer's look, and it is woken. No wake by a post
-//! or a take is lost. That needs three things more. A poster waits while the word is 2 or 3, a taker while it is 0 or 1: a claim and a fetch
-//! end neither wait, so they need not look. The word cannot come back to what was found without the sleeper itself. And a place has one writer,
-//! as a pass is not shared by threads. Where nobody sleeps, a wake is one load.
+//! A waiter first looks a few times, because to sleep and be woken takes longer than most waits. A sleeper first notes at its own place the word
+//! on which it sleeps; then the system looks whether the word is still as the sleeper found it, and lets it sleep only then. An actor that
+//! publishes or releases looks afterwards whether the actor at the box's other end has noted that word. Words, notes and the system's look have
+//! one order: so either the change comes before the system's look, and the sleeper does not sleep, or the note comes before the changer's look,
+//! and the sleeper is woken. No wake by a post or a take is lost. This needs three more facts. A poster waits while the word is 2 or 3, a taker
+//! while it is 0 or 1: a claim and a fetch end neither wait, so they need not look. The word cannot return to what was found unless the sleeper
+//! itself acts. And a place has one writer, because threads do not share a pass. If the box's other end does not sleep on it, a wake is one load.
 
 ghost use Rattle.std.specs.Prelude.{◌≡◌, ◌<◌};
 ghost use Rattle.dsr_names.specs.Places.{size};
@@ -19,14 +20,14 @@ use std::hint::spin_loop;
 use std::sync::Wait;
 use std::sync::atomic::Ordering::SeqCst;
 
-/// The note of one who does not sleep. It is the number of a word too, but of none that is a box's.
+/// The note of an actor that does not sleep. Word 0 exists but belongs to no box.
 const AWAKE: u64 = 0;
 
-/// How often one who waits looks before it sleeps.
+/// How many times a waiter looks at a word before it prepares to sleep.
 const LOOKS: u32 = 50;
 
 impl SharedBoxes {
-    /// Whether the word of a box is this one, by a look.
+    /// Returns whether the word of a box is `wanted` at one look.
     pub(crate) fn looks(&self, poster: &Actor, taker: &Actor, wanted: u64) -> bool
         requires poster { IsActor self.now.shape poster.now }
         requires taker { IsActor self.now.shape taker.now }
@@ -35,7 +36,7 @@ impl SharedBoxes {
         self.memory.shared.peek(word) == wanted
     }
 
-    /// Has the poster sleep while its box to the taker is not empty.
+    /// Puts the poster to sleep unless its box to the taker is empty. It may wake before the box is empty.
     pub(crate) fn sleep_until_empty<R: Wait>(&self, rt: &R, poster: &Actor, taker: &Actor)
         requires poster { IsActor self.now.shape poster.now }
         requires taker { IsActor self.now.shape taker.now }
@@ -44,7 +45,7 @@ impl SharedBoxes {
         self.sleep_unless(rt, poster, word, EMPTY);
     }
 
-    /// Has the taker sleep while the poster's box to it is not full.
+    /// Puts the taker to sleep unless the poster's box to it is full. It may wake before the box is full.
     pub(crate) fn sleep_until_full<R: Wait>(&self, rt: &R, poster: &Actor, taker: &Actor)
         requires poster { IsActor self.now.shape poster.now }
         requires taker { IsActor self.now.shape taker.now }
@@ -71,8 +72,8 @@ impl SharedBoxes {
         self.wake_at(poster, word);
     }
 
-    /// Wakes everybody who sleeps on a box now. It changes no word, so it may miss who is about to sleep: whoever has to end others calls it again
-    /// until they have ended.
+    /// Wakes every actor that sleeps on a box now. It changes no word, so it may miss an actor that is about to sleep: to end others, call it
+    /// again until they have ended.
     pub fn wake_all(&self) {
         for sleeper in self.sleepers.as_slice() {
             let word = sleeper.load(SeqCst) as usize;
@@ -82,7 +83,7 @@ impl SharedBoxes {
         }
     }
 
-    /// Has the actor sleep until a wake, unless the word is the wanted one.
+    /// Puts the actor to sleep until a wake, unless a look finds the word `wanted` or the word changes before the actor sleeps.
     fn sleep_unless<R: Wait>(&self, rt: &R, sleeper: &Actor, word: usize, wanted: u64)
         requires sleeper { IsActor self.now.shape sleeper.now }
         requires word { word < self.now.id.words }
@@ -101,7 +102,7 @@ impl SharedBoxes {
         self.sleepers[place].store(AWAKE, SeqCst);
     }
 
-    /// Whether a word is the wanted one at one of a few looks.
+    /// Returns whether one of a few looks finds the word `wanted`.
     fn comes_to(&self, word: usize, wanted: u64) -> bool
         requires { word < self.now.id.words }
     {

@@ -14,7 +14,7 @@ use dsr_names::{Actor, Refusal};
 use std::marker::Model;
 use std::sync::Wait;
 
-/// What one actor posts and takes with. There is one for each actor, and it is never copied.
+/// The access token of one actor, with which it posts and takes. There is one for each actor, and it is never copied.
 #[derive(Drop)]
 pub struct Pass {
     pub(crate) token: Token,
@@ -36,7 +36,7 @@ impl Model for Pass {
 }
 
 impl Pass {
-    /// The actor. There is a run in which its log is that of this pass.
+    /// Returns the actor. There is a run in which its log is that of this pass.
     pub fn actor(&self) -> &Actor
         ensures same { result.now ≡ self.now.actor }
         ensures inside { IsActor self.now.shape result.now }
@@ -45,8 +45,9 @@ impl Pass {
         &self.actor
     }
 
-    /// Posts the parcel to an actor, which is one step of a run. `BoxFull` where the box is not empty: what was posted there last was not taken, or
-    /// its taker still empties it. Then nothing changed, and the parcel is gone. It waits for nobody and allocates nothing. Requires that the own log allows the post.
+    /// Posts the parcel to the actor `to`, which is one step of a run. `BoxFull` if the box is not empty: the last envelope posted there was not
+    /// taken, or its taker still empties the box. Then nothing is changed, and the parcel is dropped. It waits for nobody and allocates nothing.
+    /// Requires that the own log allows the post.
     pub fn post(&mut self, boxes: &SharedBoxes, to: &Actor, parcel: Parcel) -> Result<(), Refusal>
         requires boxes { IsPassOf boxes.now self.old }
         requires to { IsActor self.old.shape to.now }
@@ -64,8 +65,8 @@ impl Pass {
         Ok(())
     }
 
-    /// Takes what lies in the box of an actor to this one, which is one step of a run. `None` where the box is not full: nothing was posted, or
-    /// its poster still fills it. Then nothing changed. It waits for nobody and allocates nothing. Requires that the own log allows the take.
+    /// Takes the envelope in the box from `from`, which is one step of a run. `None` if the box is not full: it is empty, or its poster still fills
+    /// it. Then nothing is changed. It waits for nobody and allocates nothing. Requires that the own log allows the take.
     pub fn take(&mut self, boxes: &SharedBoxes, from: &Actor) -> Option<Parcel>
         requires boxes { IsPassOf boxes.now self.old }
         requires from { IsActor self.old.shape from.now }
@@ -82,7 +83,8 @@ impl Pass {
         Some(parcel)
     }
 
-    /// Whether the own box to an actor looks empty. A look changes nothing, and costs less than a post that is refused; a post alone tells what holds.
+    /// Returns whether the own box to `to` looks empty. A look changes nothing, and costs less than a post that is refused; only a post shows whether
+    /// the box is empty.
     pub fn looks_empty(&self, boxes: &SharedBoxes, to: &Actor) -> bool
         requires boxes { IsPassOf boxes.now self.now }
         requires to { IsActor self.now.shape to.now }
@@ -90,8 +92,8 @@ impl Pass {
         boxes.looks(&self.actor, to, EMPTY)
     }
 
-    /// Whether the box of an actor to this one looks full. A look changes nothing, and costs less than a take that finds nothing; a take alone tells
-    /// what holds.
+    /// Returns whether the box from `from` looks full. A look changes nothing, and costs less than a take that finds nothing; only a take shows
+    /// whether the box is full.
     pub fn looks_full(&self, boxes: &SharedBoxes, from: &Actor) -> bool
         requires boxes { IsPassOf boxes.now self.now }
         requires from { IsActor self.now.shape from.now }
@@ -99,7 +101,7 @@ impl Pass {
         boxes.looks(from, &self.actor, FULL)
     }
 
-    /// Sleeps while the own box to an actor is not empty. It may return earlier; where the actor never takes, only a wake of all ends it.
+    /// Sleeps while the own box to `to` is not empty. It may return earlier. If `to` never takes, only `wake_all` or an early return ends the sleep.
     pub fn wait_to<R: Wait>(&self, rt: &R, boxes: &SharedBoxes, to: &Actor)
         requires boxes { IsPassOf boxes.now self.now }
         requires to { IsActor self.now.shape to.now }
@@ -107,7 +109,7 @@ impl Pass {
         boxes.sleep_until_empty(rt, &self.actor, to);
     }
 
-    /// Sleeps while the box of an actor to this one is not full. It may return earlier; where the actor never posts, only a wake of all ends it.
+    /// Sleeps while the box from `from` is not full. It may return earlier. If `from` never posts, only `wake_all` or an early return ends the sleep.
     pub fn wait_from<R: Wait>(&self, rt: &R, boxes: &SharedBoxes, from: &Actor)
         requires boxes { IsPassOf boxes.now self.now }
         requires from { IsActor self.now.shape from.now }

@@ -9,7 +9,7 @@ use crate::rule::{Enter, Gather, Learn, Token};
 use crate::shared_boxes::SharedBoxes;
 use std::marker::Model;
 
-/// The passes that came back, for the boxes to be closed. It stands for their logs.
+/// The passes that came back, with which the boxes are closed. It represents their logs.
 #[derive(Drop)]
 pub struct Returned {
     pub(crate) token: Token,
@@ -28,7 +28,7 @@ impl Model for Returned {
 }
 
 impl SharedBoxes {
-    /// No pass that came back yet.
+    /// Makes a `Returned` to which no pass has come back yet.
     pub fn none_returned(&self) -> Returned
         ensures boxes { IsReturnedTo self.now result }
         ensures none { result.logs ≡ [] }
@@ -38,20 +38,21 @@ impl SharedBoxes {
         Returned { token }
     }
 
-    /// Closes the boxes, for which each actor's pass must have come back: their logs are those of a run. Envelopes that were not taken are gone.
+    /// Closes the boxes and drops the envelopes that were not taken. The logs that came back are those of a run. Requires that the pass of each
+    /// actor has come back to these boxes.
     pub fn close(self, returned: Returned)
         requires boxes { IsReturnedTo self returned }
         requires all { length returned.logs ≡ size self.shape }
         ensures run { AreLogs self.shape (logs_in self.shape returned.logs) }
     {
         let mut returned = returned;
-        // At this load the rule holds, and the token has all logs: so they are seen to be those of a run.
+        // At this load the rule holds, and the token has all logs: so the load shows that they are those of a run.
         self.memory.shared.load::<Learn>(&mut returned.token, 0);
     }
 }
 
 impl Returned {
-    /// Takes back the pass of the actor of the next place.
+    /// Takes back the pass of the actor of the next place. Requires a pass of these boxes.
     pub fn take_back(&mut self, boxes: &SharedBoxes, pass: Pass)
         requires boxes { IsReturnedTo boxes.now self.old }
         requires pass { IsPassOf boxes.now pass }

@@ -6,7 +6,8 @@ use atomic_table::{Join, Play, Seat, Split, Table, TableRule};
 use dsr_names::Shape;
 use std::alloc::Global;
 
-/// There are logs of a run, which the views of all passes have, and each box agrees with them.
+/// The rule: there are logs of a run, which are in the views of all passes, and each box agrees
+/// with them.
 pub struct BoxRule;
 
 impl TableRule<Option<Parcel>, View, Shape> for BoxRule {
@@ -20,7 +21,7 @@ impl TableRule<Option<Parcel>, View, Shape> for BoxRule {
 /// The words and slots of all boxes.
 pub(crate) type Memory = Table<Option<Parcel>, View, Shape, BoxRule, Global>;
 
-/// What a pass steps with.
+/// The token with which a pass makes its steps.
 pub(crate) type Token = Seat<Option<Parcel>, View>;
 
 /// What a claim tells its pass.
@@ -59,7 +60,7 @@ impl Play<Option<Parcel>, View> for Release {
     ghost then = { Releases };
 }
 
-/// What the pass with all logs is told at the end.
+/// What the last look tells the pass that has all logs.
 pub(crate) struct Learn;
 
 impl Play<Option<Parcel>, View> for Learn {
@@ -68,7 +69,7 @@ impl Play<Option<Parcel>, View> for Learn {
     ghost then = { Learns };
 }
 
-/// What a new pass that stands for nobody is told.
+/// What a look tells a new pass that represents nobody.
 pub(crate) struct Enter;
 
 impl Play<Option<Parcel>, View> for Enter {
@@ -77,7 +78,7 @@ impl Play<Option<Parcel>, View> for Enter {
     ghost then = { Enters };
 }
 
-/// How the pass of the highest place is parted from that of all up to it.
+/// How the pass of the highest place is split from the pass of all places up to it.
 pub(crate) struct Deal;
 
 impl Split<View> for Deal {
@@ -99,7 +100,7 @@ impl Join<View> for Gather {
     ghost spent = { spent };
 }
 
-/// What a new moment is told.
+/// What a look tells a new moment.
 pub(crate) struct Look;
 
 impl Play<Option<Parcel>, View> for Look {
@@ -108,7 +109,7 @@ impl Play<Option<Parcel>, View> for Look {
     ghost then = { Looks };
 }
 
-/// What an actor is told of the present moment.
+/// What a look tells an actor about the present moment.
 pub(crate) struct Remember;
 
 impl Play<Option<Parcel>, View> for Remember {
@@ -117,7 +118,7 @@ impl Play<Option<Parcel>, View> for Remember {
     ghost then = { Remembers };
 }
 
-/// What an actor is told that was shown a past moment.
+/// What a look tells an actor that was shown a past moment.
 pub(crate) struct Compare;
 
 impl Play<Option<Parcel>, View> for Compare {
@@ -126,7 +127,7 @@ impl Play<Option<Parcel>, View> for Compare {
     ghost then = { Compares };
 }
 
-/// What is told to what knows past moments.
+/// What a look tells a token that knows past moments.
 pub(crate) struct Meet;
 
 impl Play<Option<Parcel>, View> for Meet {
@@ -135,7 +136,7 @@ impl Play<Option<Parcel>, View> for Meet {
     ghost then = { Meets };
 }
 
-/// What is told at the end to what has all logs and knows a past moment.
+/// What the last look tells the token that has all logs and knows a past moment.
 pub(crate) struct LearnAll;
 
 impl Play<Option<Parcel>, View> for LearnAll {
@@ -144,7 +145,7 @@ impl Play<Option<Parcel>, View> for LearnAll {
     ghost then = { LearnsAll };
 }
 
-/// How the moment that an actor knows is parted from its pass.
+/// How the moment that an actor knows is split from its pass.
 pub(crate) struct Show;
 
 impl Split<View> for Show {
@@ -177,7 +178,7 @@ impl Join<View> for Recall {
     ghost spent = { spent };
 }
 
-/// How a moment, or what stands for all logs, is shown another moment.
+/// How a moment, or the token that represents all logs, is shown another moment.
 pub(crate) struct Remind;
 
 impl Join<View> for Remind {

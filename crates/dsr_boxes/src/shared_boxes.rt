@@ -8,12 +8,12 @@ use dsr_names::{Actor, Shape};
 use std::marker::Model;
 use std::sync::atomic::AtomicU64;
 
-/// One box from each actor to each actor of a shape, which holds at most one envelope, for threads to share.
+/// The boxes that threads share: one from each actor of a shape to each actor. A box holds at most one envelope.
 #[derive(Drop)]
 pub struct SharedBoxes {
     pub(crate) memory: Memory,
     pub(crate) shape: Shape,
-    /// At each actor's place its note: the word on which it sleeps, 0 where it does not, since no box has that word.
+    /// Each actor's note, at its place: the word on which it sleeps, or 0 (no box's word) if it does not sleep.
     pub(crate) sleepers: Vec<AtomicU64>,
 }
 
@@ -30,14 +30,14 @@ impl Model for SharedBoxes {
 }
 
 impl SharedBoxes {
-    /// The shape.
+    /// Returns the shape of the boxes.
     pub fn shape(&self) -> &Shape
         ensures { result.now ≡ self.now.shape }
     {
         &self.shape
     }
 
-    /// The slot of the box from one actor to another: 48 actors have 2,304 boxes.
+    /// Returns the slot of the box from `from` to `to`. It is below 2,304, as at most 48 actors have boxes.
     pub(crate) fn slot_of(&self, from: &Actor, to: &Actor) -> usize
         requires from { IsActor self.now.shape from.now }
         requires to { IsActor self.now.shape to.now }
@@ -47,7 +47,7 @@ impl SharedBoxes {
         self.shape.place(from) * self.shape.size() + self.shape.place(to)
     }
 
-    /// The word of the box from one actor to another.
+    /// Returns the word of the box from `from` to `to`.
     pub(crate) fn word_of(&self, from: &Actor, to: &Actor) -> usize
         requires from { IsActor self.now.shape from.now }
         requires to { IsActor self.now.shape to.now }
@@ -56,7 +56,7 @@ impl SharedBoxes {
     {
         // For the proof: how many words there are.
         let _sized = &self.memory;
-        // The first four words tell the shape.
+        // The first four words hold the shape.
         4 + self.slot_of(from, to)
     }
 }

@@ -1,5 +1,5 @@
-//! The steps on a box, each of one word: a poster claims an empty box and publishes, a taker fetches a full one and releases. After a claim
-//! or a fetch nothing can fail.
+//! The steps on a box; each changes one word. A poster claims an empty box and publishes it; a taker fetches a full box and releases it.
+//! After a claim or a fetch nothing can fail.
 
 ghost use Rattle.std.specs.Prelude.{◌≡◌, ◌∷◌, None, Some};
 ghost use Rattle.std.specs.Bool.{OnTrue, OnFalse};
@@ -16,17 +16,17 @@ use crate::rule::{Claim, Fetch, Publish, Release, Token};
 use crate::shared_boxes::SharedBoxes;
 use dsr_names::Actor;
 
-/// A box's word: nothing lies in it.
+/// The word of a box that holds nothing.
 pub(crate) const EMPTY: u64 = 0;
-/// Its poster fills it.
+/// The word of a box that its poster fills.
 pub(crate) const FILLING: u64 = 1;
-/// An envelope lies in it.
+/// The word of a box that holds an envelope.
 pub(crate) const FULL: u64 = 2;
-/// Its taker empties it.
+/// The word of a box that its taker empties.
 pub(crate) const EMPTYING: u64 = 3;
 
 impl SharedBoxes {
-    /// Claims the own box to an actor: true where it was empty. Then only this token can use it, until it publishes.
+    /// Claims the own box to `to`, and returns true if it was empty: then only this token can use it, until it publishes.
     pub(crate) fn claim(&self, token: &mut Token, me: &Actor, to: &Actor) -> bool
         requires id { token.old.table_id ≡ self.now.id }
         requires me { IsActor self.now.shape me.now }
@@ -68,8 +68,8 @@ impl SharedBoxes {
             .compare_exchange::<Publish>(token, word, FILLING, FULL);
     }
 
-    /// Fetches the box of an actor to the own one: true where it was full. This is the take. Then only this token can use it, until it
-    /// releases the box. Requires that the take may be next by the own log.
+    /// Fetches the box from `from`, and returns true if it was full: this is the take. Then only this token can use the box, until it
+    /// releases it. Requires that the take may be next by the own log.
     pub(crate) fn fetch(&self, token: &mut Token, me: &Actor, from: &Actor) -> bool
         requires id { token.old.table_id ≡ self.now.id }
         requires me { IsActor self.now.shape me.now }

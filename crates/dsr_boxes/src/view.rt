@@ -15,20 +15,20 @@ pub enum Doing {
     Recalling(LinkedList<(Actor, Entry), Global>),
 }
 
-/// For whom a pass stands.
+/// Whom a pass represents.
 pub enum Part {
-    /// For all actors of the lowest places, as many as there are logs; the log of the highest place stands first.
+    /// All actors of the lowest places, as many as there are logs; the log of the highest place comes first.
     Keeping(LinkedList<LinkedList<Entry, Global>, Global>),
-    /// For one actor, with its log, the newest entry first, and what it does.
+    /// One actor, with its log, the newest entry first, and what it does.
     Sitting(Actor, LinkedList<Entry, Global>, Doing),
-    /// For the actors of these logs, as above, and for past moments: what the run was then, the newest step first.
+    /// The actors of these logs, as above, and past moments: what the run was then, the newest step first.
     Watching(
         LinkedList<LinkedList<Entry, Global>, Global>,
         LinkedList<LinkedList<(Actor, Entry), Global>, Global>,
     ),
 }
 
-/// What a pass knows. No value of it is made: it stands in proofs alone.
+/// What a pass knows. No code makes a value of it: it is used in proofs alone.
 pub struct View {
     pub shape: Shape,
     pub part: Part,

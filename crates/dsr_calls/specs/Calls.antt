@@ -1,4 +1,4 @@
--- What a client's calls do with the request that they wait for (this project). Logs and accepted replies stand newest first.
+-- What a client's calls do with the request that they wait for (this project). Logs and accepted replies are listed newest first.
 use Rattle.std.specs.Prelude.{◌≡◌, ◌⊎◌, ℕ, List, ◌∷◌, ◌++◌, Option, None, Some}
 use Rattle.std.specs.Option.{option_map, option_or}
 use Rattle.dsr_base.specs.Growth.{Extends}
@@ -29,18 +29,19 @@ abbrev pub number_of : Actor → ℕ
 number_of (Replica p) = p
 number_of (Client c) = c
 
--- the request that a call waits for, by the client's log before it: the outstanding one, else a new one of the operation, where there is one
+-- the request that a call waits for, by the client's log before the call: the outstanding one, else a new one for the operation, if there is an
+-- operation
 abbrev pub awaited : Shape → ℕ → List Entry → Option Op → Option SignedRequest
 awaited shape me log op = option_or (outstanding shape log) (option_map (ask_of me (next_number shape log)) op)
 
--- the issue front that the awaited request will have, by the log before the call: what is seen by then, or, where it is the outstanding one,
--- the one that the log has
+-- the issue front that the awaited request will have, by the log before the call: what is seen by then, or, if the request is the outstanding one,
+-- the issue front that it has in the log
 abbrev pub front_beside : Shape → Option SignedRequest → ℕ → List Entry → Option ℕ
 front_beside shape None number log = Some (seen shape log)
 front_beside shape (Some ask) number log = issue_front shape number log
 
--- the request was not begun: nothing is outstanding, as in the older log, nothing more was accepted or seen, and no replica was asked for
--- a request of this number
+-- the request was not begun: nothing is outstanding, as in the older log, nothing more was accepted or seen, and no replica was asked for a
+-- request with this number
 pub record IsUnbegun (shape : Shape) (number : ℕ) (older log : List Entry) : Type 0 where
   pub was : outstanding shape older ≡ None
   pub none : outstanding shape log ≡ None
@@ -49,7 +50,8 @@ pub record IsUnbegun (shape : Shape) (number : ℕ) (older log : List Entry) : T
   pub first : issue_front shape number older ≡ None
   pub unissued : issue_front shape number log ≡ None
 
--- the request was posted to a replica, first after the older log, where it was not outstanding there; and its issue front is as foreseen
+-- the client posted the request to a replica, first after the older log if nothing was outstanding there; and its issue front is as foreseen by
+-- the older log
 pub record WasBegun (shape : Shape) (ask : SignedRequest) (older log : List Entry) : Type 0 where
   pub replica : ℕ
   pub posted : In (Post (Replica replica) (Ask ask)) log
@@ -68,35 +70,35 @@ pub record IsBegun (shape : Shape) (ask : SignedRequest) (older log : List Entry
 abbrev pub IsAwaited : Shape → SignedRequest → List Entry → List Entry → Type 0
 IsAwaited shape ask older log = IsUnbegun shape ask.request.number older log ⊎ IsBegun shape ask older log
 
--- the request is answered by this reply, of its number: that is the one reply more that was accepted, and nothing is outstanding
+-- the request is answered by this reply, which has its number: this is the one reply more that was accepted, and nothing is outstanding
 pub record IsAnswered (shape : Shape) (ask : SignedRequest) (older log : List Entry) (reply : AReply) : Type 0 where
   pub begun : WasBegun shape ask older log
   pub last : accepted shape log ≡ reply ∷ accepted shape older
   pub done : outstanding shape log ≡ None
   pub number : reply.number ≡ ask.request.number
 
--- a turn at a replica, by which a call for this request adds an entry: it asks for it, or takes
+-- an entry that a call for this request adds in a turn at a replica: the client asks the replica for the request, or takes from it
 abbrev pub IsTurn : SignedRequest → Entry → Type 0
 IsTurn ask (Post (Replica q) envelope) = envelope ≡ Ask ask
 IsTurn ask (Post (Client c) envelope) = ⊥
 IsTurn ask (Take (Replica p) envelope) = Unit {0}
 IsTurn ask (Take (Client c) envelope) = ⊥
 
--- the log is the older one with entries of such turns alone
+-- the log is the older one with newer entries, each from such a turn
 pub record IsByTurns (ask : SignedRequest) (older log : List Entry) : Type 0 where
   pub newer : List Entry
   pub is : log ≡ newer ++ older
   pub each : (entry : Entry) → In entry newer → IsTurn ask entry
 
--- what the call waits for, by the old seat and the operation, is not answered in the new seat
+-- the request that the call waits for, by the old seat and the operation, is not answered in the new seat
 abbrev pub Awaits : Pass → Option Op → Pass → Type 0
 Awaits old op new = (ask : SignedRequest) → awaited old.shape (number_of old.actor) old.log op ≡ Some ask → IsAwaited old.shape ask old.log new.log
 
--- all that is newer in the new seat's log are turns for it
+-- every newer entry in the new seat's log is from a turn for that request
 abbrev pub AddsTurns : Pass → Option Op → Pass → Type 0
 AddsTurns old op new = (ask : SignedRequest) → awaited old.shape (number_of old.actor) old.log op ≡ Some ask → IsByTurns ask old.log new.log
 
--- it is answered there by this reply
+-- that request is answered in the new seat by this reply
 abbrev pub Answers : Pass → Option Op → Pass → AReply → Type 0
 Answers old op new reply = (ask : SignedRequest) → awaited old.shape (number_of old.actor) old.log op ≡ Some ask
     → IsAnswered old.shape ask old.log new.log reply

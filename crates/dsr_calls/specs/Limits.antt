@@ -9,7 +9,7 @@ use Rattle.dsr_node.specs.Conduct.{post_of}
 use Rattle.dsr_boxes.specs.Pass.{Pass}
 use Rattle.dsr_mail.specs.Refusals.{post_refused}
 
--- a counter is at its limit: a post that is due would pass it, and the seat's own log refuses that post for it
+-- a counter is at its limit: a due post would pass the limit, and the seat's own log refuses that post for this reason
 pub record IsExhausted (seat : Pass) : Type 0 where
   pub to : Actor
   pub pick : Pick
@@ -17,6 +17,6 @@ pub record IsExhausted (seat : Pass) : Type 0 where
   pub due : post_of seat.shape seat.log seat.actor to pick ≡ Some envelope
   pub past : post_refused seat.shape seat.actor seat.log to pick ≡ Some Exhausted
 
--- what ends a call: a counter is at its limit, the turns ran out, or memory did
+-- what ends a call: a counter is at its limit, the turns ran out, or memory ran out
 abbrev pub CallRefusal : Pass → Refusal → Type 0
 CallRefusal seat refusal = ((refusal ≡ Exhausted) × IsExhausted seat) ⊎ ((refusal ≡ Unanswered) ⊎ (refusal ≡ NoMemory))

@@ -14,12 +14,11 @@ use dsr_request::Op;
 use std::alloc::Global;
 use std::thread;
 
-/// Asks for an operation, and returns the reply that the client accepts to it. It goes through the replicas again and again, from replica 0
-/// on: of each one turn goes to a post, but for a replica that was asked already, and one to a take. A turn adds its entry to the log, or
-/// nothing. The first post that succeeds begins the request. `Busy` exactly where a request is outstanding: then nothing changed.
-/// `Unanswered` where the turns ran out: the request may have begun, and then it is outstanding, for `go_on`. `Exhausted` where a
-/// counter of the client would pass its limit; `NoMemory`. After each of them nothing more is accepted than before. Requires a seat of
-/// this mail.
+/// Asks for the operation `op`, and returns the reply that the client accepts to it. It goes through the replicas again and again, from replica 0 on:
+/// at each replica one turn goes to a post, unless that replica was asked already, and one to a take. A turn adds its entry to the log, or nothing.
+/// The first post that succeeds begins the request. `Busy` if and only if a request is outstanding: then nothing is changed. `Unanswered` if the
+/// `turns` run out: the request may have begun, and then it is outstanding, for `go_on`. `Exhausted` if a counter of the client would pass its limit;
+/// `NoMemory` if memory runs out. After each of these refusals nothing more is accepted than before. Requires a seat of this mail.
 pub fn ask(
     alloc: Global,
     mail: &Mail,
@@ -47,9 +46,9 @@ pub fn ask(
     go_round(alloc, mail, seat, &Some(op), turns)
 }
 
-/// Goes on with the outstanding request, and returns the reply that the client accepts to it. It goes through the replicas as `ask` does.
-/// `NotDue` exactly where nothing is outstanding: then nothing changed. `Unanswered` where the turns ran out; `Exhausted` where a counter of
-/// the client would pass its limit; `NoMemory`. After each of them nothing more is accepted than before. Requires a seat of this mail.
+/// Goes on with the outstanding request, and returns the reply that the client accepts to it. It goes through the replicas as `ask` does. `NotDue` if
+/// and only if nothing is outstanding: then nothing is changed. `Unanswered` if the `turns` run out; `Exhausted` if a counter of the client would
+/// pass its limit; `NoMemory` if memory runs out. After each of these refusals nothing more is accepted than before. Requires a seat of this mail.
 pub fn go_on(
     alloc: Global,
     mail: &Mail,
@@ -74,8 +73,8 @@ pub fn go_on(
     go_round(alloc, mail, seat, &None, turns)
 }
 
-/// Goes through the replicas again and again until a reply is accepted, or the turns ran out. Requires a seat of this mail, and a request to
-/// wait for: the outstanding one, or a new one of the operation.
+/// Goes through the replicas again and again until a reply is accepted, the `turns` run out, or a turn is refused. Requires a seat of this mail, and
+/// a request to wait for: the outstanding one, or a new one for the operation `op`.
 fn go_round(
     alloc: Global,
     mail: &Mail,
@@ -111,7 +110,7 @@ fn go_round(
     Err(Refusal::Unanswered)
 }
 
-/// The number of the replica after this one. After the last it is replica 0, and others may run first.
+/// Returns the number of the replica after this one. After the last it returns 0, and lets other threads run first.
 fn next_after(number: u8, n: u8) -> u8
     requires { number < n }
     ensures next { result ≡ (if suc number == n then 0 else suc number) }

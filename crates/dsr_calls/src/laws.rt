@@ -1,4 +1,4 @@
-//! The laws of what calls wait for, as the contracts of functions that do nothing.
+//! Laws about what calls wait for, as the contracts of functions that do nothing.
 
 ghost use Rattle.std.specs.Prelude.{◌≡◌, ℕ, List, Option, Some};
 ghost use Rattle.dsr_names.specs.Shape.{Shape};
@@ -8,9 +8,9 @@ ghost use Rattle.dsr_chain.specs.declared.signed_request.SignedRequest.{SignedRe
 ghost use Rattle.dsr_envelope.specs.declared.entry.Entry.{Entry};
 ghost use Rattle.dsr_calls.specs.Calls.{awaited, IsBegun, IsAwaited, IsAnswered};
 
-/// Calls that follow each other are as one: a request that is not answered between them is after both what it is after the second.
-/// So a call that is refused can be made again, and the reply to that answers what the first one waited for. Until then the same is awaited: of
-/// `ask` with the same operation, and, once the request is begun, of `go_on`.
+/// Calls that follow each other act like one call: if a request is not answered between two calls, what is true of it after the second call is
+/// true after both together. So a call that is refused can be made again, and the reply to the second call answers what the first call waited for.
+/// Until then the calls wait for the same request: `ask` with the same operation, and, once the request is begun, `go_on`.
 pub fn calls_follow_each_other()
     ensures awaited { (shape : Shape) (ask : SignedRequest) (older log later : List Entry) → IsAwaited shape ask older log
         → IsAwaited shape ask log later → IsAwaited shape ask older later }

@@ -1,4 +1,4 @@
-//! The calls of a client at a mail that go on until it has a reply: it asks the replicas in turn, and takes from each what it replies.
+//! Calls in which a client waits at a mail for a reply: it asks the replicas in turn, and takes what each of them replies.
 #![tactic(auto)]
 
 mod calls;

@@ -17,8 +17,9 @@ use dsr_names::{Actor, Refusal, ReplicaId};
 use dsr_request::Op;
 use std::alloc::Global;
 
-/// The turns at one replica: it is asked, unless it was already, and what it posted is taken, if a turn is left for it. Returns the reply
-/// that is accepted by that. Requires a seat of this mail, a replica of the shape, a request to wait for, and a turn.
+/// Makes the turns at one replica: asks it, unless it was asked already, and takes what it posted, if a turn is left. Returns the reply
+/// accepted by that take, if any. A box found full or empty uses up its turn. The refusals are those of `CallRefusal`. Requires a seat of
+/// this mail, a replica of the shape, a request to wait for, and a turn.
 pub(crate) fn visit(
     alloc: Global,
     mail: &Mail,
@@ -87,7 +88,8 @@ fn post_turn(
     }
 }
 
-/// The choice that asks for what is awaited: the plain one where a request is outstanding, else to begin one of the operation.
+/// Returns the choice that asks for the awaited request: `Plain` if a request is outstanding, else to begin one for the operation, if
+/// there is one.
 fn choice(seat: &ClientSeat, op: &Option<Op>) -> Pick
     ensures { result ≡ pick_beside (outstanding seat.now.shape seat.now.log) op.now }
 {
@@ -100,7 +102,7 @@ fn choice(seat: &ClientSeat, op: &Option<Op>) -> Pick
     }
 }
 
-/// Takes from the replica, if a turn is left, and returns the reply that is accepted by that. An empty box uses up the turn.
+/// Takes from the replica, if a turn is left, and returns the reply accepted by that take, if any. An empty box uses up the turn.
 fn take_turn(
     mail: &Mail,
     seat: &mut ClientSeat,
