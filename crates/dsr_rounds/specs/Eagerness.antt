@@ -11,7 +11,7 @@ use Rattle.dsr_node.specs.Conduct.{post_of, is_exhausted}
 use Rattle.dsr_run.specs.Eager.{is_waiting, ProposesNext, IsEager}
 use Rattle.dsr_boxes.specs.Pass.{Pass, with_entry}
 
--- in what the later seat's log has more than the earlier one's, the replica was eager
+-- the replica was eager in the entries that the later seat's log has and the earlier seat's log has not
 abbrev pub WasEager : Pass → Pass → Type 0
 WasEager later earlier = (added : List Entry) × (later.log ≡ added ++ earlier.log) × IsEager earlier.shape earlier.actor earlier.log added
 
@@ -20,17 +20,17 @@ abbrev pub IsEagerPost : Pass → ℕ → Envelope → Type 0
 IsEagerPost seat zero envelope = ProposesNext seat.shape seat.actor seat.log envelope
 IsEagerPost seat (suc q) envelope = Unit {0}
 
--- each post that this choice gives is eager, below the limit of rounds
+-- each post that this choice gives is eager, if the closed rounds are below their limit
 abbrev pub IsEagerPick : Pass → ℕ → Pick → Type 0
 IsEagerPick seat to pick = is_exhausted seat.shape seat.log seat.actor (Replica to) pick ≡ false → (envelope : Envelope)
     → post_of seat.shape seat.log seat.actor (Replica to) pick ≡ Some envelope → IsEagerPost seat to envelope
 
--- a post was made, the one that this choice gives, and below the limit of rounds
+-- the post that this choice gives was made, and it is within the limits
 abbrev pub HasPosted : Pass → Pass → Actor → Pick → Type 0
 HasPosted old new to pick = (envelope : Envelope) × (post_of old.shape old.log old.actor to pick ≡ Some envelope)
     × (new ≡ with_entry old (Post to envelope)) × (is_exhausted old.shape old.log old.actor to pick ≡ false)
 
--- what came of a try to post by a choice: the post was made; or the box was in the way, and nothing changed
+-- the outcome of a try to post by a choice: true, the post was made; false, the box was in the way, and nothing changed
 abbrev pub HasTriedPost : Pass → Pass → Actor → Pick → Bool → Type 0
 HasTriedPost old new to pick true = HasPosted old new to pick
 HasTriedPost old new to pick false = new ≡ old

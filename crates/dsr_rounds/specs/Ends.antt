@@ -14,12 +14,12 @@ use Rattle.dsr_rounds.specs.declared.end.End.TheVariants.{Told, Fault}
 abbrev pub turn_after : ℕ → ℕ
 turn_after turn = if nat_lt turn (2 ^ 40 - 1) then suc turn else turn
 
--- what ends a host before a try: it was told, which happens in a service alone; or the gate refused it, which it may refuse
+-- what ends a host before a try: it was told to stop, which happens in a service alone; or the gate refused it, which this gate may do
 abbrev pub IsPassEnd : (Actor → Type 0) → Bool → Actor → End → Type 0
 IsPassEnd may serves actor Told = serves ≡ true
 IsPassEnd may serves actor (Fault refusal) = (refusal ≡ Stopped) × may actor
 
--- what a host is refused with: a next post of its seat is past a limit, its gate may refuse it, or memory ran out
+-- why a host is refused: a next post of its seat is past a limit, its gate may refuse it, or memory ran out
 abbrev pub HostRefusal : (Actor → Type 0) → Pass → Refusal → Type 0
 HostRefusal may seat Exhausted = IsAtLimit seat
 HostRefusal may seat Stopped = may seat.actor
@@ -41,17 +41,17 @@ HostRefusal may seat ReadFailed = ⊥
 HostRefusal may seat WriteFailed = ⊥
 HostRefusal may seat NoThread = ⊥
 
--- why a host ends: it was told, in a service, or it was refused
+-- why a host ends: it was told to stop, in a service, or it was refused
 abbrev pub HostEnd : (Actor → Type 0) → Bool → Pass → End → Type 0
 HostEnd may serves seat Told = serves ≡ true
 HostEnd may serves seat (Fault refusal) = HostRefusal may seat refusal
 
--- what came of a try: it was made, with such an entry; or the box was in the way, and nothing changed
+-- the outcome of a try: true, it was made, with such an entry; false, the box was in the way, and nothing changed
 abbrev pub HasTried : (Envelope → Entry) → Pass → Pass → Bool → Type 0
 HasTried entry old new true = (x : Envelope) × (new ≡ with_entry old (entry x))
 HasTried entry old new false = new ≡ old
 
--- what came of a try: it was made, or the box was in the way, or it was refused with what ends the host
+-- the outcome of a try, from what the seat returned: it was made, or the box was in the way, or it was refused with what ends the host
 abbrev pub IsTried : Result (Unit {0}) Refusal → Result Bool End → Type 0
 IsTried tried (Ok true) = tried ≡ Ok tt
 IsTried tried (Ok false) = (tried ≡ Err BoxFull) ⊎ (tried ≡ Err BoxEmpty)

@@ -7,12 +7,12 @@ use Rattle.dsr_boxes.specs.Pass.{Pass}
 use Rattle.dsr_mail.specs.Refusals.{plant_refused}
 use Rattle.dsr_calls.specs.Limits.{IsExhausted}
 
--- a traitor's box to some actor has had all its posts, and its own log refuses any post there
+-- the traitor's box to some actor has had all its posts, and the traitor's own log refuses any post there
 pub record IsSpent (seat : Pass) : Type 0 where
   pub to : Actor
   pub past : plant_refused seat.shape seat.log to ≡ Some Exhausted
 
--- the next post of the actor is past a limit: a loyal actor's that is due, or any of a traitor
+-- the next post of the actor is past a limit: a due post of a loyal actor, or any post of a traitor to some actor
 abbrev pub IsAtLimit : Pass → Type 0
 IsAtLimit seat =
     ((is_traitor_of seat.shape seat.actor ≡ false) × IsExhausted seat) ⊎ ((is_traitor_of seat.shape seat.actor ≡ true) × IsSpent seat)

@@ -17,16 +17,17 @@ use Rattle.dsr_run.specs.Eager.{IsEager}
 use Rattle.dsr_boxes.specs.Pass.{Pass}
 use Rattle.dsr_mail.specs.Serving.{IsUnanswered}
 
--- so many more rounds are closed in the later log
+-- `count` more rounds are closed in the later log
 abbrev pub HasClosed : Pass → Pass → ℕ → Type 0
 HasClosed earlier later count = rounds later.shape later.log ≡ rounds earlier.shape earlier.log + count
 
--- the client is owed its reply: something was taken of it since it was answered, and the request that is held of it is the one that the reply is for
+-- the replica owes the client a reply: it has taken something from the client since it last posted to it, and the client's pending request is the one
+-- that the reply is for
 abbrev pub IsOwed : Shape → List Entry → ℕ → Type 0
 IsOwed shape log c = IsUnanswered c log × (request : Request) × (reply : AReply) × (option_map (λ ask. ask.request) (held shape c log) ≡ Some request)
     × (reply_to shape log c ≡ Some (Reply reply)) × (request.number ≡ reply.number)
 
--- each post to a client among what was added to a log is to one that was owed its reply then
+-- among the entries added to a log, each post to a client went to one then owed its reply
 abbrev pub AreOwed : Shape → List Entry → List Entry → Type 0
 AreOwed shape base [] = Unit {0}
 AreOwed shape base (Post (Client c) envelope ∷ added) = AreOwed shape base added × IsOwed shape (added ++ base) c
@@ -52,13 +53,13 @@ pub record DoesDuty (later earlier : Pass) : Type 0 where
   pub owed : AreOwed earlier.shape earlier.log added
   pub eager : IsEager earlier.shape earlier.actor earlier.log added
 
--- the same, and nothing between replicas was done
+-- the same, and the round between replicas has not moved on: the same post or take is due, and as many rounds are closed
 pub record KeepsRound (later earlier : Pass) : Type 0 where
   pub duty : DoesDuty later earlier
   pub due : due later.shape later.log ≡ due earlier.shape earlier.log
   pub rounds : rounds later.shape later.log ≡ rounds earlier.shape earlier.log
 
--- the next post of the round is to replica q; or all are made, and q is n
+-- the next post of the round is to replica q; or all posts are made, and q is n
 abbrev pub IsAtPost : ℕ → ℕ → Due → Type 0
 IsAtPost n q (PostTo to) = (to ≡ q) × (q < n)
 IsAtPost n q (TakeFrom from) = q ≡ n
@@ -68,7 +69,7 @@ abbrev pub IsTaking : Due → Type 0
 IsTaking (PostTo to) = ⊥
 IsTaking (TakeFrom from) = Unit {0}
 
--- the next take is from replica p, with so many rounds closed; or all takes of the round are made, p is n, and one more round is closed
+-- the next take is from replica p, with this many rounds closed; or all takes of the round are made, p is n, and one more round is closed
 abbrev pub IsAtTake : Pass → ℕ → ℕ → ℕ → Type 0
 IsAtTake seat n p closed =
     ((p < n) × (due seat.shape seat.log ≡ TakeFrom p) × (rounds seat.shape seat.log ≡ closed))

@@ -16,7 +16,7 @@ use Rattle.dsr_rounds.specs.declared.traitor.Planting.{Planting}
 abbrev pub TriesTake : (Actor → ℕ → Type 0) → ℕ → Pass → Pass → ℕ → ℕ → Type 0
 TriesTake may c old new now next = may old.actor now × (next ≡ turn_after now) × ((made : Bool) × HasTried (Take (Client c)) old new made)
 
--- one such try went to each of the clients below this one, in their order
+-- one such try went to each of the clients below number c, in their order
 abbrev pub TriesTakes : (Actor → ℕ → Type 0) → ℕ → Pass → Pass → ℕ → ℕ → Type 0
 TriesTakes may zero old new now next = (new ≡ old) × (next ≡ now)
 TriesTakes may (suc c) old new now next = (mid : Pass) × (turn : ℕ) × TriesTakes may c old mid now turn × TriesTake may c mid new turn next
@@ -28,7 +28,7 @@ TriesPost may script round c old new now next =
     ⊎ ((draft : Envelope) × (draft_at script (place_of (number_of old.actor) round (Client c)) ≡ Some draft) × may old.actor now
     × (next ≡ turn_after now) × ((planting : Planting) × HasPlanted old new (Client c) draft planting))
 
--- that is so for each of the clients below this one, in their order
+-- the same is true of each of the clients below number c, in their order
 abbrev pub TriesPosts : (Actor → ℕ → Type 0) → Script → ℕ → ℕ → Pass → Pass → ℕ → ℕ → Type 0
 TriesPosts may script round zero old new now next = (new ≡ old) × (next ≡ now)
 TriesPosts may script round (suc c) old new now next = (mid : Pass) × (turn : ℕ) × TriesPosts may script round c old mid now turn

@@ -5,6 +5,6 @@ use dsr_names::Refusal;
 pub enum End {
     /// It was told to stop.
     Told,
-    /// It was refused something: by its gate, by a limit of its log, or for want of memory.
+    /// It was refused something: by its gate, by a limit of its log, or because memory ran out.
     Fault(Refusal),
 }

@@ -1,4 +1,5 @@
-//! The hosts of replicas and traitors: what each does round by round at its seat, waiting for the others.
+//! The hosts of replicas and traitors: loops in which each does its work at its seat, round by round, and
+//! waits for the others.
 #![tactic(auto)]
 
 mod alone;

@@ -31,15 +31,16 @@ use std::thread;
 /// milliseconds.
 const IDLE_YIELDS: u32 = 1;
 
-/// How often one does that has not answered all.
+/// How often a replica that has not answered all clients lets others run then.
 const BUSY_YIELDS: u32 = 4;
 
-/// How often an idle replica looks for mail after that: some microseconds.
+/// How often a replica that has answered all clients looks for mail after that: some microseconds.
 const IDLE_LOOKS: u32 = 64;
 
 impl<'a, R: Wait, G: Gate> Host<'a, R, G> {
-    /// Has the replica make so many rounds: in each it takes once from each client, posts to all replicas, takes from all, and posts once to each
-    /// client that is owed its reply. A round that was begun before is the first.
+    /// Makes `rounds` rounds of the replica: in each it takes once from each client, posts to all replicas, takes from all replicas, and posts once
+    /// to each client to which it owes a reply. If a round is begun already, it is the first of them. `Err` if the host is told to stop or refused
+    /// before that; what it did until then stays in the seat's log. Requires a seat of the host's mail.
     pub fn run_replica(&self, seat: &mut ReplicaSeat, rounds: u64) -> Result<(), End>
         requires mail { IsPassOf self.now.mail.now seat.old }
         ensures closed { OnOk result (HasClosed seat.old seat.new rounds) }
@@ -57,7 +58,7 @@ impl<'a, R: Wait, G: Gate> Host<'a, R, G> {
         Ok(())
     }
 
-    /// One round.
+    /// Makes one round, or what is left of the one that is begun.
     fn make_round(&self, seat: &mut ReplicaSeat, turn: &mut Turn, ring: &Ring) -> Result<(), End>
         requires mail { IsPassOf self.now.mail.now seat.old }
         requires ring { ring.now ≡ seat.old.shape.m }
@@ -73,8 +74,8 @@ impl<'a, R: Wait, G: Gate> Host<'a, R, G> {
         self.answer_clients(seat, turn)
     }
 
-    /// Lets others run first while no mail comes: for a moment where all clients are answered, and so slow clients have more time until the rounds of
-    /// a host are used up; a few times where some are not, and so more of their requests come into one slot.
+    /// Lets others run first while no mail comes: for a moment if all clients are answered, so that slow clients have more time until the rounds of a
+    /// host are used up; a few times if some are not, so that more of their requests come into one slot.
     fn rest_without_mail(&self, seat: &ReplicaSeat, ring: &Ring)
         requires mail { IsPassOf self.now.mail.now seat.now }
     {
@@ -153,7 +154,7 @@ impl<'a, R: Wait, G: Gate> Host<'a, R, G> {
         Ok(())
     }
 
-    /// Makes the post to a replica that is due.
+    /// Makes the due post, which is to the replica `to`.
     fn post_next(
         &self,
         seat: &mut ReplicaSeat,
@@ -174,7 +175,7 @@ impl<'a, R: Wait, G: Gate> Host<'a, R, G> {
         self.post_to(seat, turn, to, &pick)
     }
 
-    /// Posts to a replica by a choice, as soon as the box is empty. The choice must be one by which it may post there.
+    /// Posts to the replica `to` by the choice `pick`, as soon as the box is empty. Requires that the choice gives a post there.
     fn post_to(
         &self,
         seat: &mut ReplicaSeat,
@@ -217,7 +218,7 @@ impl<'a, R: Wait, G: Gate> Host<'a, R, G> {
         Ok(())
     }
 
-    /// Takes from a replica, as soon as there is something in the box. The take must be due.
+    /// Takes from the replica `from`, as soon as the box is full. Requires that the take is due.
     fn take_from(&self, seat: &mut ReplicaSeat, turn: &mut Turn, from: ReplicaId) -> Result<(), End>
         requires mail { IsPassOf self.now.mail.now seat.old }
         requires inside { from < seat.old.shape.n }
@@ -238,7 +239,7 @@ impl<'a, R: Wait, G: Gate> Host<'a, R, G> {
         unreachable!()
     }
 
-    /// Posts once to each client that is owed its reply.
+    /// Tries once to post to each client to which it owes a reply.
     fn answer_clients(&self, seat: &mut ReplicaSeat, turn: &mut Turn) -> Result<(), End>
         requires mail { IsPassOf self.now.mail.now seat.old }
         ensures kept { KeepsRound seat.new seat.old }
@@ -251,7 +252,7 @@ impl<'a, R: Wait, G: Gate> Host<'a, R, G> {
         Ok(())
     }
 
-    /// Posts once to a client, if it is owed its reply. A post for which the box is full is made again after the next round.
+    /// Tries once to post to a client, if it owes it a reply. If the box is full, it tries again after the next round.
     fn answer_client(
         &self,
         seat: &mut ReplicaSeat,
@@ -274,7 +275,8 @@ impl<'a, R: Wait, G: Gate> Host<'a, R, G> {
         Ok(())
     }
 
-    /// Asks whether to go on, and tries to post to an actor by a choice. The choice must be one by which the replica may post there.
+    /// Asks whether to go on, and tries to post to `to` by the choice `pick`. Returns false if the box is not empty. Requires that the choice gives a
+    /// post there.
     fn try_post(
         &self,
         seat: &mut ReplicaSeat,
@@ -298,7 +300,7 @@ impl<'a, R: Wait, G: Gate> Host<'a, R, G> {
         was_made(seat.try_post(self.alloc, self.mail, *to, *pick))
     }
 
-    /// Asks whether to go on, and tries to take from an actor. A take from a replica must be due.
+    /// Asks whether to go on, and tries to take from `from`. Returns false if the box is not full. Requires that a take from a replica is due.
     fn try_take(&self, seat: &mut ReplicaSeat, turn: &mut Turn, from: &Actor) -> Result<bool, End>
         requires mail { IsPassOf self.now.mail.now seat.old }
         requires inside { IsActor seat.old.shape from.now }
@@ -317,7 +319,7 @@ impl<'a, R: Wait, G: Gate> Host<'a, R, G> {
     }
 }
 
-/// The choice for the post to a replica that is due.
+/// Returns the choice for the due post, which is to the replica `to`.
 fn choice(seat: &ReplicaSeat, ring: &Ring, to: ReplicaId) -> Pick
     requires due { due seat.now.shape seat.now.log ≡ PostTo to }
     requires ring { ring.now ≡ seat.now.shape.m }
@@ -327,13 +329,13 @@ fn choice(seat: &ReplicaSeat, ring: &Ring, to: ReplicaId) -> Pick
     if to.number() == 0 {
         return ring.proposal(seat);
     }
-    // For the proof: that it is a replica, whose conduct has a post.
+    // For the proof: that it is a replica, whose protocol has a post.
     let _replica = seat.replica();
     let _due = seat.due();
     Pick::Plain
 }
 
-/// The number of the replica to which the next post of the round is; the number of replicas where all are made.
+/// Returns the number of the replica to which the next post of the round is due, or the number of replicas if all posts are made.
 fn next_post(seat: &ReplicaSeat, shape: &Shape) -> u8
     requires { shape.now ≡ seat.now.shape }
     ensures { IsAtPost seat.now.shape.n result (due seat.now.shape seat.now.log) }

@@ -1,5 +1,5 @@
-//! Whose requests a replica proposes next, and to whom it owes a reply. Both go by what its seat knows, so that a call goes on where the one before
-//! it ended.
+//! Whose requests a replica proposes next, and to whom it owes a reply. Both depend only on what its seat knows, so that a call goes on from the point at
+//! which the call before it ended.
 
 ghost use Rattle.std.specs.Prelude.{◌≡◌, ◌↔◌, ◌⊎◌, ◌<◌, ◌≤◌, [], false, length, Some, IsSome, IfSome, IsTrue};
 ghost use Rattle.std.specs.Option.{option_map};
@@ -28,7 +28,7 @@ const MOST_PICKED: usize = 8;
 /// The clients of a replica, in a ring.
 #[derive(Drop)]
 pub(crate) struct Ring {
-    /// How many there are.
+    /// The number of clients.
     clients: u8,
 }
 
@@ -43,7 +43,7 @@ impl Model for Ring {
 }
 
 impl Ring {
-    /// That of so many clients, at least one and at most 32.
+    /// Makes a ring of `clients` clients, 1 to 32.
     pub(crate) fn of(clients: u8) -> Ring
         requires some { 0 < clients }
         requires few { clients ≤ 32 }
@@ -52,7 +52,7 @@ impl Ring {
         Ring { clients }
     }
 
-    /// Whether each client was answered since something of it was taken.
+    /// Returns whether each client was answered since the last take from it.
     pub(crate) fn is_answered(&self, seat: &ReplicaSeat) -> bool {
         for number in 0..self.clients {
             if let Ok(client) = ClientId::new(number) {
@@ -64,15 +64,15 @@ impl Ring {
         true
     }
 
-    /// The choice for the post to replica 0, which must be due: the first 8 clients in the ring whose held requests would act, where the slot is
-    /// the replica's own and there are any; else nothing in particular. The ring begins after the client that was proposed last.
+    /// Returns the choice for the post to replica 0, which must be due: the first 8 clients in the ring whose pending requests would act, if there
+    /// are any and the slot is the replica's own; else nothing in particular. The ring begins after the client that was proposed last.
     pub(crate) fn proposal(&self, seat: &ReplicaSeat) -> Pick
         requires due { due seat.now.shape seat.now.log ≡ PostTo 0 }
         requires ring { self.now ≡ seat.now.shape.m }
         ensures given { IsSome (post_of seat.now.shape seat.now.log seat.now.actor (Replica 0) result) }
         ensures eager { IsEagerPick seat.now 0 result }
     {
-        // For the proof: that it is a replica, whose conduct has a post.
+        // For the proof: that it is a replica, whose protocol has a post.
         let _replica = seat.replica();
         let _due = seat.due();
         let Some(clients) = self.waiting(seat).clients() else {
@@ -85,7 +85,7 @@ impl Ring {
         pick
     }
 
-    /// The first 8 clients in the ring whose held requests would act.
+    /// Returns the first 8 clients in the ring whose pending requests would act.
     fn waiting(&self, seat: &ReplicaSeat) -> Waiting
         requires ring { self.now ≡ seat.now.shape.m }
         ensures next { result ≡ next_proposed seat.now.shape seat.now.log }
@@ -100,7 +100,7 @@ impl Ring {
         waiting
     }
 
-    /// The number of the client with which the ring begins: the one after the last that was picked, at first client 0.
+    /// Returns the number of the client with which the ring begins: the one after the client that was picked last, at first client 0.
     fn first(&self, seat: &ReplicaSeat) -> u8
         ensures first { result ≡ first_in_turn self.now (last_proposed seat.now.shape seat.now.log) }
         ensures inside { result < self.now }
@@ -113,7 +113,7 @@ impl Ring {
         }
     }
 
-    /// The number of the next client in the ring.
+    /// Returns the number of the next client in the ring.
     fn after(&self, number: u8) -> u8
         ensures next { result ≡ next_client self.now number }
         ensures inside { result < self.now }
@@ -145,7 +145,7 @@ impl Model for Waiting {
 }
 
 impl Waiting {
-    /// No clients.
+    /// Makes an empty list.
     fn none() -> Waiting
         ensures { result ≡ [] }
     {
@@ -155,7 +155,7 @@ impl Waiting {
         }
     }
 
-    /// Adds the client if the request that is held of it would act, and there is room.
+    /// Adds the client if its pending request would act and there is room.
     fn add_if_held(&mut self, seat: &ReplicaSeat, client: ClientId)
         ensures added { self.new ≡ with_waiting seat.now.shape seat.now.log client self.old }
         ensures few { length self.new ≤ 8 }
@@ -166,7 +166,7 @@ impl Waiting {
         }
     }
 
-    /// The clients, if there are any, and all are different.
+    /// Returns the clients, if there are any and all are different.
     fn clients(&self) -> Option<Clients>
         ensures some { IfSome result (λ list. list ≡ self.now) }
         ensures when { IsSome result ↔ IsClients self.now }
@@ -175,8 +175,8 @@ impl Waiting {
     }
 }
 
-/// Whether the client is owed its reply: it was not answered since something of it was taken, and the request that is held of it is the one that the
-/// reply is for.
+/// Returns whether the replica owes the client a reply: it has not answered the client since the last take from it, and the client's pending request
+/// is the one that the reply is for.
 pub(crate) fn owes(seat: &ReplicaSeat, client: ClientId) -> bool
     ensures owed { IsTrue result ↔ IsOwed seat.now.shape seat.now.log client }
     ensures reply { IsTrue result → IsSome (reply_to seat.now.shape seat.now.log client) }
@@ -190,7 +190,7 @@ pub(crate) fn owes(seat: &ReplicaSeat, client: ClientId) -> bool
     }
 }
 
-/// Whether the request that is held of the client would act: its number is above that of the last that did.
+/// Returns whether the client's pending request would act: its number is above that of the client's last request that acted.
 fn acts(seat: &ReplicaSeat, client: ClientId) -> bool
     ensures { result ≡ is_waiting seat.now.shape seat.now.log client }
 {
@@ -201,7 +201,7 @@ fn acts(seat: &ReplicaSeat, client: ClientId) -> bool
     }
 }
 
-/// The number of the client's last request that acted, if one did.
+/// Returns the number of the client's last request that acted, if one did.
 fn replied_number(seat: &ReplicaSeat, client: ClientId) -> Option<u64>
     ensures last { result ≡ option_map (λ (r : AReply). r.number) (reply (decided_requests seat.now.shape seat.now.log) client) }
     ensures some { IsSome result → IsSome (reply_to seat.now.shape seat.now.log client) }
@@ -214,7 +214,7 @@ fn replied_number(seat: &ReplicaSeat, client: ClientId) -> Option<u64>
     }
 }
 
-/// Whether the replica may post to replica 0 by this choice, which the round must be below 2^36 for.
+/// Returns whether the replica may post to replica 0 by this choice, for which fewer than 2^36 rounds must be closed.
 fn is_allowed(seat: &ReplicaSeat, pick: &Pick) -> bool
     ensures { IsTrue result ↔ (IsSome (post_of seat.now.shape seat.now.log seat.now.actor (Replica 0) pick.now)
         × (is_exhausted seat.now.shape seat.now.log seat.now.actor (Replica 0) pick.now ≡ false)) }

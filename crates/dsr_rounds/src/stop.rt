@@ -4,7 +4,8 @@ use std::marker::Model;
 use std::sync::atomic::Ordering::SeqCst;
 use std::sync::atomic::{AtomicBool, AtomicU64};
 
-/// Whether the hosts of one service were told to stop, and how many of them have ended. A host that runs on its own has one that is never told.
+/// Whether the hosts of one service were told to stop, and how many of them have ended. A host that runs on its own has a `Stop` that tells it
+/// nothing.
 #[derive(Drop)]
 pub struct Stop {
     serves: bool,
@@ -12,14 +13,14 @@ pub struct Stop {
     ended: AtomicU64,
 }
 
-/// Tells that the hosts were told to stop. Only `Stop::tell` makes one.
+/// Evidence that the hosts were told to stop. Only `Stop::tell` makes one.
 #[derive(Drop)]
 pub struct Told {
     first: bool,
 }
 
 impl Told {
-    /// Whether nobody had told them before.
+    /// Returns whether nobody told them before.
     pub fn is_first(&self) -> bool
         ensures { result ≡ self.now.first }
     {
@@ -27,20 +28,20 @@ impl Told {
     }
 }
 
-/// Tells that one more host was noted to have ended. Only `Stop::note_end` makes one.
+/// Evidence that the end of one more host was noted. Only `Stop::note_end` makes one.
 #[derive(Drop)]
 pub struct Noted {
     before: u64,
 }
 
-/// How many hosts had ended when the counter was looked at. Only `Stop::ended` makes one.
+/// How many ends of hosts were noted at a look at the counter. Only `Stop::ended` makes one.
 #[derive(Drop)]
 pub struct Ended {
     count: u64,
 }
 
 impl Ended {
-    /// Whether at least this many had ended.
+    /// Returns whether at least `hosts` ends were noted.
     pub fn is_all(&self, hosts: u8) -> bool
         ensures { IsTrue result ↔ (hosts ≤ self.now.count) }
     {
@@ -51,14 +52,14 @@ impl Ended {
 impl Model for Stop {
     ghost use Rattle.std.specs.Prelude.{Bool};
 
-    // Whether it can be told.
+    // Whether it can tell hosts to stop.
     ghost Value = { Bool };
 
     ghost view = { λ s. s.serves };
 }
 
 impl Stop {
-    /// That of a host on its own, which nobody tells to stop.
+    /// Makes the `Stop` of a host on its own, which never tells it to stop.
     pub fn never() -> Stop
         ensures { result ≡ false }
     {
@@ -69,7 +70,7 @@ impl Stop {
         }
     }
 
-    /// That of the hosts of one service, which were not told yet.
+    /// Makes the `Stop` of the hosts of one service, which were not told to stop yet.
     pub fn of_service() -> Stop
         ensures { result ≡ true }
     {
@@ -87,7 +88,7 @@ impl Stop {
         }
     }
 
-    /// Whether the hosts were told to stop.
+    /// Returns whether the hosts were told to stop; false for a host on its own.
     pub fn is_told(&self) -> bool
         ensures { IsTrue result → self.now ≡ true }
     {
@@ -101,7 +102,7 @@ impl Stop {
         }
     }
 
-    /// How many hosts have ended.
+    /// Returns how many ends of hosts are noted.
     pub fn ended(&self) -> Ended {
         Ended {
             count: self.ended.load(SeqCst),

@@ -3,21 +3,22 @@ ghost use Rattle.dsr_rounds.specs.Ends.{turn_after};
 
 use dsr_names::NUMBER_END;
 
-/// The number of a host's next turn, which its gate is told.
+/// The number of a host's next turn, which the host tells its gate.
 #[derive(Drop)]
 pub struct Turn {
     number: u64,
 }
 
 impl Turn {
-    /// The first turn: 0.
+    /// Returns the first turn, number 0.
     pub fn first() -> Turn
         ensures { result.number ≡ 0 }
     {
         Turn { number: 0 }
     }
 
-    /// The turn's number. The next turn has the next number, but 2^40-1 is the last.
+    /// Returns the turn's number, and moves on to the next turn, whose number is one higher; 2^40-1
+    /// is the last number, and stays.
     pub fn count(&mut self) -> u64
         ensures now { result ≡ self.old.number }
         ensures next { self.new.number ≡ turn_after self.old.number }
