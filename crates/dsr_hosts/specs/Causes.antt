@@ -27,7 +27,7 @@ pub record HasUnserved (script : Script) (logs : Logs) : Type 0 where
   pub inside : client < logs.shape.m
   pub fewer : length (accepted_by logs.shape (logs_of logs) client) < length (ops_of script client)
 
--- the cause of a service's end, by the script and the logs that came of it: a next post of some actor is past a limit; the gate may refuse some actor;
+-- the cause of a service's end, by the script and the logs that resulted: a next post of some actor is past a limit; the gate may refuse some actor;
 -- a client was not answered, and so has not all of its replies; memory ran out; a thread could not be started
 abbrev pub CauseOf : (Actor → Type 0) → Script → Logs → Refusal → Type 0
 CauseOf may script logs Exhausted = HasPastLimit logs
@@ -50,7 +50,7 @@ CauseOf may script logs WrongRole = ⊥
 CauseOf may script logs ReadFailed = ⊥
 CauseOf may script logs WriteFailed = ⊥
 
--- why a call of a client is refused in its host: as any host; or no reply came
+-- why a client's host is refused at a call: for a reason of any host, or because no reply came
 abbrev pub ClientRefusal : (Actor → Type 0) → Pass → Refusal → Type 0
 ClientRefusal may seat refusal = HostRefusal may seat refusal ⊎ (refusal ≡ Unanswered)
 
@@ -60,7 +60,7 @@ pub record IsUnserved (script : Script) (seat : Pass) : Type 0 where
   pub is : seat.actor ≡ Client client
   pub fewer : length (accepted seat.shape seat.log) < length (ops_of script client)
 
--- why the host of a seat is refused: as any host; or as a client's where no reply came, which has not all of its replies then; or there was no thread
--- for it
+-- why the host of a seat is refused: for a reason of any host; or, at a client's seat, because no reply came, so that the client has not all of its
+-- replies; or because there was no thread for it
 abbrev pub SeatRefusal : (Actor → Type 0) → Script → Pass → Refusal → Type 0
 SeatRefusal may script seat refusal = HostRefusal may seat refusal ⊎ (((refusal ≡ Unanswered) × IsUnserved script seat) ⊎ (refusal ≡ NoThread))

@@ -20,7 +20,7 @@ use Rattle.dsr_hosts.specs.Served.{HasAll}
 abbrev pub IsServed : Script → Pass → Type 0
 IsServed script seat = HasAll seat.shape (number_of seat.actor) seat.log (ops_of script (number_of seat.actor))
 
--- why a host's work at a client's seat ended: it was told; or it was refused
+-- why a host's work at a client's seat ended: it was told to stop, or it was refused
 abbrev pub ClientEnd : (Actor → Type 0) → Pass → End → Type 0
 ClientEnd may seat Told = Unit {0}
 ClientEnd may seat (Fault refusal) = ClientRefusal may seat refusal
@@ -43,15 +43,15 @@ IsEnding may script seat None = IsDone script seat
 IsEnding may script seat (Some Told) = IsLeft script seat
 IsEnding may script seat (Some (Fault refusal)) = SeatRefusal may script (pass_of seat) refusal
 
--- a replica's seat has posted to clients only what they were owed
+-- the seat of a replica has posted to clients only what they were owed
 abbrev pub HasPostedOwed : Pass → Type 0
 HasPostedOwed seat = AreOwed seat.shape [] seat.log
 
--- a replica's seat was eager from its first entry on
+-- the seat of a replica was eager from its first entry on
 abbrev pub WasAlwaysEager : Pass → Type 0
 WasAlwaysEager seat = IsEager seat.shape seat.actor [] seat.log
 
--- a traitor's has posted only what the script says
+-- the seat of a traitor has posted only what the script says
 abbrev pub HasPostedPlanned : Script → Pass → Type 0
 HasPostedPlanned script seat = ArePlanned script seat.shape seat.actor [] seat.log
 

@@ -9,28 +9,28 @@ use Rattle.dsr_boxes.specs.Pass.{Pass}
 use Rattle.dsr_calls.specs.Calls.{number_of, IsAwaited, IsAnswered}
 use Rattle.dsr_calls.specs.Calls.{GoesOn}
 
--- the client's next request, by its log, where it is for this operation
+-- the client's next request, by its log, if it is for this operation
 abbrev pub next_ask : Pass → Op → SignedRequest
 next_ask seat op = ask_of (number_of seat.actor) (next_number seat.shape seat.log) op
 
--- the operation that the first seat was to make next is not answered
+-- the operation, to be made next at the first seat, is not answered at this seat
 abbrev pub IsOnItsWay : Op → Pass → Pass → Type 0
 IsOnItsWay op first seat = (seat ≡ first) ⊎ IsAwaited first.shape (next_ask first op) first.log seat.log
 
--- it is answered
+-- the operation, to be made next at the first seat, is answered at this seat
 abbrev pub HasMade : Op → Pass → Pass → Type 0
 HasMade op first seat = (reply : AReply) × IsAnswered first.shape (next_ask first op) first.log seat.log reply
 
--- a first seat, with nothing outstanding, of which this one goes on with the operation
+-- the first seat has nothing outstanding, this seat goes on from it, and the operation is on its way
 pub record IsMaking (op : Op) (first seat : Pass) : Type 0 where
   pub goes : GoesOn seat first
   pub idle : outstanding first.shape first.log ≡ None
   pub way : IsOnItsWay op first seat
 
--- whatever operation is on its way to the older seat is answered in the newer
+-- if the operation is on its way at the older seat, it is answered at the newer
 abbrev pub Answers : Op → Pass → Pass → Type 0
 Answers op old new = (first : Pass) → IsMaking op first old → HasMade op first new
 
--- or it is still on its way
+-- if the operation is on its way at the older seat, it is still on its way at the newer
 abbrev pub Keeps : Op → Pass → Pass → Type 0
 Keeps op old new = (first : Pass) → IsMaking op first old → IsOnItsWay op first new

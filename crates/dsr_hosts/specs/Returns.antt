@@ -11,7 +11,7 @@ use Rattle.dsr_hosts.specs.Causes.{IsUnserved, SeatRefusal}
 use Rattle.dsr_hosts.specs.Hosted.{IsServed, HasPostedOwed, WasAlwaysEager, HasPostedPlanned}
 use Rattle.dsr_hosts.specs.Seats.{AreAgain, SameRoom, all_of}
 
--- the host of one of the seats was refused with this
+-- the host of one of the seats was refused with this refusal
 abbrev pub WasRefused : (Actor → Type 0) → Script → List Pass → Refusal → Type 0
 WasRefused may script seats refusal = (seat : Pass) × In seat seats × SeatRefusal may script seat refusal
 

@@ -6,19 +6,19 @@ use Rattle.dsr_mail.specs.declared.seats.Seats.{Seats}
 use Rattle.dsr_hosts.specs.declared.any_seat.AnySeat.{AnySeat}
 use Rattle.dsr_hosts.specs.declared.any_seat.AnySeat.TheVariants.{Loyal, Traitor, OfClient}
 
--- the seat, of whatever kind
+-- a seat of any kind, as a pass
 abbrev pub pass_of : AnySeat → Pass
 pass_of (Loyal seat) = seat
 pass_of (Traitor seat) = seat
 pass_of (OfClient seat) = seat
 
--- whether it is a client's
+-- whether the seat is a client's
 abbrev pub is_of_client : AnySeat → Bool
 is_of_client (Loyal seat) = false
 is_of_client (Traitor seat) = false
 is_of_client (OfClient seat) = true
 
--- the seat is one of this mail, at which nothing was done
+-- the seat is one of this mail, and nothing was done at it
 abbrev pub IsNewSeat : SharedBoxes → Pass → Type 0
 IsNewSeat mail seat = IsPassOf mail seat × (seat.log ≡ [])
 
@@ -26,11 +26,11 @@ IsNewSeat mail seat = IsPassOf mail seat × (seat.log ≡ [])
 abbrev pub IsSeatOf : SharedBoxes → Pass → Type 0
 IsSeatOf mail seat = IsPassOf mail seat × IsActor mail.shape seat.actor
 
--- the seat that came back is that of the same actor
+-- the seat that came back is one of this mail, and the same actor's
 abbrev pub IsAgain : SharedBoxes → Pass → Pass → Type 0
 IsAgain mail seat again = IsSeatOf mail again × (again.actor ≡ seat.actor)
 
--- and of the same kind
+-- the seat that came back is one of this mail, the same actor's, and of the same kind
 abbrev pub IsBack : SharedBoxes → AnySeat → AnySeat → Type 0
 IsBack mail (Loyal seat) (Loyal again) = IsAgain mail seat again
 IsBack mail (Loyal seat) (Traitor again) = ⊥
@@ -42,7 +42,7 @@ IsBack mail (OfClient seat) (Loyal again) = ⊥
 IsBack mail (OfClient seat) (Traitor again) = ⊥
 IsBack mail (OfClient seat) (OfClient again) = IsAgain mail seat again
 
--- all seats are these others, and this one after those of its kind
+-- all seats are these others, with this one after those of its kind
 abbrev pub HasLast : Seats → AnySeat → Seats → Type 0
 HasLast all (Loyal seat) others = (all.replicas.items ≡ others.replicas.items ++ seat ∷ [])
     × (all.traitors.items ≡ others.traitors.items) × (all.clients.items ≡ others.clients.items)
@@ -51,13 +51,13 @@ HasLast all (Traitor seat) others = (all.traitors.items ≡ others.traitors.item
 HasLast all (OfClient seat) others = (all.clients.items ≡ others.clients.items ++ seat ∷ [])
     × (all.replicas.items ≡ others.replicas.items) × (all.traitors.items ≡ others.traitors.items)
 
--- there is as much room for seats of each kind
+-- there is as much room for seats of each kind as before
 pub record SameRoom (old new : Seats) : Type 0 where
   pub replicas : vec_capacity new.replicas ≡ vec_capacity old.replicas
   pub traitors : vec_capacity new.traitors ≡ vec_capacity old.traitors
   pub clients : vec_capacity new.clients ≡ vec_capacity old.clients
 
--- there is room for one more of this kind
+-- there is room for one more seat of this seat's kind
 abbrev pub HasRoomFor : Seats → AnySeat → Type 0
 HasRoomFor seats (Loyal seat) = suc (vec_len seats.replicas) ≤ vec_capacity seats.replicas
 HasRoomFor seats (Traitor seat) = suc (vec_len seats.traitors) ≤ vec_capacity seats.traitors
@@ -77,12 +77,12 @@ seat_count seats = vec_len seats.replicas + (vec_len seats.traitors + vec_len se
 abbrev pub all_of : Seats → List Pass
 all_of seats = seats.replicas.items ++ (seats.traitors.items ++ seats.clients.items)
 
--- the seats are those of a mail at which nothing was done
+-- the seats are those of a mail, and nothing was done at them
 pub record AreNew (mail : SharedBoxes) (seats : Seats) : Type 0 where
   pub replicas : All (IsNewSeat mail) seats.replicas.items
   pub traitors : All (IsNewSeat mail) seats.traitors.items
   pub clients : All (IsNewSeat mail) seats.clients.items
 
--- the seats that came back are those of the same actors
+-- the seats that came back are seats of this mail, and the same actors' in the same order
 abbrev pub AreAgain : SharedBoxes → List Pass → List Pass → Type 0
 AreAgain mail seats again = All (IsSeatOf mail) again × (map (λ (seat : Pass). seat.actor) again ≡ map (λ (seat : Pass). seat.actor) seats)

@@ -1,4 +1,4 @@
--- That a client's operations were all replied to, in order (this project). Logs, replies and operations stand newest first.
+-- When all operations of a client are replied to, in order (this project). Logs, replies and operations are listed newest first.
 use Rattle.std.specs.Prelude.{◌≡◌, ℕ, suc, List, [], ◌∷◌, None, length, reverse}
 use Rattle.dsr_base.specs.Member.{In}
 use Rattle.dsr_names.specs.Shape.{Shape}
@@ -17,7 +17,7 @@ pub record IsReplyTo (me : ℕ) (log : List Entry) (number : ℕ) (op : Op) (rep
   pub replica : ℕ
   pub posted : In (Post (Replica replica) (Ask (ask_of me number op))) log
 
--- the replies are those to these operations, one for each, by the numbers of the requests from 1 on
+-- the replies answer these operations, one each; the requests are numbered from 1 on
 abbrev pub AreRepliesTo : ℕ → List Entry → List AReply → List Op → Type 0
 AreRepliesTo me log [] [] = Unit {0}
 AreRepliesTo me log [] (op ∷ ops) = ⊥

@@ -9,16 +9,16 @@ use dsr_names::Actor;
 /// A seat of any kind.
 #[derive(Drop)]
 pub(crate) enum AnySeat {
-    /// That of a loyal replica.
+    /// The seat of a loyal replica.
     Loyal(ReplicaSeat),
-    /// That of a traitor.
+    /// The seat of a traitor.
     Traitor(TraitorSeat),
-    /// That of a client.
+    /// The seat of a client.
     OfClient(ClientSeat),
 }
 
 impl AnySeat {
-    /// Its actor.
+    /// Returns the seat's actor.
     pub(crate) fn actor(&self) -> Actor
         ensures same { result ≡ (pass_of self.now).actor }
         ensures inside { IsActor (pass_of self.now).shape result }
@@ -30,7 +30,7 @@ impl AnySeat {
         }
     }
 
-    /// Whether it is a client's.
+    /// Returns whether it is a client's seat.
     pub(crate) fn is_of_client(&self) -> bool
         ensures { result ≡ is_of_client self.now }
     {
@@ -41,7 +41,7 @@ impl AnySeat {
         }
     }
 
-    /// Wakes everybody who sleeps at the mail now. Requires a seat of this mail.
+    /// Wakes every actor that sleeps at the mail now. Requires a seat of this mail.
     pub(crate) fn wake(&self, mail: &Mail)
         requires { IsPassOf mail.now (pass_of self.now) }
     {

@@ -14,7 +14,7 @@ use std::thread::Promise;
 pub(crate) struct Back {
     /// The seat.
     pub(crate) seat: AnySeat,
-    /// Why the host ended before its work was done; `None` where it was done.
+    /// Why the host ended before its work was done; `None` if it was done.
     pub(crate) end: Option<End>,
 }
 

@@ -21,7 +21,7 @@ use dsr_request::Op;
 use dsr_rounds::{End, Gate, Turn};
 use std::sync::Wait;
 
-/// How many turns a call of a client has.
+/// The number of turns of one call of a client.
 const TURNS: u64 = 1000;
 
 impl<'a, R: Wait, G: Gate> Service<'a, R, G> {
@@ -40,8 +40,8 @@ impl<'a, R: Wait, G: Gate> Service<'a, R, G> {
         Ok(())
     }
 
-    /// Makes one operation: asks again and again until the reply is accepted. Where the replicas and traitors have all ended it asks once more, and
-    /// ends if that brings no reply. Requires a seat of the service's mail, with nothing outstanding.
+    /// Makes one operation: asks again and again until the reply is accepted. If the hosts of all replicas and traitors have ended, it makes one more
+    /// call, and ends with `Unanswered` if that brings no reply. Requires a seat of the service's mail, with nothing outstanding.
     fn make(
         &self,
         seat: &mut ClientSeat,
@@ -73,7 +73,7 @@ impl<'a, R: Wait, G: Gate> Service<'a, R, G> {
         unreachable!()
     }
 
-    /// Makes one call for the operation: goes on where a request is outstanding, else asks. Requires a seat of the service's mail.
+    /// Makes one call for the operation: goes on with the outstanding request, if there is one, else asks. Requires a seat of the service's mail.
     fn call(&self, seat: &mut ClientSeat, op: &Op, calls: &mut Calls) -> Result<(), Refusal>
         requires { IsPassOf self.now.host.mail.now seat.old }
         ensures log { GoesOn seat.new seat.old }
@@ -92,7 +92,7 @@ impl<'a, R: Wait, G: Gate> Service<'a, R, G> {
         }
     }
 
-    /// Goes on with the outstanding request. Requires a seat of the service's mail, and that one is outstanding.
+    /// Goes on with the outstanding request. Requires a seat of the service's mail, and an outstanding request.
     fn go_on_for(&self, seat: &mut ClientSeat, op: &Op) -> Result<(), Refusal>
         requires mail { IsPassOf self.now.host.mail.now seat.old }
         requires outstanding { IsSome (outstanding seat.old.shape seat.old.log) }

@@ -6,14 +6,14 @@ ghost use Rattle.dsr_hosts.specs.Ranks.{cause_of, ends_with, first_with, lesser_
 use dsr_names::Refusal;
 use dsr_rounds::End;
 
-/// A refusal that ended a host, with its rank among those of all hosts.
+/// A refusal that ended a host, with its rank among the faults of all hosts.
 #[derive(Clone, Copy)]
 pub(crate) struct Fault {
     rank: usize,
     refusal: Refusal,
 }
 
-/// How the hosts ended that came back so far.
+/// How the hosts that came back so far ended.
 #[derive(Drop)]
 pub(crate) struct Ends {
     /// The fault of the least rank.
@@ -23,7 +23,7 @@ pub(crate) struct Ends {
 }
 
 impl Ends {
-    /// Those of no hosts.
+    /// Returns the ends of no hosts.
     pub(crate) fn none() -> Ends
         ensures first { result.first ≡ None }
         ensures served { result.served ≡ true }
@@ -34,7 +34,7 @@ impl Ends {
         }
     }
 
-    /// With the end of one host more; this is the rank that a fault of it has.
+    /// Adds the end of one more host; `rank` is the rank of its fault, if it has one.
     pub(crate) fn with(self, rank: usize, is_client: bool, end: &Option<End>) -> Ends
         ensures { result ≡ ends_with self rank is_client end.now }
     {
@@ -43,8 +43,8 @@ impl Ends {
         Ends { first, served }
     }
 
-    /// The fault by which the service ended: that of the least rank, also where all clients are served; or, where there is none, that a client was not
-    /// answered. `None` where there is none and all are served.
+    /// Returns the refusal with which the service ends: that of the fault of the least rank, even if all clients are served; if no host has a fault,
+    /// `Unanswered` if a client was not served, else `None`.
     pub(crate) fn cause(&self) -> Option<Refusal>
         ensures { result ≡ cause_of self.now.first self.now.served }
     {
@@ -59,7 +59,7 @@ impl Ends {
     }
 }
 
-/// The fault of the least rank, with the end of one host more, a fault of which has this rank.
+/// Returns the fault of the least rank when the end of one more host is added; `rank` is the rank of its fault, if it has one.
 fn first_of(first: Option<Fault>, rank: usize, end: &Option<End>) -> Option<Fault>
     ensures { result ≡ first_with first rank end.now }
 {
@@ -73,7 +73,7 @@ fn first_of(first: Option<Fault>, rank: usize, end: &Option<End>) -> Option<Faul
     }
 }
 
-/// That of the two of the lesser rank; of equal ranks the first.
+/// Returns the fault of the lesser rank; if the ranks are equal, `first`.
 fn lesser(first: Option<Fault>, other: Fault) -> Fault
     ensures { result ≡ lesser_of first other }
 {

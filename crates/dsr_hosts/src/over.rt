@@ -3,14 +3,14 @@ ghost use Rattle.std.specs.Prelude.{◌≡◌, ◌↔◌, ◌≤◌, false, is_s
 use dsr_mail::Mail;
 use dsr_rounds::Ended;
 
-/// Tells that the hosts of all replicas and traitors of a mail had ended, by a look at the counter. Only `Over::of` makes one.
+/// Evidence that the hosts of all replicas and traitors of a mail have ended, by a look at the counter. Only `Over::of` makes one.
 #[derive(Drop)]
 pub(crate) struct Over {
     ended: Ended,
 }
 
 impl Over {
-    /// Returns an `Over` if as many had ended as the mail has replicas and traitors.
+    /// Returns an `Over` if at least as many hosts have ended as the mail has replicas, traitors among them.
     pub(crate) fn of(ended: Ended, mail: &Mail) -> Option<Over>
         ensures { IsSome result ↔ (mail.now.shape.n ≤ ended.count) }
     {
@@ -22,8 +22,8 @@ impl Over {
     }
 }
 
-/// What is known of the calls for one operation of a client: whether all had ended before the call that is next, and before the last
-/// that was begun.
+/// What is known about the calls for one operation of a client: whether all replicas' and traitors' hosts have ended before the next
+/// call, and before the last call that was begun.
 #[derive(Drop)]
 pub(crate) struct Calls {
     over: bool,
@@ -31,7 +31,7 @@ pub(crate) struct Calls {
 }
 
 impl Calls {
-    /// Nothing was looked at, and no call was begun.
+    /// Makes the start: no look was noted, and no call was begun.
     pub(crate) fn none() -> Calls {
         Calls {
             over: false,
@@ -39,7 +39,7 @@ impl Calls {
         }
     }
 
-    /// Notes this look at whether all had ended, before the next call.
+    /// Notes this look, before the next call, at whether all have ended.
     pub(crate) fn begin(&mut self, over: Option<Over>)
         ensures over { self.new.over ≡ is_some over }
         ensures last { self.new.last ≡ false }
@@ -56,7 +56,7 @@ impl Calls {
         self.last = self.over;
     }
 
-    /// Whether the last call that was begun began when all had ended.
+    /// Returns whether the last call that was begun began after all had ended.
     pub(crate) fn is_last(&self) -> bool
         ensures { result ≡ self.now.last }
     {

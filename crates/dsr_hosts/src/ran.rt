@@ -22,7 +22,7 @@ pub(crate) struct Ran {
 }
 
 impl Ran {
-    /// With one seat more, after those of its kind. Requires an actor of the shape, and room for its seat.
+    /// Adds one seat after those of its kind, and the end of its host. Requires an actor of the shape, and room for its seat.
     pub(crate) fn with(self, shape: &Shape, back: Back) -> Ran
         requires inside { IsActor shape.now (pass_of back.seat).actor }
         requires room { HasRoomFor self.seats back.seat }
@@ -39,8 +39,8 @@ impl Ran {
     }
 }
 
-/// The rank of a host's fault: that of a thread that could not be started comes first, then the place of the actor counts. Requires an actor of the
-/// shape.
+/// Returns the rank of a host's fault: 0 for a thread that could not be started, else one more than the place of the actor. Requires an actor of
+/// the shape.
 fn rank_of(shape: &Shape, back: &Back) -> usize
     requires { IsActor shape.now (pass_of back.now.seat).actor }
     ensures { IsRank shape.now (pass_of back.now.seat).actor back.now.end result }
@@ -56,7 +56,7 @@ fn rank_of(shape: &Shape, back: &Back) -> usize
     }
 }
 
-/// Takes out the last seat: of the clients, else of the traitors, else of the replicas. `None` where there is none.
+/// Takes out the last seat: of the clients, else of the traitors, else of the replicas. `None` if there is no seat.
 pub(crate) fn take_last(seats: &mut Seats) -> Option<AnySeat>
     ensures some { IfSome result (λ seat. HasLast seats.old seat seats.new) }
     ensures fewer { IfSome result (λ seat. seat_count seats.new < seat_count seats.old) }

@@ -23,11 +23,11 @@ const ROUNDS: u64 = 4096;
 /// What all hosts of a service share.
 #[derive(Drop)]
 pub(crate) struct Service<'a, R, G> {
-    /// What each of them works with beside its seat.
+    /// What each of them works with besides its seat.
     pub(crate) host: Host<'a, R, G>,
     /// The script.
     pub(crate) script: &'a Script,
-    /// How many clients' hosts have not done their work yet.
+    /// The number of clients' hosts that have not done their work yet.
     pub(crate) clients: &'a AtomicU64,
 }
 
@@ -40,7 +40,7 @@ pub(crate) struct Leaving {
 }
 
 impl<'a, R: Wait, G: Gate> Service<'a, R, G> {
-    /// Hosts the seat until the work is done, or something ends it. Requires a seat of the service's mail, at which nothing was done.
+    /// Hosts the seat until the work is done or something ends it. Requires a seat of the service's mail, at which nothing was done.
     pub(crate) fn run(&self, seat: AnySeat) -> Back
         requires { IsNewSeat self.now.host.mail.now (pass_of seat) }
         ensures { ComesBack (G.may_refuse self.now.host.gate.now) self.now.host.mail.now self.now.script.now seat result }
@@ -99,8 +99,8 @@ impl<'a, R: Wait, G: Gate> Service<'a, R, G> {
         }
     }
 
-    /// The host of the seat has ended. A refusal tells all others to stop, and so does the last client's work when it is done. Whoever tells them
-    /// first sees them end.
+    /// Leaves the service after the host of the seat has ended. A refusal tells all others to stop, and so does the last client's work when it is
+    /// done. The host that tells them first waits until all replicas' and traitors' hosts have ended.
     fn leave(&self, back: &Back) -> Leaving
         requires { IsPassOf self.now.host.mail.now (pass_of back.now.seat) }
         ensures told { HasTold (is_of_client back.now.seat) back.now.end result.told }
@@ -116,7 +116,7 @@ impl<'a, R: Wait, G: Gate> Service<'a, R, G> {
         Leaving { told, noted, over }
     }
 
-    /// Tells all others to stop where the host of the seat was refused, and where it did the last client's work.
+    /// Tells all others to stop if the host of the seat was refused, or if it did the last client's work.
     fn tell_after(&self, back: &Back) -> Option<Told>
         ensures { HasTold (is_of_client back.now.seat) back.now.end result }
     {
@@ -133,7 +133,7 @@ impl<'a, R: Wait, G: Gate> Service<'a, R, G> {
         }
     }
 
-    /// Notes that one more host has ended, but for a client's.
+    /// Notes that one more host has ended, unless it is a client's.
     fn note_end_of(&self, back: &Back) -> Option<Noted>
         ensures { IsSome result ↔ (is_of_client back.now.seat ≡ false) }
     {
@@ -143,7 +143,7 @@ impl<'a, R: Wait, G: Gate> Service<'a, R, G> {
         Some(self.host.stop.note_end())
     }
 
-    /// Who told the others first sees them end.
+    /// Waits until the hosts of all replicas and traitors have ended, if this host told the others first.
     fn see_end_after(&self, told: &Told, seat: &AnySeat) -> Option<Over>
         requires { IsPassOf self.now.host.mail.now (pass_of seat.now) }
         ensures { told.now.first ≡ true → IsSome result }
@@ -154,7 +154,7 @@ impl<'a, R: Wait, G: Gate> Service<'a, R, G> {
         Some(self.see_all_end(seat))
     }
 
-    /// Wakes those who sleep at the mail, again and again, until the hosts of all replicas and traitors have ended.
+    /// Wakes all that sleep at the mail, again and again, until the hosts of all replicas and traitors have ended.
     pub(crate) fn see_all_end(&self, seat: &AnySeat) -> Over
         requires { IsPassOf self.now.host.mail.now (pass_of seat.now) }
     {
@@ -168,7 +168,7 @@ impl<'a, R: Wait, G: Gate> Service<'a, R, G> {
         unreachable!()
     }
 
-    /// Looks whether the hosts of all replicas and traitors have ended.
+    /// Looks at the counter, and returns an `Over` if the hosts of all replicas and traitors have ended.
     pub(crate) fn look_over(&self) -> Option<Over> {
         Over::of(self.host.stop.ended(), self.host.mail)
     }

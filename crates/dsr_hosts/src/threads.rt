@@ -91,8 +91,8 @@ fn run_each<'s, E, R: Threads + Wait + Sync, G: Gate + Sync>(
     ran.with(service.host.mail.shape(), back)
 }
 
-/// Starts a thread that hosts the seat. Where there is none, the others are told to stop, and the seat is hosted here; and so it is where they were
-/// told already. Requires a seat of the service's mail, at which nothing was done.
+/// Starts a thread that hosts the seat. If it cannot start one, it tells the others to stop, and hosts the seat in this thread; it hosts the seat
+/// here, too, if the others were told already. Requires a seat of the service's mail, at which nothing was done.
 fn start<'s, E, R: Wait + Sync, G: Gate + Sync>(
     scope: &Scope<'s, E>,
     service: &Service<'s, R, G>,
@@ -145,7 +145,7 @@ fn start<'s, E, R: Wait + Sync, G: Gate + Sync>(
     }
 }
 
-/// What came back from a host for which no thread could be started.
+/// Makes what comes back from a host for which no thread could be started.
 fn refused_back(back: Back) -> Back
     ensures seat { result.seat ≡ back.seat }
     ensures end { result.end ≡ Some (Fault NoThread) }
@@ -157,7 +157,8 @@ fn refused_back(back: Back) -> Back
     }
 }
 
-/// Waits until the host has ended, and gives what comes back from it. One that has ended before all were started first sees the others end.
+/// Waits until the host has ended, and returns what comes back from it. If the host ended before all were started, this first waits until the hosts
+/// of all replicas and traitors have ended.
 fn finish<R: Threads + Wait, G: Gate>(
     service: &Service<R, G>,
     started: Started<G>,
