@@ -36,7 +36,7 @@ use Rattle.dsr_boxes.proofs.Numbers.{one_word, slot_below, word_below}
 pub never : (n a b : ℕ) → n ≡ a → n ≡ b → a ≢ b → ⊥
 never n a b e f apart = apart (sym e ∙ f)
 
--- ---- what lies at home
+-- ---- what is at home
 
 pub home_is : (homes : List (maybe.Option (Option Envelope))) (slot : ℕ) (x : maybe.Option (Option Envelope)) → slot < length homes
     → IsHome homes (slice_set homes slot x) slot (some x)
@@ -52,7 +52,7 @@ module _ (shape : Shape) (run : List Step) where
       subst (In x) (sym full) (In-append_right x (taken_from from (log_of run me)) (x ∷ []) (here refl)) in
       posted_within shape run is from me x (posted_entry me (log_of run from) x stands)
 
-  -- a step that is none of a run
+  -- a step that adds nothing to the run
   pub silent : (me p q : Actor) (old new : ℕ) (home : maybe.Option (maybe.Option (Option Envelope))) → IsRun shape run → (old ≡ 1 → p ≡ me) → (old ≡ 3 → q ≡ me)
       → Agrees new (posted_to q (log_of run p)) (taken_from p (log_of run q)) home → IsMove shape run run me p q old new home
   silent me p q old new home is fills empties agrees = record {

@@ -27,7 +27,7 @@ use Rattle.dsr_boxes.specs.View.{Holding, sitting, keeping, watching, moment_in,
 use Rattle.dsr_boxes.proofs.BoxSteps.{set_same}
 use Rattle.dsr_boxes.proofs.Parts.{at_end, Owner, reviewed, old_apart, is_actor_cases, outside_empty}
 
--- another view with the number of an old one, which stands for none but its actors
+-- another view with the number of an old one, which represents no actors but those of the old one
 abbrev pub reviewed_at : (shape : Shape) (table : Table) (kept : Kept shape table) (id : ℕ) (v w : View) → get_elem? table.views id ≡ some v
     → ((a : Actor) → IsOf shape w.part a → IsOf shape v.part a) → Stands shape table.words kept.run w.part
     → Kept shape (record { words = table.words; homes = table.homes; views = slice_set table.views id w })
@@ -52,7 +52,7 @@ reviewed_at shape table kept id v w there same stand = reviewed shape table kept
     apart : (i j : ℕ) (a : Actor) → Owner shape (slice_set table.views id w) i a → Owner shape (slice_set table.views id w) j a → i ≡ j
     apart i j a one two = old_apart shape table kept i j a (was i a one) (was j a two)
 
--- a new view, which stands for nobody
+-- a new view, which represents nobody
 abbrev pub added : (shape : Shape) (table : Table) (kept : Kept shape table) (w : View) → ((a : Actor) → ¬ IsOf shape w.part a)
     → Stands shape table.words kept.run w.part → Kept shape (record { words = table.words; homes = table.homes; views = table.views ++ w ∷ [] })
 added shape table kept w nobody stand = reviewed shape table kept (table.views ++ w ∷ []) stands apart
@@ -80,7 +80,7 @@ looked shape table kept i id v w there same stand =
     subst (λ ws. Kept shape (record { words = ws; homes = table.homes; views = slice_set table.views id w })) (sym (set_same table.words i))
     (reviewed_at shape table kept id v w there same stand)
 
--- who has no log stands for nobody
+-- a view without logs represents nobody
 nobody : (shape : Shape) (a : Actor) (moments : List (List Step)) → ¬ IsOf shape (Watching [] moments) a
 nobody shape a moments of = let low = of.1 in omega (arith, low)
 

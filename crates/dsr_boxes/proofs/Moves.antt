@@ -1,4 +1,4 @@
--- A step on one box keeps the rule: the views of others stand on, and other boxes are as they were.
+-- A step on one box keeps the rule: the views of others stay true, and other boxes are as they were.
 use Rattle.std.proofs.Common.{◌≡◌, ◌≢◌, ℕ, ◌+◌, ◌<◌, List, [], ◌∷◌, length, ◌⊎◌, inl, inr, ⊎_elim, sym, ◌∙◌, subst, arith}
 use Rattle.std.specs.Prelude.{Option, slice_index, slice_set}
 use Rattle.std.proofs.lemmas.List.{get_or-set_same, get_or-set_other, length-set}
@@ -25,7 +25,7 @@ use Rattle.dsr_boxes.specs.Place.{slot_of, word_of}
 use Rattle.dsr_boxes.specs.Rule.{Table, IsOf, IsDoing, HasLogs, ArePast, Stands, Agrees, IsHead, Kept}
 use Rattle.dsr_boxes.proofs.Numbers.{word_below, one_or_apart}
 
--- what a step of `me` on the box from p to q makes of a run, if it adds to it; the box's word, as it was and as it is; and what lies at home
+-- what a step of `me` on the box from p to q makes of a run, if it adds to it; the box's word, as it was and as it is; and what is at home
 -- in its slot then
 pub record IsMove (shape : Shape) (run after : List Step) (me p q : Actor) (old new : ℕ) (home : maybe.Option (maybe.Option (Option Envelope))) : Type 0 where
   pub is : IsRun shape after
@@ -37,7 +37,7 @@ pub record IsMove (shape : Shape) (run after : List Step) (me p q : Actor) (old 
   pub taken : (a b : Actor) → ((a ≡ p) × (b ≡ q)) ⊎ (taken_from a (log_of after b) ≡ taken_from a (log_of run b))
   pub agrees : Agrees new (posted_to q (log_of after p)) (taken_from p (log_of after q)) home
 
--- what lies at home after it
+-- what is at home after it
 pub record IsHome (homes after : List (maybe.Option (Option Envelope))) (slot : ℕ) (home : maybe.Option (maybe.Option (Option Envelope))) : Type 0 where
   pub long : length after ≡ length homes
   pub own : get_elem? after slot ≡ home
@@ -75,7 +75,7 @@ module _ (shape : Shape) (run after : List Step) (me p q : Actor) (words : List 
   logs_on : (kept : List (List Entry)) → ((a : Actor) → IsActor shape a → place_of shape a < length kept → me ≢ a) → HasLogs shape run kept → HasLogs shape after kept
   logs_on kept apart stand a inside low = move.others a (apart a inside low) ∙ stand a inside low
 
-  -- the view of others stands on
+  -- the view of others stays true
   pub stands_on : (part : Part) → ¬ IsOf shape part me → Stands shape words run part → Stands shape changed after part
   stands_on (Keeping kept) apart stand =
       logs_on kept (λ a inside low e. apart (subst (λ x. IsActor shape x × (place_of shape x < length kept)) (sym e) (inside, low))) stand

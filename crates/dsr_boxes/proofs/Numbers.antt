@@ -1,4 +1,4 @@
--- Where boxes lie: each pair of actors has a slot of its own. And the log of the highest place is the last one.
+-- The places of boxes: each pair of actors has a slot of its own. And the log of the highest place is the last one.
 use Rattle.std.proofs.Common.{◌≡◌, ◌≢◌, ℕ, zero, suc, ◌+◌, ◌*◌, ◌<◌, ◌≤◌, List, [], ◌∷◌, ◌++◌, length, ◌⊎◌, inl, inr, refl, ap, sym, ◌∙◌, arith, mul-le-mul_right, suc-mul}
 use Rattle.std.specs.Prelude.{reverse, replicate, slice_index_or}
 use Rattle.std.proofs.lemmas.List.{length-reverse, reverse-append, get_or_append_left, length-replicate}

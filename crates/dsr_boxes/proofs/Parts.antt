@@ -67,13 +67,13 @@ at_below [] a j e = absurd (some-ne-none a (sym e))
 at_below (x ∷ xs) a zero e = omega arith
 at_below (x ∷ xs) a (suc j) e = let low = at_below xs a j e in omega (arith, low)
 
--- the view with this number stands for the actor
+-- the view with this number represents the actor
 pub record Owner (shape : Shape) (views : List View) (i : ℕ) (a : Actor) : Type 0 where
   pub view : View
   pub there : get_elem? views i ≡ some view
   pub own : IsOf shape view.part a
 
--- other views, by which each actor still has one owner
+-- other views, in which each actor still has one owner
 abbrev pub reviewed : (shape : Shape) (table : Table) (kept : Kept shape table) (views : List View)
     → ((i : ℕ) (v : View) → get_elem? views i ≡ some v → Stands shape table.words kept.run v.part)
     → ((i j : ℕ) (a : Actor) → Owner shape views i a → Owner shape views j a → i ≡ j)

@@ -45,7 +45,7 @@ not_eqb a b e same = true≢false (sym (eq-eqb a b same) ∙ e)
 
 -- ---- the slot that is held
 
--- what was put into the claimed box lies there
+-- what was put into the claimed box is there
 pub put_in : (shape : Shape) (me to : Actor) (log : List Entry) (m after : Holding) (slot : ℕ) (content : Option Envelope) → m ≡ filling shape me log to None
     → slot ≡ slot_of shape me to → after ≡ (m.0, (slot, content) ∷ rest m.1) → after ≡ filling shape me log to content
 put_in shape me to log m after slot content is at put = put ∙ (λ i. ((is i).0, (at i, content) ∷ rest (is i).1))
@@ -61,7 +61,7 @@ pub taken_out : (shape : Shape) (me from : Actor) (log : List Entry) (m after : 
     → slot ≡ slot_of shape from me → after ≡ (m.0, (slot, content) ∷ rest m.1) → after ≡ emptying shape me log from content
 taken_out shape me from log m after slot old content is at put = put ∙ (λ i. ((is i).0, (at i, content) ∷ rest (is i).1))
 
--- what a number found says where it is compared
+-- what a number found says when it is compared
 pub on_found : (found n : ℕ) (P : Type 0) → (found ≡ n → P) → OnTrue (nat_eq found n) P
 on_found found n P h = OnTrue_from (nat_eq found n) P (λ e. h (eqb-true found n e))
 

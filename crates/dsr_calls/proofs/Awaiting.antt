@@ -37,7 +37,7 @@ given_is None me number None = refl
 module _ (shape : Shape) (me : ℕ) where
   -- ---- what is awaited
 
-  -- where nothing is outstanding it has the next number
+  -- if nothing is outstanding, it has the next number
   new_number : (number : ℕ) (op : Option Op) (ask : SignedRequest) → option_map (ask_of me number) op ≡ Some ask → ask.request.number ≡ number
   new_number number (Some op) ask e = ap (λ a. a.request.number) (sym (same_Some (ask_of me number op) ask e))
   new_number number None ask e = absurd (none-some ask e)

@@ -218,7 +218,7 @@ visit_adds op q seat mid new (Err refusal) on waits early turn same = adds_then 
 
 -- ---- the end of a call
 
--- nothing more is accepted where what was awaited still is
+-- nothing more is accepted if what was awaited is still awaited
 pub accepted_same : (first new : Pass) (op : Option Op) → GoesOn new first → IsSome (awaited first.shape (number_of first.actor) first.log op)
     → Awaits first op new → accepted new.shape new.log ≡ accepted first.shape first.log
 accepted_same first new op goes due waits =

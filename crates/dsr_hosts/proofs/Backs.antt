@@ -1,4 +1,4 @@
--- What is known of a seat that came back.
+-- What is known about a seat that came back.
 use Rattle.std.proofs.Common.{◌≡◌, Bool, [], ◌++◌, Option, Some, inl, inr, refl, sym, subst, ap, ◌∙◌}
 use Rattle.std.specs.Prelude.{Result, Ok, Err, IfErr, OnOk, OnErr}
 use Rattle.std.specs.Result.{result_err}
@@ -36,7 +36,7 @@ back_of mail (OfClient seat) (Loyal again) same = absurd same
 back_of mail (OfClient seat) (Traitor again) same = absurd same
 back_of mail (OfClient seat) (OfClient again) same = same.0
 
--- it comes back too where its host ended for want of a thread
+-- it comes back too if its host ended because no thread could be started
 pub refused_back : (may : Actor → Type 0) (mail : SharedBoxes) (script : Script) (seat : AnySeat) (back refused : Back)
     → ComesBack may mail script seat back → refused.seat ≡ back.seat → refused.end ≡ Some (Fault NoThread) → ComesBack may mail script seat refused
 refused_back may mail script seat back refused comes same end = record {
@@ -45,14 +45,14 @@ refused_back may mail script seat back refused comes same end = record {
   posted = subst (HasPostedWell script) (sym same) comes.posted;
 }
 
--- what comes back, where the seat before is known by another name
+-- what comes back, if the seat before is known by another name
 pub comes_at : (may : Actor → Type 0) (mail : SharedBoxes) (script : Script) (seat same : AnySeat) (back : Back) → same ≡ seat
     → ComesBack may mail script seat back → ComesBack may mail script same back
 comes_at may mail script seat same back is comes = subst (λ s. ComesBack may mail script s back) (sym is) comes
 
 -- ---- how the host of a client ended
 
--- a refusal of a client's call, where the client is not served
+-- a refusal of a client's call, if the client is not served
 refused_client : (may : Actor → Type 0) (script : Script) (seat : Pass) (refusal : Refusal) → ClientRefusal may seat refusal → IsUnserved script seat
     → SeatRefusal may script seat refusal
 refused_client may script seat refusal (inl host) left = inl host

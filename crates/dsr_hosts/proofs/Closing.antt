@@ -81,7 +81,7 @@ in_actors kind shape (suc end) place below is = elim (cases_eq place end) [
       (in_actors kind shape end place (omega (arith, below, other)) is)
 ]
 
--- what stands among the actors of seats is the actor of one
+-- what is among the actors of seats is the actor of one
 from_actors : (a : Actor) (seats : List Pass) → In a (map actor_of seats) → (seat : Pass) × In seat seats × (seat.actor ≡ a)
 from_actors a [] h = elim h [ ]
 from_actors a (seat ∷ seats) (here is) = (seat, here refl, is)
@@ -103,7 +103,7 @@ seat_of_kind mail kind seats a are inside kind_is =
     (in_actors kind shape (size shape) (place_of shape a) (place_inside shape a inside) (ap (kind shape) is ∙ kind_is)) in
     from_actors a seats (subst (In a) (sym are.1) found)
 
--- where each seat of a client is served, each client has the replies to all its operations
+-- if each seat of a client is served, each client has the replies to all its operations
 pub all_served : (mail : SharedBoxes) (script : Script) (seats : Seats) (logs : Logs) → AreSeatsOf mail is_client seats.clients.items
     → All (IsServed script) seats.clients.items → logs.shape ≡ mail.shape
     → ((seat : Pass) → In seat (all_of seats) → logs_of logs seat.actor ≡ seat.log)
@@ -121,7 +121,7 @@ all_served mail script seats logs are served same own c inside =
     (subst (λ l. HasAll seat.shape c l (ops_of script c)) log
     (subst (λ a. HasAll seat.shape (number_of a) seat.log (ops_of script (number_of a))) found.2 all))
 
--- where each seat of a loyal replica has posted to clients only what they were owed, so has each loyal replica
+-- if each seat of a loyal replica has posted to clients only what they were owed, so has each loyal replica
 pub all_owed : (mail : SharedBoxes) (seats : Seats) (logs : Logs) → AreSeatsOf mail is_loyal_replica seats.replicas.items
     → All HasPostedOwed seats.replicas.items → logs.shape ≡ mail.shape
     → ((seat : Pass) → In seat (all_of seats) → logs_of logs seat.actor ≡ seat.log) → AreAllOwed logs
@@ -135,7 +135,7 @@ all_owed mail seats logs are owed same own p loyal =
     let log : seat.log ≡ logs_of logs (Replica p) = sym (own seat among) ∙ ap (logs_of logs) found.2 in
     subst (λ s. AreOwed s [] (logs_of logs (Replica p))) (here_is.1 ∙ sym same) (subst (AreOwed seat.shape []) log posted)
 
--- where each seat of a loyal replica was always eager, so was each loyal replica
+-- if each seat of a loyal replica was always eager, so was each loyal replica
 pub all_eager : (mail : SharedBoxes) (seats : Seats) (logs : Logs) → AreSeatsOf mail is_loyal_replica seats.replicas.items
     → All WasAlwaysEager seats.replicas.items → logs.shape ≡ mail.shape
     → ((seat : Pass) → In seat (all_of seats) → logs_of logs seat.actor ≡ seat.log) → AreAllEager logs
@@ -151,7 +151,7 @@ all_eager mail seats logs are eager same own p loyal =
     (subst (λ a. IsEager seat.shape a [] (logs_of logs (Replica p))) found.2
     (subst (IsEager seat.shape seat.actor []) log way))
 
--- and where each seat of a traitor has posted only what the script says, so has each traitor
+-- and if each seat of a traitor has posted only what the script says, so has each traitor
 pub all_planned : (mail : SharedBoxes) (script : Script) (seats : Seats) (logs : Logs) → AreSeatsOf mail is_traitor_replica seats.traitors.items
     → All (HasPostedPlanned script) seats.traitors.items → logs.shape ≡ mail.shape
     → ((seat : Pass) → In seat (all_of seats) → logs_of logs seat.actor ≡ seat.log) → AreAllPlanned script logs
@@ -169,7 +169,7 @@ all_planned mail script seats logs are planned same own p traitor =
     (subst (λ a. ArePlanned script seat.shape a [] (logs_of logs (Replica p))) found.2
     (subst (ArePlanned script seat.shape seat.actor []) log posted))
 
--- where there are no entries, nothing was posted
+-- if there are no entries, nothing was posted
 pub none_owed : (logs : Logs) → ((a : Actor) → logs_of logs a ≡ []) → AreAllOwed logs
 none_owed logs none p loyal = subst (AreOwed logs.shape []) (sym (none (Replica p))) tt
 
@@ -245,7 +245,7 @@ cause_from may mail script seats ran logs refusal run same own was =
       ]
     ]
 
--- where no host was refused, and not all clients are served, one is not
+-- if no host was refused, and not all clients are served, one is not
 cause_left : (may : Actor → Type 0) (mail : SharedBoxes) (script : Script) (seats : Seats) (ran : Ran) (logs : Logs)
     → HaveRun may mail script seats ran → logs.shape ≡ mail.shape
     → ((seat : Pass) → In seat (all_of ran.seats) → logs_of logs seat.actor ≡ seat.log)

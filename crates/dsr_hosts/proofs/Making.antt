@@ -33,7 +33,7 @@ abbrev pub AgainLaw : Type 0
 AgainLaw = (shape : Shape) (me : ℕ) (older log : List Entry) (op : Option Op) (ask : SignedRequest) → awaited shape me older op ≡ Some ask
     → IsAwaited shape ask older log → awaited shape me log op ≡ Some ask
 
--- where nothing is outstanding, what a call awaits is the next request
+-- if nothing is outstanding, what a call awaits is the next request
 awaits_next : (seat : Pass) (op : Op) → outstanding seat.shape seat.log ≡ None
     → awaited seat.shape (number_of seat.actor) seat.log (Some op) ≡ Some (next_ask seat op)
 awaits_next seat op idle = ap (λ o. option_or o (Some (next_ask seat op))) idle

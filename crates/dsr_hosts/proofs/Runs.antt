@@ -86,7 +86,7 @@ first_after ran after rank is_client end is =
     subst (λ (o : Ends). IfSome o.first (λ fault. (ran.first ≡ Some fault) ⊎ (end ≡ Some (Fault fault.refusal)))) (sym is)
     (first_from ran.first rank end)
 
--- all are served only where all before are
+-- all are served only if all before are
 pub served_after : (ran after : Ends) (rank : ℕ) (is_client : Bool) (end : Option End) → after ≡ ends_with ran rank is_client end
     → after.served ≡ true → ran.served ≡ true
 served_after ran after rank is_client end is served =
@@ -102,7 +102,7 @@ pub done_after : (ran after : Ends) (rank : ℕ) (is_client : Bool) (end : Optio
 done_after ran after rank is_client end is served client =
     work_done is_client end (and_parts ran.served (not is_client || is_none end) (sym (ap (λ (o : Ends). o.served) is) ∙ served)).1 client
 
--- where nothing was refused and not all are served, some client is not: one of those before, or the one more
+-- if nothing was refused and not all are served, some client is not: one of those before, or the one more
 left_from : (may : Actor → Type 0) (script : Script) (again : AnySeat) (end : Option End) (olds news : List Pass) (old : Option AFault) (served : Bool)
     (rank : ℕ) → ((x : Pass) → In x olds → In x news) → (is_of_client again ≡ true → In (pass_of again) news) → IsEnding may script again end
     → (old ≡ None → served ≡ false → AreSomeUnserved script olds) → first_with old rank end ≡ None
@@ -139,7 +139,7 @@ room_on all others ran after first second third = record {
   clients = third.clients ∙ (second.clients ∙ first.clients);
 }
 
--- where something stands in three lists
+-- where something is in three lists
 in_first : (x : Pass) (a b c : List Pass) → In x a → In x (a ++ (b ++ c))
 in_first x a b c h = In-append_left x a (b ++ c) h
 
@@ -168,7 +168,7 @@ in_same xs ys is x h = subst (In x) (sym is) h
 in_last : (xs ys : List Pass) (last : Pass) → ys ≡ xs ++ last ∷ [] → In last ys
 in_last xs ys last is = subst (In last) (sym is) (In-append_right last xs (last ∷ []) (here refl))
 
--- what comes back from all hosts, where it came from all but one and from that one
+-- what comes back from all hosts, if it came from all but one and from that one
 pub come_on : (may : Actor → Type 0) (mail : SharedBoxes) (script : Script) (all others : Seats) (ran after : Ran)
     (seat again : AnySeat) (end : Option End)
     → HasLast all seat others → SameRoom all others → HaveRun may mail script others ran → IsBack mail seat again → IsEnding may script again end

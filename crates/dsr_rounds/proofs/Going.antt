@@ -87,7 +87,7 @@ module _ (may : Actor → Type 0) (seat : Pass) (to : Actor) (pick : Pick) where
   by_given None e given past = absurd (false≢true given)
   by_given (Some x) e given past = record { to = to; pick = pick; envelope = x; due = sym e; past = past }
 
-  -- a refused post of a loyal actor ends its host by a limit or for want of memory
+  -- a refused post of a loyal actor ends its host by a limit or because memory ran out
   pub post_ends : (e : Refusal) → is_traitor_of seat.shape seat.actor ≡ false → IsActor seat.shape to → are_clients seat.actor to ≡ false
       → IsSome (post_of seat.shape seat.log seat.actor to pick)
       → IsRefusedBy (post_refused seat.shape seat.actor seat.log to pick) BoxFull e → e ≢ BoxFull → HostRefusal may seat e
@@ -107,7 +107,7 @@ module _ (may : Actor → Type 0) (seat : Pass) (to : Actor) (pick : Pick) where
     ]
   ]
 
--- a refused take ends a host for want of memory
+-- a refused take ends a host because memory ran out
 pub take_ends : (may : Actor → Type 0) (seat : Pass) (from : Actor) (e : Refusal) → IsActor seat.shape from → is_own_client seat.actor from ≡ false
     → is_undue seat.shape seat.log seat.actor from ≡ false
     → IsRefusedBy (take_refused seat.shape seat.actor seat.log from) BoxEmpty e → e ≢ BoxEmpty → HostRefusal may seat e
@@ -120,7 +120,7 @@ take_ends may seat from e inside role due by other = elim by [
   ]
 ]
 
--- a refused post of a traitor ends its host by a limit or for want of memory
+-- a refused post of a traitor ends its host by a limit or because memory ran out
 pub plant_ends : (may : Actor → Type 0) (seat : Pass) (to : Actor) (e : Refusal) → is_traitor_of seat.shape seat.actor ≡ true → IsActor seat.shape to
     → IsRefusedBy (plant_refused seat.shape seat.log to) BoxFull e → e ≢ BoxFull → HostRefusal may seat e
 plant_ends may seat to e traitor inside by other = elim by [

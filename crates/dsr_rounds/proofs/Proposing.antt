@@ -43,7 +43,7 @@ next_cases m c inside = by_test (nat_lt (suc c) m) refl
     by_test true e = inl (refl, grind (arith, nat_tests))
     by_test false e = inr (refl, grind (arith, nat_tests))
 
--- so many turns from d on come before the turn of c
+-- `count` turns from d on come before the turn of c
 abbrev comes_later : ℕ → ℕ → ℕ → ℕ → Type 0
 comes_later m count c d = ((d ≤ c) × (d + count ≤ c)) ⊎ ((c < d) × (d + count ≤ c + m))
 
@@ -113,7 +113,7 @@ clients_or_none : (xs : List ℕ) → length xs ≤ 8 → AllPairs (λ (a : ℕ)
 clients_or_none [] few apart = inl refl
 clients_or_none (x ∷ xs) few apart = inr (record { some = omega arith; few = few; distinct = apart })
 
--- whoever is next are none, or clients that a choice may name
+-- the next clients are none, or clients that a choice may name
 pub next_good : (shape : Shape) (log : List Entry) → 0 < shape.m → (next_proposed shape log ≡ []) ⊎ IsClients (next_proposed shape log)
 next_good shape log some =
     let first = first_in_turn shape.m (last_proposed shape log) in

@@ -191,7 +191,7 @@ at_next_take n p closed k d false e less due_is rounds_is = inl (below n p e les
     below : (n p : ℕ) → false ≡ (suc p == n) → p < n → suc p < n
     below n p e less = grind (arith, nat_tests)
 
--- a take from replica p that is due, with so many rounds closed, moves on
+-- a take from replica p that is due, with this many rounds closed, moves on
 pub take_at : (later earlier : Pass) (n p closed : ℕ) (x : Envelope) → n ≡ earlier.shape.n → p < n → rounds earlier.shape earlier.log ≡ closed
     → later ≡ with_entry earlier (Take (Replica p) x) → IsAtTake later n (suc p) closed
 take_at later earlier n p closed x is less was e =
