@@ -25,7 +25,7 @@ abbrev pub IsEagerPick : Pass → ℕ → Pick → Type 0
 IsEagerPick seat to pick = is_exhausted seat.shape seat.log seat.actor (Replica to) pick ≡ false → (envelope : Envelope)
     → post_of seat.shape seat.log seat.actor (Replica to) pick ≡ Some envelope → IsEagerPost seat to envelope
 
--- the post that this choice gives was made, and it is within the limits
+-- the post that this choice gives was made, and no counter was exhausted before it
 abbrev pub HasPosted : Pass → Pass → Actor → Pick → Type 0
 HasPosted old new to pick = (envelope : Envelope) × (post_of old.shape old.log old.actor to pick ≡ Some envelope)
     × (new ≡ with_entry old (Post to envelope)) × (is_exhausted old.shape old.log old.actor to pick ≡ false)
