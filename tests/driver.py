@@ -96,7 +96,7 @@ def files(report, is_written):
 
 NO_MEMORY = 1, b"dsr: no memory\n"
 # So many first allocations are refused one by one; then each step is wider by a part of what came before.
-FIRST, PART = 1_500, 40
+FIRST, PART = 300, 8
 CHANGES, SCRIPT_CHANGES = " 01rc+-,/~()", "\n 01rc+-,/~("
 
 
