@@ -1,11 +1,12 @@
 //! A service of a script.
 
-ghost use Rattle.std.specs.Prelude.{◌≡◌, ℕ, ◌<◌, map, IfOk, IfErr, IsOkUnless};
+ghost use Rattle.std.specs.Prelude.{◌≡◌, ◌≢◌, ℕ, ◌<◌, map, IfOk, IfErr, IsOkUnless};
 ghost use Rattle.dsr_names.specs.declared.actor.Actor.TheVariants.{Client as ClientNumber};
+ghost use Rattle.dsr_names.specs.declared.refusal.Refusal.{Refusal};
 ghost use Rattle.dsr_script.specs.Script.{ops_of};
 ghost use Rattle.dsr_run.specs.Run.{AreLogs};
 ghost use Rattle.dsr_boxes.specs.Pass.{new_pass};
-ghost use Rattle.dsr_mail.specs.Logs.{logs_of};
+ghost use Rattle.dsr_mail.specs.Logs.{logs_of, HasAllLogs};
 ghost use Rattle.dsr_mail.specs.Seats.{is_loyal_replica, is_traitor_replica, is_client, actors_of};
 ghost use Rattle.dsr_hosts.specs.Causes.{CauseOf};
 ghost use Rattle.dsr_hosts.specs.Posted.{AreAllOwed, AreAllEager, AreAllPlanned};
@@ -39,9 +40,9 @@ pub struct ServeFault {
 /// With `Ok` each client accepted the replies to exactly its operations, in order. Else the service was ended by a host: `Exhausted` where its next
 /// post is past a limit, `Stopped` where the gate answered false, `Unanswered` where a client had no reply and the replicas had ended, so that it
 /// accepted fewer replies than it has operations, `NoMemory` where memory ran out; or by `NoThread`, where a thread could not be started. The logs
-/// until then come with the cause; there are no entries in them where the mail could not be opened. They are always the logs of a run. In them loyal
-/// replicas began each of their own slots with the requests whose turn it was, and posted to clients only what those were owed; traitors posted only
-/// what the script says.
+/// until then come with the cause. They are those of all actors; after `NoMemory` they may be the empty ones, if memory ran out before there was a
+/// mail. They are always the logs of a run. In them loyal replicas began each of their own slots with the requests whose turn it was, and posted to
+/// clients only what those were owed; traitors posted only what the script says.
 pub fn serve<R: Threads + Wait + Sync, G: Gate + Sync>(
     rt: &R,
     alloc: Global,
@@ -51,11 +52,13 @@ pub fn serve<R: Threads + Wait + Sync, G: Gate + Sync>(
     ensures shape { IfOk result (λ logs. logs.shape ≡ script.now.shape) }
     ensures run { IfOk result (λ logs. AreLogs logs.shape (logs_of logs)) }
     ensures served { IfOk result (λ logs. (c : ℕ) → c < logs.shape.m → HasAll logs.shape c (logs_of logs (ClientNumber c)) (ops_of script.now c)) }
+    ensures all { IfOk result HasAllLogs }
     ensures owed { IfOk result (λ logs. AreAllOwed logs) }
     ensures eager { IfOk result (λ logs. AreAllEager logs) }
     ensures planned { IfOk result (λ logs. AreAllPlanned script.now logs) }
     ensures fault_shape { IfErr result (λ fault. fault.logs.shape ≡ script.now.shape) }
     ensures fault_run { IfErr result (λ fault. AreLogs fault.logs.shape (logs_of fault.logs)) }
+    ensures fault_all { IfErr result (λ fault. fault.cause ≢ Refusal.NoMemory → HasAllLogs fault.logs) }
     ensures fault_owed { IfErr result (λ fault. AreAllOwed fault.logs) }
     ensures fault_eager { IfErr result (λ fault. AreAllEager fault.logs) }
     ensures fault_planned { IfErr result (λ fault. AreAllPlanned script.now fault.logs) }

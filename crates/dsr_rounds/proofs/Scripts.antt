@@ -6,6 +6,7 @@ use Rattle.std.proofs.lemmas.List.{length-append}
 use Rattle.dsr_names.specs.Shape.{Shape}
 use Rattle.dsr_names.specs.declared.actor.Actor.{Actor}
 use Rattle.dsr_names.specs.declared.actor.Actor.TheVariants.{Replica, Client}
+use Rattle.dsr_names.specs.Support.ActorEquality.{actor_eq}
 use Rattle.dsr_envelope.specs.declared.envelope.Envelope.{Envelope}
 use Rattle.dsr_envelope.specs.declared.envelope.Envelope.TheVariants.{Empty}
 use Rattle.dsr_envelope.specs.declared.entry.Entry.{Entry}
@@ -13,14 +14,13 @@ use Rattle.dsr_envelope.specs.declared.entry.Entry.TheVariants.{Post, Take}
 use Rattle.dsr_envelope.specs.Log.{posted_to, taken_from}
 use Rattle.dsr_script.specs.Script.{Script, draft_at, place_of}
 use Rattle.dsr_run.specs.OwnStep.{ForgesNone}
-use Rattle.dsr_run.specs.Run.{IsTraitor}
 use Rattle.dsr_boxes.specs.Pass.{Pass, with_entry}
 use Rattle.dsr_calls.specs.Calls.{GoesOn, number_of}
 use Rattle.dsr_rounds.specs.Ends.{HasTried}
 use Rattle.dsr_rounds.specs.declared.end.End.{End}
 use Rattle.dsr_rounds.specs.declared.traitor.Planting.{Planting}
 use Rattle.dsr_rounds.specs.declared.traitor.Planting.TheVariants.{Made, Forged, Full}
-use Rattle.dsr_rounds.specs.Traitors.{FollowsScript, RanScript, Follows, StillFollows, StillTakes, IsPlanned, HasPlanted, IsScripted, KeepsCounts, PostsToClients, PostsDrafts, TakesFromAll, MakesRound, count_at}
+use Rattle.dsr_rounds.specs.Traitors.{FollowsScript, RanScript, IsBetweenRounds, Follows, StillFollows, StillTakes, IsPlanned, HasPlanted, IsScripted, KeepsCounts, PostsToClients, PostsDrafts, TakesFromAll, MakesRound, count_at}
 use Rattle.dsr_rounds.proofs.Going.{goes_same, goes_entry, goes_further}
 
 -- ---- the empty envelope
@@ -111,6 +111,42 @@ pub ran : (script : Script) (count : ℕ) (first last : Pass) → FollowsScript 
 ran script count first last follows =
     counted script first last (count_at count 0) (count_at count 0) (λ q. count) (λ q. count) (λ q less. no_count count q) (λ q less. no_count count q) follows
 
+-- ---- whether a round is open
+
+plus_if : (b : Bool) (m k n : ℕ) → m ≡ k + n → (if b then suc m else m) ≡ (if b then suc k else k) + n
+plus_if true m k n e = omega (arith, e)
+plus_if false m k n e = e
+
+posted_both : (a : Actor) (newer older : List Entry)
+    → length (posted_to a (newer ++ older)) ≡ length (posted_to a newer) + length (posted_to a older)
+posted_both a [] older = omega arith
+posted_both a (Take from x ∷ newer) older = posted_both a newer older
+posted_both a (Post to x ∷ newer) older =
+    length_if (actor_eq to a) (posted_to a (newer ++ older)) x
+    ∙ (plus_if (actor_eq to a) (length (posted_to a (newer ++ older))) (length (posted_to a newer)) (length (posted_to a older)) (posted_both a newer older)
+    ∙ ap (λ k. k + length (posted_to a older)) (sym (length_if (actor_eq to a) (posted_to a newer) x)))
+
+taken_both : (a : Actor) (newer older : List Entry)
+    → length (taken_from a (newer ++ older)) ≡ length (taken_from a newer) + length (taken_from a older)
+taken_both a [] older = omega arith
+taken_both a (Post to x ∷ newer) older = taken_both a newer older
+taken_both a (Take from x ∷ newer) older =
+    length_if (actor_eq from a) (taken_from a (newer ++ older)) x
+    ∙ (plus_if (actor_eq from a) (length (taken_from a (newer ++ older))) (length (taken_from a newer)) (length (taken_from a older)) (taken_both a newer older)
+    ∙ ap (λ k. k + length (taken_from a older)) (sym (length_if (actor_eq from a) (taken_from a newer) x)))
+
+-- as many posts to each replica as takes from it leave no round open where none was
+pub between_on : (script : Script) (counts : ℕ → ℕ) (old new : Pass) → FollowsScript script old new counts counts → IsBetweenRounds old → IsBetweenRounds new
+between_on script counts old new follows was q inside =
+    let low : q < old.shape.n = subst (λ (s : Shape). q < s.n) follows.shape inside in
+    let taken : length (taken_from (Replica q) new.log) ≡ counts q + length (taken_from (Replica q) old.log) =
+    ap (λ l. length (taken_from (Replica q) l)) follows.log
+    ∙ (taken_both (Replica q) follows.added old.log ∙ ap (λ k. k + length (taken_from (Replica q) old.log)) (follows.taken q low)) in
+    let posted : length (posted_to (Replica q) new.log) ≡ counts q + length (posted_to (Replica q) old.log) =
+    ap (λ l. length (posted_to (Replica q) l)) follows.log
+    ∙ (posted_both (Replica q) follows.added old.log ∙ ap (λ k. k + length (posted_to (Replica q) old.log)) (follows.posted q low)) in
+    taken ∙ (ap (λ k. counts q + k) (was q low) ∙ sym posted)
+
 -- ---- posts to clients by the script
 
 posts_same : (script : Script) (t n : ℕ) (earlier later : Pass) → later ≡ earlier → PostsToClients script t n earlier later
@@ -119,16 +155,17 @@ posts_same script t n earlier later e = record {
   keeps = λ first takes follows. subst (λ (s : Pass). FollowsScript script first s (count_at t n) takes) (sym e) follows;
 }
 
-first_count : (t n : ℕ) → 0 < n → count_at t n 0 ≡ suc t
-first_count t n some = grind (arith, nat_tests)
+each_count : (t n q : ℕ) → q < n → count_at t n q ≡ suc t
+each_count t n q less = grind (arith, nat_tests)
 
-one_answer : (script : Script) (t n c : ℕ) (earlier later : Pass) (x : Envelope) (takes : ℕ → ℕ) (first : Pass) → 0 < n → n ≡ earlier.shape.n
+one_answer : (script : Script) (t n c : ℕ) (earlier later : Pass) (x : Envelope) (takes : ℕ → ℕ) (first : Pass) → n ≡ earlier.shape.n
     → draft_at script (place_of (number_of earlier.actor) t (Client c)) ≡ Some x → ForgesNone earlier.shape earlier.actor earlier.log x
     → later ≡ with_entry earlier (Post (Client c) x)
     → FollowsScript script first earlier (count_at t n) takes → FollowsScript script first later (count_at t n) takes
-one_answer script t n c earlier later x takes first some is draft forges e follows =
-    let inside : 0 < first.shape.n = subst (λ k. 0 < k) (is ∙ ap (λ (s : Shape). s.n) follows.shape) some in
-    let made : length (posted_to (Replica 0) follows.added) ≡ suc t = follows.posted 0 inside ∙ first_count t n some in
+one_answer script t n c earlier later x takes first is draft forges e follows =
+    let all : n ≡ first.shape.n = is ∙ ap (λ (s : Shape). s.n) follows.shape in
+    let made : (q : ℕ) → q < first.shape.n → length (posted_to (Replica q) follows.added) ≡ suc t =
+    λ q less. follows.posted q less ∙ each_count t n q (subst (λ k. q < k) (sym all) less) in
     let by_actor : draft_at script (place_of (number_of first.actor) t (Client c)) ≡ Some x =
     subst (λ a. draft_at script (place_of (number_of a) t (Client c)) ≡ Some x) follows.actor draft in
     let unforged : ForgesNone first.shape first.actor (follows.added ++ first.log) x =
@@ -146,27 +183,22 @@ one_answer script t n c earlier later x takes first some is draft forges e follo
       planned = (follows.planned, (t, made, by_actor, unforged));
     })
 
-posts_answer : (script : Script) (t n c : ℕ) (earlier later : Pass) (x : Envelope) → 0 < n → n ≡ earlier.shape.n
+posts_answer : (script : Script) (t n c : ℕ) (earlier later : Pass) (x : Envelope) → n ≡ earlier.shape.n
     → draft_at script (place_of (number_of earlier.actor) t (Client c)) ≡ Some x → ForgesNone earlier.shape earlier.actor earlier.log x
     → later ≡ with_entry earlier (Post (Client c) x) → PostsToClients script t n earlier later
-posts_answer script t n c earlier later x some is draft forges e = record {
+posts_answer script t n c earlier later x is draft forges e = record {
   goes_on = goes_entry later earlier (Post (Client c) x) e;
-  keeps = λ first takes follows. one_answer script t n c earlier later x takes first some is draft forges e follows;
+  keeps = λ first takes follows. one_answer script t n c earlier later x takes first is draft forges e follows;
 }
 
--- a traitor is a replica, so there are some
-some_replica : (shape : Shape) (a : Actor) → IsTraitor shape a → 0 < shape.n
-some_replica shape (Replica p) traitor = let less = traitor.0 in omega (arith, less)
-some_replica shape (Client c) traitor = absurd traitor
-
 pub plant_posts : (script : Script) (t n c p : ℕ) (draft : Envelope) (earlier later : Pass) (planting : Planting) → n ≡ earlier.shape.n
-    → earlier.actor ≡ Replica p → IsTraitor earlier.shape earlier.actor → Some draft ≡ draft_at script (place_of p t (Client c))
+    → earlier.actor ≡ Replica p → Some draft ≡ draft_at script (place_of p t (Client c))
     → HasPlanted earlier later (Client c) draft planting → PostsToClients script t n earlier later
-plant_posts script t n c p draft earlier later Made is me traitor drafted planted =
-    posts_answer script t n c earlier later draft (subst (λ k. 0 < k) (sym is) (some_replica earlier.shape earlier.actor traitor)) is
+plant_posts script t n c p draft earlier later Made is me drafted planted =
+    posts_answer script t n c earlier later draft is
     (subst (λ a. draft_at script (place_of (number_of a) t (Client c)) ≡ Some draft) (sym me) (sym drafted)) planted.1 planted.0
-plant_posts script t n c p draft earlier later Forged is me traitor drafted planted = posts_same script t n earlier later planted.0
-plant_posts script t n c p draft earlier later Full is me traitor drafted planted = posts_same script t n earlier later planted
+plant_posts script t n c p draft earlier later Forged is me drafted planted = posts_same script t n earlier later planted.0
+plant_posts script t n c p draft earlier later Full is me drafted planted = posts_same script t n earlier later planted
 
 pub no_answers : (script : Script) (t n : ℕ) (seat : Pass) → PostsToClients script t n seat seat
 no_answers script t n seat = posts_same script t n seat seat refl

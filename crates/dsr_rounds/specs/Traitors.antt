@@ -28,20 +28,21 @@ IsPlanned script shape me log round q envelope =
     ((draft_at script (place_of (number_of me) round (Replica q)) ≡ Some envelope) × ForgesNone shape me log envelope)
     ⊎ ((envelope ≡ Empty) × IsNoDraft script shape me log round q)
 
--- what the script has the traitor post to a client, where it has this log and has made so many posts to replica 0: the draft of the round of the
--- last of those, which would not be forged
-abbrev pub IsPlannedForClient : Script → Shape → Actor → List Entry → ℕ → ℕ → Envelope → Type 0
-IsPlannedForClient script shape me log posts c envelope = (round : ℕ) × (posts ≡ suc round)
+-- what the script has the traitor post to a client, where it has this log and has added this to an older one: the draft of the round whose posts to all
+-- replicas were the last to be made, which would not be forged
+abbrev pub IsPlannedForClient : Script → Shape → Actor → List Entry → List Entry → ℕ → Envelope → Type 0
+IsPlannedForClient script shape me log added c envelope = (round : ℕ)
+    × ((q : ℕ) → q < shape.n → length (posted_to (Replica q) added) ≡ suc round)
     × (draft_at script (place_of (number_of me) round (Client c)) ≡ Some envelope) × ForgesNone shape me log envelope
 
 -- each post among what was added to a log is the script's: the t-th to a replica, counted from 0, is that of round t; one to a client is that of the
--- round whose posts to replicas were made
+-- round whose posts to all replicas were the last to be made
 abbrev pub ArePlanned : Script → Shape → Actor → List Entry → List Entry → Type 0
 ArePlanned script shape me base [] = Unit {0}
 ArePlanned script shape me base (Post (Replica q) envelope ∷ added) =
     ArePlanned script shape me base added × IsPlanned script shape me (added ++ base) (length (posted_to (Replica q) added)) q envelope
 ArePlanned script shape me base (Post (Client c) envelope ∷ added) =
-    ArePlanned script shape me base added × IsPlannedForClient script shape me (added ++ base) (length (posted_to (Replica 0) added)) c envelope
+    ArePlanned script shape me base added × IsPlannedForClient script shape me (added ++ base) added c envelope
 ArePlanned script shape me base (Take from envelope ∷ added) = ArePlanned script shape me base added
 
 -- the later seat is that of the same actor at the same mail; its log extends the earlier one, by posts to replicas and takes from them, as many as
@@ -59,6 +60,10 @@ pub record FollowsScript (script : Script) (earlier later : Pass) (posts takes :
 -- the traitor's host made all rounds: to each replica it posted once a round what the script says, and took from each once a round
 abbrev pub RanScript : Script → ℕ → Pass → Pass → Type 0
 RanScript script count earlier later = FollowsScript script earlier later (λ q. count) (λ p. count)
+
+-- no round is open at the seat: the traitor has taken from each replica as often as it has posted to it
+abbrev pub IsBetweenRounds : Pass → Type 0
+IsBetweenRounds seat = (q : ℕ) → q < seat.shape.n → length (taken_from (Replica q) seat.log) ≡ length (posted_to (Replica q) seat.log)
 
 -- the later seat follows the script, whatever the numbers of posts and takes: no post is another than the script's
 abbrev pub Follows : Script → Pass → Pass → Type 0

@@ -1,22 +1,24 @@
--- In which turns a host makes its entries (this project).
-use Rattle.std.specs.Prelude.{◌≡◌, ℕ, ◌≤◌, ◌++◌, List, [], ◌∷◌}
+-- In which turns a host makes its entries (this project). Each try of a host has a turn; one that finds a box full or empty leaves no entry, and nothing
+-- is said here of its turn.
+use Rattle.std.specs.Prelude.{◌≡◌, ℕ, ◌<◌, ◌≤◌, ◌^◌, ◌++◌, List, [], ◌∷◌}
 use Rattle.dsr_names.specs.declared.actor.Actor.{Actor}
 use Rattle.dsr_envelope.specs.declared.entry.Entry.{Entry}
 use Rattle.dsr_boxes.specs.Pass.{Pass}
 use Rattle.dsr_rounds.specs.Ends.{turn_after}
 
--- each entry was made in a turn that the gate may let pass, a newer one in a later turn, and all before the next turn; but in the turn 2^40-1, which is the
--- last, several may be made
+-- each entry was made in a turn that the gate may let pass, a newer one in a later turn, and all before the next turn; but in the turn 2^40-1, after which
+-- there is no later one, several may be made
 abbrev pub AreInTurns : (ℕ → Type 0) → ℕ → List Entry → Type 0
 AreInTurns may next [] = Unit {0}
 AreInTurns may next (entry ∷ older) = (turn : ℕ) × may turn × (turn_after turn ≤ next) × AreInTurns may turn older
 
--- so were all entries that the later seat has more than the earlier, which is that of the same actor
+-- so were all entries that the later seat has more than the earlier, which is that of the same actor; and 2^40-1 is the last turn
 pub record IsInTurns (may : Actor → ℕ → Type 0) (earlier later : Pass) (next : ℕ) : Type 0 where
   pub actor : later.actor ≡ earlier.actor
   pub added : List Entry
   pub log : later.log ≡ added ++ earlier.log
   pub turns : AreInTurns (may earlier.actor) next added
+  pub last : next < 2 ^ 40
 
 -- whatever the next turn is now
 abbrev pub HasTurns : (Actor → ℕ → Type 0) → Pass → Pass → Type 0

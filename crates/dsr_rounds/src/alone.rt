@@ -6,7 +6,7 @@ ghost use Rattle.dsr_calls.specs.Calls.{GoesOn};
 ghost use Rattle.dsr_rounds.specs.Eagerness.{WasEager};
 ghost use Rattle.dsr_rounds.specs.Ends.{HostRefusal};
 ghost use Rattle.dsr_rounds.specs.Replicas.{HasClosed, AnswersOwed};
-ghost use Rattle.dsr_rounds.specs.Traitors.{RanScript, Follows};
+ghost use Rattle.dsr_rounds.specs.Traitors.{RanScript, IsBetweenRounds, Follows};
 ghost use Rattle.dsr_rounds.specs.Turns.{HasTurns};
 
 use crate::end::End;
@@ -24,10 +24,10 @@ use std::sync::Wait;
 ///
 /// With `Ok` exactly so many more rounds are closed. However it ends, each client to which it posted was owed that reply: it was not answered since
 /// something of it was taken, and the request held of it is the one that the reply is for; and each slot of its own it began with the requests that
-/// were next: those held of the first 8 clients that wait, in turn after the client that it proposed last. Each post and each take is made in a turn
-/// that the gate may let pass, in the order of turns (the last is 2^40-1, and stays). `Exhausted` where its next post is past a limit, `Stopped` where
-/// the gate answered false, `NoMemory` where memory ran out: what was done until then stands, and the host can be run again. Requires a seat of this
-/// mail.
+/// were next: those held of the first 8 clients that wait, in turn after the client that it proposed last. Each post and each take that it made was
+/// made in a turn that the gate may let pass, a later one in a later turn (the last is 2^40-1, in which several may be made). `Exhausted` where its
+/// next post is past a limit, `Stopped` where the gate answered false, `NoMemory` where memory ran out: what was done until then stands, and the host
+/// can be run again. Requires a seat of this mail.
 pub fn run_replica<R: Wait, G: Gate>(
     rt: &R,
     alloc: Global,
@@ -65,9 +65,13 @@ pub fn run_replica<R: Wait, G: Gate>(
 ///
 /// With `Ok` it posted to each replica exactly so many times, what the script says, and took from each so many times. However it ends, it posted
 /// nothing that the script does not say: to a replica the draft of the round, or the empty envelope; to a client the draft of the round, once all
-/// its posts to replicas were made. Each post and each take is made in a turn that the gate may let pass, in the order of turns (the last is 2^40-1,
-/// and stays). `Exhausted` where a box has had all its posts, `Stopped` where the gate answered false, `NoMemory` where memory ran out: what was done
-/// until then stands. Requires a seat of this mail.
+/// its posts to replicas were made. Each post and each take that it made was made in a turn that the gate may let pass, a later one in a later turn
+/// (the last is 2^40-1, in which several may be made). `Exhausted` where a box has had all its posts, `Stopped` where the gate answered false,
+/// `NoMemory` where memory ran out: what was done until then stands. Requires a seat of this mail.
+///
+/// After such an end a round may be open at the seat, which is then not to be given to another call: that would begin a round, and could wait for itself
+/// for ever, since what it had posted to itself lies in its box, and it takes that only after its posts. With `Ok` no round is open, if none was before,
+/// as at a new seat.
 pub fn run_traitor<R: Wait, G: Gate>(
     rt: &R,
     alloc: Global,
@@ -79,6 +83,7 @@ pub fn run_traitor<R: Wait, G: Gate>(
 ) -> Result<(), Refusal>
     requires mail { IsPassOf mail.now seat.old }
     ensures ran { OnOk result (RanScript script.now rounds seat.old seat.new) }
+    ensures between { OnOk result (IsBetweenRounds seat.old → IsBetweenRounds seat.new) }
     ensures follows { Follows script.now seat.old seat.new }
     ensures turns { HasTurns (G.may_pass gate.now) seat.old seat.new }
     ensures log { GoesOn seat.new seat.old }

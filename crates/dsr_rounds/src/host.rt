@@ -1,6 +1,6 @@
 //! What hosts share.
 
-ghost use Rattle.std.specs.Prelude.{◌≡◌, ◌≤◌, IfErr, OnOk};
+ghost use Rattle.std.specs.Prelude.{◌≡◌, ◌⊎◌, IfErr, OnOk};
 ghost use Rattle.dsr_rounds.specs.Ends.{IsPassEnd, IsTried, turn_after};
 
 use crate::end::End;
@@ -29,11 +29,11 @@ pub struct Host<'a, R, G> {
 
 impl<'a, R: Wait, G: Gate> Host<'a, R, G> {
     /// Asks whether the actor goes on with its next turn: not where it was told to stop, nor where the gate refuses it. With `Ok` the gate may let
-    /// this turn pass, and it is counted. Turns never go back.
+    /// this turn pass, and it is counted; else it is counted or not.
     pub fn pass(&self, actor: Actor, turn: &mut Turn) -> Result<(), End>
         ensures passed { OnOk result (G.may_pass self.now.gate.now actor turn.old.number) }
         ensures next { OnOk result (turn.new.number ≡ turn_after turn.old.number) }
-        ensures later { turn.old.number ≤ turn.new.number }
+        ensures later { (turn.new.number ≡ turn.old.number) ⊎ (turn.new.number ≡ turn_after turn.old.number) }
         ensures end { IfErr result (IsPassEnd (G.may_refuse self.now.gate.now) self.now.stop.now actor) }
     {
         if self.stop.is_told() {

@@ -11,7 +11,7 @@ ghost use Rattle.dsr_calls.specs.Calls.{GoesOn};
 ghost use Rattle.dsr_rounds.specs.Ends.{HostEnd, HasTried, turn_after};
 ghost use Rattle.dsr_rounds.specs.Turns.{HasTurns, KeepsTurns};
 ghost use Rattle.dsr_rounds.specs.Tries.{TriesTake, TriesTakes, TriesPost, TriesPosts};
-ghost use Rattle.dsr_rounds.specs.Traitors.{RanScript, Follows, StillFollows, StillTakes, IsPlanned, IsPlanting, IsScripted, HasPlanted, KeepsCounts, PostsToClients, PostsDrafts, TakesFromAll, MakesRound, count_at};
+ghost use Rattle.dsr_rounds.specs.Traitors.{RanScript, IsBetweenRounds, Follows, StillFollows, StillTakes, IsPlanned, IsPlanting, IsScripted, HasPlanted, KeepsCounts, PostsToClients, PostsDrafts, TakesFromAll, MakesRound, count_at};
 
 use crate::end::End;
 use crate::gate::Gate;
@@ -36,7 +36,8 @@ pub(crate) enum Planting {
 impl<'a, R: Wait, G: Gate> Host<'a, R, G> {
     /// Has the traitor make so many rounds by the script, the first of which is its round 0: in each it takes once from each client, posts to all
     /// replicas the drafts of the round, or the empty envelope where there is none or it would be forged, posts once to each client for which
-    /// there is a draft that would not be, and takes from all replicas.
+    /// there is a draft that would not be, and takes from all replicas. After an `Err` a round may be open at the seat, which is then not to be given to
+    /// another call: what it had posted to itself may lie in its box, and it takes that only after its posts, so it could wait for itself for ever.
     pub fn run_traitor(
         &self,
         seat: &mut TraitorSeat,
@@ -45,6 +46,7 @@ impl<'a, R: Wait, G: Gate> Host<'a, R, G> {
     ) -> Result<(), End>
         requires mail { IsPassOf self.now.mail.now seat.old }
         ensures ran { OnOk result (RanScript script.now rounds seat.old seat.new) }
+        ensures between { OnOk result (IsBetweenRounds seat.old → IsBetweenRounds seat.new) }
         ensures follows { Follows script.now seat.old seat.new }
         ensures turns { HasTurns (G.may_pass self.now.gate.now) seat.old seat.new }
         ensures log { GoesOn seat.new seat.old }

@@ -78,3 +78,9 @@ returns-in-Err-clause-fault_eager g c = none_eager c.empty-logs.result c.empty-l
 
 pub returns-in-Err-clause-fault_planned : goal.returns-in-Err-clause-fault_planned
 returns-in-Err-clause-fault_planned g c = none_planned c.args.script.now c.empty-logs.result c.empty-logs.ensures.none
+
+pub returns-in-Some-clause-fault_all : goal.returns-in-Some-clause-fault_all
+returns-in-Some-clause-fault_all g c other = c.close-logs.ensures.all
+
+pub returns-in-Err-clause-fault_all : goal.returns-in-Err-clause-fault_all
+returns-in-Err-clause-fault_all g c other = absurd (other c.in-Err.ensures.refusal)

@@ -4,7 +4,7 @@ use Rattle.dsr_rounds.proofs.Turns.{first_turns}
 use Rattle.dsr_rounds.proofs.host.Host.run_replica.Goals as goal
 
 pub loop-round-init : goal.loop-round-init
-loop-round-init g c = (duty_same c.args.seat.now c.args.seat.now refl, none_closed c.args.seat.now, first_turns (g.G.Gate.may_pass c.args.self.now.gate.now) c.args.seat.now c.first-turn.result.number)
+loop-round-init g c = (duty_same c.args.seat.now c.args.seat.now refl, none_closed c.args.seat.now, first_turns (g.G.Gate.may_pass c.args.self.now.gate.now) c.args.seat.now c.first-turn.result.number c.first-turn.ensures)
 
 pub loop-round-preserved : goal.loop-round-preserved
 loop-round-preserved g c =

@@ -1,7 +1,20 @@
-use Rattle.dsr_rounds.proofs.Scripts.{round_step}
-use Rattle.dsr_rounds.proofs.Going.{goes_further}
+use Rattle.std.proofs.Common.{refl}
+use Rattle.dsr_rounds.proofs.Scripts.{round_step, none_yet, between_on}
+use Rattle.dsr_rounds.proofs.Going.{goes_same, goes_further}
+use Rattle.dsr_rounds.proofs.Turns.{first_turns}
 use Rattle.dsr_rounds.specs.Traitors.{count_at}
 use Rattle.dsr_rounds.proofs.host.Host.run_traitor.Goals as goal
+
+pub loop-round-init : goal.loop-round-init
+loop-round-init g c = (
+  goes_same c.args.seat.now c.args.seat.now refl,
+  none_yet c.args.script.now c.args.seat.now,
+  first_turns (g.G.Gate.may_pass c.args.self.now.gate.now) c.args.seat.now c.first-turn.result.number c.first-turn.ensures,
+)
+
+pub returns-clause-between : goal.returns-clause-between
+returns-clause-between g c was =
+    between_on c.args.script.now (count_at c.loop-round.round 0) c.args.seat.now c.loop-round.seat c.loop-round.invariant.1 was
 
 pub returns-in_err-make_scripted_round-clause-log : goal.returns-in_err-make_scripted_round-clause-log
 returns-in_err-make_scripted_round-clause-log g c =
