@@ -239,6 +239,8 @@ function own(told) {
 async function openBlob(blob, name) {
   own(name);
   await putLong(blob);
+  // an explanation of a million events takes long
+  if (long && task === "explain") task = "play";
   perform();
 }
 
