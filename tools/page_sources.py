@@ -97,7 +97,7 @@ def samples():
     """The samples: the group, the name, the text, and what is said of it, of each."""
     for name, cells in rows_of("examples/attacks/README.md").items():
         yield "Attacks", name, text_of(f"examples/attacks/{name}.play"), [f"Tried: {plain(cells[0])}", f"What stops it: {plain(cells[1])}"]
-    for name in rows_of("examples/why/README.md"):
+    for name in sorted(name[:-5] for name in os.listdir(f"{TOP}/examples/why") if name.endswith(".play")):
         yield "Wrong in one line", f"why-{name}", text_of(f"examples/why/{name}.play"), ["c0's write is not served, since one line is wrong. Which? Explain says why."]
     yield "Transcripts", "honest-service", text_of("examples/record/honest.transcript"), ["A service in another language recorded this of itself. It is a run."]
     yield "Transcripts", "lying-service", text_of("examples/record/lying.transcript"), ["The same service, but it lies about one step. Which?"]
