@@ -93,16 +93,11 @@ def plain(text):
     return re.sub(r"\s*\(?\[([^\]]*)\]\([^)]*\)\)?", lambda link: "" if link[0].lstrip().startswith("(") else link[1], text)
 
 
-def is_wrong_play(name):
-    """Whether this is the name of a play that is wrong in one line."""
-    return os.path.exists(f"{TOP}/examples/why/{name}.play")
-
-
 def samples():
     """The samples: the group, the name, the text, and what is said of it, of each."""
     for name, cells in rows_of("examples/attacks/README.md").items():
         yield "Attacks", name, text_of(f"examples/attacks/{name}.play"), [f"Tried: {plain(cells[0])}", f"What stops it: {plain(cells[1])}"]
-    for name in filter(is_wrong_play, rows_of("examples/README.md")):
+    for name in sorted(name[:-5] for name in os.listdir(f"{TOP}/examples/why") if name.endswith(".play")):
         yield "Wrong in one line", f"why-{name}", text_of(f"examples/why/{name}.play"), ["c0's write is not served, since one line is wrong. Which? Explain says why."]
     yield "Transcripts", "honest-service", text_of("examples/record/honest.transcript"), ["A service in another language recorded this of itself. It is a run."]
     yield "Transcripts", "lying-service", text_of("examples/record/lying.transcript"), ["The same service, but it lies about one step. Which?"]

@@ -25,10 +25,10 @@ function refusedMarks(refused) {
   return found;
 }
 
-// Says what is wrong with the text, first what is at the caret's line.
+// Says what is wrong with the text, first what is at the line where the reader is.
 function say() {
-  const why = by("why"), all = [...marks].sort(([a], [b]) => a - b), caret = lineAtCaret();
-  const [line, mark] = all.find(([line]) => line === caret) || all[0] || [0, null];
+  const why = by("why"), all = [...marks].sort(([a], [b]) => a - b), here = spot.line || lineAtCaret();
+  const [line, mark] = all.find(([line]) => line === here) || all[0] || [0, null];
   why.className = mark ? mark.kind : "fine";
   if (mark) {
     const more = all.length > 1 ? ` <span class="soft">Refused events in ${all.length} lines; what follows the first may come of it. F8 goes to the next.</span>` : "";

@@ -148,6 +148,7 @@ function goToSpot(line, event, from) {
   const row = markRows(), frame = document.querySelector("#result iframe");
   if (from !== "text") show(line);
   if (from !== "events" && row && isWide.matches) row.scrollIntoView({ block: "nearest" });
+  say();
   if (from !== "picture" && frame) frame.contentWindow.postMessage(event === null ? { line } : { event }, "*");
   showAddress();
 }
@@ -238,6 +239,8 @@ function own(told) {
 async function openBlob(blob, name) {
   own(name);
   await putLong(blob);
+  // an explanation of a million events takes long
+  if (long && task === "explain") task = "play";
   perform();
 }
 

@@ -3,8 +3,8 @@
 const by = id => document.getElementById(id);
 const escaped = text => text.replace(/&/g, "&amp;").replace(/</g, "&lt;").replace(/"/g, "&quot;");
 const ROW = 20, ABOVE = 6, BESIDE = 60;
-// Up to how many letters a text is run as it is edited, and up to how many it can be edited.
-const MOST_LIVE = 200_000, MOST_EDITED = 300_000;
+// Up to how many letters a text is run as it is edited, and up to how many it can be edited; and how many are shown of a longer one.
+const MOST_LIVE = 200_000, MOST_EDITED = 300_000, MOST_BEGUN = 20_000;
 
 // A text that is too long for the editor, which shows the beginning of it: a file, or what was pasted.
 let long = null;
@@ -63,9 +63,9 @@ function put(content) {
 
 // Puts a file there, or what was pasted, which may be long.
 async function putLong(blob) {
-  const begun = await blob.slice(0, MOST_EDITED).text();
-  put(begun);
-  if (blob.size <= MOST_EDITED) return;
+  const isLong = blob.size > MOST_EDITED;
+  put(await (isLong ? blob.slice(0, MOST_BEGUN) : blob).text());
+  if (!isLong) return;
   long = blob;
   by("text").readOnly = true;
 }

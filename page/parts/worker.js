@@ -1,7 +1,7 @@
 "use strict";
 // The worker of the page. It is told the module and the page of pictures, and then texts, each with what to do. What it answers is short, however long the
 // text is: of an output the beginning, and how long it is.
-const MOST_SHOWN = 200_000, MOST_DRAWN = 5000, MOST_MARKS = 2000;
+const MOST_SHOWN = 100_000, MOST_DRAWN = 2000, MOST_MARKS = 2000;
 let compiled, template;
 
 async function unpacked(bytes) {
