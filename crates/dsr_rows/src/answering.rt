@@ -1,7 +1,7 @@
 //! Answers rows, one line after the other.
 
 use crate::desk::Desk;
-use crate::groups::{OPENINGS, Opened, PLAIN, call_at, call_plain, open};
+use crate::groups::{OPENINGS, Opened, Opening, PLAIN, call_at, call_plain, open};
 use crate::names;
 use crate::said::{Answered, Failure, Said};
 use crate::words::{Words, find};

@@ -20,6 +20,7 @@ use dsr_record::Record;
 use dsr_register::Directory;
 use dsr_script::Script;
 use dsr_slot::SlotState;
+use std::alloc::Global;
 
 /// The open value, at which later calls of a row are made.
 #[derive(Drop)]

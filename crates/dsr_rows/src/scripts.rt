@@ -54,14 +54,14 @@ fn draft(script: &Script, words: &mut Words) -> Answered {
 pub(crate) fn header(alloc: Global, words: &Words) -> Answered {
     let (title, text) = words.pair()?;
     let text = text_of(alloc, text)?;
-    if split_once(title, b'\n').is_some() {
-        return Err(Failure::NoCall);
-    }
     shape_of_header(title, text.as_slice())
 }
 
 /// Answers with the shape in the header with this title at the beginning of the text.
 fn shape_of_header(title: &[u8], text: &[u8]) -> Answered {
+    if split_once(title, b'\n').is_some() {
+        return Err(Failure::NoCall);
+    }
     match read_header(title, text) {
         Ok(header) => Ok(Said::Shape(header.shape)),
         Err(refusal) => Err(Failure::Refused(refusal)),
