@@ -9,8 +9,7 @@ rows: the driver, as `rt ci` built it, is given each file without its answers, a
 
 refusals: the same over all files of a group at once, with the 1st, 2nd, 3rd .. allocation of the driver refused, until a run meets no refusal; in a long one with
 wider and wider steps. A run that met one must write the files all the same, since the driver makes a refused call again; or end with status 1 and say so, if the
-driver itself had no memory, after a prefix of them. Rows of replicas are left out: the driver makes a post, too, again if there was no memory to write what was
-posted, and then the next step is due already.
+driver itself had no memory, after a prefix of them.
 
 cuts: of each row with the tag `cut`: each text that is a token, cut at every byte from both sides, or with a byte changed, must be another token or none. Each
 script with a byte changed must be a script, or have a shape outside the limits, or its first bad line must not be before that byte.
@@ -98,8 +97,6 @@ def files(report, is_written):
 NO_MEMORY = 1, b"dsr: no memory\n"
 # So many first allocations are refused one by one; then each step is wider by a part of what came before.
 FIRST, PART = 300, 8
-# The groups in which a call that was done may be made again.
-DONE_TWICE = ("replica",)
 CHANGES, SCRIPT_CHANGES = " 01rc+-,/~()", "\n 01rc+-,/~("
 
 
@@ -212,8 +209,7 @@ def rows(report, _):
 def refusals(report, _):
     groups = {}
     for file in found_files(report):
-        if file.group not in DONE_TWICE:
-            groups.setdefault(file.group, []).append(file)
+        groups.setdefault(file.group, []).append(file)
     with refusing() as shim:
         report.judge_all(in_threads(lambda group: check_of_refusals(shim, group, groups[group]), groups))
 

@@ -109,6 +109,14 @@ impl Logged {
         Ok(())
     }
 
+    /// Returns the reply that it would post to this client, if it has one.
+    pub(crate) fn owed(&self, client: ClientId) -> Result<Option<Envelope>, Failure> {
+        if client.number() >= self.replica.shape().m() {
+            return Err(Failure::NoCall);
+        }
+        Ok(self.replica.reply_for(client))
+    }
+
     /// Posts its reply to this client, if it has one, and returns it.
     pub(crate) fn reply(&mut self, client: ClientId) -> Result<Option<Envelope>, Failure> {
         let entries = one_more(self.entries)?;

@@ -8,7 +8,7 @@ use crate::words::{Words, find};
 use dsr_base::Few;
 use dsr_desk::{Content, Keys};
 use dsr_envelope::{Clients, Envelope, Pick};
-use dsr_names::{Actor, ClientId};
+use dsr_names::{Actor, ClientId, ReplicaId};
 use dsr_replica::Replica;
 use std::alloc::Global;
 
@@ -90,7 +90,7 @@ pub(crate) fn answer(desk: &Desk, logged: &mut Logged, verb: &[u8], words: &mut 
         }
         Call::Ask => ask(desk, logged, words),
         Call::Held => Ok(Said::of_request(logged.replica().held(words.client()?))),
-        Call::Reply => said_envelope(alloc, logged.reply(words.client()?)?),
+        Call::Reply => reply(alloc, logged, words),
         Call::Decided => decided(alloc, logged.replica()),
         Call::History => Ok(listed(alloc, logged.replica().history(), " ")?),
         Call::Entries => Ok(Said::Number(logged.entries())),
@@ -137,15 +137,26 @@ fn refused(replica: &Replica, words: &mut Words) -> Answered {
 /// Answers `envelope REPLICA [from CLIENTS]`.
 fn envelope(alloc: Global, replica: &Replica, words: &mut Words) -> Answered {
     let to = words.replica()?;
-    let envelope = replica.envelope_for(alloc, to, pick(words)?)?;
-    said_envelope(alloc, Some(envelope))
+    let pick = pick(words)?;
+    said_post(alloc, replica, to, &pick)
 }
 
-/// Answers `post REPLICA [from CLIENTS]`.
+/// Answers `post REPLICA [from CLIENTS]`. The answer is complete before the replica posts, so a call that lacks memory posts
+/// nothing, and can be made again.
 fn post(alloc: Global, logged: &mut Logged, words: &mut Words) -> Answered {
     let to = words.replica()?;
-    let envelope = logged.post(alloc, to, &pick(words)?)?;
-    said_envelope(alloc, Some(envelope))
+    let pick = pick(words)?;
+    let said = said_post(alloc, logged.replica(), to, &pick)?;
+    logged.post(alloc, to, &pick)?;
+    Ok(said)
+}
+
+/// Answers `reply CLIENT`. The answer is complete before the replica posts, as in `post`.
+fn reply(alloc: Global, logged: &mut Logged, words: &mut Words) -> Answered {
+    let client = words.client()?;
+    let said = said_envelope(alloc, logged.owed(client)?)?;
+    logged.reply(client)?;
+    Ok(said)
 }
 
 /// Answers `taken ACTOR ENVELOPE`.
@@ -174,6 +185,12 @@ fn decided(alloc: Global, replica: &Replica) -> Answered {
         contents.push(Content(decision.content()))?;
     }
     Ok(listed(alloc, contents.as_slice(), " ")?)
+}
+
+/// Answers with what the replica posts to this replica with this choice.
+fn said_post(alloc: Global, replica: &Replica, to: ReplicaId, pick: &Pick) -> Answered {
+    let envelope = replica.envelope_for(alloc, to, *pick)?;
+    said_envelope(alloc, Some(envelope))
 }
 
 /// Answers with the envelope, if there is one.
