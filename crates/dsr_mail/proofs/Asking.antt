@@ -121,7 +121,7 @@ asked_posted shape (Client c) log marks (Client d) pick x long is loyal are give
 
 -- ---- tellings
 
--- an entry that leaves what is outstanding, and is no ask, leaves the marks
+-- an entry other than an ask leaves the marks if it leaves what is outstanding
 left_alone : (shape : Shape) (log : List Entry) (marks : List Bool) (entry : Entry) → outstanding shape (entry ∷ log) ≡ outstanding shape log
     → ((q : ℕ) (ask : SignedRequest) → entry ≡ Post (Replica q) (Ask ask) → ⊥) → AreAsked shape log marks → AreAsked shape (entry ∷ log) marks
 left_alone shape log marks entry same other are q small = (

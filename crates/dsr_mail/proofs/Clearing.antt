@@ -1,4 +1,4 @@
--- What follows for a loyal actor's step where its own log refuses nothing.
+-- What follows for a loyal actor's step if its own log refuses nothing.
 use Rattle.std.proofs.Common.{◌≡◌, ◌≢◌, ℕ, suc, ◌<◌, ◌^◌, ◌||◌, not, nat_lt, Bool, true, false, List, ◌∷◌, None, Some, length, if◌then◌else◌, refl, ap, sym, ◌∙◌, subst, arith}
 use Rattle.std.specs.Option.{is_none}
 use Rattle.std.proofs.lemmas.Bool.{true≢false, false≢true}
@@ -69,7 +69,7 @@ posts_left log to e = below_not (suc (length (posted_to to log))) (2 ^ 40) e
     below_not : (a b : ℕ) → not (nat_lt a b) ≡ false → a < b
     below_not a b e = grind (arith, nat_tests)
 
--- what the actor's conduct refuses, the own log does, where nothing before it does
+-- the own log refuses what the actor's protocol refuses, if no earlier test refuses it
 pub refused_by_conduct : (a b n x s : Bool) (r : Refusal) → a ≡ true → b ≡ false → Some r ≡ (if n then Some NotDue else if x then Some Exhausted else None)
     → Some r ≡ (if not a then Some NoActor else if b then Some WrongRole else if n then Some NotDue else if x || s then Some Exhausted else None)
 refused_by_conduct true false true x s r e f by = by

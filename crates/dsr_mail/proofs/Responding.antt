@@ -52,7 +52,7 @@ module _ (shape : Shape) (logs : Logs) (me : Actor) (log : List Entry) (own : lo
         responds asked.0.request reply client (record { invoked = (asked.0, refl, asked.1); accepted = inside; number = sym asked.2 }),
       )
 
--- what a client had received at a moment precedes what another one, which was shown the moment, had not invoked
+-- a request with a response that one client received before a moment precedes each one that another client has not invoked when it recalls the moment
 pub moment_orders : (shape : Shape) (past : List Step) (one other : Pass) (logs : Logs) (first second : Request) (reply : Reply)
     → log_of past one.actor ≡ one.log → Extends other.log (log_of past other.actor) → one.actor ≡ Client first.client → HasReceived shape one.log first reply
     → other.actor ≡ Client second.client → ¬ HasInvoked other.log second → (after : AreLogsAfter shape past logs) → Precedes shape after.run first second

@@ -66,7 +66,7 @@ module _ (mail : SharedBoxes) (kind : Shape → Actor → Bool) where
         all = sym whole.is;
       }
 
-  -- where the actor at the place is of the kind, its seat is the first that is left
+  -- if the actor at the place is of the kind, its seat is the first that is left
   pub record IsFirst (k : ℕ) (seat : Pass) (others : List Pass) : Type 0 where
     pub actor : seat.actor ≡ actor_at mail.shape k
     pub own : IsPassOf mail seat
@@ -106,7 +106,7 @@ module _ (mail : SharedBoxes) (kind : Shape → Actor → Bool) where
     pub left_first : (left : List Pass) (seat : Pass) (others : List Pass) → AreLeft mail kind k left → left ≡ seat ∷ others → IsFirst k seat others
     left_first left seat others are e = first_left seat others (subst (AreLeft mail kind k) e are)
 
-  -- where it is not, those that are left are the same
+  -- if it is of another kind, the seats that are left stay the same
   pub left_others : (k : ℕ) (left : List Pass) → kind mail.shape (actor_at mail.shape k) ≡ false → AreLeft mail kind k left → AreLeft mail kind (suc k) left
   left_others k left is are = record {
     passes = are.passes;

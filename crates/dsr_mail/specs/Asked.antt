@@ -17,11 +17,11 @@ none_marked = replicate 16 false
 abbrev pub IsMarked : List Bool → ℕ → Type 0
 IsMarked marks q = slice_index_or marks q false ≡ true
 
--- marked are the replicas that were asked for what is outstanding
+-- a replica is marked exactly if the client asked it for the outstanding request
 abbrev pub AreAsked : Shape → List Entry → List Bool → Type 0
 AreAsked shape log marks = (q : ℕ) → q < 16 → IsMarked marks q ↔ HasAsked shape log q
 
--- the marks after a post by a choice: a new request has been asked of nobody else
+-- the marks after a post by a choice: a new request clears the marks of all other replicas
 abbrev pub marks_posted : Actor → Pick → List Bool → List Bool
 marks_posted (Replica q) Plain marks = slice_set marks q true
 marks_posted (Replica q) (From clients) marks = slice_set marks q true

@@ -10,23 +10,23 @@ use Rattle.dsr_node.specs.declared.node.Node.{Node}
 use Rattle.dsr_boxes.specs.Pass.{SharedBoxes, Pass, IsPassOf}
 use Rattle.dsr_mail.specs.Seats.{actors_below, actors_of}
 
--- the pass, where it is one of this kind
+-- the pass if it is of this kind, else nothing
 abbrev pub pass_if : Bool → Pass → List Pass
 pass_if true pass = pass ∷ []
 pass_if false pass = []
 
--- left are the seats of this kind for the actors from this place on, one for each, by their places
+-- the seats of this kind that are left are those of the actors from this place on, one for each, by their places
 pub record AreLeft (mail : SharedBoxes) (kind : Shape → Actor → Bool) (place : ℕ) (left : List Pass) : Type 0 where
   pub passes : All (IsPassOf mail) left
   pub actors : actors_below kind mail.shape place ++ map (λ seat. seat.actor) left ≡ actors_of kind mail.shape
 
--- the seat's log stands at its actor's place
+-- the log at the place of the seat's actor is the seat's
 pub record IsLogged (shape : Shape) (logs : List (List Entry)) (seat : Pass) : Type 0 where
   pub actor : IsActor shape seat.actor
   pub below : place_of shape seat.actor < length logs
   pub log : slice_index_or logs (place_of shape seat.actor) [] ≡ seat.log
 
--- each of the seats is left, or its log stands at its actor's place
+-- each of the seats is left, or the log at its actor's place is the seat's
 abbrev pub AreLeftOrLogged : Shape → List (List Entry) → List Pass → List Pass → Type 0
 AreLeftOrLogged shape logs left seats = (seat : Pass) → In seat seats → In seat left ⊎ IsLogged shape logs seat
 

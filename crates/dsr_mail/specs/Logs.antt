@@ -6,15 +6,15 @@ use Rattle.dsr_envelope.specs.declared.entry.Entry.{Entry}
 use Rattle.dsr_run.specs.Step.{Logs as LogsOfAll}
 use Rattle.dsr_boxes.specs.Pass.{logs_in}
 
--- the log of each actor of the lowest places, as many as there are: the actor of the highest place first, and the newest entry first
+-- the logs of the actors of the lowest places, one list for each: the actor of the highest place first, and the newest entry first
 pub record Logs : Type 0 where
   pub shape : Shape
   pub lists : List (List Entry)
 
--- each actor's log, the newest entry first; empty where the actor is not of the shape, or not among these
+-- each actor's log, the newest entry first; empty for an actor outside the shape, or without a log among these
 abbrev pub logs_of : Logs → LogsOfAll
 logs_of logs = logs_in logs.shape logs.lists
 
--- there is a log for each actor of the shape, as there is once a mail was closed, and not in the logs of no mail
+-- each actor of the shape has a log here: so it is after a mail is closed, but not in the logs that `Logs::empty` returns
 abbrev pub HasAllLogs : Logs → Type 0
 HasAllLogs logs = length logs.lists ≡ size logs.shape

@@ -1,4 +1,4 @@
--- How a loyal actor's node stands for its seat (this project).
+-- How a loyal actor's node represents its seat (this project).
 use Rattle.std.specs.Prelude.{◌≡◌, ℕ, false}
 use Rattle.dsr_names.specs.declared.actor.Actor.{Actor}
 use Rattle.dsr_names.specs.declared.actor.Actor.TheVariants.{Replica, Client}
@@ -9,7 +9,7 @@ use Rattle.dsr_node.specs.declared.node.Node.{Node}
 use Rattle.dsr_boxes.specs.Pass.{Pass}
 use Rattle.dsr_mail.specs.Seats.{KeepsLog}
 
--- the actor is no traitor, the node plays it over its log, and the log keeps its conduct
+-- the actor is not a traitor, the node plays it over its log, and the log keeps the actor's protocol
 pub record IsLoyalSeat (seat : Pass) (node : Node) : Type 0 where
   pub plays : Plays seat.shape seat.actor seat.log node
   pub honest : is_traitor_of seat.shape seat.actor ≡ false

@@ -1,4 +1,4 @@
--- What the own log of a seat refuses, and what only the box or the memory can refuse after it (this project).
+-- What a seat's own log refuses, and what only the box or the memory can refuse after it (this project).
 use Rattle.std.specs.Prelude.{◌≡◌, ◌⊎◌, ℕ, suc, ◌^◌, ◌||◌, not, nat_lt, Bool, List, Option, None, Some, length, if◌then◌else◌}
 use Rattle.std.specs.Option.{is_none}
 use Rattle.dsr_base.specs.Member.{In}
@@ -17,11 +17,11 @@ use Rattle.dsr_client.specs.State.{outstanding}
 use Rattle.dsr_node.specs.Conduct.{post_of, is_exhausted, is_undue, is_actor, are_clients, is_own_client, are_two_clients}
 use Rattle.dsr_mail.specs.Seats.{is_client}
 
--- whether the box to this actor has had all the posts that it may have
+-- whether no post to this actor is left: the log has 2^40 - 1 posts to it, or more
 abbrev pub is_spent : List Entry → Actor → Bool
 is_spent log to = not (nat_lt (suc (length (posted_to to log))) (2 ^ 40))
 
--- what a loyal actor's own log refuses a post with, by its choice
+-- the own log's refusal of a loyal actor's post by this choice, if any
 abbrev pub post_refused : Shape → Actor → List Entry → Actor → Pick → Option Refusal
 post_refused shape me log to pick =
     if not (is_actor shape to) then Some NoActor
@@ -30,7 +30,7 @@ post_refused shape me log to pick =
     else if is_exhausted shape log me to pick || is_spent log to then Some Exhausted
     else None
 
--- what an actor's own log refuses a take with
+-- the own log's refusal of a take, if any
 abbrev pub take_refused : Shape → Actor → List Entry → Actor → Option Refusal
 take_refused shape me log from =
     if not (is_actor shape from) then Some NoActor
@@ -38,7 +38,7 @@ take_refused shape me log from =
     else if is_undue shape log me from then Some NotDue
     else None
 
--- what a client's own log refuses it with that it tells another its seen front
+-- the own log's refusal of a client's post of its seen front to another client, if any
 abbrev pub tell_refused : Shape → Actor → List Entry → Actor → Option Refusal
 tell_refused shape me log to =
     if not (is_actor shape to) then Some NoActor
@@ -46,18 +46,18 @@ tell_refused shape me log to =
     else if is_spent log to then Some Exhausted
     else None
 
--- what a traitor's own log refuses a post with, whatever the envelope
+-- the own log's refusal of a traitor's post, whatever the envelope, if any
 abbrev pub plant_refused : Shape → List Entry → Actor → Option Refusal
 plant_refused shape log to =
     if not (is_actor shape to) then Some NoActor
     else if is_spent log to then Some Exhausted
     else None
 
--- a refusal is the own log's, or, where the own log has none, the box's or that of memory
+-- the refusal is the own log's or, if the own log refuses nothing, comes from the box or from memory
 abbrev pub IsRefusedBy : Option Refusal → Refusal → Refusal → Type 0
 IsRefusedBy own box refusal = (own ≡ Some refusal) ⊎ ((own ≡ None) × ((refusal ≡ box) ⊎ (refusal ≡ NoMemory)))
 
--- what a wait for another is refused with: it must be a replica of the shape
+-- the refusal of a wait for this actor, unless it is a replica of the shape
 abbrev pub wait_refused : Shape → Actor → Option Refusal
 wait_refused shape other =
     if not (is_actor shape other) then Some NoActor

@@ -22,7 +22,7 @@ abbrev pub is_client : Shape → Actor → Bool
 is_client shape (Replica p) = false
 is_client shape (Client c) = true
 
--- the actor, where it is of this kind
+-- the actor if it is of this kind, else nothing
 abbrev pub actor_if : Bool → Actor → List Actor
 actor_if true a = a ∷ []
 actor_if false a = []

@@ -8,11 +8,11 @@ use Rattle.dsr_replica.specs.Posts.{WasTaken}
 use Rattle.dsr_run.specs.Run.{IsTraitor}
 use Rattle.dsr_boxes.specs.Pass.{Pass}
 
--- known are the signatures in what was taken, and no others
+-- the known signatures are exactly those in what was taken
 abbrev pub KnowsTaken : List Entry → List Signature → Type 0
 KnowsTaken log known = (s : Signature) → In s known ↔ WasTaken log s
 
--- the actor is a traitor, the key is its own, and known is what it took
+-- the actor is a traitor, the key is its own, and it knows the signatures in what it took
 pub record IsTraitorSeat (seat : Pass) (key : Actor) (known : List Signature) : Type 0 where
   pub own : key ≡ seat.actor
   pub traitor : IsTraitor seat.shape seat.actor

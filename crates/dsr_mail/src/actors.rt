@@ -1,4 +1,4 @@
-//! What the seats ask of actors and of choices.
+//! Checks that the seats make of actors and of choices.
 
 ghost use Rattle.std.specs.Prelude.{◌≡◌};
 ghost use Rattle.dsr_envelope.specs.Pick.{IsPick};
@@ -7,7 +7,7 @@ ghost use Rattle.dsr_node.specs.Conduct.{HasSpelledOp, are_clients, is_own_clien
 use dsr_envelope::Pick;
 use dsr_names::Actor;
 
-/// Whether both are clients.
+/// Tells whether both are clients.
 pub(crate) fn are_clients(one: &Actor, other: &Actor) -> bool
     ensures { result ≡ are_clients one.now other.now }
 {
@@ -17,7 +17,7 @@ pub(crate) fn are_clients(one: &Actor, other: &Actor) -> bool
     }
 }
 
-/// Whether both are one client.
+/// Tells whether both are the same client.
 pub(crate) fn is_own_client(one: &Actor, other: &Actor) -> bool
     ensures { result ≡ is_own_client one.now other.now }
 {
@@ -27,7 +27,7 @@ pub(crate) fn is_own_client(one: &Actor, other: &Actor) -> bool
     }
 }
 
-/// Looks at the choice, from which on it is known that it can be made.
+/// Looks at the choice, for the proof: it is within the limits, and its operation has a text.
 pub(crate) fn look_at(pick: &Pick)
     ensures pick { IsPick pick.now }
     ensures spelled { HasSpelledOp pick.now }

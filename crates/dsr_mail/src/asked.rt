@@ -26,7 +26,7 @@ impl Model for Asked {
 }
 
 impl Asked {
-    /// None.
+    /// Creates an empty set of replicas.
     pub(crate) fn none() -> Asked
         ensures { result ≡ none_marked }
     {
@@ -35,14 +35,14 @@ impl Asked {
         }
     }
 
-    /// Whether this replica was asked.
+    /// Tells whether this replica was asked.
     pub(crate) fn has(&self, replica: ReplicaId) -> bool
         ensures { IsTrue result ↔ IsMarked self.now replica }
     {
         self.marks[replica.number() as usize]
     }
 
-    /// Notes a post to an actor by a choice: a new request has been asked of nobody else.
+    /// Notes a post to `to` by the choice `pick`. A new request clears the marks of all other replicas.
     pub(crate) fn note_post(&mut self, to: &Actor, pick: &Pick)
         ensures noted { self.new ≡ marks_posted to.now pick.now self.old }
         ensures long { length self.old ≡ 16 }
@@ -55,7 +55,7 @@ impl Asked {
         }
     }
 
-    /// Notes the reply that was accepted by a take, if one was: then nothing is outstanding.
+    /// Notes the reply that a take accepted, if any: it clears all marks, because nothing is outstanding any more.
     pub(crate) fn note_reply(&mut self, reply: &Option<Reply>)
         ensures { self.new ≡ marks_taken reply.now self.old }
     {

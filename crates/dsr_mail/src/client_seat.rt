@@ -53,7 +53,7 @@ impl Model for ClientSeat {
 }
 
 impl ClientSeat {
-    /// The seat of a client, before it did anything.
+    /// Creates the seat of a client that has done nothing yet.
     pub(crate) fn new(loyal: Loyal) -> ClientSeat
         requires client { IsClientActor loyal.actor }
         requires first { loyal.log ≡ [] }
@@ -65,14 +65,13 @@ impl ClientSeat {
         }
     }
 
-    /// The loyal actor.
     pub(crate) fn into_loyal(self) -> Loyal
         ensures { result ≡ self }
     {
         self.loyal
     }
 
-    /// The actor. There is a run in which its log is that of this seat.
+    /// Returns the actor. There is a run in which its log is that of this seat.
     pub fn actor(&self) -> Actor
         ensures same { result ≡ self.now.actor }
         ensures inside { IsActor self.now.shape result }
@@ -81,7 +80,7 @@ impl ClientSeat {
         *self.loyal.seat().actor()
     }
 
-    /// The client's number.
+    /// Returns the client's number.
     pub fn client(&self) -> ClientId
         ensures same { self.now.actor ≡ Client result }
         ensures conduct { IsClientLog self.now.shape result self.now.log }
@@ -94,10 +93,10 @@ impl ClientSeat {
         *client
     }
 
-    /// Posts to an actor by a choice. It waits for nobody. Refused with the first of these that holds: `NoActor` where there is no such
-    /// actor; `WrongRole` where it is a client, whom `try_tell` is for; `NotDue` where the conduct has no such post now; `Exhausted` where a
-    /// counter would pass its limit. Else, in an order that no clause says, `BoxFull` where what it posted there last was not taken, or is still being
-    /// taken out, and `NoMemory` where memory runs out. After each of them nothing changed. Requires a seat of this mail.
+    /// Posts to `to` by the choice `pick`. It waits for nobody. Refused with the first of these that holds: `NoActor` if the shape has no such
+    /// actor; `WrongRole` if `to` is a client (`try_tell` posts to clients); `NotDue` if the protocol has no such post now; `Exhausted` if a counter
+    /// would pass its limit. Then, in an order that no clause fixes, `BoxFull` if the box is not empty (`to` has not taken the last envelope, or still
+    /// empties the box), and `NoMemory` if memory runs out. A refusal changes nothing. Requires a seat of this mail.
     pub fn try_post(
         &mut self,
         alloc: Global,
@@ -120,10 +119,10 @@ impl ClientSeat {
         Ok(())
     }
 
-    /// Takes from an actor what it posted to this client, and returns the reply that the client accepts by it, if it accepts one. It waits
-    /// for nobody. Refused with the first of these that holds: `NoActor` where there is no such actor; `WrongRole` where it is the client
-    /// itself. Else, in an order that no clause says, `BoxEmpty` where nothing was posted there, or it is still being filled, and `NoMemory` where
-    /// memory runs out. After each of them nothing changed. Requires a seat of this mail.
+    /// Takes the envelope that `from` posted to this client, and returns the reply that the client accepts with it, if any. It waits for
+    /// nobody. Refused with the first of these that holds: `NoActor` if the shape has no such actor; `WrongRole` if `from` is the client
+    /// itself. Then, in an order that no clause fixes, `BoxEmpty` if the box is not full (it is empty, or `from` still fills it), and `NoMemory` if
+    /// memory runs out. A refusal changes nothing. Requires a seat of this mail.
     pub fn try_take(&mut self, mail: &Mail, from: Actor) -> Result<Option<Reply>, Refusal>
         requires mail { IsPassOf mail.now self.old }
         ensures ok { IfOk result (λ reply. (x : Envelope) × IsEnvelope x × (self.new ≡ with_entry self.old (Take from x))
@@ -140,10 +139,10 @@ impl ClientSeat {
         Ok(reply)
     }
 
-    /// Tells another client the seen front. It waits for nobody. Refused with the first of these that holds: `NoActor` where there is no such
-    /// actor; `WrongRole` where it is no client, or the client itself; `Exhausted` where the box has had all its posts. Else, in an order that no
-    /// clause says, `NoMemory` where memory runs out, and `BoxFull` where what it posted there last was not taken, or is still being taken out. After
-    /// each of them nothing changed. Requires a seat of this mail.
+    /// Posts the seen front to the client `to`. It waits for nobody. Refused with the first of these that holds: `NoActor` if the shape has no
+    /// such actor; `WrongRole` if `to` is a replica or this client itself; `Exhausted` if no post to `to` is left. Then, in an order that no clause
+    /// fixes, `NoMemory` if memory runs out, and `BoxFull` if the box is not empty (`to` has not taken the last envelope, or still empties the box). A
+    /// refusal changes nothing. Requires a seat of this mail.
     pub fn try_tell(&mut self, alloc: Global, mail: &Mail, to: Actor) -> Result<(), Refusal>
         requires mail { IsPassOf mail.now self.old }
         ensures ok { OnOk result (self.new ≡ with_entry self.old (Post to (Seen (seen self.old.shape self.old.log)))) }
@@ -158,14 +157,14 @@ impl ClientSeat {
         Ok(())
     }
 
-    /// The number of the outstanding request; `None` where nothing is outstanding.
+    /// Returns the number of the outstanding request, or `None` if nothing is outstanding.
     pub fn outstanding(&self) -> Option<u64>
         ensures { result ≡ option_map (λ ask. ask.request.number) (outstanding self.now.shape self.now.log) }
     {
         self.loyal.client().outstanding()
     }
 
-    /// Whether it has posted the outstanding request to this replica.
+    /// Tells whether it has posted the outstanding request to this replica.
     pub fn asked(&self, replica: ReplicaId) -> bool
         ensures { IsTrue result ↔ HasAsked self.now.shape self.now.log replica }
     {
@@ -174,22 +173,22 @@ impl ClientSeat {
         self.asked.has(replica)
     }
 
-    /// The seen front.
+    /// Returns the seen front.
     pub fn seen(&self) -> u64
         ensures { result ≡ seen self.now.shape self.now.log }
     {
         self.loyal.client().seen()
     }
 
-    /// The replies that it accepted, in their order.
+    /// Returns the replies that it accepted, in the order of acceptance.
     pub fn accepted(&self) -> &[Reply]
         ensures { result.now ≡ reverse (accepted self.now.shape self.now.log) }
     {
         self.loyal.client().accepted()
     }
 
-    /// The present moment, which another thread may be handed: at it the client's log is that of this seat, so each reply that it has accepted is the
-    /// response to a request of its own. Requires a seat of this mail.
+    /// Returns the present moment, which the caller may hand to another thread. At this moment the client's log is that of this seat, so each reply
+    /// that the client has accepted is the response to a request of its own. Requires a seat of this mail.
     pub fn moment(&mut self, mail: &Mail) -> Moment
         requires mail { IsPassOf mail.now self.old }
         ensures same { self.new ≡ self.old }
@@ -206,8 +205,8 @@ impl ClientSeat {
         self.loyal.moment(mail.boxes())
     }
 
-    /// Shows the seat a moment, which is then past: what the client had done at that moment is the oldest part of what it has done. Whatever it asks
-    /// for the first time after this comes after what the moment shows (`Mail::close_after`). Requires a seat and a moment of this mail.
+    /// Shows the seat a moment, which is past from then on: the client's log at that moment is the oldest part of its log, at most all of it. What
+    /// it asks for the first time after this comes after what the moment shows (`Mail::close_after`). Requires a seat and a moment of this mail.
     pub fn recall(&mut self, mail: &Mail, moment: Moment)
         requires mail { IsPassOf mail.now self.old }
         requires moment { IsMomentOf mail.now moment }
@@ -217,7 +216,7 @@ impl ClientSeat {
         self.loyal.recall(mail.boxes(), moment);
     }
 
-    /// Wakes everybody who sleeps at the mail now, so that each tries again. It may miss who is about to sleep: whoever has to end others calls it
+    /// Wakes everybody who sleeps at the mail now, so that each tries again. It may miss a thread that is about to sleep: to end other threads, call it
     /// again until they have ended. Requires a seat of this mail.
     pub fn wake(&self, mail: &Mail)
         requires mail { IsPassOf mail.now self.now }

@@ -1,4 +1,4 @@
-//! Which order a moment that one client hands on gives to requests of two clients. A law, as the contract of a function that does nothing.
+//! A law about the order that a moment gives to requests if one client hands it on to another, stated as the contract of a function that does nothing.
 
 ghost use Rattle.std.specs.Prelude.{◌≡◌};
 ghost use Rattle.dsr_base.specs.Growth.{Extends};
@@ -12,10 +12,11 @@ ghost use Rattle.dsr_boxes.specs.Moment.{Moment, AreLogsAfter};
 ghost use Rattle.dsr_boxes.specs.Pass.{Pass};
 ghost use Rattle.dsr_mail.specs.Responses.{HasInvoked, HasReceived};
 
-/// What a client had accepted before a moment precedes, in real time, what another client, who recalled the moment, asks for only after that. In detail:
-/// at the moment one seat had this log (`ClientSeat::moment`: `own`), by which its client has a response; at another seat, which was shown the moment
-/// (`ClientSeat::recall`: `past`), the second request was not invoked yet. Then the first request precedes the second in the run that goes on from the
-/// moment to the end (`Mail::close_after`: `after`).
+/// If one client accepts a reply to a first request before a moment, and another client asks for a second request only after it recalls the moment, the
+/// first request precedes the second in real time. In detail: the log of one seat is the same at the moment (`ClientSeat::moment`: `own`), and in it
+/// the client has received a response. The log of the other seat extends its log at the moment (`ClientSeat::recall`: `past`), and in it the client has
+/// not invoked the second request. Then the first request precedes the second in the run that goes on from the moment to the end
+/// (`Mail::close_after`: `after`).
 pub fn moments_order_clients()
     ensures { (shape : Shape) (moment : Moment) (one other : Pass) (logs : Logs) (first second : Request) (reply : AReply)
         → log_of moment.run one.actor ≡ one.log → Extends other.log (log_of moment.run other.actor)

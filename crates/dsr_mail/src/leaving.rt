@@ -29,7 +29,7 @@ pub(crate) struct Leaving {
 }
 
 impl Leaving {
-    /// All of these seats.
+    /// Creates a `Leaving` that still has all of these seats.
     pub(crate) fn all(seats: Seats) -> Leaving
         ensures replicas { into_iter_items result.replicas ≡ seats.replicas.items }
         ensures traitors { into_iter_items result.traitors ≡ seats.traitors.items }
@@ -42,7 +42,7 @@ impl Leaving {
         }
     }
 
-    /// The seat of the actor at this place leaves: its pass, its log, and its node. Requires that the seats from this place on are left.
+    /// Removes the seat of the actor at this place, and returns its pass, log and node. Requires that the seats from this place on are left.
     pub(crate) fn next(&mut self, boxes: &SharedBoxes, place: usize) -> (Pass, Log, Node)
         requires place { place < size boxes.now.shape }
         requires replicas { AreLeft boxes.now is_loyal_replica place (into_iter_items self.old.replicas) }
@@ -74,7 +74,7 @@ impl Leaving {
     }
 }
 
-/// The first of those that are left. Requires that there is one.
+/// Removes and returns the first item that is left. Requires that one is left.
 fn first_of<T>(left: &mut vec::IntoIter<T>) -> T
     requires { into_iter_items left.old ≢ [] }
     ensures { into_iter_items left.old ≡ result ∷ into_iter_items left.new }
@@ -85,7 +85,7 @@ fn first_of<T>(left: &mut vec::IntoIter<T>) -> T
     first
 }
 
-/// What a loyal actor's seat leaves.
+/// Splits a loyal actor's seat into its pass, log and node.
 fn leave(loyal: Loyal) -> (Pass, Log, Node)
     ensures pass { result.0 ≡ loyal }
     ensures log { result.1 ≡ loyal.log }
@@ -96,7 +96,7 @@ fn leave(loyal: Loyal) -> (Pass, Log, Node)
     (pass, log, node)
 }
 
-/// What a traitor's seat leaves.
+/// Splits a traitor's seat into its pass, log and node.
 fn leave_traitor(traitor: TraitorSeat) -> (Pass, Log, Node)
     ensures pass { result.0 ≡ traitor }
     ensures log { result.1 ≡ traitor.log }

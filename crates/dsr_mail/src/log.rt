@@ -19,14 +19,14 @@ impl Model for Log {
 }
 
 impl Log {
-    /// The log of these entries.
+    /// Creates the log of these entries.
     pub(crate) fn of(entries: Vec<Entry>) -> Log
         ensures { result ≡ reverse entries.items }
     {
         Log { entries }
     }
 
-    /// The entries, in their order.
+    /// Returns the entries, the oldest first.
     pub(crate) fn entries(&self) -> &[Entry]
         ensures { result.now ≡ reverse self.now }
     {

@@ -23,15 +23,15 @@ use dsr_replica::Replica;
 use dsr_request::Request;
 use std::marker::Model;
 
-/// The logs of all actors, after their mail was closed: the logs of a run.
+/// The logs of all actors, after `Mail::close`: the logs of a run.
 #[derive(Drop)]
 pub struct Logs {
     shape: Shape,
-    /// None in the logs of no mail (`Logs::empty`).
+    /// `None` in the logs that `Logs::empty` returns.
     actors: Option<Actors>,
 }
 
-/// The actors' logs, and the nodes that stand for them, by the actors' places.
+/// The actors' logs, and the nodes that represent them, by the actors' places.
 #[derive(Drop)]
 struct Actors {
     nodes: Vec<Node>,
@@ -50,7 +50,7 @@ impl Model for Logs {
 }
 
 impl Logs {
-    /// The logs of all actors, by their places, with the nodes that stand for them. It allocates nothing.
+    /// Joins the logs of all actors, by their places, with the nodes that represent them. It allocates nothing.
     pub(crate) fn joined(shape: Shape, nodes: Vec<Node>, logs: Vec<Log>) -> Logs
         requires played { ArePlayed shape (logs_in shape (reverse logs.items)) nodes.items }
         requires run { AreLogs shape (logs_in shape (reverse logs.items)) }
@@ -61,7 +61,7 @@ impl Logs {
         Logs { shape, actors }
     }
 
-    /// The logs of the run of no step. It allocates nothing.
+    /// Returns the logs of the run without steps. It allocates nothing.
     pub fn empty(shape: Shape) -> Logs
         ensures shape { result.shape ≡ shape }
         ensures none { (a : Actor) → logs_of result a ≡ [] }
@@ -72,7 +72,7 @@ impl Logs {
         }
     }
 
-    /// The shape, of which the logs are those of a run.
+    /// Returns the shape. The logs are those of a run of this shape.
     pub fn shape(&self) -> &Shape
         ensures same { result.now ≡ self.now.shape }
         ensures run { AreLogs self.now.shape (logs_of self.now) }
@@ -80,7 +80,7 @@ impl Logs {
         &self.shape
     }
 
-    /// The entries of an actor's log, in their order. Requires an actor of the shape.
+    /// Returns the entries of the actor's log, the oldest first. Requires an actor of the shape.
     pub fn of(&self, actor: Actor) -> &[Entry]
         requires { IsActor self.now.shape actor }
         ensures same { result.now ≡ reverse (logs_of self.now actor) }
@@ -95,7 +95,7 @@ impl Logs {
         }
     }
 
-    /// The replies that a client accepted, in their order. Requires a client of the shape.
+    /// Returns the replies that the client accepted, in the order of acceptance. Requires a client of the shape.
     pub fn accepted(&self, client: ClientId) -> &[Reply]
         requires { client < self.now.shape.m }
         ensures same { result.now ≡ reverse (accepted_by self.now.shape (logs_of self.now) client) }
@@ -112,7 +112,7 @@ impl Logs {
         }
     }
 
-    /// The history: the requests that acted, in their order, by the loyal replica with the most closed slots.
+    /// Returns the history: the requests that acted at the loyal replica with the most closed slots, in their order.
     pub fn history(&self) -> &[Request]
         ensures same { result.now ≡ reverse (history self.now.shape (logs_of self.now)) }
         ensures linearizes { LinearizesLogs self.now.shape (logs_of self.now) (reverse result.now) }
@@ -132,7 +132,7 @@ impl Logs {
         history
     }
 
-    /// The loyal replica of this number over its log. `None` where it is a traitor, or in the logs of no mail.
+    /// Returns the loyal replica with this number, over its log. `None` if the replica is a traitor, or if the logs come from `Logs::empty`.
     fn loyal(&self, number: u8) -> Option<&Replica>
         requires { number < self.now.shape.n }
         ensures loyal { IfSome result (λ replica. PlaysReplica self.now.shape number (logs_of self.now (ReplicaNumber number)) replica.now) }
@@ -146,7 +146,7 @@ impl Logs {
         }
     }
 
-    /// The node of an actor of the shape, over its log. `None` in the logs of no mail.
+    /// Returns the node of an actor of the shape, over its log. `None` if the logs come from `Logs::empty`.
     fn node(&self, actor: &Actor) -> Option<&Node>
         requires { IsActor self.now.shape actor.now }
         ensures plays { IfSome result (λ node. Plays self.now.shape actor.now (logs_of self.now actor.now) node.now) }

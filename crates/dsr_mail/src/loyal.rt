@@ -47,7 +47,7 @@ impl Model for Loyal {
 }
 
 impl Loyal {
-    /// The seat of a loyal actor, which this node plays.
+    /// Creates the seat of a loyal actor that this node plays.
     pub(crate) fn new(seat: Seat, node: Node) -> Loyal
         requires { IsLoyalSeat seat node }
         ensures { result ≡ seat }
@@ -55,21 +55,19 @@ impl Loyal {
         Loyal { seat, node }
     }
 
-    /// The seat.
     pub(crate) fn seat(&self) -> &Seat
         ensures { result.now ≡ self.now }
     {
         &self.seat
     }
 
-    /// The node.
+    /// Returns the node, which plays the actor over its log.
     pub(crate) fn node(&self) -> &Node
         ensures { IsLoyalSeat self.now result.now }
     {
         &self.node
     }
 
-    /// The seat and the node.
     pub(crate) fn into_parts(self) -> (Seat, Node)
         ensures seat { result.0 ≡ self }
         ensures node { IsLoyalSeat self result.1 }
@@ -77,7 +75,7 @@ impl Loyal {
         (self.seat, self.node)
     }
 
-    /// The client's node. Requires that the actor is a client.
+    /// Returns the client's node. Requires that the actor is a client.
     pub(crate) fn client(&self) -> &Node
         requires { IsClientActor self.now.actor }
         ensures { IsClientOf self.now result.now }
@@ -85,7 +83,7 @@ impl Loyal {
         &self.node
     }
 
-    /// The replica. Requires that the actor is one.
+    /// Returns the replica. Requires that the actor is one.
     pub(crate) fn replica(&self) -> &Replica
         requires { IsReplicaNumber self.now.actor }
         ensures { IsReplicaOf self.now result.now }
@@ -96,9 +94,9 @@ impl Loyal {
         replica
     }
 
-    /// Posts to an actor by a choice. Refused with the first of these that holds: `NoActor` where there is no such actor; `WrongRole` where
-    /// both are clients; `NotDue` where the conduct has no such post now; `Exhausted` where a counter would pass its limit. Else with `BoxFull`,
-    /// which a look finds before memory is asked for, or `NoMemory`. After each of them nothing changed.
+    /// Posts to `to` by the choice `pick`. Refused with the first of these that holds: `NoActor` if the shape has no such actor; `WrongRole` if
+    /// both are clients; `NotDue` if the protocol has no such post now; `Exhausted` if a counter would pass its limit. Then with `BoxFull`, which a
+    /// look finds before it asks for memory, or `NoMemory`. A refusal changes nothing.
     pub(crate) fn try_post(
         &mut self,
         alloc: Global,
@@ -122,7 +120,7 @@ impl Loyal {
         // For the proof: what their contracts say.
         let _n = self.seat.shape().n();
         let _actor = self.seat.actor();
-        // No envelope is made for a box that looks full.
+        // Make no envelope for a box that does not look empty.
         if !self.seat.looks_empty(boxes, to) {
             return Err(Refusal::BoxFull);
         }
@@ -137,9 +135,9 @@ impl Loyal {
         Ok(())
     }
 
-    /// Takes from an actor, and returns the reply that a client accepts by it. Refused with the first of these that holds: `NoActor` where
-    /// there is no such actor; `WrongRole` where it is the client itself; `NotDue` where the conduct has no such take now. Else with `BoxEmpty`,
-    /// which a look finds before memory is asked for, or `NoMemory`. After each of them nothing changed.
+    /// Takes from `from`, and returns the reply that a client accepts with it, if any. Refused with the first of these that holds: `NoActor` if
+    /// the shape has no such actor; `WrongRole` if `from` is the client itself; `NotDue` if the protocol has no such take now. Then with `BoxEmpty`,
+    /// which a look finds before it asks for memory, or `NoMemory`. A refusal changes nothing.
     pub(crate) fn try_take(
         &mut self,
         boxes: &SharedBoxes,
@@ -170,9 +168,9 @@ impl Loyal {
         }
     }
 
-    /// Tells another client the seen front. Refused with the first of these that holds: `NoActor` where there is no such actor; `WrongRole`
-    /// where the two are not different clients; `Exhausted` where the box has had all its posts. Else with `NoMemory`, or `BoxFull`. After each of
-    /// them nothing changed.
+    /// Posts the seen front to the client `to`. Refused with the first of these that holds: `NoActor` if the shape has no such actor;
+    /// `WrongRole` if the two are not different clients; `Exhausted` if no post to `to` is left. Then with `NoMemory`, or `BoxFull`. A refusal
+    /// changes nothing.
     pub(crate) fn try_tell(
         &mut self,
         alloc: Global,
@@ -197,7 +195,7 @@ impl Loyal {
         Ok(())
     }
 
-    /// The present moment, at which the actor's log is that of this seat.
+    /// Returns the present moment, at which the actor's log is that of this seat.
     pub(crate) fn moment(&mut self, boxes: &SharedBoxes) -> Moment
         requires boxes { IsPassOf boxes.now self.old }
         ensures same { self.new ≡ self.old }
@@ -208,7 +206,7 @@ impl Loyal {
         self.seat.moment(boxes)
     }
 
-    /// Shows the seat a moment, which is then past: what the actor had done at that moment is the oldest part of what it has done.
+    /// Shows the seat a moment, which is past from then on: the actor's log at that moment is the oldest part of its log, at most all of it.
     pub(crate) fn recall(&mut self, boxes: &SharedBoxes, moment: Moment)
         requires boxes { IsPassOf boxes.now self.old }
         requires moment { IsMomentOf boxes.now moment }
@@ -218,7 +216,7 @@ impl Loyal {
         self.seat.recall(boxes, moment);
     }
 
-    /// What the own log refuses a post with, if it does.
+    /// Returns the own log's refusal of a post to this actor by this choice, if any.
     fn post_refusal(&self, to: &Actor, pick: &Pick) -> Option<Refusal>
         ensures { result ≡ post_refused self.now.shape self.now.actor self.now.log to.now pick.now }
     {
@@ -234,7 +232,7 @@ impl Loyal {
         }
     }
 
-    /// What the own log refuses a take with, if it does.
+    /// Returns the own log's refusal of a take from this actor, if any.
     fn take_refusal(&self, from: &Actor) -> Option<Refusal>
         ensures { result ≡ take_refused self.now.shape self.now.actor self.now.log from.now }
     {
@@ -250,7 +248,7 @@ impl Loyal {
         None
     }
 
-    /// What the own log refuses it with that the seen front is told, if it does.
+    /// Returns the own log's refusal of a post of the seen front to this actor, if any.
     fn tell_refusal(&self, to: &Actor) -> Option<Refusal>
         ensures { result ≡ tell_refused self.now.shape self.now.actor self.now.log to.now }
     {
@@ -264,7 +262,7 @@ impl Loyal {
         self.spent_refusal(to)
     }
 
-    /// `Exhausted` where the box to an actor of the shape has had all the posts that it may have.
+    /// Returns `Exhausted` if no post to this actor is left. Requires an actor of the shape.
     fn spent_refusal(&self, to: &Actor) -> Option<Refusal>
         requires { IsActor self.now.shape to.now }
         ensures { result ≡ (if is_spent self.now.log to.now then Some Refusal.Exhausted else None) }

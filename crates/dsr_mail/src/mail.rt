@@ -52,8 +52,8 @@ impl Model for Mail {
 }
 
 impl Mail {
-    /// The mail between the actors of a shape, all boxes empty, and the seat of each actor, which holds the actor's key. `NoMemory` where
-    /// memory runs out: then the keys are gone. Requires whole keys of this shape.
+    /// Opens the mail between the actors of a shape, with all boxes empty, and returns it with the seat of each actor, which holds the actor's
+    /// key. `NoMemory` if memory runs out: then the keys are dropped. Requires whole keys of this shape.
     pub fn open(alloc: Global, shape: Shape, keys: Keys) -> Result<(Mail, Seats), Refusal>
         requires whole { IsWhole keys }
         requires same { keys.shape ≡ shape }
@@ -71,15 +71,15 @@ impl Mail {
         Ok((Mail { boxes, logs, nodes }, seats))
     }
 
-    /// The shape.
+    /// Returns the shape.
     pub fn shape(&self) -> &Shape
         ensures { result.now ≡ self.now.shape }
     {
         self.boxes.shape()
     }
 
-    /// Closes the mail, for which the seat of each actor must have come back: their logs are those of a run. It allocates nothing. Envelopes
-    /// that were not taken are gone.
+    /// Closes the mail and returns the actors' logs, which are those of a run. It allocates nothing, and drops the envelopes that nobody took.
+    /// Requires that the seat of each actor has come back.
     pub fn close(self, seats: Seats) -> Logs
         requires replicas { AreSeatsOf self is_loyal_replica seats.replicas.items }
         requires traitors { AreSeatsOf self is_traitor_replica seats.traitors.items }
@@ -98,9 +98,9 @@ impl Mail {
         Logs::joined(shape, nodes, logs)
     }
 
-    /// Closes the mail as `close` does, and the run whose logs are returned goes on from the moment. So what had a response at the moment comes before
-    /// whatever a client that recalled the moment asked for only after that: it has the lower place. Requires a moment of this mail, and that the
-    /// seat of each actor has come back.
+    /// Closes the mail like `close`, and returns the logs of a run that goes on from the moment. So if a request has a response at the moment, and a
+    /// client asks for another one only after it has recalled the moment, the first has the lower place. Requires a moment of this mail, and that
+    /// the seat of each actor has come back.
     pub fn close_after(self, seats: Seats, moment: Moment) -> Logs
         requires replicas { AreSeatsOf self is_loyal_replica seats.replicas.items }
         requires traitors { AreSeatsOf self is_traitor_replica seats.traitors.items }
@@ -125,7 +125,7 @@ impl Mail {
         Logs::joined(shape, nodes, logs)
     }
 
-    /// The same moment once more, for another thread, or to close the mail after it. Requires a moment of this mail.
+    /// Returns a copy of the moment, for another thread, or to close the mail after it. Requires a moment of this mail.
     pub fn copy_moment(&self, moment: &mut Moment) -> Moment
         requires moment { IsMomentOf self.now moment.old }
         ensures same { moment.new ≡ moment.old }
@@ -146,7 +146,6 @@ impl Mail {
         moment.meet(&self.boxes, other);
     }
 
-    /// The boxes.
     pub(crate) fn boxes(&self) -> &SharedBoxes
         ensures { result.now ≡ self.now }
     {
@@ -154,7 +153,7 @@ impl Mail {
     }
 }
 
-/// All seats return: their passes to the boxes, their logs and nodes to these lists, by the places of their actors. Requires room for all.
+/// Returns all passes to the boxes, and adds the seats' logs and nodes to these lists, by the places of their actors. Requires room for all.
 fn return_all(
     boxes: &SharedBoxes,
     seats: Seats,

@@ -48,7 +48,7 @@ impl Model for ReplicaSeat {
 }
 
 impl ReplicaSeat {
-    /// The seat of a loyal replica, before it did anything.
+    /// Creates the seat of a loyal replica that has done nothing yet.
     pub(crate) fn new(loyal: Loyal) -> ReplicaSeat
         requires replica { IsReplicaNumber loyal.actor }
         requires first { loyal.log ≡ [] }
@@ -60,14 +60,13 @@ impl ReplicaSeat {
         }
     }
 
-    /// The loyal actor.
     pub(crate) fn into_loyal(self) -> Loyal
         ensures { result ≡ self }
     {
         self.loyal
     }
 
-    /// The actor. There is a run in which its log is that of this seat.
+    /// Returns the actor. There is a run in which its log is that of this seat.
     pub fn actor(&self) -> Actor
         ensures same { result ≡ self.now.actor }
         ensures inside { IsActor self.now.shape result }
@@ -76,7 +75,7 @@ impl ReplicaSeat {
         *self.loyal.seat().actor()
     }
 
-    /// The replica's number.
+    /// Returns the replica's number.
     pub fn replica(&self) -> ReplicaId
         ensures same { self.now.actor ≡ Replica result }
         ensures loyal { IsLoyal self.now.shape self.now.actor }
@@ -89,7 +88,7 @@ impl ReplicaSeat {
         *replica
     }
 
-    /// What it does next with the other replicas.
+    /// Returns what it does next with the other replicas.
     pub fn due(&self) -> Due
         ensures same { result ≡ due self.now.shape self.now.log }
         ensures conduct { IsLoyalLog self.now.shape self.now.actor self.now.log }
@@ -99,28 +98,28 @@ impl ReplicaSeat {
         self.loyal.replica().due()
     }
 
-    /// Whether it may post to this replica by this choice: the post is due, there is such an envelope, and the round is below 2^36.
+    /// Tells whether it may post to this replica by this choice: the post is due, the choice gives an envelope, and the round is below 2^36.
     pub fn allows(&self, to: ReplicaId, pick: Pick) -> bool
         ensures { IsTrue result ↔ (IsSome (envelope_to self.now.shape self.now.actor self.now.log to pick) × (rounds self.now.shape self.now.log < 2 ^ 36)) }
     {
         self.loyal.replica().allows(to, pick)
     }
 
-    /// The request that is held of a client.
+    /// Returns the request that is held for this client.
     pub fn held(&self, client: ClientId) -> Option<Request>
         ensures { result ≡ option_map (λ ask. ask.request) (held self.now.shape client self.now.log) }
     {
         self.loyal.replica().held(client)
     }
 
-    /// The envelope with the reply to a client's last request that acted; `None` where none did.
+    /// Returns the envelope with the reply to the client's last request that acted, or `None` if none did.
     pub fn reply_for(&self, client: ClientId) -> Option<Envelope>
         ensures { result ≡ reply_to self.now.shape self.now.log client }
     {
         self.loyal.replica().reply_for(client)
     }
 
-    /// Whether the client was not answered since something of it was taken: of the entries with it the newest is a take.
+    /// Tells whether the replica took something from the client and has not posted to it since: its newest entry with the client is a take.
     pub fn is_unanswered(&self, client: ClientId) -> bool
         ensures { IsTrue result ↔ IsUnanswered client self.now.log }
     {
@@ -129,24 +128,24 @@ impl ReplicaSeat {
         self.serving.has(client)
     }
 
-    /// The last client that it proposed, in a slot of its own; `None` where it proposed none.
+    /// Returns the last client that it proposed, in a slot of its own, or `None` if it proposed none.
     pub fn last_picked(&self) -> Option<ClientId>
         ensures { result ≡ last_proposed self.now.shape self.now.log }
     {
         self.serving.picked()
     }
 
-    /// Whether anybody's box to this replica looks full. A take alone tells whether it is. Requires a seat of this mail.
+    /// Tells whether anybody's box to this replica looks full; only a take shows whether it is. Requires a seat of this mail.
     pub fn has_mail(&self, mail: &Mail) -> bool
         requires mail { IsPassOf mail.now self.now }
     {
         self.loyal.seat().has_mail(mail.boxes())
     }
 
-    /// Posts to an actor by a choice. It waits for nobody. Refused with the first of these that holds: `NoActor` where there is no such
-    /// actor; `NotDue` where the conduct has no such post now; `Exhausted` where a counter would pass its limit. Else, in an order that no clause says,
-    /// `BoxFull` where what it posted there last was not taken, or is still being taken out, and `NoMemory` where memory runs out. After each of them
-    /// nothing changed. Requires a seat of this mail.
+    /// Posts to `to` by the choice `pick`. It waits for nobody. Refused with the first of these that holds: `NoActor` if the shape has no such
+    /// actor; `NotDue` if the protocol has no such post now; `Exhausted` if a counter would pass its limit. Then, in an order that no clause fixes,
+    /// `BoxFull` if the box is not empty (`to` has not taken the last envelope, or still empties the box), and `NoMemory` if memory runs out. A refusal
+    /// changes nothing. Requires a seat of this mail.
     pub fn try_post(
         &mut self,
         alloc: Global,
@@ -169,10 +168,9 @@ impl ReplicaSeat {
         Ok(())
     }
 
-    /// Takes from an actor what it posted to this replica. It waits for nobody. Refused with the first of these that holds: `NoActor` where
-    /// there is no such actor; `NotDue` where it is a replica and the take is not due. Else, in an order that no clause says, `BoxEmpty` where nothing was
-    /// posted there, or it is still being filled, and `NoMemory` where memory runs out. After each of them nothing changed. Requires a seat of this
-    /// mail.
+    /// Takes the envelope that `from` posted to this replica. It waits for nobody. Refused with the first of these that holds: `NoActor` if the
+    /// shape has no such actor; `NotDue` if `from` is a replica and the take is not due. Then, in an order that no clause fixes, `BoxEmpty` if the box
+    /// is not full (it is empty, or `from` still fills it), and `NoMemory` if memory runs out. A refusal changes nothing. Requires a seat of this mail.
     pub fn try_take(&mut self, mail: &Mail, from: Actor) -> Result<(), Refusal>
         requires mail { IsPassOf mail.now self.old }
         ensures ok { OnOk result ((x : Envelope) × IsEnvelope x × (self.new ≡ with_entry self.old (Take from x))) }
@@ -188,8 +186,8 @@ impl ReplicaSeat {
         Ok(())
     }
 
-    /// Sleeps while what it posted to a replica is not taken. It may return earlier, so the caller tries again. `NoActor` where there is no
-    /// such actor, `WrongRole` where it is a client, whom no replica waits for.
+    /// Sleeps while the replica `to` has not taken what this seat last posted to it. It may return earlier, so the caller tries again. `NoActor` if the
+    /// shape has no such actor, `WrongRole` if `to` is a client: no replica waits for clients. Requires a seat of this mail.
     pub fn wait_to<R: Wait>(&self, rt: &R, mail: &Mail, to: Actor) -> Result<(), Refusal>
         requires mail { IsPassOf mail.now self.now }
         ensures refused { (refusal : Refusal) → wait_refused self.now.shape to ≡ Some refusal → result ≡ Err refusal }
@@ -198,8 +196,8 @@ impl ReplicaSeat {
         self.loyal.seat().wait_to(rt, mail.boxes(), &to)
     }
 
-    /// Sleeps while a replica has posted nothing that could be taken. It may return earlier, so the caller tries again. `NoActor` where there
-    /// is no such actor, `WrongRole` where it is a client, whom no replica waits for.
+    /// Sleeps while the replica `from` has posted nothing that could be taken. It may return earlier, so the caller tries again. `NoActor` if the
+    /// shape has no such actor, `WrongRole` if `from` is a client: no replica waits for clients. Requires a seat of this mail.
     pub fn wait_from<R: Wait>(&self, rt: &R, mail: &Mail, from: Actor) -> Result<(), Refusal>
         requires mail { IsPassOf mail.now self.now }
         ensures refused { (refusal : Refusal) → wait_refused self.now.shape from ≡ Some refusal → result ≡ Err refusal }
@@ -208,7 +206,7 @@ impl ReplicaSeat {
         self.loyal.seat().wait_from(rt, mail.boxes(), &from)
     }
 
-    /// Wakes everybody who sleeps at the mail now, so that each tries again. It may miss who is about to sleep: whoever has to end others calls it
+    /// Wakes everybody who sleeps at the mail now, so that each tries again. It may miss a thread that is about to sleep: to end other threads, call it
     /// again until they have ended. Requires a seat of this mail.
     pub fn wake(&self, mail: &Mail)
         requires mail { IsPassOf mail.now self.now }

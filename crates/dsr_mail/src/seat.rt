@@ -42,7 +42,7 @@ impl Model for Seat {
 }
 
 impl Seat {
-    /// The seat of the actor whose pass this is, before it did anything. `NoMemory` where memory runs out: then the pass is gone.
+    /// Creates the seat of the pass's actor, which has done nothing yet. `NoMemory` if memory runs out: then the pass is dropped.
     pub(crate) fn new(alloc: Global, pass: Pass, shape: Shape) -> Result<Seat, Refusal>
         requires shape { pass.shape ≡ shape }
         requires first { pass.log ≡ [] }
@@ -58,14 +58,13 @@ impl Seat {
         })
     }
 
-    /// The shape.
     pub(crate) fn shape(&self) -> &Shape
         ensures { result.now ≡ self.now.shape }
     {
         &self.shape
     }
 
-    /// The actor. There is a run in which its log is that of this seat.
+    /// Returns the actor. There is a run in which its log is that of this seat.
     pub(crate) fn actor(&self) -> &Actor
         ensures same { result.now ≡ self.now.actor }
         ensures inside { IsActor self.now.shape result.now }
@@ -74,7 +73,7 @@ impl Seat {
         self.pass.actor()
     }
 
-    /// Whether the box to an actor of the shape has had all the posts that it may have.
+    /// Tells whether no post to this actor is left: it has posted 2^40 - 1 envelopes to it. Requires an actor of the shape.
     pub(crate) fn is_spent(&self, to: &Actor) -> bool
         requires { IsActor self.now.shape to.now }
         ensures { result ≡ is_spent self.now.log to.now }
@@ -83,7 +82,7 @@ impl Seat {
         posts >= NUMBER_END - 1
     }
 
-    /// Whether the own box to an actor looks empty. A post alone tells whether it is.
+    /// Tells whether the own box to `to` looks empty; only a post shows whether it is.
     pub(crate) fn looks_empty(&self, boxes: &SharedBoxes, to: &Actor) -> bool
         requires boxes { IsPassOf boxes.now self.now }
         requires to { IsActor self.now.shape to.now }
@@ -91,7 +90,7 @@ impl Seat {
         self.pass.looks_empty(boxes, to)
     }
 
-    /// Whether the box of an actor to this one looks full. A take alone tells whether it is.
+    /// Tells whether the box from `from` looks full; only a take shows whether it is.
     pub(crate) fn looks_full(&self, boxes: &SharedBoxes, from: &Actor) -> bool
         requires boxes { IsPassOf boxes.now self.now }
         requires from { IsActor self.now.shape from.now }
@@ -99,7 +98,7 @@ impl Seat {
         self.pass.looks_full(boxes, from)
     }
 
-    /// Whether the box of any actor to this one looks full.
+    /// Tells whether the box from any actor looks full.
     pub(crate) fn has_mail(&self, boxes: &SharedBoxes) -> bool
         requires { IsPassOf boxes.now self.now }
     {
@@ -116,8 +115,8 @@ impl Seat {
         false
     }
 
-    /// Posts the envelope to an actor. `NoMemory` where memory runs out or one handle more is refused, `BoxFull` where the box is not
-    /// empty: then nothing changed, and the envelope is gone. Requires that the own log allows the post.
+    /// Posts the envelope to `to`. `NoMemory` if memory runs out or one more handle is refused, `BoxFull` if the box is not empty: then
+    /// nothing changes, and the envelope is dropped. Requires that the own log allows the post.
     pub(crate) fn post(
         &mut self,
         alloc: Global,
@@ -147,8 +146,8 @@ impl Seat {
         Ok(())
     }
 
-    /// Takes from an actor what it posted to this one. `NoMemory` where memory runs out, `BoxEmpty` where the box is not full: then
-    /// nothing changed. Requires that the own log allows the take.
+    /// Takes the envelope that `from` posted to this actor. `NoMemory` if memory runs out, `BoxEmpty` if the box is not full: then
+    /// nothing changes. Requires that the own log allows the take.
     pub(crate) fn take(&mut self, boxes: &SharedBoxes, from: &Actor) -> Result<Envelope, Refusal>
         requires boxes { IsPassOf boxes.now self.old }
         requires from { IsActor self.old.shape from.now }
@@ -170,7 +169,7 @@ impl Seat {
         Ok(envelope)
     }
 
-    /// The present moment, at which the actor's log is that of this seat.
+    /// Returns the present moment, at which the actor's log is that of this seat.
     pub(crate) fn moment(&mut self, boxes: &SharedBoxes) -> Moment
         requires boxes { IsPassOf boxes.now self.old }
         ensures same { self.new ≡ self.old }
@@ -181,7 +180,7 @@ impl Seat {
         self.pass.moment(boxes)
     }
 
-    /// Shows the seat a moment, which is then past: what the actor had done at that moment is the oldest part of what it has done.
+    /// Shows the seat a moment, which is past from then on: the actor's log at that moment is the oldest part of its log, at most all of it.
     pub(crate) fn recall(&mut self, boxes: &SharedBoxes, moment: Moment)
         requires boxes { IsPassOf boxes.now self.old }
         requires moment { IsMomentOf boxes.now moment }
@@ -191,8 +190,8 @@ impl Seat {
         self.pass.recall(boxes, moment);
     }
 
-    /// Sleeps while the own box to a replica does not stand empty. It may return earlier. `NoActor` where there is no such actor,
-    /// `WrongRole` where it is a client.
+    /// Sleeps while the own box to the replica `to` is not empty. It may return earlier. `NoActor` if the shape has no such actor,
+    /// `WrongRole` if `to` is a client.
     pub(crate) fn wait_to<R: Wait>(
         &self,
         rt: &R,
@@ -210,8 +209,8 @@ impl Seat {
         Ok(())
     }
 
-    /// Sleeps while the box of a replica to this actor is not full. It may return earlier. `NoActor` where there is no such actor,
-    /// `WrongRole` where it is a client.
+    /// Sleeps while the box from the replica `from` is not full. It may return earlier. `NoActor` if the shape has no such actor,
+    /// `WrongRole` if `from` is a client.
     pub(crate) fn wait_from<R: Wait>(
         &self,
         rt: &R,
@@ -229,7 +228,7 @@ impl Seat {
         Ok(())
     }
 
-    /// What a wait for another is refused with, if it is.
+    /// Returns the refusal of a wait for this actor, or `None` if it is a replica of the shape.
     fn wait_refusal(&self, other: &Actor) -> Option<Refusal>
         ensures same { result ≡ wait_refused self.now.shape other.now }
         ensures inside { IfNone result (IsActor self.now.shape other.now) }
@@ -243,7 +242,6 @@ impl Seat {
         }
     }
 
-    /// The pass, and the log.
     pub(crate) fn into_parts(self) -> (Pass, Log)
         ensures pass { result.0 ≡ self }
         ensures log { result.1 ≡ self.log }
@@ -252,7 +250,7 @@ impl Seat {
     }
 }
 
-/// Makes room for one more entry. `NoMemory` where it is refused: then the entries are as before.
+/// Makes room for one more entry. `NoMemory` if that is refused: then the entries are as before.
 fn make_room(entries: &mut Vec<Entry>) -> Result<(), Refusal>
     ensures same { entries.new.items ≡ entries.old.items }
     ensures room { OnOk result (vec_len entries.new < vec_capacity entries.new) }

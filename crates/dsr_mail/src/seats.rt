@@ -1,4 +1,4 @@
-//! The seats of all actors of a shape, and how they are made.
+//! Makes the seats of all actors of a shape.
 
 ghost use Rattle.std.specs.Prelude.{◌≡◌, ◌≢◌, ◌++◌, [], false, map, IfOk, OnOk, IsOkUnless};
 ghost use Rattle.dsr_names.specs.Places.{size};
@@ -25,19 +25,19 @@ use dsr_node::{Customer, Node};
 use dsr_replica::Replica;
 use std::alloc::Global;
 
-/// The seats of all actors of a shape, those of each kind by the numbers of their actors.
+/// The seats of all actors of a shape, each kind in the order of its actors' numbers.
 #[derive(Drop)]
 pub struct Seats {
-    /// Those of the loyal replicas.
+    /// The loyal replicas' seats.
     pub replicas: Vec<ReplicaSeat>,
-    /// Those of the traitors.
+    /// The traitors' seats.
     pub traitors: Vec<TraitorSeat>,
-    /// Those of the clients.
+    /// The clients' seats.
     pub clients: Vec<ClientSeat>,
 }
 
 impl Seats {
-    /// The seats of the actors whose passes these are, each with its key. `NoMemory` where memory runs out.
+    /// Makes the seats of the actors with these passes, each with its key. `NoMemory` if memory runs out.
     pub(crate) fn of(
         alloc: Global,
         boxes: &SharedBoxes,
@@ -61,7 +61,7 @@ impl Seats {
         Ok(seats)
     }
 
-    /// No seats.
+    /// Creates empty lists of seats.
     fn none(alloc: Global) -> Seats
         ensures replicas { result.replicas.items ≡ [] }
         ensures traitors { result.traitors.items ≡ [] }
@@ -74,8 +74,8 @@ impl Seats {
         }
     }
 
-    /// Adds the seat of the actor whose pass this is, after those of its kind. `NoMemory` where memory runs out. Requires that the actor's key
-    /// was not taken.
+    /// Adds the seat of the pass's actor, after those of its kind. `NoMemory` if memory runs out. Requires that the actor's key is not taken
+    /// yet.
     fn add(
         &mut self,
         alloc: Global,
@@ -115,7 +115,7 @@ impl Seats {
     }
 }
 
-/// The seat of a loyal replica with this key. `NoMemory` where memory runs out.
+/// Creates the seat of a loyal replica with this key. `NoMemory` if memory runs out.
 fn replica_seat(alloc: Global, shape: &Shape, seat: Seat, key: Key) -> Result<ReplicaSeat, Refusal>
     requires shape { seat.shape ≡ shape.now }
     requires first { seat.log ≡ [] }
@@ -130,7 +130,7 @@ fn replica_seat(alloc: Global, shape: &Shape, seat: Seat, key: Key) -> Result<Re
     Ok(ReplicaSeat::new(Loyal::new(seat, node)))
 }
 
-/// The seat of a client with this key.
+/// Creates the seat of a client with this key.
 fn client_seat(alloc: Global, shape: &Shape, seat: Seat, key: Key) -> ClientSeat
     requires shape { seat.shape ≡ shape.now }
     requires first { seat.log ≡ [] }

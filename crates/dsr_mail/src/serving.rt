@@ -8,7 +8,7 @@ use std::marker::Model;
 /// The most clients of a shape.
 const MOST_CLIENTS: usize = 32;
 
-/// Which clients a replica has not answered since it took something of them, and which it picked last. It is of fixed size.
+/// The clients that a replica took something from and has not posted to since, and the client that it picked last. It is of fixed size.
 #[derive(Drop)]
 pub(crate) struct Serving {
     marks: [bool; MOST_CLIENTS],
@@ -27,7 +27,7 @@ impl Model for Serving {
 }
 
 impl Serving {
-    /// Nothing was taken of any client, and none was picked.
+    /// Creates the state of a replica that took nothing from clients and picked none.
     pub(crate) fn none() -> Serving
         ensures marks { result.marks ≡ nobody }
         ensures picked { result.picked ≡ None }
@@ -38,21 +38,21 @@ impl Serving {
         }
     }
 
-    /// Whether the client was not answered since something of it was taken.
+    /// Tells whether the replica took something from the client and has not posted to it since.
     pub(crate) fn has(&self, client: ClientId) -> bool
         ensures { IsTrue result ↔ IsMarked self.now.marks client }
     {
         self.marks[client.number() as usize]
     }
 
-    /// The client that was picked last, if one was.
+    /// Returns the client that the replica picked last, if any.
     pub(crate) fn picked(&self) -> Option<ClientId>
         ensures { result ≡ self.now.picked }
     {
         self.picked
     }
 
-    /// Notes a take from an actor: a client is to be answered.
+    /// Notes a take from `from`: a client now waits for an answer.
     pub(crate) fn note_take(&mut self, from: &Actor)
         ensures noted { self.new.marks ≡ marks_after true from.now self.old.marks }
         ensures picked { self.new.picked ≡ self.old.picked }
@@ -63,7 +63,7 @@ impl Serving {
         }
     }
 
-    /// Notes a post to an actor by a choice: a client is answered, and of those that were picked the last counts.
+    /// Notes a post to `to` by the choice `pick`: a client is now answered, and the last client that the choice names is the one picked last.
     pub(crate) fn note_post(&mut self, to: &Actor, pick: &Pick)
         ensures noted { self.new.marks ≡ marks_after false to.now self.old.marks }
         ensures picked { self.new.picked ≡ picked_after pick.now self.old.picked }
@@ -76,7 +76,7 @@ impl Serving {
     }
 }
 
-/// The last of the clients that a choice names; where it names none, this one.
+/// Returns the last client that the choice names, or `before` if the choice names none.
 fn last_of(pick: &Pick, before: Option<ClientId>) -> Option<ClientId>
     ensures { result ≡ picked_after pick.now before }
 {

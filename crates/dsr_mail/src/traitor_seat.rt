@@ -22,7 +22,7 @@ use std::slice;
 use std::sync::Wait;
 
 /// The seat of a traitor: its log and its boxes at the mail, its key, and the signatures in what it took, which it can send on. It posts
-/// what it likes, as far as it forges nothing, and takes what it likes.
+/// what it likes as long as it forges nothing, and takes what it likes.
 #[derive(Drop)]
 pub struct TraitorSeat {
     seat: Seat,
@@ -42,7 +42,7 @@ impl Model for TraitorSeat {
 }
 
 impl TraitorSeat {
-    /// The seat of a traitor, which holds its key, before it did anything.
+    /// Creates the seat of a traitor that holds its key and has done nothing yet.
     pub(crate) fn new(alloc: Global, seat: Seat, key: Key) -> TraitorSeat
         requires own { key ≡ seat.actor }
         requires traitor { IsTraitor seat.shape seat.actor }
@@ -56,14 +56,13 @@ impl TraitorSeat {
         }
     }
 
-    /// The seat.
     pub(crate) fn into_seat(self) -> Seat
         ensures { result ≡ self }
     {
         self.seat
     }
 
-    /// The actor. There is a run in which its log is that of this seat.
+    /// Returns the actor. There is a run in which its log is that of this seat.
     pub fn actor(&self) -> Actor
         ensures same { result ≡ self.now.actor }
         ensures inside { IsActor self.now.shape result }
@@ -72,7 +71,7 @@ impl TraitorSeat {
         *self.seat.actor()
     }
 
-    /// The replica's number.
+    /// Returns the replica's number.
     pub fn replica(&self) -> ReplicaId
         ensures same { self.now.actor ≡ Replica result }
         ensures traitor { IsTraitor self.now.shape self.now.actor }
@@ -83,10 +82,10 @@ impl TraitorSeat {
         *replica
     }
 
-    /// Posts what the draft describes to an actor. It waits for nobody. Refused with the first of these that holds: `NoActor` where there is
-    /// no such actor; `Exhausted` where the box has had all its posts; `Forged` where a signature is neither its own nor in what it took. Else, in an
-    /// order that no clause says, `NoMemory` where memory runs out, and `BoxFull` where what it posted there last was not taken, or is still being taken
-    /// out. After each of them nothing changed. Requires a seat of this mail.
+    /// Posts the envelope that the draft describes to `to`. It waits for nobody. Refused with the first of these that holds: `NoActor` if the
+    /// shape has no such actor; `Exhausted` if no post to `to` is left; `Forged` if a signature is neither the traitor's own nor in what it took. Then,
+    /// in an order that no clause fixes, `NoMemory` if memory runs out, and `BoxFull` if the box is not empty (`to` has not taken the last envelope, or
+    /// still empties the box). A refusal changes nothing. Requires a seat of this mail.
     pub fn try_post(
         &mut self,
         alloc: Global,
@@ -119,9 +118,9 @@ impl TraitorSeat {
         Ok(())
     }
 
-    /// Takes from an actor what it posted to this traitor. It waits for nobody. `NoActor` where there is no such actor. Else, in an order that no
-    /// clause says, `BoxEmpty` where nothing was posted there, or it is still being filled, and `NoMemory` where memory runs out. After each of them
-    /// nothing changed. Requires a seat of this mail.
+    /// Takes the envelope that `from` posted to this traitor. It waits for nobody. `NoActor` if the shape has no such actor. Then, in an order that
+    /// no clause fixes, `BoxEmpty` if the box is not full (it is empty, or `from` still fills it), and `NoMemory` if memory runs out. A refusal changes
+    /// nothing. Requires a seat of this mail.
     pub fn try_take(&mut self, mail: &Mail, from: Actor) -> Result<(), Refusal>
         requires mail { IsPassOf mail.now self.old }
         ensures ok { OnOk result ((x : Envelope) × IsEnvelope x × (self.new ≡ with_entry self.old (Take from x))) }
@@ -148,8 +147,8 @@ impl TraitorSeat {
         }
     }
 
-    /// Sleeps while what it posted to a replica is not taken. It may return earlier, so the caller tries again. `NoActor` where there is no
-    /// such actor, `WrongRole` where it is a client, whom no replica waits for.
+    /// Sleeps while the replica `to` has not taken what this seat last posted to it. It may return earlier, so the caller tries again. `NoActor` if the
+    /// shape has no such actor, `WrongRole` if `to` is a client: no replica waits for clients. Requires a seat of this mail.
     pub fn wait_to<R: Wait>(&self, rt: &R, mail: &Mail, to: Actor) -> Result<(), Refusal>
         requires mail { IsPassOf mail.now self.now }
         ensures refused { (refusal : Refusal) → wait_refused self.now.shape to ≡ Some refusal → result ≡ Err refusal }
@@ -158,8 +157,8 @@ impl TraitorSeat {
         self.seat.wait_to(rt, mail.boxes(), &to)
     }
 
-    /// Sleeps while a replica has posted nothing that could be taken. It may return earlier, so the caller tries again. `NoActor` where there
-    /// is no such actor, `WrongRole` where it is a client, whom no replica waits for.
+    /// Sleeps while the replica `from` has posted nothing that could be taken. It may return earlier, so the caller tries again. `NoActor` if the
+    /// shape has no such actor, `WrongRole` if `from` is a client: no replica waits for clients. Requires a seat of this mail.
     pub fn wait_from<R: Wait>(&self, rt: &R, mail: &Mail, from: Actor) -> Result<(), Refusal>
         requires mail { IsPassOf mail.now self.now }
         ensures refused { (refusal : Refusal) → wait_refused self.now.shape from ≡ Some refusal → result ≡ Err refusal }
@@ -168,7 +167,7 @@ impl TraitorSeat {
         self.seat.wait_from(rt, mail.boxes(), &from)
     }
 
-    /// Wakes everybody who sleeps at the mail now, so that each tries again. It may miss who is about to sleep: whoever has to end others calls it
+    /// Wakes everybody who sleeps at the mail now, so that each tries again. It may miss a thread that is about to sleep: to end other threads, call it
     /// again until they have ended. Requires a seat of this mail.
     pub fn wake(&self, mail: &Mail)
         requires mail { IsPassOf mail.now self.now }
@@ -176,7 +175,7 @@ impl TraitorSeat {
         mail.boxes().wake_all();
     }
 
-    /// What the own log refuses a post with, if it does.
+    /// Returns the own log's refusal of a post to this actor, if any.
     fn plant_refusal(&self, to: &Actor) -> Option<Refusal>
         ensures { result ≡ plant_refused self.now.shape self.now.log to.now }
     {
@@ -189,8 +188,8 @@ impl TraitorSeat {
         None
     }
 
-    /// The envelope that the draft describes. `Forged` where a signature is neither its own nor in what it took, `NoMemory` where memory
-    /// runs out.
+    /// Makes the envelope that the draft describes. `Forged` if a signature is neither the traitor's own nor in what it took, `NoMemory` if
+    /// memory runs out.
     fn built(&self, alloc: Global, draft: &Draft) -> Result<Envelope, Refusal>
         ensures same { IfOk result (λ envelope. envelope ≡ draft.now) }
         ensures within { IsEnvelope draft.now }
