@@ -1,4 +1,4 @@
--- The four steps on a word, each of which keeps the rule: claim, publish, fetch and release.
+-- The four steps on a word (claim, publish, fetch and release) keep the rule.
 use Rattle.std.proofs.Common.{◌≡◌, ◌≢◌, ℕ, zero, suc, ◌<◌, List, [], ◌∷◌, ◌++◌, length, inl, inr, refl, ap, sym, ◌∙◌, subst, arith, eqb, if◌then◌else◌}
 use Rattle.std.specs.Prelude.{Option, None, Some, slice_index, slice_set}
 use Rattle.std.proofs.lemmas.List.{get_or-set_same, length-set}

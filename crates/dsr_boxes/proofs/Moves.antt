@@ -25,8 +25,8 @@ use Rattle.dsr_boxes.specs.Place.{slot_of, word_of}
 use Rattle.dsr_boxes.specs.Rule.{Table, IsOf, IsDoing, HasLogs, ArePast, Stands, Agrees, IsHead, Kept}
 use Rattle.dsr_boxes.proofs.Numbers.{word_below, one_or_apart}
 
--- what a step of `me` on the box from p to q makes of a run, if it adds to it; the box's word, as it was and as it is; and what is at home
--- in its slot then
+-- a step of `me` on the box from p to q: the run before the step and after it, the box's word before it (`old`) and after it (`new`), and what is
+-- at home in the box's slot after it
 pub record IsMove (shape : Shape) (run after : List Step) (me p q : Actor) (old new : ℕ) (home : maybe.Option (maybe.Option (Option Envelope))) : Type 0 where
   pub is : IsRun shape after
   pub grows : Extends after run

@@ -1,4 +1,4 @@
--- The boxes that threads share, as their callers see them, and an actor's pass to them (this project).
+-- What callers see of the boxes that threads share and of an actor's pass to them (this project).
 use Rattle.std.specs.Prelude.{◌≡◌, ℕ, zero, suc, List, [], ◌∷◌, ◌++◌, if◌then◌else◌}
 use Rattle.atomic_table.specs.Seated.{TableId}
 use Rattle.dsr_names.specs.Places.{actor_at}
@@ -47,7 +47,7 @@ with_entry pass entry = record pass { log = entry ∷ pass.log }
 abbrev pub new_pass : SharedBoxes → Actor → Pass
 new_pass boxes actor = record { id = boxes.id; shape = boxes.shape; actor = actor; log = [] }
 
--- new passes of the actors of the lowest places, as many as the number says, in order of place
+-- new passes of the actors of the places below this number, in order of place
 abbrev pub new_passes : SharedBoxes → ℕ → List Pass
 new_passes boxes zero = []
 new_passes boxes (suc place) = new_passes boxes place ++ new_pass boxes (actor_at boxes.shape place) ∷ []

@@ -63,7 +63,7 @@ abbrev pub lower : List (List Entry) → List (List Entry)
 lower [] = []
 lower (log ∷ logs) = logs
 
--- the view of the actor of the highest place; if there is no log, the view of nobody
+-- the view of the actor of the highest place, or the view of nobody if the list has no log
 abbrev pub highest : Shape → List (List Entry) → View
 highest shape [] = keeping shape []
 highest shape (log ∷ logs) = sitting shape (actor_at shape (length logs)) log Resting

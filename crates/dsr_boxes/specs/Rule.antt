@@ -22,7 +22,7 @@ use Rattle.dsr_boxes.specs.declared.view.View.{View}
 use Rattle.dsr_boxes.specs.Place.{slot_of, word_of}
 use Rattle.dsr_boxes.specs.View.{keeping}
 
--- all boxes, as data: the words, the slots that nobody holds, and the views of all passes
+-- the data of all boxes: the words, the slots that nobody holds, and the views of all passes
 abbrev pub Table : Type 0
 Table = State (Option Envelope) View
 
@@ -40,7 +40,7 @@ IsOf shape (Keeping logs) a = IsActor shape a × (place_of shape a < length logs
 IsOf shape (Sitting me log doing) a = me ≡ a
 IsOf shape (Watching logs moments) a = IsActor shape a × (place_of shape a < length logs)
 
--- what an actor does between two steps of a run, as its box's word shows: 1 while it fills the box, 3 while it empties it. The moment that it was
+-- what an actor does between two steps of a run agrees with its box's word: 1 while it fills the box, 3 while it empties it. The moment that it was
 -- shown is a past of the run
 abbrev pub IsDoing : Shape → List ℕ → List Step → Actor → Doing → Type 0
 IsDoing shape words run me Resting = Unit {0}
@@ -66,7 +66,7 @@ Stands shape words run (Watching kept moments) = HasLogs shape run kept × ArePa
 
 -- a box's word agrees with what was posted there, what was taken, and the content of its slot unless someone holds the slot. 0: all that was posted
 -- was taken, and the slot is empty; 2: one envelope was not taken, and is in the slot; 1, while its poster fills it, and 3, while its taker empties
--- it: all was taken. The word is no other number
+-- it: all was taken. The word never has another value
 abbrev pub Agrees : ℕ → List Envelope → List Envelope → maybe.Option (maybe.Option (Option Envelope)) → Type 0
 Agrees zero posted taken home = (posted ≡ taken) × (home ≡ some (some None))
 Agrees (suc zero) posted taken home = posted ≡ taken

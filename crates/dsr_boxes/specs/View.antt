@@ -23,7 +23,7 @@ Holding = Me (Option Envelope) View
 abbrev pub sitting : Shape → Actor → List Entry → Doing → View
 sitting shape me log doing = record { shape = shape; part = Sitting me log doing }
 
--- the view of all actors of the lowest places, as many as there are logs; the log of the highest place comes first
+-- the view of the actors of the lowest places, one for each log; the log of the highest place comes first
 abbrev pub keeping : Shape → List (List Entry) → View
 keeping shape logs = record { shape = shape; part = Keeping logs }
 
@@ -58,7 +58,7 @@ moments_in (Sitting me log (Emptying from)) = []
 moments_in (Sitting me log (Recalling past)) = past ∷ []
 moments_in (Watching logs moments) = moments
 
--- the first of these moments; if there is none, the moment of no step
+-- the first of these moments, or the moment of no step if the list is empty
 abbrev pub first_moment : List (List Step) → List Step
 first_moment [] = []
 first_moment (past ∷ moments) = past
@@ -76,7 +76,7 @@ end_in (Sitting me log (Emptying from)) = from
 end_in (Sitting me log (Recalling past)) = me
 end_in (Watching logs moments) = Replica 0
 
--- the envelope in the slot that was taken last; if there is none, the empty one
+-- the envelope in the slot that was taken last, or the empty envelope if no slot is held or the slot holds nothing
 abbrev pub content_in : List (ℕ × Option Envelope) → Envelope
 content_in [] = Empty
 content_in ((slot, None) ∷ held) = Empty

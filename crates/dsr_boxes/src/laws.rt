@@ -1,5 +1,5 @@
-//! Laws of the boxes, as the contracts of functions that do nothing: the rule, in plain terms, which holds at every moment; what each atomic step
-//! does to it; and how moments order requests.
+//! Laws of the boxes, stated as contracts of functions that do nothing: the rule, in plain terms, which holds at every moment; what each atomic
+//! step does to it; and how moments order requests.
 
 ghost use Rattle.std.specs.Prelude.{◌≡◌, ℕ, ◌+◌, ◌*◌, ◌<◌, List, [], ◌∷◌, ◌++◌, None, Some, length, replicate, slice_index, slice_set};
 ghost use mathlib.Core.Option.{some};

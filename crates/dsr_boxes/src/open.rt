@@ -1,4 +1,4 @@
-//! How the boxes are made, with one pass for each actor.
+//! Opens the boxes, with one pass for each actor.
 
 ghost use Rattle.std.specs.Prelude.{◌≡◌, ◌<◌, ◌*◌, [], ◌∷◌, IfOk, OnOk, IsOkUnless, replicate, vec_len};
 ghost use Rattle.dsr_names.specs.Places.{size, actor_at};

@@ -14,7 +14,7 @@ use dsr_names::{Actor, Refusal};
 use std::marker::Model;
 use std::sync::Wait;
 
-/// The access token of one actor, with which it posts and takes. There is one for each actor, and it is never copied.
+/// The access token that one actor uses to post and to take. Each actor has one, and it is never copied.
 #[derive(Drop)]
 pub struct Pass {
     pub(crate) token: Token,

@@ -9,7 +9,7 @@ use crate::rule::{Enter, Gather, Learn, Token};
 use crate::shared_boxes::SharedBoxes;
 use std::marker::Model;
 
-/// The passes that came back, with which the boxes are closed. It represents their logs.
+/// The passes that came back; `close` needs those of all actors. It represents their logs.
 #[derive(Drop)]
 pub struct Returned {
     pub(crate) token: Token,

@@ -21,7 +21,7 @@ impl TableRule<Option<Parcel>, View, Shape> for BoxRule {
 /// The words and slots of all boxes.
 pub(crate) type Memory = Table<Option<Parcel>, View, Shape, BoxRule, Global>;
 
-/// The token with which a pass makes its steps.
+/// The token that a pass uses to make its steps.
 pub(crate) type Token = Seat<Option<Parcel>, View>;
 
 /// What a claim tells its pass.

@@ -37,7 +37,7 @@ impl SharedBoxes {
         &self.shape
     }
 
-    /// Returns the slot of the box from `from` to `to`. It is below 2,304, as at most 48 actors have boxes.
+    /// Returns the slot of the box from `from` to `to`. It is below 2,304 because at most 48 actors have boxes.
     pub(crate) fn slot_of(&self, from: &Actor, to: &Actor) -> usize
         requires from { IsActor self.now.shape from.now }
         requires to { IsActor self.now.shape to.now }

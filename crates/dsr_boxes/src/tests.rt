@@ -1,10 +1,10 @@
 //! A poster stopped between its claim and its publish, and a taker stopped between its fetch and its release: each leaves one box as it
 //! is, and every other box works.
 //!
-//! Of the 25 boxes between three replicas and two clients 13 are used, the stopped one among them. The other 12 are claimed, which is the step at
-//! which a box that is not empty stops its poster, but nothing is posted into them: the two of a client to itself, as it posts there never; the six
-//! of clients to replicas and the four of loyal replicas to clients, as asks and replies are signed, or need a decision, and so calls of crates that
-//! this one does not stand on.
+//! The tests use 13 of the 25 boxes between three replicas and two clients, among them the stopped one. They only claim the other 12 (at a claim, a
+//! box that is not empty stops its poster) and post nothing there. Two of these are from a client to itself, which never posts there. Six are from
+//! clients to replicas, and four from loyal replicas to clients: asks and replies are signed or need a decision, so they need calls of crates that
+//! this one does not depend on.
 
 ghost use Rattle.std.specs.Prelude.{◌≡◌, ◌⊎◌, ◌<◌, IfOk, OnOk, OnErr, [], ◌∷◌, length};
 ghost use Rattle.dsr_names.specs.Shape.{shape_of, IsActor};
@@ -29,10 +29,10 @@ use std::alloc::Global;
 use std::process::Abort;
 use std::test::Fail;
 
-/// How often what must not succeed is tried.
+/// How often the tests try a call that must not succeed.
 const TRIES: u32 = 1_000;
 
-/// Boxes between three replicas, of which the first is a traitor, and two clients; and the passes of all five.
+/// Boxes between three replicas (the first is a traitor) and two clients, and the passes of all five.
 #[derive(Drop)]
 struct Small {
     boxes: SharedBoxes,
@@ -92,7 +92,7 @@ fn client(number: u8) -> Actor
     Actor::Client(ClientId::of(number))
 }
 
-/// Posts the empty envelope. Fails where the box is not empty.
+/// Posts the empty envelope. Fails if the box is not empty.
 fn post_empty(
     alloc: Global,
     boxes: &SharedBoxes,
@@ -112,7 +112,7 @@ fn post_empty(
     Ok(())
 }
 
-/// Takes what lies in a box. Fails where nothing does.
+/// Takes what is in a box. Fails if the box holds nothing.
 fn take(boxes: &SharedBoxes, taker: &mut Pass, from: &Actor) -> Result<(), Fail>
     requires boxes { IsPassOf boxes.now taker.old }
     requires from { IsActor taker.old.shape from.now }
@@ -125,7 +125,7 @@ fn take(boxes: &SharedBoxes, taker: &mut Pass, from: &Actor) -> Result<(), Fail>
     }
 }
 
-/// Has the traitor post the empty envelope. Fails where the box is not empty.
+/// Has the traitor post the empty envelope. Fails if the box is not empty.
 fn plant(alloc: Global, boxes: &SharedBoxes, traitor: &mut Pass, to: &Actor) -> Result<(), Refusal>
     requires boxes { IsPassOf boxes.now traitor.old }
     requires shape { traitor.old.shape ≡ shape_of 3 1 2 1 }
@@ -169,7 +169,7 @@ fn take_round(boxes: &SharedBoxes, traitor: &mut Pass) -> Result<(), Fail>
     Ok(())
 }
 
-/// Has the traitor try to post into a box that is not empty, again and again. Fails where it can.
+/// Has the traitor try to post into a box that is not empty, again and again. Fails if a try succeeds.
 fn plant_nothing(
     alloc: Global,
     boxes: &SharedBoxes,
@@ -191,7 +191,7 @@ fn plant_nothing(
     Ok(())
 }
 
-/// Tries to take what is not there, again and again. Fails where it can.
+/// Tries to take what is not there, again and again. Fails if a try succeeds.
 fn take_nothing(boxes: &SharedBoxes, taker: &mut Pass, from: &Actor) -> Result<(), Fail>
     requires boxes { IsPassOf boxes.now taker.old }
     requires from { IsActor taker.old.shape from.now }
@@ -235,7 +235,7 @@ fn end_round(boxes: &SharedBoxes, loyal: &mut Pass) -> Result<(), Fail>
     Ok(())
 }
 
-/// Has both loyal replicas make round 0, for which the traitor has posted. Fails where one of their boxes does not work.
+/// Has both loyal replicas make round 0, for which the traitor has posted. Fails if one of their boxes does not work.
 fn make_round(
     alloc: Global,
     boxes: &SharedBoxes,
@@ -253,7 +253,7 @@ fn make_round(
     Ok(())
 }
 
-/// Has a client that has done nothing yet tell the other one its front, which is 0. Fails where the box is not empty.
+/// Has a client that has done nothing yet tell the other one its front, which is 0. Fails if the box is not empty.
 fn tell(alloc: Global, boxes: &SharedBoxes, teller: &mut Pass, to: &Actor) -> Result<(), Fail>
     requires boxes { IsPassOf boxes.now teller.old }
     requires shape { teller.old.shape ≡ shape_of 3 1 2 1 }
@@ -337,8 +337,8 @@ fn beside_a_stopped_taker_each_other_box_can_be_claimed(rt: HostRuntime) -> Resu
     claim_beside_a_taker(&rt, rt.alloc(), &client(1))
 }
 
-/// Has the loyal replicas and the clients use the boxes that a poster, stopped after its claim of the box to the second client, leaves to them. It had
-/// posted to each replica and to the first client. Fails if a box does not work, or if the second client can take what was claimed alone.
+/// Has the loyal replicas and the clients use the boxes that a stopped poster leaves to them: it posted to each replica and to the first client, and
+/// then claimed the box to the second. Fails if a box does not work, or if the second client can take from the box that was only claimed.
 fn work_beside_a_poster(
     alloc: Global,
     boxes: &SharedBoxes,
@@ -400,8 +400,8 @@ fn a_poster_stopped_after_its_claim_stops_one_box(rt: HostRuntime) -> Result<(),
     )
 }
 
-/// Has the others use the boxes that the first client, stopped after its fetch from the traitor, leaves to them. It had told the second client. Fails
-/// if a box does not work, or if the traitor can post again into the box from which was fetched.
+/// Has the others use the boxes that the stopped first client leaves to them: it told the second client its front, and then fetched from the traitor.
+/// Fails if a box does not work, or if the traitor can post again into the fetched box.
 fn work_beside_a_taker(
     alloc: Global,
     boxes: &SharedBoxes,
@@ -495,8 +495,8 @@ fn waits_return_where_there_is_nothing_to_wait_for(rt: HostRuntime) -> Result<()
     Ok(())
 }
 
-/// Has the first client tell the second one its front, hands the moment after that on to the second, and has this one then tell the first. At the
-/// moment the first one had told, and the second had done nothing.
+/// Has the first client tell the second one its front, hands the moment after that on to the second, and has this one then tell the first. At that
+/// moment the first client has told the second one, which has done nothing.
 fn tell_in_order(
     alloc: Global,
     boxes: &SharedBoxes,
@@ -518,7 +518,7 @@ fn tell_in_order(
     Ok(moment)
 }
 
-/// Fails unless the box from the traitor to the first client looks as is said.
+/// Fails unless the box from the traitor to the first client looks full if `full` is true, and empty if it is false.
 fn looks_so(boxes: &SharedBoxes, full: bool) -> Result<(), Fail>
     requires shape { boxes.now.shape ≡ shape_of 3 1 2 1 }
 {
