@@ -29,8 +29,8 @@ abbrev pub number_of : Actor → ℕ
 number_of (Replica p) = p
 number_of (Client c) = c
 
--- the request that a call waits for, by the client's log before the call: the outstanding one, else a new one for the operation, if there is an
--- operation
+-- the request that a call waits for, by the client's log before the call: the outstanding one, else a new one for the operation, or `None` if
+-- nothing is outstanding and the call has no operation
 abbrev pub awaited : Shape → ℕ → List Entry → Option Op → Option SignedRequest
 awaited shape me log op = option_or (outstanding shape log) (option_map (ask_of me (next_number shape log)) op)
 
@@ -40,8 +40,8 @@ abbrev pub front_beside : Shape → Option SignedRequest → ℕ → List Entry 
 front_beside shape None number log = Some (seen shape log)
 front_beside shape (Some ask) number log = issue_front shape number log
 
--- the request was not begun: nothing is outstanding, as in the older log, nothing more was accepted or seen, and no replica was asked for a
--- request with this number
+-- the request was not begun: nothing is outstanding in either log, the client accepted and saw nothing more since the older log, and it never
+-- asked a replica for a request with this number
 pub record IsUnbegun (shape : Shape) (number : ℕ) (older log : List Entry) : Type 0 where
   pub was : outstanding shape older ≡ None
   pub none : outstanding shape log ≡ None

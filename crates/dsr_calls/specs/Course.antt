@@ -14,7 +14,7 @@ use Rattle.dsr_boxes.specs.Pass.{Pass, with_entry}
 use Rattle.dsr_mail.specs.Refusals.{post_refused, take_refused, HasAsked}
 use Rattle.dsr_calls.specs.Visits.{pick_beside, HasTakeTurn}
 
--- the refusal, if any, with which the own log refuses to ask the replica
+-- the own log's refusal to ask the replica, if any
 abbrev pub ask_refused : Option Op → ℕ → Pass → Option Refusal
 ask_refused op q seat = post_refused seat.shape seat.actor seat.log (Replica q) (pick_beside (outstanding seat.shape seat.log) op)
 

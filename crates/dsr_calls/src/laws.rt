@@ -1,4 +1,4 @@
-//! Laws about what calls wait for, as the contracts of functions that do nothing.
+//! A law about what calls wait for, stated as the contract of a function that does nothing.
 
 ghost use Rattle.std.specs.Prelude.{◌≡◌, ℕ, List, Option, Some};
 ghost use Rattle.dsr_names.specs.Shape.{Shape};

@@ -75,7 +75,7 @@ are_two_clients a b = are_clients a b && not (is_own_client a b)
 
 -- ---- choices and replies
 
--- the operation of a choice, if it has one, has a text
+-- an operation that the choice begins has a text
 abbrev pub HasSpelledOp : Pick → Type 0
 HasSpelledOp Plain = Unit {0}
 HasSpelledOp (From clients) = Unit {0}

@@ -65,7 +65,7 @@ IsClient (Loyal r) = ⊥
 IsClient Traitor = ⊥
 IsClient (Client x) = Unit {0}
 
--- the node may post to this actor by this choice: it plays an actor that is not a traitor, over a log by which nothing refuses the post
+-- the node may post to this actor by this choice: it plays an actor that is not a traitor, over a log that does not refuse the post
 pub record CanPost (node : Node) (to : Actor) (pick : Pick) : Type 0 where
   pub shape : Shape
   pub me : Actor

@@ -1,4 +1,4 @@
-//! What follows for one actor from its own log. Laws, as contracts of functions that do nothing.
+//! Laws about what follows for one actor from its own log, stated as contracts of functions that do nothing.
 
 ghost use Rattle.std.specs.Prelude.{◌≡◌, ℕ, ◌<◌, ◌^◌, false, List, None, Some};
 ghost use Rattle.dsr_names.specs.Shape.{Shape, is_traitor, IsActor, AgreeButForTraitors};

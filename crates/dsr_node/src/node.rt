@@ -24,7 +24,7 @@ use dsr_request::Op;
 use std::alloc::Global;
 
 /// One actor with its own log. A loyal actor is a real replica or client; a traitor posts what it likes as long as it forges nothing,
-/// so there is no code for it.
+/// so no code plays it.
 #[derive(Drop)]
 pub enum Node {
     /// A loyal replica.
@@ -214,7 +214,7 @@ impl Node {
         }
     }
 
-    /// Returns the number of a client's outstanding request, if there is one. Requires that the node is a client.
+    /// Returns the number of a client's outstanding request, or `None` if nothing is outstanding. Requires that the node is a client.
     pub fn outstanding(&self) -> Option<u64>
         requires { IsClient self.now }
         ensures { (shape : Shape) (c : ℕ) (log : List Entry) → Plays shape (ClientNumber c) log self.now
@@ -253,7 +253,7 @@ impl Node {
     }
 }
 
-/// Returns the refusal of a loyal replica's post to this actor by this choice, if there is one.
+/// Returns the refusal of a loyal replica's post to this actor by this choice, or `None` if it may be made.
 fn replica_refusal(replica: &Replica, to: Actor, pick: Pick) -> Option<Refusal>
     ensures same { (p : ℕ) (log : List Entry) → replica.now.me ≡ ReplicaNumber p → StandsFor replica.now log
         → result ≡ post_refusal replica.now.shape log (ReplicaNumber p) to pick }
@@ -270,7 +270,7 @@ fn replica_refusal(replica: &Replica, to: Actor, pick: Pick) -> Option<Refusal>
     }
 }
 
-/// Returns the refusal of a loyal replica's post to this replica by this choice, if there is one.
+/// Returns the refusal of a loyal replica's post to this replica by this choice, or `None` if it may be made.
 fn round_refusal(replica: &Replica, to: ReplicaId, pick: Pick) -> Option<Refusal>
     ensures same { (p : ℕ) (log : List Entry) → replica.now.me ≡ ReplicaNumber p → StandsFor replica.now log
         → result ≡ post_refusal replica.now.shape log (ReplicaNumber p) (ReplicaNumber to) pick }
@@ -279,7 +279,7 @@ fn round_refusal(replica: &Replica, to: ReplicaId, pick: Pick) -> Option<Refusal
     replica.refusal(to, pick)
 }
 
-/// Returns the refusal of a client's post to this actor by this choice, if there is one.
+/// Returns the refusal of a client's post to this actor by this choice, or `None` if it may be made.
 fn client_refusal(client: &Client, to: Actor, pick: Pick) -> Option<Refusal>
     ensures same { (log : List Entry) → StandsForClient client.now log
         → result ≡ post_refusal client.now.shape log (ClientNumber client.now.me) to pick }
@@ -297,7 +297,7 @@ fn client_refusal(client: &Client, to: Actor, pick: Pick) -> Option<Refusal>
     }
 }
 
-/// Returns the refusal to begin a client's request with this operation, if there is one.
+/// Returns the refusal of a client's post that begins a request with this operation, or `None` if it may be made.
 fn begin_refusal(client: &Client, to: Actor, op: Op) -> Option<Refusal>
     requires { IsReplicaNumber to }
     ensures same { (log : List Entry) → StandsForClient client.now log
