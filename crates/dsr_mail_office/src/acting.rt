@@ -104,7 +104,7 @@ fn replica_insists<R: Wait>(
     unreachable!()
 }
 
-/// Tries the replica's event, if it is a post or a take.
+/// Tries the replica's post or take. `WrongRole` for any other event.
 fn replica_tries(
     alloc: Global,
     mail: &Mail,
@@ -175,7 +175,7 @@ fn client_insists<R: Wait>(
     unreachable!()
 }
 
-/// Tries the client's event, if it is a post or a take.
+/// Tries the client's post or take. `WrongRole` for any other event.
 fn client_tries(
     alloc: Global,
     mail: &Mail,

@@ -35,7 +35,7 @@ pub enum Otherwise {
     Refused(Refusal),
     /// The play has this number of events, which is not the number of wanted results.
     Count(usize),
-    /// The event at this place had this result.
+    /// The event at this place ended with this result.
     Ended {
         place: usize,
         end: Result<(), Refusal>,
@@ -51,7 +51,7 @@ impl From<Refusal> for Otherwise {
     }
 }
 
-/// Opens the mail of the play, and has each event of the play happen there, as long as each ends as wanted.
+/// Opens the mail of the play, and has the events of the play happen there until one does not end as wanted.
 pub fn stage(
     alloc: Global,
     text: &str,
@@ -63,13 +63,13 @@ pub fn stage(
     Ok(office)
 }
 
-/// Has each event of the play happen at a new mail, as long as each ends as wanted.
+/// Has the events of the play happen at a new mail until one does not end as wanted.
 pub fn act_out(alloc: Global, text: &str, wanted: &[Result<(), Refusal>]) -> Result<(), Otherwise> {
     stage(alloc, text, wanted)?;
     Ok(())
 }
 
-/// Has each event of the play happen at the mail of another play of this shape, as long as each ends as wanted.
+/// Has the events of the play happen at the mail of another play of this shape until one does not end as wanted.
 pub fn go_on(
     alloc: Global,
     office: &mut Office,
@@ -80,7 +80,7 @@ pub fn go_on(
     act(alloc, office, play.events(), wanted)
 }
 
-/// Has each event happen, as long as each ends as wanted.
+/// Has the events happen until one does not end as wanted.
 fn act(
     alloc: Global,
     office: &mut Office,

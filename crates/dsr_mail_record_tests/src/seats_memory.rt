@@ -1,4 +1,4 @@
-//! Seats whose calls are made again if memory was refused: the outcome is the same, whichever allocation is refused.
+//! Tests that repeat a seat's call if memory was refused: the outcome is the same, whichever allocation is refused.
 
 use crate::transcripts::{ONE_REPLICA, transcript};
 use dsr_mail::Logs;

@@ -56,7 +56,7 @@ fn seats_stand_by_kind_and_number(rt: HostRuntime) -> Result<(), Fail> {
     stand_by_kind_and_number(&rt, &office)
 }
 
-/// Compares the seats of two loyal replicas, the second of which is r2, of the traitor r1, and of two clients.
+/// Compares the seats of two loyal replicas (the second is r2), of the traitor r1, and of two clients.
 fn stand_by_kind_and_number<R: Abort>(rt: &R, office: &Office) -> Result<(), Fail> {
     assert_eq!(rt; *office.shape(), Shape::new(3, 1, 2, 0b010)?);
     let counts = (

@@ -6,7 +6,7 @@ use std::process::Abort;
 use std::sync::Wait;
 use std::test::Fail;
 
-/// Compares how the waits of the actor for each other one end, as a row says.
+/// Compares how the actor's wait for the other actor of each row ends with the end in that row.
 fn waits_end<R: Abort + Wait>(
     rt: &R,
     office: &Office,

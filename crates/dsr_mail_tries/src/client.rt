@@ -27,7 +27,7 @@ impl Player for ClientSeat {
     }
 }
 
-/// Tries to ask a replica for the outstanding request, or for a new one if there is none.
+/// Tries to ask a replica for the outstanding request, or for a new one if nothing is outstanding.
 fn ask(seat: &mut ClientSeat, alloc: Global, mail: &Mail, dice: &mut Dice)
     requires { IsPassOf mail.now seat.old }
     ensures { IsSameSeat seat.old seat.new }

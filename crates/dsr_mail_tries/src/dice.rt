@@ -14,7 +14,7 @@ pub(crate) struct Dice {
 impl Dice {
     /// Creates the numbers of this seed and stream.
     pub(crate) fn new(seed: u64, stream: u64) -> Dice {
-        // Bits of the golden ratio separate neighbouring streams, and the last bit keeps the state from 0, where it would stay.
+        // Bits of the golden ratio separate neighbouring streams, and the last bit keeps the state from 0, which no roll would change.
         let apart = stream.wrapping_add(1).wrapping_mul(0x9e37_79b9_7f4a_7c15);
         let mut dice = Dice {
             state: (seed ^ apart) | 1,

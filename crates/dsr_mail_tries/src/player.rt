@@ -7,7 +7,7 @@ use crate::dice::Dice;
 use dsr_mail::Mail;
 use std::alloc::Global;
 
-/// A seat at which random tries are made.
+/// A seat that makes random tries.
 pub(crate) trait Player {
     // the pass that represents the seat
     ghost pass: { Self → Pass };

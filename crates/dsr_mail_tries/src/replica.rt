@@ -57,7 +57,7 @@ fn stray(seat: &mut ReplicaSeat, alloc: Global, mail: &Mail, dice: &mut Dice)
     post(seat, alloc, mail, dice.anyone(), pick);
 }
 
-/// Returns a choice with which it may post to this replica: the requests of some clients, or else the plain choice.
+/// Returns a choice for a post to this replica: the requests of some clients if the seat allows one of four tries, else the plain choice.
 fn proposal(seat: &ReplicaSeat, shape: &Shape, dice: &mut Dice, to: ReplicaId) -> Pick {
     for _ in 0..4 {
         let pick = some_clients(shape, dice);

@@ -72,7 +72,7 @@ fn run<R: Threads + Wait + Sync, I: Source, O: Sink>(
     }
 }
 
-/// Writes the replies or the transcript of these logs, as the words ask.
+/// Writes the transcript of these logs if `wanted` asks for it, else the replies that clients accepted.
 fn tell_of<O: Sink>(
     alloc: Global,
     wanted: &Wanted,
