@@ -88,8 +88,8 @@ fn post_turn(
     }
 }
 
-/// Returns the choice that asks for the awaited request: `Plain` if a request is outstanding, else to begin one for the operation, if
-/// there is one.
+/// Returns the choice that asks for the awaited request: `Plain` if a request is outstanding or `op` is `None`, else the choice to begin
+/// one for `op`.
 fn choice(seat: &ClientSeat, op: &Option<Op>) -> Pick
     ensures { result ≡ pick_beside (outstanding seat.now.shape seat.now.log) op.now }
 {

@@ -168,7 +168,7 @@ impl ClientSeat {
     pub fn asked(&self, replica: ReplicaId) -> bool
         ensures { IsTrue result ↔ HasAsked self.now.shape self.now.log replica }
     {
-        // that the number is below 16 is known from here on
+        // For the proof: the number is below 16.
         let _number = replica.number();
         self.asked.has(replica)
     }

@@ -1,4 +1,4 @@
-//! The mail: the seat of each actor, from which it posts and takes by its own log and its own boxes alone, in threads or in one.
+//! The mail: each actor posts and takes at a seat, by its own log and its own boxes alone, in several threads or in one.
 #![tactic(auto)]
 
 mod actors;

@@ -23,7 +23,7 @@ use dsr_replica::Replica;
 use dsr_request::Request;
 use std::marker::Model;
 
-/// The logs of all actors, after `Mail::close`: the logs of a run.
+/// The logs of all actors, once their mail is closed: the logs of a run.
 #[derive(Drop)]
 pub struct Logs {
     shape: Shape,

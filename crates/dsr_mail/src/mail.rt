@@ -79,7 +79,7 @@ impl Mail {
     }
 
     /// Closes the mail and returns the actors' logs, which are those of a run. It allocates nothing, and drops the envelopes that nobody took.
-    /// Requires that the seat of each actor has come back.
+    /// Requires the seats of all actors of this mail.
     pub fn close(self, seats: Seats) -> Logs
         requires replicas { AreSeatsOf self is_loyal_replica seats.replicas.items }
         requires traitors { AreSeatsOf self is_traitor_replica seats.traitors.items }
@@ -99,8 +99,8 @@ impl Mail {
     }
 
     /// Closes the mail like `close`, and returns the logs of a run that goes on from the moment. So if a request has a response at the moment, and a
-    /// client asks for another one only after it has recalled the moment, the first has the lower place. Requires a moment of this mail, and that
-    /// the seat of each actor has come back.
+    /// client asks for another one only after it has recalled the moment, the first has the lower place. Requires a moment and the seats of all
+    /// actors of this mail.
     pub fn close_after(self, seats: Seats, moment: Moment) -> Logs
         requires replicas { AreSeatsOf self is_loyal_replica seats.replicas.items }
         requires traitors { AreSeatsOf self is_traitor_replica seats.traitors.items }
@@ -134,7 +134,7 @@ impl Mail {
         moment.copy(&self.boxes)
     }
 
-    /// Replaces the moment by the present one, which comes after it and after the other: so one moment is enough to close the mail after both.
+    /// Replaces the moment by the present one, which comes after it and after `other`: so one moment is enough to close the mail after both.
     /// Requires moments of this mail.
     pub fn meet_moments(&self, moment: &mut Moment, other: Moment)
         requires moment { IsMomentOf self.now moment.old }

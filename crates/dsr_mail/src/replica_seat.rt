@@ -123,7 +123,7 @@ impl ReplicaSeat {
     pub fn is_unanswered(&self, client: ClientId) -> bool
         ensures { IsTrue result ↔ IsUnanswered client self.now.log }
     {
-        // that the number is below 32 is known from here on
+        // For the proof: the number is below 32.
         let _number = client.number();
         self.serving.has(client)
     }

@@ -81,7 +81,7 @@ HasSpelledOp Plain = Unit {0}
 HasSpelledOp (From clients) = Unit {0}
 HasSpelledOp (Begin op) = IsOp op
 
--- the later list is the earlier one, with this reply added if there is one; replies are listed newest first
+-- the later list is the earlier one, with this reply added, if any; replies are listed newest first
 abbrev pub AcceptsBy : Option AReply → List AReply → List AReply → Type 0
 AcceptsBy None later earlier = later ≡ earlier
 AcceptsBy (Some reply) later earlier = later ≡ reply ∷ earlier

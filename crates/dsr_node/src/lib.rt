@@ -1,5 +1,5 @@
-//! One actor of any kind, with its own log: a loyal replica, a client, or a traitor. What it posts and
-//! takes, and what is refused to it.
+//! One actor of any kind (a loyal replica, a client, or a traitor) with its own log: what it posts
+//! and takes, and which posts and takes its log refuses.
 #![tactic(auto)]
 
 mod customer;
