@@ -82,7 +82,7 @@ impl TraitorSeat {
         *replica
     }
 
-    /// Posts the envelope that the draft describes to `to`. It waits for nobody. Refused with the first of these that holds: `NoActor` if the
+    /// Posts to `to` the envelope that the draft describes. It waits for nobody. Refused with the first of these that holds: `NoActor` if the
     /// shape has no such actor; `Exhausted` if no post to `to` is left; `Forged` if a signature is neither the traitor's own nor in what it took. Then,
     /// in an order that no clause fixes, `NoMemory` if memory runs out, and `BoxFull` if the box is not empty (`to` has not taken the last envelope, or
     /// still empties the box). A refusal changes nothing. Requires a seat of this mail.
