@@ -148,7 +148,7 @@ replica_post_ends may seat later to pick e me same is loyal inside given by othe
 
 -- ---- what a post shows
 
--- what a post that was made gave
+-- the result of a successful post
 abbrev was_posted : Result (Unit {0}) Refusal
 was_posted = Ok tt
 
@@ -164,7 +164,7 @@ not_past true true n true s h = absurd (ok_err WrongRole (h WrongRole refl))
 not_past true false true true s h = absurd (ok_err NotDue (h NotDue refl))
 not_past true false false true s h = absurd (ok_err Exhausted (h Exhausted refl))
 
--- a post that was made is below the limit of rounds
+-- a successful post is below the limit of rounds
 pub has_posted : (tried : Result (Unit {0}) Refusal) (old new : Pass) (to : Actor) (pick : Pick)
     → OnOk tried ((x : Envelope) × (post_of old.shape old.log old.actor to pick ≡ Some x) × (new ≡ with_entry old (Post to x)))
     → ((e : Refusal) → post_refused old.shape old.actor old.log to pick ≡ Some e → tried ≡ Err e) → OnOk tried (HasPosted old new to pick)

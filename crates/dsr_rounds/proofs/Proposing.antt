@@ -113,7 +113,7 @@ clients_or_none : (xs : List ℕ) → length xs ≤ 8 → AllPairs (λ (a : ℕ)
 clients_or_none [] few apart = inl refl
 clients_or_none (x ∷ xs) few apart = inr (record { some = omega arith; few = few; distinct = apart })
 
--- the next clients are none, or clients that a choice may name
+-- a choice may name the next clients, unless no client is next
 pub next_good : (shape : Shape) (log : List Entry) → 0 < shape.m → (next_proposed shape log ≡ []) ⊎ IsClients (next_proposed shape log)
 next_good shape log some =
     let first = first_in_turn shape.m (last_proposed shape log) in

@@ -225,7 +225,7 @@ more_closed first later last count was one =
     plus : (a b : ℕ) → a + b + 1 ≡ a + suc b
     plus a b = omega arith
 
--- ---- where a loop begins and how it goes on
+-- ---- how a loop begins and goes on
 
 one_more : (k : ℕ) → suc k ≡ k + 1
 one_more k = omega arith

@@ -135,7 +135,7 @@ taken_both a (Take from x ∷ newer) older =
     ∙ (plus_if (actor_eq from a) (length (taken_from a (newer ++ older))) (length (taken_from a newer)) (length (taken_from a older)) (taken_both a newer older)
     ∙ ap (λ k. k + length (taken_from a older)) (sym (length_if (actor_eq from a) (taken_from a newer) x)))
 
--- as many posts to each replica as takes from it leave no round open where none was
+-- equal numbers of posts and takes for each replica leave no round open if none was open before
 pub between_on : (script : Script) (counts : ℕ → ℕ) (old new : Pass) → FollowsScript script old new counts counts → IsBetweenRounds old → IsBetweenRounds new
 between_on script counts old new follows was q inside =
     let low : q < old.shape.n = subst (λ (s : Shape). q < s.n) follows.shape inside in
@@ -302,7 +302,7 @@ before_takes : (script : Script) (t n : ℕ) (a b c d : Pass) → KeepsCounts a 
 before_takes script t n a b c d kept posts answers first follows =
     answers.keeps first (count_at t 0) (posts first (count_at t 0) (kept.keeps script first (count_at t 0) (count_at t 0) follows))
 
--- so many replicas there are by the shape of the seat that posts to them, as by that of the mail
+-- the mail's shape and the seat's shape have the same number of replicas
 same_count : (script : Script) (t n k : ℕ) (b c : Pass) → k ≡ n → PostsDrafts script t k b c → PostsDrafts script t n b c
 same_count script t n k b c is posts = subst (λ i. PostsDrafts script t i b c) is posts
 

@@ -39,7 +39,7 @@ turns_pass may old new now next same (inr is) first was =
       last = after_last now was.last;
     }))
 
--- an entry was made in this turn
+-- a host makes an entry in this turn
 entry_turn : (may : Actor → ℕ → Type 0) (old new : Pass) (now : ℕ) (entry : Entry) → new ≡ with_entry old entry → may old.actor now
     → KeepsTurns may old new now (turn_after now)
 entry_turn may old new now entry e passed first was = subst (λ (s : Pass). IsInTurns may first s (turn_after now)) (sym e) (record {

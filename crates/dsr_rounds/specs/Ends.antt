@@ -14,7 +14,7 @@ use Rattle.dsr_rounds.specs.declared.end.End.TheVariants.{Told, Fault}
 abbrev pub turn_after : ℕ → ℕ
 turn_after turn = if nat_lt turn (2 ^ 40 - 1) then suc turn else turn
 
--- what ends a host before a try: it was told to stop, which happens in a service alone; or the gate refused it, which this gate may do
+-- what ends a host before a try: its service told it to stop; or the gate refused it, which this gate may do
 abbrev pub IsPassEnd : (Actor → Type 0) → Bool → Actor → End → Type 0
 IsPassEnd may serves actor Told = serves ≡ true
 IsPassEnd may serves actor (Fault refusal) = (refusal ≡ Stopped) × may actor
@@ -41,17 +41,17 @@ HostRefusal may seat ReadFailed = ⊥
 HostRefusal may seat WriteFailed = ⊥
 HostRefusal may seat NoThread = ⊥
 
--- why a host ends: it was told to stop, in a service, or it was refused
+-- why a host ends: its service told it to stop, or a refusal ended it
 abbrev pub HostEnd : (Actor → Type 0) → Bool → Pass → End → Type 0
 HostEnd may serves seat Told = serves ≡ true
 HostEnd may serves seat (Fault refusal) = HostRefusal may seat refusal
 
--- the outcome of a try: true, it was made, with such an entry; false, the box was in the way, and nothing changed
+-- the outcome of a try: true, it added such an entry; false, the box was in the way, and nothing changed
 abbrev pub HasTried : (Envelope → Entry) → Pass → Pass → Bool → Type 0
 HasTried entry old new true = (x : Envelope) × (new ≡ with_entry old (entry x))
 HasTried entry old new false = new ≡ old
 
--- the outcome of a try, from what the seat returned: it was made, or the box was in the way, or it was refused with what ends the host
+-- the outcome of a try, from what the seat returned: success, or a box in the way, or a refusal that ends the host
 abbrev pub IsTried : Result (Unit {0}) Refusal → Result Bool End → Type 0
 IsTried tried (Ok true) = tried ≡ Ok tt
 IsTried tried (Ok false) = (tried ≡ Err BoxFull) ⊎ (tried ≡ Err BoxEmpty)

@@ -7,7 +7,7 @@ use Rattle.dsr_boxes.specs.Pass.{Pass}
 use Rattle.dsr_mail.specs.Refusals.{plant_refused}
 use Rattle.dsr_calls.specs.Limits.{IsExhausted}
 
--- the traitor's box to some actor has had all its posts, and the traitor's own log refuses any post there
+-- the traitor's box to some actor has no posts left: the traitor's own log refuses any post there
 pub record IsSpent (seat : Pass) : Type 0 where
   pub to : Actor
   pub past : plant_refused seat.shape seat.log to ≡ Some Exhausted

@@ -59,7 +59,7 @@ pub record KeepsRound (later earlier : Pass) : Type 0 where
   pub due : due later.shape later.log ≡ due earlier.shape earlier.log
   pub rounds : rounds later.shape later.log ≡ rounds earlier.shape earlier.log
 
--- the next post of the round is to replica q; or all posts are made, and q is n
+-- the next post of the round is to replica q; or the round has no post left, and q is n
 abbrev pub IsAtPost : ℕ → ℕ → Due → Type 0
 IsAtPost n q (PostTo to) = (to ≡ q) × (q < n)
 IsAtPost n q (TakeFrom from) = q ≡ n
@@ -69,7 +69,7 @@ abbrev pub IsTaking : Due → Type 0
 IsTaking (PostTo to) = ⊥
 IsTaking (TakeFrom from) = Unit {0}
 
--- the next take is from replica p, with this many rounds closed; or all takes of the round are made, p is n, and one more round is closed
+-- the next take is from replica p, with this many rounds closed; or the round has no take left, p is n, and one more round is closed
 abbrev pub IsAtTake : Pass → ℕ → ℕ → ℕ → Type 0
 IsAtTake seat n p closed =
     ((p < n) × (due seat.shape seat.log ≡ TakeFrom p) × (rounds seat.shape seat.log ≡ closed))

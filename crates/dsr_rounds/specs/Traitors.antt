@@ -15,28 +15,28 @@ use Rattle.dsr_calls.specs.Calls.{GoesOn, number_of}
 use Rattle.dsr_rounds.specs.declared.traitor.Planting.{Planting}
 use Rattle.dsr_rounds.specs.declared.traitor.Planting.TheVariants.{Made, Forged, Full}
 
--- the script has no draft there, or one that would be forged
+-- the script has no draft there, or its draft would be forged
 abbrev pub IsNoDraft : Script → Shape → Actor → List Entry → ℕ → ℕ → Type 0
 IsNoDraft script shape me log round q =
     (draft_at script (place_of (number_of me) round (Replica q)) ≡ None)
     ⊎ ((draft : Envelope) × (draft_at script (place_of (number_of me) round (Replica q)) ≡ Some draft) × ¬ ForgesNone shape me log draft)
 
--- what the script has the traitor post to a replica in a round, where it has this log: the draft, or the empty envelope where there is no draft or
--- it would be forged
+-- what the script has the traitor post to a replica in a round, given the traitor's log: the draft, or the empty envelope if the script has no draft
+-- there or the draft would be forged
 abbrev pub IsPlanned : Script → Shape → Actor → List Entry → ℕ → ℕ → Envelope → Type 0
 IsPlanned script shape me log round q envelope =
     ((draft_at script (place_of (number_of me) round (Replica q)) ≡ Some envelope) × ForgesNone shape me log envelope)
     ⊎ ((envelope ≡ Empty) × IsNoDraft script shape me log round q)
 
--- what the script has the traitor post to a client, where it has this log and has added this to an older one: the draft of the round whose posts to all
--- replicas were the last to be made, which would not be forged
+-- what the script has the traitor post to a client, given the traitor's log and the entries that it added to an older log: the draft of the round in
+-- which each replica got its last post; this draft would not be forged
 abbrev pub IsPlannedForClient : Script → Shape → Actor → List Entry → List Entry → ℕ → Envelope → Type 0
 IsPlannedForClient script shape me log added c envelope = (round : ℕ)
     × ((q : ℕ) → q < shape.n → length (posted_to (Replica q) added) ≡ suc round)
     × (draft_at script (place_of (number_of me) round (Client c)) ≡ Some envelope) × ForgesNone shape me log envelope
 
--- each post among what was added to a log is the script's: the t-th to a replica, counted from 0, is that of round t; one to a client is that of the
--- round whose posts to all replicas were the last to be made
+-- each post among the entries added to a log is the script's: the t-th to a replica, counted from 0, is that of round t; one to a client is that of
+-- the round in which each replica got its last post
 abbrev pub ArePlanned : Script → Shape → Actor → List Entry → List Entry → Type 0
 ArePlanned script shape me base [] = Unit {0}
 ArePlanned script shape me base (Post (Replica q) envelope ∷ added) =
@@ -45,8 +45,8 @@ ArePlanned script shape me base (Post (Client c) envelope ∷ added) =
     ArePlanned script shape me base added × IsPlannedForClient script shape me (added ++ base) added c envelope
 ArePlanned script shape me base (Take from envelope ∷ added) = ArePlanned script shape me base added
 
--- the later seat is that of the same actor at the same mail; its log extends the earlier one, by posts to replicas and takes from them, as many as
--- these say of each, and all posts are the script's
+-- the later seat belongs to the same actor at the same mail, and its log extends the earlier one: by `posts q` posts to each replica q and `takes p`
+-- takes from each replica p; and all posts are the script's
 pub record FollowsScript (script : Script) (earlier later : Pass) (posts takes : ℕ → ℕ) : Type 0 where
   pub id : later.id ≡ earlier.id
   pub shape : later.shape ≡ earlier.shape
@@ -69,7 +69,7 @@ IsBetweenRounds seat = (q : ℕ) → q < seat.shape.n → length (taken_from (Re
 abbrev pub Follows : Script → Pass → Pass → Type 0
 Follows script earlier later = (posts : ℕ → ℕ) × (takes : ℕ → ℕ) × FollowsScript script earlier later posts takes
 
--- how many posts or takes replica q has had, when in round t those to the replicas below p were made
+-- the number of posts to replica q, or of takes from it, once round t has those of the replicas below p
 abbrev pub count_at : ℕ → ℕ → ℕ → ℕ
 count_at t p q = if nat_lt q p then suc t else t
 
@@ -84,29 +84,30 @@ abbrev pub IsPlanting : Pass → Pass → ℕ → Envelope → Bool → Type 0
 IsPlanting old new to draft true = (new ≡ with_entry old (Post (Replica to) draft)) × ForgesNone old.shape old.actor old.log draft
 IsPlanting old new to draft false = (new ≡ old) × ¬ ForgesNone old.shape old.actor old.log draft
 
--- what came of the round's draft for a replica: it was posted, and forges none; or there is none, or it would be forged, and nothing changed
+-- the outcome for the round's draft for a replica: true, the log has its post, and the draft forges nothing; false, the script has no draft there or
+-- the draft would be forged, and nothing changed
 abbrev pub IsScripted : Script → ℕ → Pass → Pass → ℕ → Bool → Type 0
 IsScripted script round old new to true = (draft : Envelope) × (draft_at script (place_of (number_of old.actor) round (Replica to)) ≡ Some draft)
     × (new ≡ with_entry old (Post (Replica to) draft)) × ForgesNone old.shape old.actor old.log draft
 IsScripted script round old new to false = (new ≡ old) × IsNoDraft script old.shape old.actor old.log round to
 
--- nothing was done with replicas: the later seat follows each script as far as the earlier did
+-- the traitor did nothing with replicas: the later seat follows each script as far as the earlier did
 pub record KeepsCounts (earlier later : Pass) : Type 0 where
   pub goes_on : GoesOn later earlier
   pub keeps : (script : Script) (first : Pass) (posts takes : ℕ → ℕ) → FollowsScript script first earlier posts takes
       → FollowsScript script first later posts takes
 
--- nothing but posts to clients was done: where all n posts of round t to replicas were made, the later seat follows the script as far as the earlier
+-- the traitor only posted to clients: if round t has all its n posts to replicas, the later seat follows the script as far as the earlier
 pub record PostsToClients (script : Script) (t n : ℕ) (earlier later : Pass) : Type 0 where
   pub goes_on : GoesOn later earlier
   pub keeps : (first : Pass) (takes : ℕ → ℕ) → FollowsScript script first earlier (count_at t n) takes
       → FollowsScript script first later (count_at t n) takes
 
--- where the earlier seat follows the script, with so many posts and takes, the later one follows it too
+-- if the earlier seat follows the script with these numbers of posts and takes, the later one follows it too
 abbrev pub StillFollows : Script → (ℕ → ℕ) → (ℕ → ℕ) → Pass → Pass → Type 0
 StillFollows script posts takes earlier later = (first : Pass) → FollowsScript script first earlier posts takes → Follows script first later
 
--- the same of takes in round t alone, whatever the script and the posts
+-- the same for takes in round t alone, whatever the script and the posts
 abbrev pub StillTakes : ℕ → Pass → Pass → Type 0
 StillTakes t earlier later = (script : Script) (posts : ℕ → ℕ) → StillFollows script posts (count_at t 0) earlier later
 

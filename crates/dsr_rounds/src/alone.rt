@@ -1,4 +1,4 @@
-//! Hosts on their own, as a user's service runs them.
+//! Runs one host on its own, for a service that a user writes.
 
 ghost use Rattle.std.specs.Prelude.{IfErr, OnOk};
 ghost use Rattle.dsr_boxes.specs.Pass.{IsPassOf};
@@ -19,15 +19,18 @@ use dsr_script::Script;
 use std::alloc::Global;
 use std::sync::Wait;
 
-/// Has a loyal replica make so many rounds, and waits for the others. In each round it takes once from each client, posts to all replicas, takes
-/// from all, and posts once to each client that is owed its reply. A round that was begun before is the first.
+/// Makes `rounds` rounds of a loyal replica, and waits for the other actors. In each round the replica tries once to take from each client, posts to
+/// all replicas, takes from all replicas, and tries once to post to each client to which it owes a reply. If a round is begun already, it is the first
+/// of them.
 ///
-/// With `Ok` exactly so many more rounds are closed. However it ends, each client to which it posted was owed that reply: it was not answered since
-/// something of it was taken, and the request held of it is the one that the reply is for; and each slot of its own it began with the requests that
-/// were next: those held of the first 8 clients that wait, in turn after the client that it proposed last. Each post and each take that it made was
-/// made in a turn that the gate may let pass, a later one in a later turn (the last is 2^40-1, in which several may be made). `Exhausted` where its
-/// next post is past a limit, `Stopped` where the gate answered false, `NoMemory` where memory ran out: what was done until then stands, and the host
-/// can be run again. Requires a seat of this mail.
+/// Returns `Ok` once exactly `rounds` more rounds are closed. However the call ends, the replica posts to a client only a reply that it owes: it has
+/// not answered the client since the last take from it, and the client's pending request is the one that the reply is for. The replica begins each of
+/// its own slots with the requests that are next: the pending requests of the first 8 waiting clients, in turn after the client that it proposed last.
+/// The gate may let pass the turn of each post and each take, and each has a later turn than the one before it; only the last turn, 2^40-1, may have
+/// several.
+///
+/// `Exhausted` if the replica's next post is past a limit, `Stopped` if the gate answers false, `NoMemory` if memory runs out. What the replica did
+/// before an error stays in the seat's log, and a later call can go on from there. Requires a seat of this mail.
 pub fn run_replica<R: Wait, G: Gate>(
     rt: &R,
     alloc: Global,
@@ -59,19 +62,21 @@ pub fn run_replica<R: Wait, G: Gate>(
     }
 }
 
-/// Has a traitor make so many rounds by the script, the first of which is its round 0, and waits for the others. In each round it takes once from
-/// each client; posts to all replicas the draft of the round, or the empty envelope where there is none or it would be forged; posts once to each
-/// client for which there is a draft that would not be; and takes from all replicas.
+/// Makes `rounds` rounds of a traitor by the script, from its round 0 on, and waits for the other actors. In each round the traitor tries once to take
+/// from each client; posts the round's draft to each replica, or the empty envelope if the script has no draft there or the draft would be forged;
+/// tries once to post to each client for which the script has a draft that would not be forged; and takes from all replicas.
 ///
-/// With `Ok` it posted to each replica exactly so many times, what the script says, and took from each so many times. However it ends, it posted
-/// nothing that the script does not say: to a replica the draft of the round, or the empty envelope; to a client the draft of the round, once all
-/// its posts to replicas were made. Each post and each take that it made was made in a turn that the gate may let pass, a later one in a later turn
-/// (the last is 2^40-1, in which several may be made). `Exhausted` where a box has had all its posts, `Stopped` where the gate answered false,
-/// `NoMemory` where memory ran out: what was done until then stands. Requires a seat of this mail.
+/// Returns `Ok` once the traitor has posted to each replica exactly `rounds` times, each time what the script says, and has taken from each replica
+/// `rounds` times. However the call ends, the traitor posts only what the script says: to a replica the round's draft or the empty envelope; to a
+/// client the round's draft, after the round's posts to all replicas. The gate may let pass the turn of each post and each take, and each has a later
+/// turn than the one before it; only the last turn, 2^40-1, may have several.
 ///
-/// After such an end a round may be open at the seat, which is then not to be given to another call: that would begin a round, and could wait for itself
-/// for ever, since what it had posted to itself lies in its box, and it takes that only after its posts. With `Ok` no round is open, if none was before,
-/// as at a new seat.
+/// `Exhausted` if a box has no posts left, `Stopped` if the gate answers false, `NoMemory` if memory runs out. What the traitor did before an error
+/// stays in the seat's log. Requires a seat of this mail.
+///
+/// After an error a round may be open at the seat. Do not give such a seat to another call: the call would begin a new round and might wait for ever,
+/// because an envelope that the traitor posted to itself may fill its box, and it takes that envelope only after its posts. With `Ok` no round is open
+/// if none was open before; at a new seat none is.
 pub fn run_traitor<R: Wait, G: Gate>(
     rt: &R,
     alloc: Global,

@@ -3,8 +3,8 @@ use dsr_names::Refusal;
 /// Why a host ended before its work was done.
 #[derive(Clone, Copy, Debug, PartialEq, Eq)]
 pub enum End {
-    /// It was told to stop.
+    /// The service told its hosts to stop.
     Told,
-    /// It was refused something: by its gate, by a limit of its log, or because memory ran out.
+    /// Something refused it: its gate, a limit of its log, or memory that ran out.
     Fault(Refusal),
 }

@@ -12,7 +12,7 @@ use dsr_names::{Actor, Refusal};
 use std::alloc::Global;
 use std::sync::Wait;
 
-/// What a host works with beside its seat: the runtime, memory, the mail, the gate that it asks, and whether it was told to stop.
+/// What a host works with besides its seat: the runtime, the allocator, the mail, the gate that it asks, and what tells it to stop.
 #[derive(Drop)]
 pub struct Host<'a, R, G> {
     /// The runtime, in which it waits.
@@ -23,13 +23,13 @@ pub struct Host<'a, R, G> {
     pub mail: &'a Mail,
     /// What lets it go on.
     pub gate: &'a G,
-    /// Whether it was told to stop.
+    /// What tells it to stop.
     pub stop: &'a Stop,
 }
 
 impl<'a, R: Wait, G: Gate> Host<'a, R, G> {
-    /// Asks whether the actor goes on with its next turn: not where it was told to stop, nor where the gate refuses it. With `Ok` the gate may let
-    /// this turn pass, and it is counted; else it is counted or not.
+    /// Asks whether the actor goes on with its next turn. With `Ok` the gate may let this turn pass, and the turn is counted. `Told` if the
+    /// service told its hosts to stop, `Stopped` if the gate answers false; then the turn may be counted or not.
     pub fn pass(&self, actor: Actor, turn: &mut Turn) -> Result<(), End>
         ensures passed { OnOk result (G.may_pass self.now.gate.now actor turn.old.number) }
         ensures next { OnOk result (turn.new.number ≡ turn_after turn.old.number) }
@@ -46,7 +46,7 @@ impl<'a, R: Wait, G: Gate> Host<'a, R, G> {
     }
 }
 
-/// Whether the try succeeded: not where the box was full or empty, after which it can be made again. Any other refusal ends the host.
+/// Returns whether the try succeeded: false if the box was full or empty, after which the host can try again. Any other refusal ends the host.
 pub(crate) fn was_made(tried: Result<(), Refusal>) -> Result<bool, End>
     ensures { IsTried tried result }
 {

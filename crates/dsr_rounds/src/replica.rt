@@ -38,9 +38,10 @@ const BUSY_YIELDS: u32 = 4;
 const IDLE_LOOKS: u32 = 64;
 
 impl<'a, R: Wait, G: Gate> Host<'a, R, G> {
-    /// Makes `rounds` rounds of the replica: in each it takes once from each client, posts to all replicas, takes from all replicas, and posts once
-    /// to each client to which it owes a reply. If a round is begun already, it is the first of them. `Err` if the host is told to stop or refused
-    /// before that; what it did until then stays in the seat's log. Requires a seat of the host's mail.
+    /// Makes `rounds` rounds of the replica. In each it tries once to take from each client, posts to all replicas, takes from all replicas, and
+    /// tries once to post to each client to which it owes a reply. If a round is begun already, it is the first of them. `Told` if the service tells
+    /// its hosts to stop before that, `Fault` if a refusal ends the host; what the replica did until then stays in the seat's log. Requires a seat of
+    /// the host's mail.
     pub fn run_replica(&self, seat: &mut ReplicaSeat, rounds: u64) -> Result<(), End>
         requires mail { IsPassOf self.now.mail.now seat.old }
         ensures closed { OnOk result (HasClosed seat.old seat.new rounds) }
@@ -104,7 +105,7 @@ impl<'a, R: Wait, G: Gate> Host<'a, R, G> {
         }
     }
 
-    /// Takes once from each client.
+    /// Tries once to take from each client.
     fn take_from_clients(&self, seat: &mut ReplicaSeat, turn: &mut Turn) -> Result<(), End>
         requires mail { IsPassOf self.now.mail.now seat.old }
         ensures kept { KeepsRound seat.new seat.old }
@@ -117,7 +118,7 @@ impl<'a, R: Wait, G: Gate> Host<'a, R, G> {
         Ok(())
     }
 
-    /// Takes once from a client.
+    /// Tries once to take from a client.
     fn take_from_client(
         &self,
         seat: &mut ReplicaSeat,
@@ -175,7 +176,7 @@ impl<'a, R: Wait, G: Gate> Host<'a, R, G> {
         self.post_to(seat, turn, to, &pick)
     }
 
-    /// Posts to the replica `to` by the choice `pick`, as soon as the box is empty. Requires that the choice gives a post there.
+    /// Posts to the replica `to` by the choice `pick` once the box is empty. Requires that the choice gives a post there.
     fn post_to(
         &self,
         seat: &mut ReplicaSeat,
@@ -218,7 +219,7 @@ impl<'a, R: Wait, G: Gate> Host<'a, R, G> {
         Ok(())
     }
 
-    /// Takes from the replica `from`, as soon as the box is full. Requires that the take is due.
+    /// Takes from the replica `from` once the box is full. Requires that the take is due.
     fn take_from(&self, seat: &mut ReplicaSeat, turn: &mut Turn, from: ReplicaId) -> Result<(), End>
         requires mail { IsPassOf self.now.mail.now seat.old }
         requires inside { from < seat.old.shape.n }
@@ -252,7 +253,7 @@ impl<'a, R: Wait, G: Gate> Host<'a, R, G> {
         Ok(())
     }
 
-    /// Tries once to post to a client, if it owes it a reply. If the box is full, it tries again after the next round.
+    /// Tries once to post to a client if the replica owes it a reply. If the box is full, the replica tries again after the next round.
     fn answer_client(
         &self,
         seat: &mut ReplicaSeat,
@@ -335,7 +336,7 @@ fn choice(seat: &ReplicaSeat, ring: &Ring, to: ReplicaId) -> Pick
     Pick::Plain
 }
 
-/// Returns the number of the replica to which the next post of the round is due, or the number of replicas if all posts are made.
+/// Returns the number of the replica to which the next post of the round is due, or the number of replicas if the round has no post left.
 fn next_post(seat: &ReplicaSeat, shape: &Shape) -> u8
     requires { shape.now ≡ seat.now.shape }
     ensures { IsAtPost seat.now.shape.n result (due seat.now.shape seat.now.log) }

@@ -64,8 +64,9 @@ impl Ring {
         true
     }
 
-    /// Returns the choice for the post to replica 0, which must be due: the first 8 clients in the ring whose pending requests would act, if there
-    /// are any and the slot is the replica's own; else nothing in particular. The ring begins after the client that was proposed last.
+    /// Returns the choice for the post to replica 0, which must be due. The choice names the first 8 clients in the ring whose pending requests would
+    /// act; it is `Plain` if no pending request would act or the replica may not propose these now, for example in another replica's slot. The ring
+    /// begins after the client that was proposed last.
     pub(crate) fn proposal(&self, seat: &ReplicaSeat) -> Pick
         requires due { due seat.now.shape seat.now.log ≡ PostTo 0 }
         requires ring { self.now ≡ seat.now.shape.m }
@@ -100,7 +101,7 @@ impl Ring {
         waiting
     }
 
-    /// Returns the number of the client with which the ring begins: the one after the client that was picked last, at first client 0.
+    /// Returns the number of the first client of the ring: the one after the client that was picked last, or client 0 if none was picked yet.
     fn first(&self, seat: &ReplicaSeat) -> u8
         ensures first { result ≡ first_in_turn self.now (last_proposed seat.now.shape seat.now.log) }
         ensures inside { result < self.now }
@@ -166,7 +167,7 @@ impl Waiting {
         }
     }
 
-    /// Returns the clients, if there are any and all are different.
+    /// Returns the clients, or `None` if the list is empty or names a client twice.
     fn clients(&self) -> Option<Clients>
         ensures some { IfSome result (λ list. list ≡ self.now) }
         ensures when { IsSome result ↔ IsClients self.now }
@@ -201,7 +202,7 @@ fn acts(seat: &ReplicaSeat, client: ClientId) -> bool
     }
 }
 
-/// Returns the number of the client's last request that acted, if one did.
+/// Returns the number of the client's last request that acted, or `None` if none acted yet.
 fn replied_number(seat: &ReplicaSeat, client: ClientId) -> Option<u64>
     ensures last { result ≡ option_map (λ (r : AReply). r.number) (reply (decided_requests seat.now.shape seat.now.log) client) }
     ensures some { IsSome result → IsSome (reply_to seat.now.shape seat.now.log client) }

@@ -34,10 +34,11 @@ pub(crate) enum Planting {
 }
 
 impl<'a, R: Wait, G: Gate> Host<'a, R, G> {
-    /// Has the traitor make so many rounds by the script, the first of which is its round 0: in each it takes once from each client, posts to all
-    /// replicas the drafts of the round, or the empty envelope where there is none or it would be forged, posts once to each client for which
-    /// there is a draft that would not be, and takes from all replicas. After an `Err` a round may be open at the seat, which is then not to be given to
-    /// another call: what it had posted to itself may lie in its box, and it takes that only after its posts, so it could wait for itself for ever.
+    /// Makes `rounds` rounds of the traitor by the script, from its round 0 on. In each round the traitor tries once to take from each client; posts the
+    /// round's draft to each replica, or the empty envelope if the script has no draft there or the draft would be forged; tries once to post to each
+    /// client for which the script has a draft that would not be forged; and takes from all replicas. After an `Err` a round may be open at the seat. Do
+    /// not give such a seat to another call: it might wait for ever, because an envelope that the traitor posted to itself may fill its box, and it
+    /// takes that envelope only after its posts.
     pub fn run_traitor(
         &self,
         seat: &mut TraitorSeat,
@@ -59,7 +60,7 @@ impl<'a, R: Wait, G: Gate> Host<'a, R, G> {
         Ok(())
     }
 
-    /// One round by the script.
+    /// Makes one round by the script.
     fn make_scripted_round(
         &self,
         seat: &mut TraitorSeat,
@@ -80,7 +81,7 @@ impl<'a, R: Wait, G: Gate> Host<'a, R, G> {
         self.take_from_each(seat, turn, round)
     }
 
-    /// Takes once from each client.
+    /// Tries once to take from each client.
     fn take_from_each_client(&self, seat: &mut TraitorSeat, turn: &mut Turn) -> Result<(), End>
         requires mail { IsPassOf self.now.mail.now seat.old }
         ensures tried { OnOk result (TriesTakes (G.may_pass self.now.gate.now) self.now.mail.now.shape.m seat.old seat.new turn.old.number turn.new.number) }
@@ -94,7 +95,7 @@ impl<'a, R: Wait, G: Gate> Host<'a, R, G> {
         Ok(())
     }
 
-    /// Takes once from a client.
+    /// Tries once to take from a client.
     fn take_once(
         &self,
         seat: &mut TraitorSeat,
@@ -133,7 +134,8 @@ impl<'a, R: Wait, G: Gate> Host<'a, R, G> {
         Ok(())
     }
 
-    /// Posts the draft of the round to a replica, or the empty envelope where there is none or it would be forged, as soon as the box is empty.
+    /// Posts the round's draft to a replica once the box is empty. Posts the empty envelope instead if the script has no draft there or the draft would
+    /// be forged.
     fn post_planned(
         &self,
         seat: &mut TraitorSeat,
@@ -156,7 +158,8 @@ impl<'a, R: Wait, G: Gate> Host<'a, R, G> {
         self.post_empty(seat, turn, to)
     }
 
-    /// Posts the draft of the round to a replica, as soon as the box is empty. Says whether it did: not where there is none or it would be forged.
+    /// Posts the round's draft to a replica once the box is empty. Returns whether it did: false if the script has no draft there or the draft would be
+    /// forged.
     fn post_scripted(
         &self,
         seat: &mut TraitorSeat,
@@ -178,7 +181,7 @@ impl<'a, R: Wait, G: Gate> Host<'a, R, G> {
         }
     }
 
-    /// Posts the empty envelope to a replica, as soon as the box is empty.
+    /// Posts the empty envelope to a replica once the box is empty.
     fn post_empty(&self, seat: &mut TraitorSeat, turn: &mut Turn, to: ReplicaId) -> Result<(), End>
         requires mail { IsPassOf self.now.mail.now seat.old }
         requires inside { to < seat.old.shape.n }
@@ -194,7 +197,7 @@ impl<'a, R: Wait, G: Gate> Host<'a, R, G> {
         }
     }
 
-    /// Posts what the draft describes to a replica, as soon as the box is empty. Says whether it did: not where it would be forged.
+    /// Posts what the draft describes to a replica once the box is empty. Returns whether it did: false if the draft would be forged.
     fn post_draft(
         &self,
         seat: &mut TraitorSeat,
@@ -220,7 +223,7 @@ impl<'a, R: Wait, G: Gate> Host<'a, R, G> {
         unreachable!()
     }
 
-    /// Posts once to each client for which there is a draft of the round that would not be forged.
+    /// Tries once to post to each client for which the script has a draft of the round that would not be forged.
     fn post_drafts_to_clients(
         &self,
         seat: &mut TraitorSeat,
@@ -240,7 +243,7 @@ impl<'a, R: Wait, G: Gate> Host<'a, R, G> {
         Ok(())
     }
 
-    /// Posts the draft of the round to a client once, if there is one and it would not be forged.
+    /// Tries once to post the round's draft to a client. Posts nothing if the script has no draft for it or the draft would be forged.
     fn post_once(
         &self,
         seat: &mut TraitorSeat,
@@ -278,7 +281,7 @@ impl<'a, R: Wait, G: Gate> Host<'a, R, G> {
         Ok(())
     }
 
-    /// Takes from a replica, as soon as there is something in the box.
+    /// Takes from a replica once its box is full.
     fn take_sent(&self, seat: &mut TraitorSeat, turn: &mut Turn, from: ReplicaId) -> Result<(), End>
         requires mail { IsPassOf self.now.mail.now seat.old }
         requires inside { from < seat.old.shape.n }
