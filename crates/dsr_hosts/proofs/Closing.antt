@@ -169,7 +169,7 @@ all_planned mail script seats logs are planned same own p traitor =
     (subst (λ a. ArePlanned script seat.shape a [] (logs_of logs (Replica p))) found.2
     (subst (ArePlanned script seat.shape seat.actor []) log posted))
 
--- if there are no entries, nothing was posted
+-- empty logs have no posts
 pub none_owed : (logs : Logs) → ((a : Actor) → logs_of logs a ≡ []) → AreAllOwed logs
 none_owed logs none p loyal = subst (AreOwed logs.shape []) (sym (none (Replica p))) tt
 

@@ -1,4 +1,4 @@
--- How a client's operations are made one after another.
+-- How a client makes its operations, one after another.
 use Rattle.std.proofs.Common.{◌≡◌, ℕ, suc, ◌+◌, ◌<◌, ◌++◌, List, [], ◌∷◌, get_or, take, length, inl, inr, refl, sym, subst, ap, ◌∙◌, arith}
 use Rattle.std.specs.Prelude.{Result, Ok, Err, OnErr, reverse}
 use Rattle.std.proofs.lemmas.List.{append_assoc, length-reverse, length-take-le, reverse-append, take_more}

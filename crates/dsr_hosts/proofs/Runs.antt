@@ -139,7 +139,7 @@ room_on all others ran after first second third = record {
   clients = third.clients ∙ (second.clients ∙ first.clients);
 }
 
--- where something is in three lists
+-- something in one of three lists is in all of them joined
 in_first : (x : Pass) (a b c : List Pass) → In x a → In x (a ++ (b ++ c))
 in_first x a b c h = In-append_left x a (b ++ c) h
 
@@ -168,7 +168,7 @@ in_same xs ys is x h = subst (In x) (sym is) h
 in_last : (xs ys : List Pass) (last : Pass) → ys ≡ xs ++ last ∷ [] → In last ys
 in_last xs ys last is = subst (In last) (sym is) (In-append_right last xs (last ∷ []) (here refl))
 
--- what comes back from all hosts, if it came from all but one and from that one
+-- if all hosts but one have run, and then that one, all have run
 pub come_on : (may : Actor → Type 0) (mail : SharedBoxes) (script : Script) (all others : Seats) (ran after : Ran)
     (seat again : AnySeat) (end : Option End)
     → HasLast all seat others → SameRoom all others → HaveRun may mail script others ran → IsBack mail seat again → IsEnding may script again end

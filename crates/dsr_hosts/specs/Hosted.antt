@@ -20,7 +20,7 @@ use Rattle.dsr_hosts.specs.Served.{HasAll}
 abbrev pub IsServed : Script → Pass → Type 0
 IsServed script seat = HasAll seat.shape (number_of seat.actor) seat.log (ops_of script (number_of seat.actor))
 
--- why a host's work at a client's seat ended: it was told to stop, or it was refused
+-- why a host's work at a client's seat ended: its service told it to stop, or something refused it
 abbrev pub ClientEnd : (Actor → Type 0) → Pass → End → Type 0
 ClientEnd may seat Told = Unit {0}
 ClientEnd may seat (Fault refusal) = ClientRefusal may seat refusal
@@ -31,13 +31,14 @@ IsDone script (Loyal seat) = Unit {0}
 IsDone script (Traitor seat) = Unit {0}
 IsDone script (OfClient seat) = IsServed script seat
 
--- a client whose host was told to stop is not served
+-- a client is not served if its service told its host to stop
 abbrev pub IsLeft : Script → AnySeat → Type 0
 IsLeft script (Loyal seat) = Unit {0}
 IsLeft script (Traitor seat) = Unit {0}
 IsLeft script (OfClient seat) = IsUnserved script seat
 
--- how the host of a seat ended: its work was done, or it was told to stop, or it was refused
+-- how the host of a seat ended: it did its work, or its service told it to stop, or something
+-- refused it
 abbrev pub IsEnding : (Actor → Type 0) → Script → AnySeat → Option End → Type 0
 IsEnding may script seat None = IsDone script seat
 IsEnding may script seat (Some Told) = IsLeft script seat

@@ -4,8 +4,8 @@ use Rattle.dsr_rounds.specs.declared.end.End.{End}
 use Rattle.dsr_rounds.specs.declared.end.End.TheVariants.{Told, Fault}
 use Rattle.dsr_rounds.specs.declared.stop.Told.{Told as WasTold}
 
--- a host that was refused told the others to stop, whatever its seat; a host that was told to stop did not, nor did a replica's or traitor's
--- host whose work was done
+-- a host that a refusal ended told the others to stop, whatever its seat; a host that its service told to stop did not, nor did a replica's
+-- or traitor's host that did its work
 abbrev pub HasTold : Bool → Option End → Option WasTold → Type 0
 HasTold is_client (Some (Fault refusal)) told = IsSome told
 HasTold is_client (Some Told) told = told ≡ None

@@ -10,18 +10,18 @@ use Rattle.dsr_rounds.specs.declared.end.End.TheVariants.{Told, Fault}
 use Rattle.dsr_hosts.specs.declared.ends.Ends.{Ends}
 use Rattle.dsr_hosts.specs.declared.ends.Fault.{Fault as AFault}
 
--- the fault of the lesser rank; if the ranks are equal, the first
+-- the lower-ranked fault; of equal ranks, the first
 abbrev pub lesser_of : Option AFault → AFault → AFault
 lesser_of None other = other
 lesser_of (Some fault) other = if nat_le fault.rank other.rank then fault else other
 
--- the fault of the least rank when the end of one more host is added; `rank` is the rank of its fault, if it has one
+-- the lowest-ranked fault, given the lowest so far and the end of one more host; a fault of that host has rank `rank`
 abbrev pub first_with : Option AFault → ℕ → Option End → Option AFault
 first_with first rank None = first
 first_with first rank (Some Told) = first
 first_with first rank (Some (Fault refusal)) = Some (lesser_of first (record { rank = rank; refusal = refusal }))
 
--- how hosts ended, with the end of one more: the fault of the least rank counts, and all clients are served if each client's host did its work
+-- how hosts ended, with the end of one more: the lowest-ranked fault counts, and all clients are served if each client's host did its work
 abbrev pub ends_with : Ends → ℕ → Bool → Option End → Ends
 ends_with ends rank is_client end = record {
   first = first_with ends.first rank end;
@@ -36,7 +36,7 @@ IsRank shape actor (Some Told) rank = rank ≡ suc (place_of shape actor)
 IsRank shape actor (Some (Fault refusal)) rank =
     ((refusal ≡ NoThread) × (rank ≡ 0)) ⊎ ((refusal ≢ NoThread) × (rank ≡ suc (place_of shape actor)))
 
--- the cause of a service's end, if it has one: the fault of the least rank; if there is no fault, that a client was not served
+-- the cause of a service's end: the lowest-ranked fault; without a fault, `Unanswered` if a client is not served, else nothing
 abbrev pub cause_of : Option AFault → Bool → Option Refusal
 cause_of (Some fault) served = Some fault.refusal
 cause_of None true = None

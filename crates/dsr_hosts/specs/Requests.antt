@@ -9,7 +9,7 @@ use Rattle.dsr_boxes.specs.Pass.{Pass}
 use Rattle.dsr_calls.specs.Calls.{number_of, IsAwaited, IsAnswered}
 use Rattle.dsr_calls.specs.Calls.{GoesOn}
 
--- the client's next request, by its log, if it is for this operation
+-- the client's request for this operation, under the next number by its log
 abbrev pub next_ask : Pass → Op → SignedRequest
 next_ask seat op = ask_of (number_of seat.actor) (next_number seat.shape seat.log) op
 

@@ -6,7 +6,7 @@ use Rattle.dsr_mail.specs.declared.seats.Seats.{Seats}
 use Rattle.dsr_hosts.specs.declared.any_seat.AnySeat.{AnySeat}
 use Rattle.dsr_hosts.specs.declared.any_seat.AnySeat.TheVariants.{Loyal, Traitor, OfClient}
 
--- a seat of any kind, as a pass
+-- the pass of a seat of any kind
 abbrev pub pass_of : AnySeat → Pass
 pass_of (Loyal seat) = seat
 pass_of (Traitor seat) = seat
@@ -63,7 +63,7 @@ HasRoomFor seats (Loyal seat) = suc (vec_len seats.replicas) ≤ vec_capacity se
 HasRoomFor seats (Traitor seat) = suc (vec_len seats.traitors) ≤ vec_capacity seats.traitors
 HasRoomFor seats (OfClient seat) = suc (vec_len seats.clients) ≤ vec_capacity seats.clients
 
--- there are no seats of any kind, neither before nor after
+-- both lists of each kind of seat are empty
 pub record AreNone (old new : Seats) : Type 0 where
   pub replicas : (old.replicas.items ≡ []) × (new.replicas.items ≡ [])
   pub traitors : (old.traitors.items ≡ []) × (new.traitors.items ≡ [])

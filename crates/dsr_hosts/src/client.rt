@@ -73,7 +73,8 @@ impl<'a, R: Wait, G: Gate> Service<'a, R, G> {
         unreachable!()
     }
 
-    /// Makes one call for the operation: goes on with the outstanding request, if there is one, else asks. Requires a seat of the service's mail.
+    /// Makes one call for the operation: goes on with the outstanding request, or asks if nothing is outstanding. Requires a seat of the service's
+    /// mail.
     fn call(&self, seat: &mut ClientSeat, op: &Op, calls: &mut Calls) -> Result<(), Refusal>
         requires { IsPassOf self.now.host.mail.now seat.old }
         ensures log { GoesOn seat.new seat.old }

@@ -16,7 +16,7 @@ pub(crate) struct Fault {
 /// How the hosts that came back so far ended.
 #[derive(Drop)]
 pub(crate) struct Ends {
-    /// The fault of the least rank.
+    /// The lowest-ranked fault.
     first: Option<Fault>,
     /// Whether each client among them is served.
     served: bool,
@@ -34,7 +34,7 @@ impl Ends {
         }
     }
 
-    /// Adds the end of one more host; `rank` is the rank of its fault, if it has one.
+    /// Adds the end of one more host. A fault of that host has rank `rank`.
     pub(crate) fn with(self, rank: usize, is_client: bool, end: &Option<End>) -> Ends
         ensures { result ≡ ends_with self rank is_client end.now }
     {
@@ -43,8 +43,8 @@ impl Ends {
         Ends { first, served }
     }
 
-    /// Returns the refusal with which the service ends: that of the fault of the least rank, even if all clients are served; if no host has a fault,
-    /// `Unanswered` if a client was not served, else `None`.
+    /// Returns the cause of the service's end: the refusal of the lowest-ranked fault, even if all clients are served; without a fault, `Unanswered`
+    /// if a client is not served, else `None`.
     pub(crate) fn cause(&self) -> Option<Refusal>
         ensures { result ≡ cause_of self.now.first self.now.served }
     {
@@ -59,7 +59,7 @@ impl Ends {
     }
 }
 
-/// Returns the fault of the least rank when the end of one more host is added; `rank` is the rank of its fault, if it has one.
+/// Returns the lowest-ranked fault, given the lowest so far and the end of one more host. A fault of that host has rank `rank`.
 fn first_of(first: Option<Fault>, rank: usize, end: &Option<End>) -> Option<Fault>
     ensures { result ≡ first_with first rank end.now }
 {
@@ -73,7 +73,7 @@ fn first_of(first: Option<Fault>, rank: usize, end: &Option<End>) -> Option<Faul
     }
 }
 
-/// Returns the fault of the lesser rank; if the ranks are equal, `first`.
+/// Returns the lower-ranked fault; of equal ranks, `first`.
 fn lesser(first: Option<Fault>, other: Fault) -> Fault
     ensures { result ≡ lesser_of first other }
 {

@@ -22,8 +22,8 @@ impl Over {
     }
 }
 
-/// What is known about the calls for one operation of a client: whether all replicas' and traitors' hosts have ended before the next
-/// call, and before the last call that was begun.
+/// What is known about the calls for one operation of a client: whether all replicas' and traitors' hosts ended before the next
+/// call, and before the last call that began.
 #[derive(Drop)]
 pub(crate) struct Calls {
     over: bool,
@@ -31,7 +31,7 @@ pub(crate) struct Calls {
 }
 
 impl Calls {
-    /// Makes the start: no look was noted, and no call was begun.
+    /// Creates the state before the first look and the first call.
     pub(crate) fn none() -> Calls {
         Calls {
             over: false,
@@ -56,7 +56,7 @@ impl Calls {
         self.last = self.over;
     }
 
-    /// Returns whether the last call that was begun began after all had ended.
+    /// Returns whether all hosts ended before the look that preceded the last call.
     pub(crate) fn is_last(&self) -> bool
         ensures { result ≡ self.now.last }
     {

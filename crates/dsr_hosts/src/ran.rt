@@ -39,8 +39,8 @@ impl Ran {
     }
 }
 
-/// Returns the rank of a host's fault: 0 for a thread that could not be started, else one more than the place of the actor. Requires an actor of
-/// the shape.
+/// Returns the rank of a host's fault: 0 if its thread could not start, else one more than the place of the actor. Requires an actor of the
+/// shape.
 fn rank_of(shape: &Shape, back: &Back) -> usize
     requires { IsActor shape.now (pass_of back.now.seat).actor }
     ensures { IsRank shape.now (pass_of back.now.seat).actor back.now.end result }
@@ -56,7 +56,7 @@ fn rank_of(shape: &Shape, back: &Back) -> usize
     }
 }
 
-/// Takes out the last seat: of the clients, else of the traitors, else of the replicas. `None` if there is no seat.
+/// Takes out the last seat: of the clients, else of the traitors, else of the replicas. `None` if no seat is left.
 pub(crate) fn take_last(seats: &mut Seats) -> Option<AnySeat>
     ensures some { IfSome result (λ seat. HasLast seats.old seat seats.new) }
     ensures fewer { IfSome result (λ seat. seat_count seats.new < seat_count seats.old) }

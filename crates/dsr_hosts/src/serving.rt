@@ -22,27 +22,28 @@ use std::alloc::Global;
 use std::sync::Wait;
 use std::thread::Threads;
 
-/// The fault by which a service ended, with the logs until then.
+/// Why a service ended before all clients were served, with the logs until then.
 #[derive(Drop)]
 pub struct ServeFault {
-    /// What the host of the least rank was refused with; `Unanswered` where no host was, and a client was not served.
+    /// The refusal of the lowest-ranked fault of a host; `Unanswered` if no host has a fault and a client is not served.
     pub cause: Refusal,
     /// The logs of all actors.
     pub logs: Logs,
 }
 
-/// Opens a mail, runs a host for each replica, traitor and client of the script, each in a thread of its own, and gives the logs of all actors
-/// once they have ended.
+/// Opens a mail, runs a host for each replica, traitor and client of the script, each in a thread of its own, and returns the logs of all actors
+/// once all hosts have ended.
 ///
-/// A client makes its operations in the script's order, and asks again where it was not answered. When all are served the replicas and
-/// traitors are told to stop; they also end after 4,096 rounds. Until then they wait for each other.
+/// A client makes its operations in the script's order, and asks again if no reply comes. When all clients are served, the service tells the
+/// replicas and traitors to stop; they also end after 4,096 rounds. Until then they wait for each other.
 ///
-/// With `Ok` each client accepted the replies to exactly its operations, in order. Else the service was ended by a host: `Exhausted` where its next
-/// post is past a limit, `Stopped` where the gate answered false, `Unanswered` where a client had no reply and the replicas had ended, so that it
-/// accepted fewer replies than it has operations, `NoMemory` where memory ran out; or by `NoThread`, where a thread could not be started. The logs
-/// until then come with the cause. They are those of all actors; after `NoMemory` they may be the empty ones, if memory ran out before there was a
-/// mail. They are always the logs of a run. In them loyal replicas began each of their own slots with the requests whose turn it was, and posted to
-/// clients only what those were owed; traitors posted only what the script says.
+/// Returns `Ok` if each client accepted the replies to exactly its operations, in order. Else the cause is `Exhausted` if some host's next post is
+/// past a limit, `Stopped` if the gate answers false, `Unanswered` if a client gets no reply before all replicas end, so that it accepts fewer
+/// replies than it has operations, `NoMemory` if memory runs out, or `NoThread` if a thread cannot start.
+///
+/// The logs until then come with the cause. They are those of all actors; after `NoMemory` they may be empty, if memory runs out before there is a
+/// mail. They are always the logs of a run. In them loyal replicas begin each of their own slots with the requests whose turn it is, and post to
+/// clients only the replies that they owe; traitors post only what the script says.
 pub fn serve<R: Threads + Wait + Sync, G: Gate + Sync>(
     rt: &R,
     alloc: Global,
@@ -83,7 +84,7 @@ pub fn serve<R: Threads + Wait + Sync, G: Gate + Sync>(
     }
 }
 
-/// Opens a mail of the shape. `NoMemory` where memory runs out.
+/// Opens a mail of the shape. `NoMemory` if memory runs out.
 fn open(alloc: Global, shape: Shape) -> Result<(Mail, Seats), Refusal>
     ensures shape { IfOk result (λ opened. opened.0.shape ≡ shape) }
     ensures replicas { IfOk result (λ opened. opened.1.replicas.items ≡ map (new_pass opened.0) (actors_of is_loyal_replica opened.0.shape)) }

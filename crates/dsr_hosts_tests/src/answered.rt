@@ -64,7 +64,8 @@ fn posts_first<R: Abort>(
     Ok(())
 }
 
-/// Checks that each replica, also the traitor, had at least one turn for each entry of its log, and the client one for each of its two operations.
+/// Checks that each replica, also the traitor, took at least one turn for each entry of its log, and the client one for each of its two
+/// operations.
 fn had_turns<R: Abort>(rt: &R, logs: &Logs, gate: &Counting) {
     for number in 0..3 {
         let replica = Actor::Replica(ReplicaId::of(number));

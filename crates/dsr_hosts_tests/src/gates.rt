@@ -96,7 +96,7 @@ impl Patient {
         }
     }
 
-    /// Lets a client run first, for a while, if no client had a turn for long.
+    /// Lets a client run first, for a while, if no client took a turn for long.
     fn give_time(&self) {
         if self.turns.fetch_add(1, SeqCst) < HASTY_TURNS {
             return;
@@ -146,12 +146,12 @@ impl Counting {
         }
     }
 
-    /// Tells whether some turn had another number than its actor's count of turns before it.
+    /// Returns whether the number of some turn differs from its actor's count of turns before it.
     pub(crate) fn is_amiss(&self) -> bool {
         self.amiss.load(SeqCst)
     }
 
-    /// Returns how many turns the actor had.
+    /// Returns how many turns the actor took.
     pub(crate) fn turns(&self, actor: &Actor) -> u64 {
         self.count(actor).load(SeqCst)
     }
@@ -232,7 +232,7 @@ impl Meeting {
         self.first.met.load(SeqCst) && self.second.met.load(SeqCst)
     }
 
-    /// Has the replica look for the other one, if it is one of the two.
+    /// Has replica 0 or 1 look for the other of the two; does nothing for any other replica.
     fn meet(&self, replica: &ReplicaId) {
         match replica.number() {
             0 => self.first.meet(&self.second),
@@ -269,12 +269,12 @@ impl Late {
         }
     }
 
-    /// Tells whether a replica had its last turn.
+    /// Returns whether a replica took its last turn.
     pub(crate) fn came(&self) -> bool {
         self.came.load(SeqCst)
     }
 
-    /// Notes that a replica has this turn.
+    /// Notes that a replica takes this turn.
     fn note(&self, turn: u64) {
         if turn == self.last_turn {
             self.came.store(true, SeqCst);

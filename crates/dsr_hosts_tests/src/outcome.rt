@@ -13,7 +13,8 @@ use std::process::Abort;
 use std::sync::Wait;
 use std::thread::Threads;
 
-/// The outcome of a service: the logs of all actors, and why it ended, if it ended before all clients were served.
+/// The outcome of a service: the logs of all actors, and the cause if the service ended before all clients were
+/// served.
 #[derive(Drop)]
 pub(crate) struct Outcome {
     pub(crate) logs: Logs,
@@ -68,7 +69,7 @@ pub(crate) fn posts_to(alloc: Global, entries: &[Entry], actor: &Actor) -> Resul
 }
 
 impl Posts {
-    /// Notes the entry, if it is a post to the actor.
+    /// Notes the entry if it is a post to the actor.
     fn note(&mut self, entry: &Entry, actor: &Actor) -> Result<(), Refusal> {
         let Entry::Post { to, envelope } = entry else {
             return Ok(());
@@ -85,7 +86,7 @@ impl Posts {
     }
 }
 
-/// Returns what the first client accepted; nothing if there is no client.
+/// Returns what the first client accepted; an empty list if the shape has no client.
 pub(crate) fn accepted(logs: &Logs) -> &[Reply] {
     if ClientId::FIRST.number() < logs.shape().m() {
         logs.accepted(ClientId::FIRST)

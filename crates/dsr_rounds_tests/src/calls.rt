@@ -68,7 +68,7 @@ fn has_done<R: Abort>(rt: &R, alloc: Global, office: Office, text: &str) -> Resu
     Ok(())
 }
 
-/// Compares what the client did in a call with the first number of turns and, if there is a second number, in a call that goes on.
+/// Compares what the client did in a call with the first number of turns and, given a second number, in a call that goes on.
 fn has_asked<R: Abort>(
     rt: &R,
     alloc: Global,

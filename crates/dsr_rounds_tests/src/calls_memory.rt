@@ -1,6 +1,5 @@
-//! The calls of a client, made again if memory was refused. `tests/faults.py allocations` refuses each allocation of these tests in
-//! turn, one in each run, and every run must pass: a refused turn left the client as it was, and what is made again gives the
-//! row's reply.
+//! The calls of a client, made again after memory runs out. `tests/faults.py allocations` refuses each allocation of these tests in turn, one in each
+//! run, and every run must pass: a refused turn leaves the client unchanged, and the repeated call gives the row's reply.
 
 use crate::gates::Open;
 use crate::office::Office;
@@ -84,7 +83,7 @@ fn ask_again<R: Abort>(
     }
 }
 
-/// Has the client go on, in `turns` turns, of which at most the last does anything; if memory was refused, checks that nothing changed and tries again.
+/// Has the client go on for `turns` turns; only the last of them may do anything. If memory runs out, checks that nothing changed and tries again.
 fn go_on_again<R: Abort>(
     rt: &R,
     alloc: Global,

@@ -84,7 +84,7 @@ impl Office {
         take_from(&mut self.seats.replicas[place], &self.mail, from)
     }
 
-    /// Has the first client ask. `NoActor` if there is no client.
+    /// Has the first client ask. `NoActor` if the office has no client.
     pub(crate) fn ask(&mut self, alloc: Global, op: &Op, turns: u64) -> Result<Reply, Refusal> {
         self.ask_by(alloc, &ClientId::FIRST, op, turns)
     }
@@ -103,7 +103,7 @@ impl Office {
         client_asks(&mut self.seats.clients[place], alloc, &self.mail, op, turns)
     }
 
-    /// Has the first client go on. `NoActor` if there is no client.
+    /// Has the first client go on. `NoActor` if the office has no client.
     pub(crate) fn go_on(&mut self, alloc: Global, turns: u64) -> Result<Reply, Refusal> {
         self.go_on_by(alloc, &ClientId::FIRST, turns)
     }

@@ -1,4 +1,4 @@
-//! A replica that makes each round in a separate call, beside two whose rounds are made by hand. A slot has two rounds, so what the replica takes in one
+//! A replica that makes each round in a separate call, beside two that the test drives by hand. A slot has two rounds, so what the replica takes in one
 //! call is decided in a later one.
 
 use crate::gates::Open;

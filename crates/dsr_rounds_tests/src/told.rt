@@ -7,7 +7,7 @@ use dsr_script::Draft;
 use std::alloc::Global;
 use std::fmt::Write;
 
-/// Returns a line for each entry of the actor's log, as in a transcript, but without the actor.
+/// Returns a line for each entry of the actor's log: the line of a transcript, without the actor.
 pub(crate) fn log_text(alloc: Global, logs: &Logs, actor: &Actor) -> Result<String, Refusal> {
     let mut text = String::new(alloc);
     for entry in entries(logs, actor) {

@@ -11,7 +11,7 @@ use std::process::Abort;
 use std::sync::Wait;
 use std::test::Fail;
 
-/// Has the loyal replica post to all three replicas, as is due.
+/// Has the loyal replica make its due posts to all three replicas.
 fn post_all<R: Abort>(rt: &R, alloc: Global, office: &mut Office, replica: &ReplicaId) {
     for number in 0..3 {
         let to = Actor::Replica(ReplicaId::of(number));
