@@ -181,7 +181,7 @@ module _ (shape : Shape) (round : ℕ) where
 
 -- ---- closing each slot, one after the other
 
--- the slots, of which this number of first ones have their rounds closed
+-- the slots, with the round closed in the first `count` of them
 abbrev pub first_closed : ℕ → List SlotState → List SlotState
 first_closed zero slots = slots
 first_closed (suc count) [] = []
@@ -204,7 +204,7 @@ pub all_closed : (slots : List SlotState) → first_closed (length slots) slots 
 all_closed [] = refl
 all_closed (s ∷ more) = ap (λ xs. with_closed s ∷ xs) (all_closed more)
 
--- the slots of the next round, as the code counts it
+-- what the code puts together is the slots of the next round
 pub next_flies : (shape : Shape) (round : ℕ) (slots items : List SlotState) → AreInFlight shape round slots (closed_slots shape round)
     → items ≡ map with_closed (going_on shape round slots) ++ opened shape (round + 1) ∷ []
     → AreInFlight shape (round + 1) items (closed_slots shape (round + 1))

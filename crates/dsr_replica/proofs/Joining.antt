@@ -19,7 +19,7 @@ module _ {A : Type 0} where
   get_grown (y ∷ xs) ys zero x e = e
   get_grown (y ∷ xs) ys (suc place) x e = get_grown xs ys place x e
 
-  -- at a place inside, a grown list has what it had before
+  -- at a place inside, a list keeps its item if it grows
   pub get_before : (xs ys : List A) (place : ℕ) → place < length xs → slice_get (xs ++ ys) place ≡ slice_get xs place
   get_before [] ys place inside = absurd (omega arith)
   get_before (y ∷ xs) ys zero inside = refl
@@ -44,7 +44,7 @@ module _ {A : Type 0} where
   get_if true xs y place x e = get_grown xs (y ∷ []) place x e
   get_if false xs y place x e = e
 
-  -- at a place inside, a list that grew by an item or did not has what it had before
+  -- at a place inside, a list keeps its item whether or not it grows
   pub get_before_if : (b : Bool) (xs : List A) (y : A) (place : ℕ) → place < length xs
       → slice_get (if b then xs ++ y ∷ [] else xs) place ≡ slice_get xs place
   get_before_if true xs y place inside = get_before xs (y ∷ []) place inside

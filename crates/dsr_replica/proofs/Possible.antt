@@ -23,7 +23,7 @@ module _ (shape : Shape) (me : Actor) (log : List Entry) where
   due_gives q is envelope e =
       ap (λ b. if b then chosen shape me log q Plain else None) (ap (λ d. is_due d q) is ∙ (Decides-eqb q q).1 refl) ∙ e
 
-  -- if the post to a later replica is due, one more post than closed rounds was made to replica 0
+  -- if the post to a later replica is due, replica 0 got one more post than there are closed rounds
   one_more : (t q : ℕ) → (if nat_lt 0 (suc q) then suc t else t) ≡ suc t
   one_more t q = grind (arith, nat_tests)
 

@@ -88,7 +88,7 @@ posts_are r log q value h stands next =
     ap (λ xs. xs ++ posts_of r.me value r.slots) (sym (each_none (closed_slots r.shape t) part (λ slot below. none_part r.shape r.me log t value slot below)))
     ∙ join_posts r.shape t r.me value part r.slots (closed_slots r.shape t) h each
 
--- the envelope that is made of them is that of the log
+-- the envelope of these chains is that of the log
 pub envelope_made : (r : Replica) (log : List Entry) (q : ℕ) (value : SlotValue) → AreInFlight r.shape r.round r.slots (closed_slots r.shape r.round)
     → StandsFor r log → r.next ≡ PostTo q → round_envelope r.round (posts_of r.me value r.slots) ≡ envelope_with r.shape r.me log value
 envelope_made r log q value h stands next =

@@ -28,7 +28,7 @@ reply_later later earlier client r grown h = record {
   number_is = h.number_is;
 }
 
--- the envelope of a reply is made of it
+-- the envelope of a reply determines the reply
 reply_is : (o : Option AReply) (r : AReply) → option_map Reply o ≡ Some (Reply r) → o ≡ Some r
 reply_is None r e = absurd (none-some (Reply r) e)
 reply_is (Some other) r e =

@@ -15,7 +15,7 @@ use Rattle.dsr_envelope.specs.declared.entry.Entry.{Entry}
 use Rattle.dsr_replica.specs.Conduct.{from_held, reply_to}
 use Rattle.dsr_replica.specs.Decided.{decided_requests}
 
--- the envelope that replies to a client is made of the reply to its last request that acted
+-- the envelope for a client has the reply to its last request that acted
 pub reply_made : (shape : Shape) (log : List Entry) (client : ℕ) → reply_to shape log client ≡ option_map Reply (reply (decided_requests shape log) client)
 reply_made shape log client = refl
 

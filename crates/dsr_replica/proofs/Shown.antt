@@ -1,4 +1,4 @@
--- The chain that a sender starts comes last in its envelope, so the envelope shows the choice by which it was made.
+-- The chain that a sender starts comes last in its envelope, so the envelope shows the choice of its post.
 use Rattle.std.proofs.Common.{◌≡◌, ℕ, zero, suc, ◌+◌, ◌-◌, ◌&&◌, not, nat_lt, Bool, true, false, List, [], ◌∷◌, ◌++◌, Option, None, Some, if◌then◌else◌, refl, ap, sym, ◌∙◌, subst, arith}
 use Rattle.std.specs.Prelude.{map}
 use Rattle.std.specs.Option.{option_map}

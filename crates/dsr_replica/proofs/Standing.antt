@@ -267,7 +267,7 @@ stands_taken r after log p envelope h stands is goes = by_case (suc p == r.shape
         (stands_with_room (next_round (with_envelope r envelope)) (Take (ReplicaNumber p) envelope ∷ log) after.requests after.places
         (stands_last r log p envelope h stands is e))
 
--- a replica that comes before the last, and the last, as the code counts them
+-- the code's test for the last replica, on a replica that comes before it and on the last one
 pub is_more : (p n next : ℕ) → next ≡ p + 1 → next < n → (suc p == n) ≡ false
 is_more p n next is more = false_from_ne_true (suc p == n) (λ e. let same = (Decides-eqb (suc p) n).0 e in omega (arith, is, more, same))
 

@@ -41,8 +41,8 @@ slot_part shape me log t value slot =
 abbrev pub chains_posted : Shape → Actor → List Entry → ℕ → SlotValue → List Chain
 chains_posted shape me log t value = from_each (suc t) (slot_part shape me log t value)
 
--- the value with these held asks, if there are such, and the slot that begins with this round, the one with its number, is
--- the replica's own; else none
+-- the value with these held asks; none if an ask is missing, or if another replica is the sender of the slot that begins with
+-- this round, whose number is the round's
 abbrev pub from_held : Shape → Actor → ℕ → Option (List SignedRequest) → Option SlotValue
 from_held shape me round asks = if actor_eq me (sender_of shape round) then option_map Act asks else None
 

@@ -17,13 +17,13 @@ use Rattle.dsr_envelope.specs.declared.entry.Entry.{Entry}
 use Rattle.dsr_envelope.specs.Envelope.{chains_for}
 use Rattle.dsr_envelope.specs.Log.{taken_from, rounds}
 
--- the chains for this round in the envelope, if there is one
+-- the chains for this round in the envelope; without an envelope, no chains
 abbrev pub chains_of : ℕ → Option Envelope → List Chain
 chains_of t None = []
 chains_of t (Some envelope) = chains_for t envelope
 
--- the chains that a replica sent in this round: those of the envelope that was taken from it in this round, if it is of
--- this round
+-- the chains that a replica sent in this round: those of the envelope taken from it in this round; no chains if that
+-- envelope belongs to another round
 abbrev pub sent : List Entry → ℕ → ℕ → List Chain
 sent log t p = chains_of t (slice_get (taken_from (Replica p) log) t)
 

@@ -35,7 +35,7 @@ held shape client (Take (Replica p) envelope ∷ older) = held shape client olde
 held shape client (Take (Client c) envelope ∷ older) =
     if c == client then held_with shape client (held shape client older) envelope else held shape client older
 
--- an item put before a list, if there are both
+-- an item put before a list; none if either is missing
 abbrev pub put_before : {A : Type 0} → Option A → Option (List A) → Option (List A)
 put_before None more = None
 put_before (Some x) None = None

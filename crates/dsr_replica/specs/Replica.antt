@@ -56,8 +56,8 @@ value_of r Plain = Some Idle
 value_of r (From clients) = from_held r.shape r.me r.round (asks_of r.asks clients)
 value_of r (Begin op) = None
 
--- the value with which the envelope to a replica is made: after the post to replica 0, the value that was proposed
--- there
+-- the value of the envelope to a replica: at replica 0 the one that the choice proposes, after it the one proposed to
+-- replica 0
 abbrev pub value_at : Replica → ℕ → Pick → Option SlotValue
 value_at r zero pick = value_of r pick
 value_at r (suc q) Plain = Some r.proposed
@@ -79,8 +79,8 @@ IsLaterPost (PostTo q) = 0 < q
 IsLaterPost (TakeFrom p) = ⊥
 
 -- the replica represents the log: what is due is what the log says; the round is the number of closed rounds; each slot in
--- flight has read what was sent in its rounds, as far as it was taken; the values are those that are decided; the asks are
--- those that are held; and the value that it proposes gives the envelope that was posted to replica 0
+-- flight has read what was sent in its rounds and taken so far; the values are those that are decided; the asks are those
+-- that are held; and the value that it proposes gives the envelope that was posted to replica 0
 pub record StandsFor (r : Replica) (log : List Entry) : Type 0 where
   pub due_is : r.next ≡ due r.shape log
   pub counts : HasCounts r.shape log r.round
@@ -89,6 +89,6 @@ pub record StandsFor (r : Replica) (log : List Entry) : Type 0 where
   pub asks_are : (client : ℕ) → ask_of r.asks client ≡ held r.shape client log
   pub posted : IsLaterPost r.next → slice_get (posted_to (ReplicaNumber 0) log) r.round ≡ Some (envelope_with r.shape r.me log r.proposed)
 
--- a refusal of a post: it is not due, the rounds are exhausted, or there is no memory
+-- why a post is refused: it is not due, the rounds are exhausted, or memory ran out
 abbrev pub IsPostRefusal : Refusal → Type 0
 IsPostRefusal e = (e ≡ NotDue) ⊎ (e ≡ Exhausted) ⊎ (e ≡ NoMemory)

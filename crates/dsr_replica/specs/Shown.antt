@@ -14,7 +14,7 @@ use Rattle.dsr_envelope.specs.declared.envelope.Envelope.TheVariants.{Empty, Rou
 use Rattle.dsr_envelope.specs.declared.pick.Pick.{Pick}
 use Rattle.dsr_envelope.specs.declared.pick.Pick.TheVariants.{Plain, From}
 
--- the value of the last of these chains, or the first argument if there are none
+-- the value of the last of these chains, or the first argument if the list is empty
 abbrev pub last_value : SlotValue → List Chain → SlotValue
 last_value value [] = value
 last_value value (chain ∷ more) = last_value chain.value more
@@ -32,7 +32,7 @@ shown_value (Seen front) = Idle
 abbrev pub shown_clients : Envelope → List ℕ
 shown_clients envelope = map (λ r. r.client) (requests_in (shown_value envelope))
 
--- the choice to propose the held requests of these clients; the plain choice if there are none
+-- the choice to propose the held requests of these clients; the plain choice if the list is empty
 abbrev pub choice_of : List ℕ → Pick
 choice_of [] = Plain
 choice_of (client ∷ more) = From (client ∷ more)

@@ -120,8 +120,8 @@ impl Flights {
         }
     }
 
-    /// Closes the round in progress, and returns the decision of the slot that closes with it, if one does. The slot of
-    /// the next round begins. Requires that the round is below 2^36.
+    /// Closes the round in progress, and returns the decision of the slot that closes with it, or `None` if no slot closes. The
+    /// slot of the next round begins. Requires that the round is below 2^36.
     pub(crate) fn close(&mut self) -> Option<Decision>
         requires { self.old.round < 2 ^ 36 }
         ensures decided { result ≡ decided_with self.old.shape self.old.round self.old.slots }
@@ -188,7 +188,7 @@ fn close_each(slots: &mut Vec<SlotState>)
     }
 }
 
-/// Returns what the key's holder posts for the slot in the round after its closed ones, if it proposes the value with
+/// Returns what the key's holder posts for the slot in the round after its closed ones, given that it proposes the value with
 /// these signed requests.
 fn slot_post(
     alloc: Global,

@@ -12,7 +12,7 @@ use dsr_names::{ClientId, Refusal, Shape};
 use std::alloc::Global;
 use std::marker::Model;
 
-/// The ask that is held for each client of a shape, if one is (the client's pending request).
+/// The ask that the replica holds for each client of a shape: the client's pending request, or `None`.
 #[derive(Drop)]
 pub(crate) struct Asks {
     list: Vec<Option<SharedAsk>>,

@@ -1,4 +1,4 @@
-//! The laws of one loyal replica's log, as the contracts of functions that do nothing.
+//! States the laws of one loyal replica's log as contracts of functions that do nothing.
 
 ghost use Rattle.std.specs.Prelude.{◌≡◌, ◌≢◌, ◌⊎◌, ◌↔◌, ℕ, ◌+◌, ◌*◌, ◌^◌, ◌<◌, ◌≤◌, List, [], ◌∷◌, length, map, None, Some, IsSome, slice_get};
 ghost use Rattle.dsr_base.specs.Growth.{Extends};
@@ -65,8 +65,8 @@ pub fn due_posts_can_be_made()
         → (q : ℕ) → due shape log ≡ PostTo q → IsSome (envelope_to shape me log q Plain) }
 {}
 
-/// A loyal replica posts the same to all in a round: the envelope that its log, as it is now, gives for that round. Each chain
-/// in it is the replica's part in a round of some slot, and proper for that round.
+/// A loyal replica posts the same envelope to all in a round: the one that its present log gives for that round. Each chain in it is the
+/// replica's part in a round of some slot, and proper for that round.
 pub fn posts_follow_the_log()
     ensures equal { (shape : Shape) (me : Actor) (log : List Entry) → 0 < shape.n → IsLoyalLog shape me log
         → (q : ℕ) → q < shape.n → (round : ℕ) (envelope : Envelope) → slice_get (posted_to (Replica q) log) round ≡ Some envelope
@@ -129,9 +129,9 @@ pub fn conduct_is_blind()
         → IsLoyalLog shape me log → IsLoyalLog other me log }
 {}
 
-/// An envelope to a replica tells by which choice it was posted: whatever the log, if some choice gives it, that is the choice that
-/// it shows. In the round that begins a slot of its own, a replica's chain for that slot comes last: on the requests of the chosen
-/// clients, in their order, or on idle for the plain choice. All posts to the replicas after the first are by the plain choice.
+/// An envelope to a replica shows the choice of its post: whatever the log, a choice that gives the envelope is the one that the envelope
+/// shows. In the round that begins a slot of its own, a replica's chain for that slot comes last: on the requests of the chosen clients,
+/// in their order, or on idle for the plain choice. All posts to the replicas after the first are by the plain choice.
 pub fn envelopes_tell_choices()
     ensures choice { (shape : Shape) (me : Actor) (log : List Entry) (q : ℕ) (pick : Pick) (envelope : Envelope) → IsPick pick
         → envelope_to shape me log q pick ≡ Some envelope → pick ≡ shown_choice shape me q envelope }

@@ -11,8 +11,8 @@ use dsr_request::MOST_REQUESTS;
 use std::alloc::Global;
 use std::marker::Model;
 
-/// The value that a replica proposes in the round in progress, as its signed requests; none if it is idle. It has room for as many
-/// as a value can have, so proposing allocates nothing, and moves no more than them.
+/// The signed requests of the value that a replica proposes in the round in progress; an empty list if the value is idle. It has
+/// room for as many as a value can have, so proposing allocates nothing, and moves no more than them.
 #[derive(Drop)]
 pub(crate) struct Proposal {
     asks: Vec<SignedRequest>,

@@ -129,9 +129,9 @@ impl Replica {
         self.is_allowed(to, pick)
     }
 
-    /// Makes the envelope that it posts to this replica by this choice. `NotDue` exactly if there is none: the post is not due, or
-    /// the choice not allowed there. Else `Exhausted` exactly in round 2^36; else `NoMemory` if memory runs out or one more handle
-    /// is refused.
+    /// Makes the envelope for the post to replica `to` by this choice. `NotDue` exactly if the post is not due or the choice is
+    /// not allowed there. Else `Exhausted` exactly in round 2^36; else `NoMemory` if memory runs out or one more handle is
+    /// refused.
     pub fn envelope_for(
         &self,
         alloc: Global,
@@ -157,9 +157,8 @@ impl Replica {
         self.chosen(alloc, to, pick)
     }
 
-    /// Returns the refusal of a post to this replica by this choice, if it would be refused: `NotDue` exactly if there is no such
-    /// envelope, because the post is not due or the choice not allowed there; else `Exhausted` exactly in round 2^36. Allocates
-    /// nothing.
+    /// Returns the refusal of a post to replica `to` by this choice, or `None` if the post is allowed: `NotDue` exactly if the
+    /// post is not due or the choice is not allowed there; else `Exhausted` exactly in round 2^36. Allocates nothing.
     pub fn refusal(&self, to: ReplicaId, pick: Pick) -> Option<Refusal>
         ensures not_due { (log : List Entry) → StandsFor self.now log
             → (result ≡ Some Refusal.NotDue) ↔ (envelope_to self.now.shape self.now.me log to pick ≡ None) }
@@ -453,7 +452,7 @@ impl Replica {
     }
 }
 
-/// Makes the envelope of a round with these chains, the empty one if there are none.
+/// Makes the envelope of a round with these chains; an empty list gives the empty envelope.
 fn envelope_of(round: u64, chains: Vec<Chain>) -> Envelope
     ensures { result ≡ round_envelope round chains.items }
 {
@@ -512,7 +511,7 @@ fn replica_of(number: u8) -> ReplicaId
     }
 }
 
-/// Reads the envelope's chains in the round in progress, if it is of that round.
+/// Reads the envelope's chains in the round in progress. Reads nothing if the envelope belongs to another round.
 fn read_envelope(flights: &mut Flights, envelope: Envelope)
     ensures read { flights.new ≡ record flights.old { slots = map (with_chains (chains_for flights.old.round envelope)) flights.old.slots } }
     ensures in_flight { AreInFlight flights.old.shape flights.old.round flights.old.slots (closed_slots flights.old.shape flights.old.round) }
@@ -544,7 +543,7 @@ fn keeps_one(flights: &Flights, envelope: &Envelope) -> bool
     }
 }
 
-/// Adds the decision, if there is one.
+/// Adds the decision; does nothing for `None`.
 fn add_decided(decisions: &mut Decisions, decision: Option<Decision>)
     requires room { HasPlaces decisions.old }
     requires clients { (value : SlotValue) → decision ≡ Some value → All (λ r. r.client < decisions.old.clients) (requests_in value) }

@@ -1,4 +1,4 @@
--- The asks that a replica holds, as private contracts see them (this project).
+-- How private contracts see the asks that a replica holds (this project).
 use Rattle.std.specs.Prelude.{ℕ, List, Option, slice_set}
 use Rattle.dsr_names.specs.Shape.{Shape}
 use Rattle.dsr_chain.specs.declared.signed_request.SignedRequest.{SignedRequest}

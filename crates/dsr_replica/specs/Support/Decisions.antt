@@ -1,4 +1,4 @@
--- What is decided, as private contracts see it (this project).
+-- How private contracts see the decided values (this project).
 use Rattle.std.specs.Prelude.{ℕ, ◌<◌, ◌≤◌, List, map}
 use Rattle.dsr_request.specs.Request.{Request}
 use Rattle.dsr_chain.specs.Content.{requests_in}

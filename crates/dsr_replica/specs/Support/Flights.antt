@@ -1,4 +1,4 @@
--- The slots in flight at a replica, as private contracts see them (this project).
+-- How private contracts see the slots in flight at a replica (this project).
 use Rattle.std.specs.Prelude.{◌≡◌, ℕ, suc, ◌+◌, ◌≤◌, ◌==◌, nat_lt, Bool, ◌&&◌, List, [], ◌∷◌, ◌++◌, map, All, Option, None, Some, if◌then◌else◌}
 use Rattle.dsr_names.specs.Shape.{Shape}
 use Rattle.dsr_names.specs.declared.actor.Actor.{Actor}
@@ -70,7 +70,7 @@ next_flights flights = record {
   slots = map with_closed (going_on flights.shape flights.round flights.slots) ++ opened flights.shape (suc flights.round) ∷ [];
 }
 
--- what is decided for the first slot, if there is one
+-- what is decided for the first slot; nothing if the list is empty
 abbrev pub first_decided : List SlotState → Option SlotValue
 first_decided [] = None
 first_decided (s ∷ more) = Some (decision s.kept)

@@ -45,7 +45,7 @@ pub record IsReplicaFields (a : Inside) : Type 0 where
 abbrev pub with_envelope : Replica → Envelope → Replica
 with_envelope r envelope = record r { slots = map (with_chains (chains_for r.round envelope)) r.slots }
 
--- one more value, if one is decided
+-- the decided value put before the others; without one, the others alone
 abbrev pub with_decided : Option SlotValue → List SlotValue → List SlotValue
 with_decided None values = values
 with_decided (Some value) values = value ∷ values
