@@ -161,7 +161,7 @@ module _ (shape : Shape) (few : HasFewTraitors shape) (run : List Step) (is : Is
   pub history_extends : (p : ℕ) → IsLoyal shape (Replica p) → Extends (history shape (log_of run)) (acted (decided_requests shape (log_of run (Replica p))))
   history_extends p loyal = acted_on (most_decided shape (log_of run) shape.n) (decided_at shape (log_of run) p) (most_extends p loyal)
 
-  -- what was decided by logs with which those of the run begin is a prefix of what is decided
+  -- what these earlier logs decided is a prefix of what the run's logs decide
   most_grows : (earlier : Logs) → ((a : Actor) → Extends (log_of run a) (earlier a))
       → Extends (most_decided shape (log_of run) shape.n) (most_decided shape earlier shape.n)
   most_grows earlier grown = elim (most_from shape earlier shape.n) [

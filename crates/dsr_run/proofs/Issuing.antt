@@ -26,7 +26,7 @@ use Rattle.dsr_run.proofs.Boxes.{from_log, taken_was_posted}
 use Rattle.dsr_run.proofs.Histories.{history_grows}
 use Rattle.dsr_run.proofs.Logs.{log_cases, run_before, logs_grew}
 
--- a list is no longer than one that extends it
+-- a list is at most as long as one that extends it
 extends_length : {A : Type 0} (later earlier : List A) → Extends later earlier → length earlier ≤ length later
 extends_length later earlier more = omega (arith, ap length more.1, length-append more.0 earlier)
 
@@ -146,7 +146,7 @@ module _ (shape : Shape) (few : HasFewTraitors shape) where
   issue_cases [] c number = inr (record { front_is = refl; none = λ q ask h. elim h [ ] })
   issue_cases (step ∷ older) c number = issue_step step older c number (issue_cases older c number)
 
-  -- the place of a request that a client asked for is not before what it had seen when it first did
+  -- the place of a request that a client asked for is not before the request's issue front
   pub not_before : (run : List Step) → IsRun shape run → (c : ℕ) (q : Request) (place : ℕ) (answer : Answer)
       → q.client ≡ c → StandsAt (history shape (log_of run)) place q answer → WasPosted (log_of run (Client c)) q
       → (front : ℕ) × (issue_front shape q.number (log_of run (Client c)) ≡ Some front) × (front ≤ place)

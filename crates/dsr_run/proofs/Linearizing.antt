@@ -56,7 +56,7 @@ module _ (shape : Shape) (few : HasFewTraitors shape) where
       posted.ask h.invoked.ask posted.posted h.invoked.posted number in
       subst (λ z. StandsAt (history shape (log_of run)) r.place z r.answer) (sym posted.is ∙ (ap (λ z. z.request) one ∙ h.invoked.is)) right.stands
 
-  -- what had a response at a moment is in the history of that moment, and what was not yet invoked is not
+  -- a request with a response at a moment is in the history of that moment, and one that is not yet invoked then is not
   in_real_time : (run : List Step) → IsRun shape run → (first second : Request) → Precedes shape run first second → (newer older : List Request)
       → history shape (log_of run) ≡ newer ++ second ∷ older → In first older
   in_real_time run is first second before newer older parts =
@@ -92,7 +92,7 @@ module _ (shape : Shape) (few : HasFewTraitors shape) where
 
   -- ---- at any two moments
 
-  -- a request that was invoked only after another had its response has a greater place than that, whatever the order of the steps
+  -- a request that was invoked only after another's response has a greater place than that one, whatever the order of the steps
   places_rise : (run : List Step) → IsRun shape run → (earlier : List Step) → IsRun shape earlier → (first second : Request) (reply later : Reply)
       → PlacesRise shape (log_of run) (log_of earlier) first second reply later
   places_rise run is earlier was first second reply later grown response not_yet response_later =

@@ -42,7 +42,7 @@ abbrev link_of : ℕ → Kept → Statement
 link_of slot k = link_after slot k.chain.value (signers_of k.chain.signatures)
 
 module _ (shape : Shape) (me : Actor) (log : List Entry) (slot : ℕ) (value : SlotValue) where
-  -- the replica signed the link when it relayed a chain that it keeps, and that it had not signed
+  -- the replica signed the link when it relayed a chain that it keeps, one without its signature
   pub record IsRelayed (s : Signature) : Type 0 where
     pub from : Kept
     pub kept : In from (slot_kept shape log slot (suc shape.f))
@@ -59,7 +59,7 @@ module _ (shape : Shape) (me : Actor) (log : List Entry) (slot : ℕ) (value : S
       let grown = after_stays shape slot (slot_read shape log slot) r (suc shape.f) within in
       subst (In k) (sym grown.1) (In-append_left k (slot_kept shape log slot r) grown.0 h)
 
-  -- where a link that the replica signed comes from
+  -- the source of a link that the replica signed
   pub own_link : (s : Signature) → s.signer ≡ me → IsSigned shape me log slot value s → IsRelayed s ⊎ IsStarted s
   own_link s own h = elim (posted_from shape slot me value (suc h.round) (slot_kept shape log slot h.round) h.chain h.stands) [
     | inl relay ↦ inl (relayed relay)

@@ -103,7 +103,7 @@ module _ (shape : Shape) (log : List Entry) where
       let ring = in_turn shape.m shape.m (first_in_turn shape.m (last_proposed shape log)) in
       (from_filter (is_waiting shape log) c ring (in_taken 8 (filter (is_waiting shape log) ring) c h)).1
 
-  -- the clients that are next may be picked, if there are any
+  -- the clients that are next may be picked, unless the list is empty
   pub next_are_clients : 0 < shape.m → 0 < length (next_proposed shape log) → IsClients (next_proposed shape log)
   next_are_clients some any =
       let first = first_in_turn shape.m (last_proposed shape log) in
@@ -123,7 +123,7 @@ module _ (shape : Shape) (log : List Entry) where
 
   -- ---- the envelope
 
-  -- an envelope with which an eager replica may go on
+  -- an envelope that lets an eager replica go on
   pub record GoesOn (me : Actor) : Type 0 where
     pub envelope : Envelope
     pub next : IsNext shape me log (Post (Replica 0) envelope)

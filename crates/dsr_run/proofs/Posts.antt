@@ -72,7 +72,7 @@ part_of_slot shape p inside log round value asked slot c h =
 
 -- ---- the value of a slot
 
--- the value that the slot's sender posts, if it is loyal and has posted in the slot's first round
+-- the value that the slot's sender proposes in the slot's first round, if the sender is loyal and has posted then
 pub record IsValue (shape : Shape) (log : List Entry) (slot : ℕ) (value : SlotValue) : Type 0 where
   pub asked : All (IsAsked shape) (signed_in value)
   pub is : IsLoyal shape (sender_of shape slot) → (envelope : Envelope)

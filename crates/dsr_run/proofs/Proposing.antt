@@ -36,7 +36,7 @@ module _ (shape : Shape) (run : List Step) (is : IsRun shape run) (slot : ℕ) (
       ap (λ t. slot_part shape (sender_of shape slot) (log_of run (sender_of shape slot)) t value slot) at
       ∙ part_at shape (sender_of shape slot) (log_of run (sender_of shape slot)) slot value 0 (omega arith)
 
-  -- a value whose start is in the sender's part is the value that it is made for
+  -- if the sender's part for one value has the start of another, the two values are the same
   only_start : (value made_for : SlotValue) → In (started slot value (sender_of shape slot)) (posted shape slot (sender_of shape slot) made_for 1 [])
       → made_for ≡ value
   only_start value made_for h = elim (posted_from shape slot (sender_of shape slot) made_for 1 [] (started slot value (sender_of shape slot)) h) [

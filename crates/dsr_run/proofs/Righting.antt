@@ -122,7 +122,7 @@ module _ (shape : Shape) (few : HasFewTraitors shape) where
       (λ p loyal. let took = h.took p loyal in (took.0, took.1, took.2 ∙ sym h.is_number)) in
       (reply.0, reply.1, reply.2 ∙ h.is_number)
 
-  -- the replies in their order, as a world lends them
+  -- the replies in the order in which a world lends them
   module _ (run : List Step) (is : IsRun shape run) (c : ℕ) (replies : List AReply) (same : replies ≡ reverse (accepted_by shape (log_of run) c)) where
     pub lent_right : (reply : AReply) → In reply replies → IsRightReply shape (history shape (log_of run)) (log_of run (Client c)) reply
     lent_right reply h = right_reply run is c reply (In-reverse reply (accepted_by shape (log_of run) c) (subst (In reply) same h))

@@ -158,7 +158,7 @@ module _ (shape : Shape) (few : HasFewTraitors shape) (run : List Step) (is : Is
         (subst (λ l. slice_get (taken_from (Replica q) l) place ≡ Some x.0) parts x.1) in
         (reply.0, subst (λ z. In (Take (Replica q) z) newer) (sym reply.1) new, reply.2)
 
-    -- so it accepts a reply to its request, if it has not done so earlier
+    -- so it accepts a reply to its request, unless it did so earlier
     pub accepts_since : 2 * shape.f < shape.n → (p : ℕ) (ask : SignedRequest) → ask.request.number ≡ number
         → In (Post (Replica p) (Ask ask)) (log_of moment (Client c))
         → ((q : ℕ) → IsLoyal shape (Replica q) → IsReached shape (log_of moment (Replica q)) c number × TookSince (log_of run) (log_of moment) c q)

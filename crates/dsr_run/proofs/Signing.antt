@@ -37,7 +37,7 @@ use Rattle.dsr_run.proofs.Posts.{IsValue, IsOfSlot, post_of_slot}
 
 -- ---- posts in a loyal log
 
--- an entry of a loyal log was next when it was made
+-- each entry of a loyal log was next for the log before it
 pub record WasNext (shape : Shape) (me : Actor) (entry : Entry) : Type 0 where
   pub older : List Entry
   pub loyal : IsLoyalLog shape me older

@@ -1,4 +1,4 @@
--- With three replicas and one client, if one replica may be a traitor, a request may not have acted a round before the bound.
+-- With three replicas, f = 1 and one client, a request may not have acted a round before the bound.
 use Rattle.std.proofs.Common.{◌≡◌, ℕ, suc, ◌<◌, ◌^◌, List, [], ◌∷◌, ◌++◌, length, refl, sym, ◌∙◌, subst, arith}
 use Rattle.std.specs.Prelude.{IsTrue}
 use Rattle.std.proofs.lemmas.List.Elements.{All-nil, All-cons}

@@ -15,8 +15,8 @@ use Rattle.dsr_run.specs.Eager.{IsEager}
 use Rattle.dsr_run.specs.Run.{IsRun}
 use Rattle.dsr_run.specs.Step.{Step, Logs, log_of}
 
--- an eager replica holds the ask since it had closed t rounds: at some moment a loyal replica had closed t rounds and held the ask of
--- the ask's client, and from then on it was eager
+-- an eager replica holds the ask since it closed t rounds: at some moment a loyal replica has closed t rounds and holds this ask of the
+-- ask's client, and from then on it is eager
 pub record IsHeldEagerly (shape : Shape) (logs : Logs) (ask : SignedRequest) (t : ℕ) : Type 0 where
   pub replica : ℕ
   pub loyal : IsLoyal shape (Replica replica)
@@ -40,14 +40,14 @@ rounds_to_act shape = shape.n * turns shape.m + shape.f + 1
 abbrev pub HasActed : Shape → List Entry → Request → Type 0
 HasActed shape log request = In request (acted (decided_requests shape log))
 
--- in each run of the shape a request that an eager loyal replica holds since it had closed t rounds has acted at each loyal replica that
+-- in each run of the shape, a request that an eager loyal replica holds since it closed t rounds has acted at each loyal replica that
 -- has closed t + count rounds
 abbrev pub ActsWithin : Shape → ℕ → Type 0
 ActsWithin shape count = (run : List Step) → IsRun shape run → (ask : SignedRequest) (t : ℕ) → IsHeldEagerly shape (log_of run) ask t
     → (q : ℕ) → IsLoyal shape (Replica q) → t + count ≤ rounds shape (log_of run (Replica q)) → HasActed shape (log_of run (Replica q)) ask.request
 
--- since these earlier logs the client has taken an envelope that the replica posted since then: it took more from the replica than this
--- one had posted to it by then
+-- since these earlier logs the client has taken an envelope that the replica posted since then: it has taken more envelopes from the
+-- replica than the replica posted to it by then
 abbrev pub TookSince : Logs → Logs → ℕ → ℕ → Type 0
 TookSince logs earlier client replica =
     length (posted_to (Client client) (earlier (Replica replica))) < length (taken_from (Replica replica) (logs (Client client)))

@@ -18,8 +18,8 @@ use Rattle.dsr_replica.specs.Conduct.{envelope_with}
 use Rattle.dsr_replica.specs.Decided.{decided_requests}
 use Rattle.dsr_replica.specs.Held.{held, all_held}
 
--- whether the held ask would act after the client's last reply: whether it has a greater number; never if no ask is held, and always if
--- one is and there is no reply
+-- whether the held ask would act after the client's last reply, because it has a greater number: always for a client without a reply, and
+-- never without a held ask
 abbrev pub is_newer : Option SignedRequest → Option Reply → Bool
 is_newer None last = false
 is_newer (Some ask) None = true
@@ -69,7 +69,7 @@ first_in_turn m (Some client) = next_client m client
 abbrev pub next_proposed : Shape → List Entry → List ℕ
 next_proposed shape log = take 8 (filter (is_waiting shape log) (in_turn shape.m shape.m (first_in_turn shape.m (last_proposed shape log))))
 
--- the envelope begins the replica's own slot, if one begins, with the requests of these clients; idle if nobody waits
+-- the envelope begins the replica's own slot, in a round that begins one, with the requests of these clients; idle if nobody waits
 abbrev pub ProposesNext : Shape → Actor → List Entry → Envelope → Type 0
 ProposesNext shape me log envelope = me ≡ sender_of shape (rounds shape log) → (asks : List SignedRequest)
     × (all_held shape log (next_proposed shape log) ≡ Some asks) × (envelope ≡ envelope_with shape me log (value_of asks))

@@ -29,7 +29,7 @@ pub record HasResponse (shape : Shape) (logs : Logs) (request : Request) (reply 
   pub accepted : In reply (accepted shape (logs (Client request.client)))
   pub number : reply.number ≡ request.number
 
--- real time (Herlihy and Wing 1990): the first request had a response at a moment of the run when the second was not yet invoked
+-- real time (Herlihy and Wing 1990): at some moment of the run the first request has a response and the second is not yet invoked
 pub record Precedes (shape : Shape) (run : List Step) (first second : Request) : Type 0 where
   pub moment : List Step
   pub past : Extends run moment

@@ -1,5 +1,5 @@
--- Which steps an actor may take, as far as its own log shows it (this project). With the one box that a step uses, that is enough for
--- a step in a run: nobody has to look at another's log.
+-- Which steps an actor's own log lets it take (this project). With the one box that a step uses, that is enough for a step in a run:
+-- nobody has to look at another's log.
 use Rattle.std.specs.Prelude.{◌≡◌, ◌⊎◌, suc, ◌<◌, ◌^◌, true, false, List, None, length}
 use Rattle.dsr_names.specs.Shape.{Shape, is_traitor}
 use Rattle.dsr_names.specs.declared.actor.Actor.{Actor}
@@ -17,7 +17,7 @@ use Rattle.dsr_client.specs.Conduct.{IsNext as IsNextOfClient}
 use Rattle.dsr_client.specs.State.{outstanding}
 use Rattle.dsr_run.specs.Run.{KeepsRounds}
 
--- an entry keeps the protocol of its actor, as its log shows it: that of a loyal replica, or of a client; a traitor is free
+-- an entry keeps the protocol of its actor by the actor's own log: that of a loyal replica, or of a client; a traitor is free
 abbrev pub KeepsOwn : Shape → Actor → List Entry → Entry → Type 0
 KeepsOwn shape (Replica p) log entry = is_traitor shape p ≡ false → IsNext shape (Replica p) log entry × KeepsRounds shape log entry
 KeepsOwn shape (Client c) log entry = IsNextOfClient shape c log entry
@@ -40,6 +40,6 @@ pub record MayPost (shape : Shape) (me : Actor) (log : List Entry) (to : Actor) 
   pub fits : FitsWhereFree shape me log to envelope
   pub forges : ForgesNone shape me log envelope
 
--- it may post to this actor again: with that post the box will have had fewer than 2^40
+-- it may post to this actor again: counting this post, the box has fewer than 2^40 posts
 abbrev pub HasPostsLeft : List Entry → Actor → Type 0
 HasPostsLeft log to = suc (length (posted_to to log)) < 2 ^ 40

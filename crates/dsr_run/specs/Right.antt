@@ -1,5 +1,5 @@
 -- When all that clients accepted is right (Schneider 1990: the replies are those of one machine that processes the requests one
--- after another; that a place is not before what the client had seen is this project's).
+-- after another; this project adds that no place is before what the client knew of when it asked).
 use Rattle.std.specs.Prelude.{◌≡◌, ℕ, ◌<◌, ◌≤◌, ◌==◌, Bool, false, List, [], ◌∷◌, ◌++◌, Option, None, Some, if◌then◌else◌}
 use Rattle.std.specs.Option.{option_or}
 use Rattle.dsr_base.specs.Growth.{Extends}

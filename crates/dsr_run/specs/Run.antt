@@ -81,7 +81,7 @@ pub record IsNextStep (shape : Shape) (logs : Logs) (step : Step) : Type 0 where
   pub limits : KeepsLimits logs step.0 step.1
   pub conduct : KeepsConduct shape logs step.0 step.1
 
--- a run: from empty logs on, steps each of which might be next
+-- a run: it starts from empty logs, and each step might be next after those before it
 abbrev pub IsRun : Shape → List Step → Type 0
 IsRun shape [] = Unit {0}
 IsRun shape (step ∷ older) = IsRun shape older × IsNextStep shape (log_of older) step

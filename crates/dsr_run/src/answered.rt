@@ -1,5 +1,5 @@
-//! Bounded response: a request that an eager loyal replica holds acts within a stated number of closed rounds, and one more envelope
-//! from each loyal replica then answers its client. Laws of runs, as contracts of functions that do nothing.
+//! Bounded response: a request that an eager loyal replica holds acts within a stated number of closed rounds, and one more envelope from
+//! each loyal replica then answers its client. States these laws of runs as contracts of functions that do nothing.
 
 ghost use Rattle.std.specs.Prelude.{◌≡◌, ℕ, ◌+◌, ◌*◌, ◌<◌, ◌≤◌, List};
 ghost use Rattle.dsr_base.specs.Growth.{Extends};
@@ -39,10 +39,10 @@ pub fn eager_replicas_answer()
         → HasActed shape (logs (Replica q)) ask.request }
 {}
 
-/// Clients are answered, if at most f replicas are traitors and n is at least 2f+1. Let an eager loyal replica hold a client's request
-/// since it had closed t rounds, and look at a moment at which each loyal replica has closed t + n * turns(m) + f + 1 rounds. One
-/// envelope that each loyal replica posts to the client after that moment is enough: when the client has taken one from each, it has
-/// accepted a reply to its request. Nothing says that they are posted or taken, and what traitors do plays no part.
+/// Clients are answered if at most f replicas are traitors and n is at least 2f+1. Let an eager loyal replica hold a client's request
+/// since it closed t rounds, and look at a moment when each loyal replica has closed t + n * turns(m) + f + 1 rounds. One envelope that
+/// each loyal replica posts to the client after that moment is enough: when the client has taken one from each, it has accepted a reply to
+/// its request. Nothing says that replicas post these envelopes or that the client takes them, and what traitors do plays no part.
 pub fn clients_are_answered_in_time()
     ensures runs { (shape : Shape) (run moment : List Step) → HasFewTraitors shape → 2 * shape.f < shape.n → IsRun shape run → Extends run moment
         → (ask : SignedRequest) (t : ℕ) → IsHeldEagerly shape (log_of moment) ask t
@@ -58,8 +58,7 @@ pub fn clients_are_answered_in_time()
 {}
 
 /// For two shapes no smaller number of rounds is enough. With one replica and nine clients the number is 3, and in some run a request has
-/// not acted after 2 rounds. With three replicas, one of which may be a traitor, and one client it is 5, and in some run a request has
-/// not acted after 4.
+/// not acted after 2 rounds. With three replicas, f = 1 and one client the number is 5, and in some run a request has not acted after 4.
 pub fn eager_replicas_answer_no_sooner()
     ensures one { (rounds_to_act (shape_of 1 0 9 0) ≡ 3) × ¬ ActsWithin (shape_of 1 0 9 0) 2 }
     ensures three { (rounds_to_act (shape_of 3 1 1 0) ≡ 5) × ¬ ActsWithin (shape_of 3 1 1 0) 4 }

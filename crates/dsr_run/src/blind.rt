@@ -1,4 +1,5 @@
-//! What loyal actors do, decide, accept and see does not depend on who the traitors are. Laws, as contracts of functions that do nothing.
+//! What loyal actors do, decide, accept and see does not depend on who the traitors are. States these laws as contracts of functions that
+//! do nothing.
 
 ghost use Rattle.std.specs.Prelude.{◌≡◌, ◌↔◌, ℕ, List};
 ghost use Rattle.dsr_base.specs.Growth.{Extends};

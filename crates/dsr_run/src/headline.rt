@@ -1,4 +1,4 @@
-//! The headline: what clients accept is right. Laws of runs, as contracts of functions that do nothing.
+//! The headline: what clients accept is right. States laws of runs as contracts of functions that do nothing.
 
 ghost use Rattle.std.specs.Prelude.{◌≡◌, ℕ, ◌*◌, ◌<◌, List};
 ghost use Rattle.dsr_base.specs.Growth.{Extends};
@@ -14,9 +14,10 @@ ghost use Rattle.dsr_run.specs.Right.{IsRightReply, IsRight, TookAllReplies, Has
 ghost use Rattle.dsr_run.specs.Run.{IsRun, AreLogs};
 ghost use Rattle.dsr_run.specs.Step.{Step, Logs, log_of};
 
-/// Every run is right, if at most f replicas are traitors. For each reply that a client accepted, the request that the client posted
-/// under its number is in the history at the reply's place, with the reply's answer, and that place is not before what the client had
-/// seen when it first asked; no number of a client is in the history twice; and the history at each earlier time is a prefix of it.
+/// Every run is right if at most f replicas are traitors. For each reply that a client accepted, the request that the client posted under
+/// its number is in the history at the reply's place, with the reply's answer, and that place is not before what the client knew of the
+/// history just before it first asked; no number of a client is in the history twice; and the history at each earlier time is a prefix of
+/// it.
 pub fn runs_are_right()
     ensures right { (shape : Shape) (run : List Step) → HasFewTraitors shape → IsRun shape run → IsRight shape run }
     ensures replies { (shape : Shape) (run : List Step) → HasFewTraitors shape → IsRun shape run → (c : ℕ) (reply : AReply)
@@ -35,7 +36,7 @@ pub fn clients_are_answered()
 /// so. For logs, one order linearizes every run with these logs, whatever the order of its steps.
 ///
 /// By any clock: let the logs of all actors be those of a run both at an earlier and at a later moment, the later ones being longer or
-/// equal. If one request had a response at the earlier moment and another one, of any client, was not yet invoked then but has a response
+/// equal. If one request has a response at the earlier moment, and another one, of any client, is not yet invoked then but has a response
 /// at the later moment, then the other one has the greater place.
 pub fn runs_are_linearizable()
     ensures strongly { (shape : Shape) → HasFewTraitors shape → AreStronglyLinearizable shape }
@@ -52,8 +53,8 @@ pub fn history_linearizes()
     ensures logs { (shape : Shape) (logs : Logs) → HasFewTraitors shape → LinearizesLogs shape logs (history shape logs) }
 {}
 
-/// What `real_time` means for answered requests, in any run and any order that linearizes it: if the first one had its response when
-/// the second was not yet invoked, the second has the greater place.
+/// What `real_time` means for answered requests, in any run and any order that linearizes it: if the first one has its response at a
+/// moment when the second is not yet invoked, the second has the greater place.
 pub fn linearizations_keep_real_time()
     ensures { (shape : Shape) (run moment : List Step) (order : List Request) → IsLinearization shape run order → Extends run moment
         → (first second : Request) (reply later : AReply) → HasResponse shape (log_of moment) first reply → ¬ IsInvoked (log_of moment) second

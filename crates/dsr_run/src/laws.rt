@@ -1,4 +1,4 @@
-//! The laws of runs, as contracts of functions that do nothing.
+//! States the laws of runs as contracts of functions that do nothing.
 
 ghost use Rattle.std.specs.Prelude.{◌≡◌, ◌⊎◌, ℕ, ◌^◌, ◌<◌, ◌≤◌, List, [], ◌∷◌, ◌++◌, Some, length};
 ghost use Rattle.dsr_base.specs.Growth.{Extends};

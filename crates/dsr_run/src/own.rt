@@ -1,4 +1,4 @@
-//! An actor's own log and the box that it uses are enough for its next step; and the laws of runs, for logs alone. Laws, as
+//! An actor's own log and the box that it uses are enough for its next step; and the laws of runs, for logs alone. States these laws as
 //! contracts of functions that do nothing.
 
 ghost use Rattle.std.specs.Prelude.{◌≡◌, ◌⊎◌, ◌↔◌, ℕ, ◌<◌, ◌≤◌, ◌^◌, List, [], ◌∷◌, ◌++◌, length};
