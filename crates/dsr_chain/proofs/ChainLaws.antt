@@ -108,7 +108,7 @@ extended_distinct signers a distinct fresh =
     all_pairs_push (λ x y. x ≢ y) signers a distinct
     (λ k d inside. λ e. fresh (k, get_or signers k d, inside, get_or_default signers k (get_or signers k d) d inside, e))
 
--- if a replica of the shape signs a proper chain that it had not signed, the chain is proper for the next round
+-- if a replica of the shape signs a proper chain that lacks its signature, the chain is proper for the next round
 pub extended_proper : (shape : Shape) (slot r : ℕ) (chain : Chain) (a : Actor) → IsProper shape slot r chain → IsReplica shape a
     → ¬ Any (λ s. s.signer ≡ a) chain.signatures → IsProper shape slot (suc r) (extended chain a)
 extended_proper shape slot r chain a h replica fresh =

@@ -106,7 +106,7 @@ never_misfits chain links h misfit =
     fits_in_turn chain.slot chain.value links h.of_slot h.of_content
     (subst (λ xs. HasMisfit (chain_of chain.slot chain.value xs)) (sym h.are) misfit)
 
--- the chain that is made with one more in turn
+-- a chain whose links in turn are extended by one actor is the extended chain
 pub made_extended : (chain made : Chain) (links : Links) (a : Actor) (slot : ℕ) (value : SlotValue) → InTurnOf chain links → slot ≡ chain.slot
     → value ≡ chain.value → made ≡ chain_of slot value (signatures_of (extended links a)) → made ≡ extended_chain chain a
 made_extended chain made links a slot value h slot_is value_is is =

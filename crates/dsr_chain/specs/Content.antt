@@ -18,7 +18,7 @@ abbrev pub signed_in : SlotValue → List SignedRequest
 signed_in Idle = []
 signed_in (Act batch) = batch
 
--- the value with these signed requests, idle if there are none
+-- the value with these signed requests; idle if the list is empty
 abbrev pub value_of : List SignedRequest → SlotValue
 value_of [] = Idle
 value_of (s ∷ ss) = Act (s ∷ ss)

@@ -16,7 +16,7 @@ abbrev pub IsReplica : Shape → Actor → Type 0
 IsReplica shape (Replica r) = r < shape.n
 IsReplica shape (Client c) = ⊥
 
--- the sender of a slot, as an actor
+-- the actor that is the sender of a slot
 abbrev pub sender_of : Shape → ℕ → Actor
 sender_of shape slot = Replica (sender shape slot)
 

@@ -53,8 +53,8 @@ impl Chain {
         Chain::start_with(alloc, slot, value.signed(), key)
     }
 
-    /// Creates the chain whose value has these signed requests (idle if there are none), with the key's signature alone.
-    /// Requires at most 8 of them. `NoMemory` if memory runs out.
+    /// Creates the chain whose value has these signed requests, with the key's signature alone; the value is idle if the
+    /// list is empty. Requires at most 8 requests. `NoMemory` if memory runs out.
     pub fn start_with(
         alloc: Global,
         slot: u64,

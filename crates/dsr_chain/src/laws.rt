@@ -1,4 +1,4 @@
-//! Laws over the definitions, as contracts of functions that do nothing.
+//! States laws over the definitions as contracts of functions that do nothing.
 
 ghost use Rattle.std.specs.Prelude.{◌≡◌, ◌↔◌, ℕ, List, [], Option, None, Some, Any, IsTrue};
 ghost use Rattle.dsr_names.specs.Shape.{Shape};

@@ -10,7 +10,8 @@ use std::alloc::Global;
 use std::marker::Model;
 use std::sync::Arc;
 
-/// A slot's value that several chains share, as its signed requests; none if it is idle.
+/// The signed requests of a slot's value, which several chains share; an empty list if the value is
+/// idle.
 #[derive(Drop)]
 pub(crate) struct SharedValue {
     signed: Arc<Vec<SignedRequest>, Global>,

@@ -57,7 +57,7 @@ impl SlotValue {
     }
 }
 
-/// Returns the requests without their signatures, or `None` if there are none.
+/// Returns the requests without their signatures, or `None` if the list is empty.
 pub(crate) fn content_of(signed: &[SignedRequest]) -> Option<Requests>
     requires { length signed.now ≤ 8 }
     ensures { result ≡ content_in signed.now }

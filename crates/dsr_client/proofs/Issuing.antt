@@ -19,7 +19,7 @@ use Rattle.dsr_client.specs.State.{outstanding, seen}
 use Rattle.dsr_client.proofs.Fronts.{seen_grows}
 use Rattle.dsr_client.proofs.Numbers.{numbered}
 
--- an ask of the number, as an entry
+-- the entry is an ask of the number
 record IsAskOf (number : ℕ) (entry : Entry) : Type 0 where
   pub replica : ℕ
   pub ask : SignedRequest
@@ -133,7 +133,7 @@ module _ (shape : Shape) (number : ℕ) where
       front_stays (Post (Replica h.replica) (Ask h.ask) ∷ h.older) log front
       (first_front h.older h.first h.replica h.ask h.is_number ∙ ap Some h.front_is) (h.newer, h.parts)
 
-  -- the front is no more than the seen front now
+  -- the front is at most the present seen front
   seen_since : (newer log : List Entry) → seen shape log ≤ seen shape (newer ++ log)
   seen_since [] log = omega arith
   seen_since (entry ∷ newer) log =

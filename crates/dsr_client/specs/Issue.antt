@@ -25,19 +25,18 @@ is_ask_for number (Post (Replica q) envelope) = asks_for number envelope
 is_ask_for number (Post (Client c) envelope) = false
 is_ask_for number (Take from envelope) = false
 
--- the issue front of a number: the seen front of the client just before it first asked for a request with this number; none if
--- it never did
+-- the issue front of a number: the seen front of the client just before it first asks for a request with this number; none if
+-- it never asked for one
 abbrev pub issue_front : Shape → ℕ → List Entry → Option ℕ
 issue_front shape number [] = None
 issue_front shape number (entry ∷ older) =
     option_or (issue_front shape number older) (if is_ask_for number entry then Some (seen shape older) else None)
 
--- no replica was asked for a request with this number
+-- the client has asked no replica for a request with this number
 abbrev pub IsUnasked : ℕ → List Entry → Type 0
 IsUnasked number log = (q : ℕ) (ask : SignedRequest) → In (Post (Replica q) (Ask ask)) log → ask.request.number ≢ number
 
--- the first ask for a request with this number: the log up to it, in which none was made, and the seen front by that
--- log
+-- the first ask for a request with this number: the older log has no such ask, and `front` is the seen front by that log
 pub record IsIssued (shape : Shape) (number : ℕ) (log : List Entry) (front : ℕ) : Type 0 where
   pub newer : List Entry
   pub older : List Entry

@@ -36,7 +36,7 @@ with_post (Ask ask) state = asked_beside state.outstanding ask state
 with_post (Reply reply) state = state
 with_post (Seen front) state = state
 
--- the state after a reply won, if one did: it is accepted, and nothing is outstanding
+-- the state after a reply won: it is accepted, and nothing is outstanding; the same state if no reply won
 abbrev pub settled : Option AReply → State → State
 settled None state = state
 settled (Some reply) state = record { outstanding = None; notes = []; accepted = reply ∷ state.accepted }
@@ -81,7 +81,7 @@ outstanding shape log = (state_after shape log).outstanding
 abbrev pub accepted : Shape → List Entry → List AReply
 accepted shape log = (state_after shape log).accepted
 
--- one more than the greatest place of these replies, or 0 if there are none
+-- one more than the greatest place of these replies, or 0 if the list is empty
 abbrev pub front_of : List AReply → ℕ
 front_of [] = 0
 front_of (reply ∷ older) = max (suc reply.place) (front_of older)

@@ -1,4 +1,4 @@
-//! The laws of a client's log, as the contracts of functions that do nothing.
+//! States the laws of a client's log as contracts of functions that do nothing.
 
 ghost use Rattle.std.specs.Prelude.{◌≡◌, ◌≢◌, ◌⊎◌, ◌↔◌, ℕ, suc, ◌*◌, max, ◌<◌, ◌≤◌, List, [], ◌∷◌, ◌++◌, None, Some, length};
 ghost use Rattle.std.specs.Option.{option_map};
@@ -43,8 +43,8 @@ pub fn calls_keep_a_clients_log()
         → (from : Actor) → IsActor shape from → from ≢ Client me → (envelope : Envelope) → IsClientLog shape me (Take from envelope ∷ log) }
 {}
 
-/// An ask tells the choice by which it was posted: if a request was outstanding, the plain one, which asks for that again, and
-/// else the choice to begin a request with the ask's operation, which asks for the next number.
+/// An ask shows the choice of its post: if a request was outstanding, the plain one, which asks for that again; else the choice to
+/// begin a request with the ask's operation, which asks for the next number.
 pub fn asks_tell_choices()
     ensures choice { (shape : Shape) (me : ℕ) (log : List Entry) (pick : Pick) (ask : SignedRequest)
         → ask_to shape me log pick ≡ Some (Ask ask) → pick ≡ told_choice (outstanding shape log) ask }
@@ -128,9 +128,9 @@ pub fn accepted_replies_are_numbered()
         → (reply : AReply) → In reply (accepted shape log) → IsCount reply.number }
 {}
 
-/// The issue front of a number is the seen front of the client just before it first posted an ask with that number to a replica;
-/// there is none exactly if it never did, as for the next number while nothing is outstanding. It stays as the log goes on, and is
-/// no more than the seen front.
+/// The issue front of a number is the seen front of the client just before it first posts an ask with that number to a replica; a
+/// number has no issue front exactly if the client never posted such an ask. The next number, for example, has none while nothing is
+/// outstanding. An issue front stays the same as the log goes on, and is at most the seen front.
 pub fn issue_fronts_are_of_first_asks()
     ensures issued { (shape : Shape) (number : ℕ) (log : List Entry) (front : ℕ)
         → (issue_front shape number log ≡ Some front) ↔ IsIssued shape number log front }

@@ -85,7 +85,7 @@ one_request bytes request free reads statement = (
 
 -- ---- slashes: a link
 
--- with only one slash the bytes are no statement's text
+-- bytes with only one slash are not a statement's text
 one_slash : (bytes front rest : List ℕ) → bytes ≡ front ++ 47 ∷ rest → IsAbsent 47 front → IsAbsent 47 rest → (statement : Statement)
     → IsStatement statement → bytes ≡ statement_text statement → ⊥
 one_slash bytes front rest parts free_front free_rest (Ask request) h e =

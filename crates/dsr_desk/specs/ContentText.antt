@@ -3,7 +3,7 @@ use Rattle.std.specs.Prelude.{ℕ, List, Option, None, Some, codes}
 use Rattle.dsr_request.specs.Request.{Request}
 use Rattle.dsr_request.specs.RequestsText.{requests_text, IsRequests}
 
--- the token of a content: its requests joined by commas, or `idle` if there are none
+-- the token of a content: its requests joined by commas, or `idle` for a content without requests
 abbrev pub content_text : Option (List Request) → List ℕ
 content_text None = codes "idle"
 content_text (Some requests) = requests_text requests

@@ -1,10 +1,10 @@
--- How texts write a list of signers (this project): `r0+r1`, or `-` if there are none.
+-- How texts write a list of signers (this project): `r0+r1`, or `-` if the list is empty.
 use Rattle.std.specs.Prelude.{ℕ, List}
 use Rattle.dsr_base.specs.Joined.{joined_or_dash, AreUpTo}
 use Rattle.dsr_names.specs.Actor.{actor_text, IsNumbered}
 use Rattle.dsr_names.specs.declared.actor.Actor.{Actor}
 
--- actors joined by plus signs, or a dash if there are none
+-- actors joined by plus signs, or a dash if the list is empty
 abbrev pub signers_text : List Actor → List ℕ
 signers_text = joined_or_dash 43 actor_text
 

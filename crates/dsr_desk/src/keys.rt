@@ -42,8 +42,8 @@ impl Model for Key {
     ghost view = { λ k. k.holder };
 }
 
-/// The signature of an actor on a statement. Only `Key::sign` makes one, and `Links`, which are made from keys and signatures. It
-/// is copied without allocating.
+/// The signature of an actor on a statement. Only `Key::sign` and `Links` create one, and `Links` come only from keys and
+/// signatures. It is copied without allocating.
 #[derive(Clone, Copy, Debug, PartialEq, Eq)]
 pub struct Signature {
     signer: Actor,

@@ -5,5 +5,5 @@ use dsr_names::Actor;
 pub const MOST_SIGNERS: usize = 16;
 
 /// A list of at most 16 actors, of fixed size, copied without allocating. In its text plus signs join them, like
-/// `r0+r1`; it is `-` if there are none.
+/// `r0+r1`; the text of an empty list is `-`.
 pub type Signers = UpTo<Actor, MOST_SIGNERS>;

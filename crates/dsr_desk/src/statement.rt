@@ -3,7 +3,7 @@ ghost use Rattle.std.specs.Prelude.{◌≡◌, ◌↔◌, IsTrue};
 use crate::signers::Signers;
 use dsr_request::{Request, Requests};
 
-/// What a signature is made on. A statement is copied without allocating.
+/// What an actor signs. A statement is copied without allocating.
 #[derive(Clone, Copy, Debug, PartialEq, Eq)]
 pub enum Statement {
     /// A client asks for this request.

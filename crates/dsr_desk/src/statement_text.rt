@@ -29,8 +29,8 @@ impl Statement {
         }
     }
 
-    /// Tells whether the statement has a text. Only a link whose slot is 2^40 or more has none, as the code
-    /// shows; no clause says so.
+    /// Returns whether the statement has a text. The code shows that only a link whose slot is 2^40 or more
+    /// has none; no clause says so.
     pub fn fits(&self) -> bool
         ensures { IsTrue result ↔ IsStatement self.now }
     {

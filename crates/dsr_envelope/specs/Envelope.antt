@@ -7,7 +7,7 @@ use Rattle.dsr_chain.specs.Content.{signed_in}
 use Rattle.dsr_envelope.specs.declared.envelope.Envelope.{Envelope}
 use Rattle.dsr_envelope.specs.declared.envelope.Envelope.TheVariants.{Empty, Round, Ask, Reply, Seen}
 
--- the envelope of a round with these chains, the empty one if there are none
+-- the envelope of a round with these chains; the empty one if the list is empty
 abbrev pub round_envelope : ℕ → List Chain → Envelope
 round_envelope round [] = Empty
 round_envelope round (chain ∷ more) = Round round (chain ∷ more)

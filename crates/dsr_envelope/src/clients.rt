@@ -26,8 +26,8 @@ impl Model for Clients {
 impl Clients {
     ghost use Rattle.dsr_envelope.specs.Pick.{IsClients};
 
-    /// Makes the list of these clients. `None` if there are none, or more than 8, or one of them is there
-    /// twice.
+    /// Makes the list of these clients. `None` if the list is empty, has more than 8 clients or has one
+    /// of them twice.
     pub fn of(clients: &[ClientId]) -> Option<Clients>
         ensures some { IfSome result (λ list. list ≡ clients.now) }
         ensures when { IsSome result ↔ IsClients clients.now }
@@ -59,7 +59,7 @@ fn are_different(clients: &[ClientId]) -> bool
     }
 }
 
-/// Tells whether the client is none of the others.
+/// Returns whether the client differs from all others.
 fn differs_from(client: ClientId, others: &[ClientId]) -> bool
     ensures { IsTrue result ↔ All (λ (other : ℕ). client ≢ other) others.now }
 {

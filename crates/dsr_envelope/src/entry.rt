@@ -1,7 +1,7 @@
 use crate::letter::Letter;
 use dsr_names::Actor;
 
-/// One step of an actor, as its log records it.
+/// One step of an actor in its log.
 #[derive(Drop)]
 pub enum Entry {
     /// The actor posted the envelope.

@@ -12,7 +12,7 @@ use std::alloc::Global;
 /// What one actor posts to another, and the other takes.
 #[derive(Drop)]
 pub enum Envelope {
-    /// Nothing: a replica's post in a round in which it has no chain to send.
+    /// Carries nothing: a replica posts it in a round without a chain to send.
     Empty,
     /// The chains that a replica sends in a global round.
     Round {

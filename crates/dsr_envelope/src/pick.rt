@@ -4,10 +4,10 @@ use crate::clients::Clients;
 use dsr_base::Exact;
 use dsr_request::Op;
 
-/// What a loyal actor chooses to post, if its protocol leaves a choice.
+/// What a loyal actor chooses to post if its protocol leaves a choice.
 #[derive(Clone, Copy, Debug, PartialEq, Eq)]
 pub enum Pick {
-    /// Nothing in particular.
+    /// The default: a sender proposes idle, and a client asks again for its outstanding request.
     Plain,
     /// The held requests of these clients, in this order.
     From(Clients),

@@ -5,7 +5,7 @@ use dsr_request::{Name, Op, Request, Requests};
 use std::process::Abort;
 use std::test::Fail;
 
-// Checks that the list of these requests has exactly them: `len` of them, the last of which is `last`.
+// Checks that the list of these requests has exactly them: `len` of them, with `last` at the end.
 fn lists(rt: &impl Abort, requests: &[Request], len: usize, last: Request) -> Result<(), Fail>
     requires { 0 < len }
 {

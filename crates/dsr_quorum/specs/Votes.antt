@@ -1,4 +1,4 @@
--- Which reply the replicas vote for (Schneider 1990: where at most f of the replicas are faulty, what f+1 of them put
+-- Which reply the replicas vote for (Schneider 1990: if at most f of the replicas are faulty, what f+1 of them put
 -- out alike is right). Notes are listed newest first.
 use Rattle.std.specs.Prelude.{ℕ, ◌==◌, nat_lt, Bool, false, List, [], ◌∷◌, Option, None, Some, if◌then◌else◌}
 use Rattle.std.specs.Option.{option_or}

@@ -1,4 +1,4 @@
-//! The laws of voting, as the contracts of functions that do nothing.
+//! States the laws of voting as contracts of functions that do nothing.
 
 ghost use Rattle.std.specs.Prelude.{◌≡◌, ℕ, ◌+◌, ◌*◌, ◌<◌, ◌≤◌, Bool, true, List, None, Some};
 ghost use Rattle.dsr_base.specs.Bits.{count_below};
@@ -7,8 +7,8 @@ ghost use Rattle.dsr_names.specs.declared.actor.Actor.TheVariants.{Replica};
 ghost use Rattle.dsr_ledger.specs.declared.reply.Reply.{Reply};
 ghost use Rattle.dsr_quorum.specs.Votes.{Note, first_of, votes, winner};
 
-/// If at most f replicas are traitors, one of more than f different replicas is loyal, whatever they have in common. So if a reply has more than f votes,
-/// it is the first reply of a loyal replica. The winner has more than f votes, and if there is no winner, no reply has more than f.
+/// If at most f replicas are traitors, one of any f+1 different replicas is loyal, whatever they have in common. So a reply with more than f votes is the
+/// first reply of a loyal replica. The winner has more than f votes; without a winner, no reply has more than f.
 pub fn enough_votes_have_a_loyal_one()
     ensures one { (shape : Shape) (gave : ℕ → Bool) → HasFewTraitors shape → shape.f < count_below gave shape.n
         → (p : ℕ) × IsLoyal shape (Replica p) × (gave p ≡ true) }

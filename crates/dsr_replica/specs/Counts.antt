@@ -12,14 +12,12 @@ abbrev pub IsInside : ℕ → Due → Type 0
 IsInside n (PostTo q) = q < n
 IsInside n (TakeFrom p) = p < n
 
--- the number of posts to replica q if t rounds are closed: one more once the round in progress has its post
--- to q
+-- the number of posts to replica q if t rounds are closed: t, or one more after this round's post to q
 abbrev pub posts_at : Due → ℕ → ℕ → ℕ
 posts_at (PostTo next) t q = if nat_lt q next then suc t else t
 posts_at (TakeFrom next) t q = suc t
 
--- the number of takes from replica p if t rounds are closed: one more once the round in progress has its
--- take from p
+-- the number of takes from replica p if t rounds are closed: t, or one more after this round's take from p
 abbrev pub takes_at : Due → ℕ → ℕ → ℕ
 takes_at (PostTo next) t p = t
 takes_at (TakeFrom next) t p = if nat_lt p next then suc t else t

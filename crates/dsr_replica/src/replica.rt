@@ -527,8 +527,8 @@ fn read_envelope(flights: &mut Flights, envelope: Envelope)
     }
 }
 
-/// Tells whether one of the envelope's chains would be kept if it were read in the round in progress: none if the
-/// envelope is of another round.
+/// Returns whether one of the envelope's chains would be kept if it were read in the round in progress; false if the envelope
+/// belongs to another round.
 fn keeps_one(flights: &Flights, envelope: &Envelope) -> bool
     ensures nothing { result ≡ false
         → map (with_chains (chains_for flights.now.round envelope.now)) flights.now.slots ≡ flights.now.slots }

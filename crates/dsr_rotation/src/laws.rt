@@ -1,4 +1,4 @@
-//! The laws of the calendar, as the contracts of functions that do nothing.
+//! States the laws of the calendar as contracts of functions that do nothing.
 
 ghost use Rattle.std.specs.Prelude.{◌≡◌, ℕ, ◌-◌, ◌<◌, ◌≤◌, ◌↔◌};
 ghost use Rattle.dsr_names.specs.Shape.{Shape, AgreeButForTraitors};

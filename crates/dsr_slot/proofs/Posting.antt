@@ -113,7 +113,7 @@ module _ (shape : Shape) (slot : ℕ) (read : ℕ → List Chain) (me : Actor) (
   abbrev kept : ℕ → List Kept
   kept r = kept_after shape slot read r
 
-  -- the chain of which a relay is made: kept in the very round before, in which it was read and proper
+  -- a relay extends a chain without the replica's signature that was read in the round before, and proper then
   pub record WasRelayed (r : ℕ) (c : Chain) : Type 0 where
     pub chain : Chain
     pub some : 0 < r

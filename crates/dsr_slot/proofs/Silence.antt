@@ -20,7 +20,7 @@ nothing_in_none {P = P} x xs none h = empty (subst (In x) none h)
     empty h = elim h [ ]
 
 module _ (shape : Shape) (slot : ℕ) (value : SlotValue) where
-  -- what each replica keeps after the first rounds, if it reads only what the loyal ones post
+  -- what each replica keeps after the first rounds, reading only what the loyal ones post
   abbrev kept_by : ℕ → ℕ → List Kept
   kept_by zero p = []
   kept_by (suc r) p =

@@ -35,7 +35,7 @@ one_more_kept shape slot closed chain earlier later more =
     sym (fold-append step before (earlier (suc closed)) (chain ∷ []))
     ∙ (ap (keep shape slot (suc closed) before) (sym more.last) ∙ ap (λ kept. keep shape slot (suc closed) kept (later (suc closed))) same)
 
--- a state that read one more chain has read what it had read before, and that chain
+-- a state that reads one more chain has read the earlier chains and that one
 pub reads_one : (before after : SlotState) (chain : Chain) (earlier later : ℕ → List Chain) → after ≡ with_chain before chain
     → IsOneChainMore earlier later (suc before.closed) chain → HasRead before earlier → HasRead after later
 reads_one before after chain earlier later is more stands =

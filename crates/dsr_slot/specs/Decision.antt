@@ -1,5 +1,5 @@
--- What a replica decides for a slot after its round f+1 (Dolev and Strong 1983: the value where exactly one was
--- extracted, else the default; that the default is idle is this project's).
+-- What a replica decides for a slot after its round f+1 (Dolev and Strong 1983: the value if exactly one was
+-- extracted, else the default; this project's default is idle).
 use Rattle.std.specs.Prelude.{ℕ, suc, List, [], ◌∷◌}
 use Rattle.dsr_names.specs.Shape.{Shape}
 use Rattle.dsr_chain.specs.Chain.{Chain}

@@ -10,7 +10,7 @@ use Rattle.dsr_chain.specs.Chain.{Chain}
 use Rattle.dsr_chain.specs.ProperTest.{is_proper, same_content}
 use Rattle.dsr_slot.specs.declared.kept.Kept.{Kept}
 
--- the chain, as kept in this round
+-- this chain, kept in this round
 abbrev pub kept_in : ℕ → Chain → Kept
 kept_in round chain = record { round = round; chain = chain }
 

@@ -1,4 +1,4 @@
--- The state of one slot at one replica, as contracts see it (this project).
+-- How contracts see the state of one slot at one replica (this project).
 use Rattle.std.specs.Prelude.{◌≡◌, ℕ, suc, ◌<◌, ◌==◌, List, [], ◌∷◌, ◌++◌, Option, None, Some, if◌then◌else◌}
 use Rattle.dsr_names.specs.Shape.{Shape}
 use Rattle.dsr_chain.specs.Chain.{Chain}

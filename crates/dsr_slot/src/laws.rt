@@ -1,4 +1,4 @@
-//! The laws of one slot, as the contracts of functions that do nothing.
+//! States the laws of one slot as contracts of functions that do nothing.
 
 ghost use Rattle.std.specs.Prelude.{◌≡◌, ◌≢◌, ℕ, ◌<◌, ◌≤◌, List, All, AllPairs, length};
 ghost use Rattle.dsr_base.specs.Growth.{IsPrefixOf};

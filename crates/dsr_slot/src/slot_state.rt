@@ -298,7 +298,7 @@ impl SlotState {
     }
 }
 
-/// Copies the kept chain, if there is one.
+/// Copies the kept chain; gives `None` for `None`. `NoMemory` if one more handle is refused.
 fn copy_of(kept: &Option<Kept>) -> Result<Option<Kept>, Refusal>
     ensures same { IfOk result (λ copy. copy ≡ kept.now) }
     ensures refusal { IsOkUnless result Refusal.NoMemory }
