@@ -1,5 +1,5 @@
--- What a slot carries (Dolev and Strong 1983: the value that the sender signs; that it is a list of requests, and
--- that links cover the requests alone, is this project's).
+-- What a slot carries (Dolev and Strong 1983: the value that the sender signs; in this project it is a list of
+-- requests, and links cover the requests alone).
 use Rattle.std.specs.Prelude.{List, [], ◌∷◌, Option, None, Some, map}
 use Rattle.dsr_names.specs.declared.actor.Actor.{Actor}
 use Rattle.dsr_request.specs.Request.{Request}

@@ -1,5 +1,5 @@
--- When a chain of signatures is proper (Dolev and Strong 1983: a message of round r counts when it carries the value
--- with r distinct signatures, the sender's first; that clients sign the requests of the value is this project's).
+-- When a chain of signatures is proper (Dolev and Strong 1983: a message of round r counts when it carries the value with
+-- r distinct signatures, the sender's first; in this project clients also sign the requests of the value).
 use Rattle.std.specs.Prelude.{◌≡◌, ◌≢◌, ℕ, ◌<◌, Some, All, AllPairs, length, take, slice_get}
 use Rattle.dsr_names.specs.Shape.{Shape, sender}
 use Rattle.dsr_names.specs.declared.actor.Actor.{Actor}

@@ -181,14 +181,14 @@ impl Chain {
         self.body.value.signed()
     }
 
-    /// Tells whether one of the signatures is by this actor.
+    /// Returns whether one of the signatures is by this actor.
     pub fn has_signer(&self, actor: Actor) -> bool
         ensures { IsTrue result ↔ Any (λ signature. signature.signer ≡ actor) self.now.signatures }
     {
         stands_in(actor, self.signers().as_slice())
     }
 
-    /// Tells whether the values of two chains have the same content: the same requests in the same order, with whatever
+    /// Returns whether the values of two chains have the same content: the same requests in the same order, with whatever
     /// signatures beside them, or no requests in either.
     pub fn same_content(&self, other: &Chain) -> bool
         ensures { IsTrue result ↔ (content self.now.value ≡ content other.now.value) }
@@ -196,7 +196,7 @@ impl Chain {
         self.body.value.same_content(&other.body.value)
     }
 
-    /// Tells whether two chains have the same slot, value and signatures.
+    /// Returns whether two chains have the same slot, value and signatures.
     pub fn same(&self, other: &Chain) -> bool
         ensures { IsTrue result ↔ (self.now ≡ other.now) }
     {
@@ -205,7 +205,7 @@ impl Chain {
             && self.has_same_signatures(other)
     }
 
-    /// Tells whether one of the signatures is on a statement that does not fit its place.
+    /// Returns whether one of the signatures is on a statement that does not fit its place.
     pub fn has_misfit(&self) -> bool
         ensures { IsTrue result ↔ HasMisfit self.now }
     {
@@ -215,7 +215,7 @@ impl Chain {
         }
     }
 
-    /// Tells whether two chains with the same slot and value have the same signatures.
+    /// Returns whether two chains with the same slot and value have the same signatures.
     fn has_same_signatures(&self, other: &Chain) -> bool
         requires slot { self.now.slot ≡ other.now.slot }
         requires value { self.now.value ≡ other.now.value }
@@ -313,14 +313,14 @@ fn signers_of(signatures: &[Signature]) -> Signers
     signers
 }
 
-/// Tells whether the actor is one of the signers.
+/// Returns whether the actor is one of the signers.
 pub(crate) fn stands_in(actor: Actor, signers: &[Actor]) -> bool
     ensures { IsTrue result ↔ Any (λ a. a ≡ actor) signers.now }
 {
     signers.iter().any(|signer| *signer == actor)
 }
 
-/// Tells whether two lists have the same signatures in the same order.
+/// Returns whether two lists have the same signatures in the same order.
 fn same_signatures(ours: &[Signature], theirs: &[Signature]) -> bool
     ensures { IsTrue result ↔ (ours.now ≡ theirs.now) }
 {

@@ -51,28 +51,28 @@ impl Chain {
     }
 }
 
-/// Tells whether the actor is a replica of the shape.
+/// Returns whether the actor is a replica of the shape.
 fn is_replica(shape: &Shape, actor: Actor) -> bool
     ensures { IsTrue result ↔ IsReplica shape.now actor }
 {
     matches!(actor, Actor::Replica(_)) && shape.has(actor)
 }
 
-/// Tells whether the first of the signers is this replica.
+/// Returns whether the first of the signers is this replica.
 fn begins_with(signers: &[Actor], sender: ReplicaId) -> bool
     ensures { IsTrue result ↔ (slice_get signers.now 0 ≡ Some (Actor.Replica sender)) }
 {
     signers.first().copied() == Some(Actor::Replica(sender))
 }
 
-/// Tells whether one of the signers is not a replica of the shape.
+/// Returns whether one of the signers is not a replica of the shape.
 fn has_no_replica(shape: &Shape, signers: &[Actor]) -> bool
     ensures { IsTrue result ↔ Any (λ a. ¬ IsReplica shape.now a) signers.now }
 {
     signers.iter().any(|signer| !is_replica(shape, *signer))
 }
 
-/// Tells whether one actor is a signer at two places.
+/// Returns whether one actor is a signer at two places.
 fn stands_twice(signers: &[Actor]) -> bool
     ensures { IsTrue result ↔ StandsTwice signers.now }
 {
@@ -82,7 +82,7 @@ fn stands_twice(signers: &[Actor]) -> bool
     }
 }
 
-/// Tells whether one of the requests lacks the signature of its client, a client of the shape.
+/// Returns whether one of the requests lacks the signature of its client, a client of the shape.
 fn has_bad_request(shape: &Shape, signed: &[SignedRequest]) -> bool
     ensures { IsTrue result ↔ Any (λ s. ¬ IsAsked shape.now s) signed.now }
 {

@@ -10,8 +10,7 @@ use std::alloc::Global;
 use std::marker::Model;
 use std::sync::Arc;
 
-/// The signed requests of a slot's value, which several chains share; an empty list if the value is
-/// idle.
+/// The signed requests of a slot's value, which several chains share; an empty list if the value is idle.
 #[derive(Drop)]
 pub(crate) struct SharedValue {
     signed: Arc<Vec<SignedRequest>, Global>,
@@ -79,14 +78,14 @@ impl SharedValue {
         content_of(self.signed.as_slice())
     }
 
-    /// Tells whether two values have the same requests in the same order, or both have none.
+    /// Returns whether two values have the same requests in the same order, or both have none.
     pub(crate) fn same_content(&self, other: &SharedValue) -> bool
         ensures { IsTrue result ↔ (content self.now ≡ content other.now) }
     {
         have_same_requests(self.signed.as_slice(), other.signed.as_slice())
     }
 
-    /// Tells whether two values are equal.
+    /// Returns whether two values are equal.
     pub(crate) fn same(&self, other: &SharedValue) -> bool
         ensures { IsTrue result ↔ (self.now ≡ other.now) }
     {
@@ -94,8 +93,7 @@ impl SharedValue {
     }
 }
 
-/// Tells whether two lists have the same requests in the same order, with whatever signatures beside
-/// them.
+/// Returns whether two lists have the same requests in the same order, with whatever signatures beside them.
 fn have_same_requests(ours: &[SignedRequest], theirs: &[SignedRequest]) -> bool
     ensures { IsTrue result ↔ (map (λ s. s.request) ours.now ≡ map (λ s. s.request) theirs.now) }
 {

@@ -28,7 +28,7 @@ impl SignedRequest {
         }
     }
 
-    /// Tells whether the client is a client of the shape, and the signature beside the request is that client's on that request.
+    /// Returns whether the client is a client of the shape, and the signature beside the request is that client's on that request.
     pub fn is_asked(&self, shape: &Shape) -> bool
         ensures { IsTrue result ↔ IsAsked shape.now self.now }
     {
@@ -38,7 +38,7 @@ impl SignedRequest {
             && is_ask_of(self.signature.statement(), &self.request)
     }
 
-    /// Tells whether two signed requests have the same request and the same signature.
+    /// Returns whether two signed requests have the same request and the same signature.
     pub fn same(&self, other: &SignedRequest) -> bool
         ensures { IsTrue result ↔ (self.now ≡ other.now) }
     {
@@ -46,7 +46,7 @@ impl SignedRequest {
     }
 }
 
-/// Tells whether the statement is that this request is asked.
+/// Returns whether the statement is that this request is asked.
 fn is_ask_of(statement: &Statement, request: &Request) -> bool
     ensures { IsTrue result ↔ (statement.now ≡ Ask request.now) }
 {

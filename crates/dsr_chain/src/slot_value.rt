@@ -49,7 +49,7 @@ impl SlotValue {
         }
     }
 
-    /// Tells whether two values have the same signed requests in the same order, or both have none.
+    /// Returns whether two values have the same signed requests in the same order, or both have none.
     pub fn same(&self, other: &SlotValue) -> bool
         ensures { IsTrue result ↔ (self.now ≡ other.now) }
     {

@@ -36,7 +36,7 @@ pub record WasPosted (log : List Entry) (ask : SignedRequest) : Type 0 where
   pub replica : ℕ
   pub posted : In (Post (Replica replica) (Ask ask)) log
 
--- the entry accepts nothing, and leaves what is outstanding (this project)
+-- the entry accepts nothing, and an outstanding request stays outstanding (this project)
 pub record AcceptsNone (shape : Shape) (entry : Entry) (log : List Entry) : Type 0 where
   pub same : accepted shape (entry ∷ log) ≡ accepted shape log
   pub still : (ask : SignedRequest) → outstanding shape log ≡ Some ask → outstanding shape (entry ∷ log) ≡ Some ask

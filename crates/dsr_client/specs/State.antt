@@ -1,6 +1,6 @@
 -- What a client's log says: what is outstanding, which replies were accepted, and what the client has seen of the history.
--- Logs, notes and accepted replies are listed newest first (this project; that a client believes what f+1 replicas say
--- alike is Schneider's, 1990).
+-- Logs, notes and accepted replies are listed newest first (this project; in Schneider 1990 too a client believes a reply
+-- that f+1 replicas give alike).
 use Rattle.std.specs.Prelude.{ℕ, suc, ◌==◌, max, List, [], ◌∷◌, Option, None, Some, if◌then◌else◌}
 use Rattle.dsr_names.specs.Shape.{Shape}
 use Rattle.dsr_names.specs.declared.actor.Actor.TheVariants.{Replica, Client}

@@ -174,8 +174,7 @@ impl Client {
         self.seen
     }
 
-    /// Notes the seen front that another client posted, just as `taken` does with a `Seen`. Requires that it is below
-    /// 2^40.
+    /// Notes the seen front that another client posted, like `taken` for a `Seen`. Requires that it is below 2^40.
     pub fn told(&mut self, front: u64)
         requires { front < 2 ^ 40 }
         ensures me { self.new.me ≡ self.old.me }
@@ -254,7 +253,7 @@ impl Client {
         Some(reply)
     }
 
-    /// Tells whether the outstanding request has this number.
+    /// Returns whether the outstanding request has this number.
     fn is_outstanding(&self, number: u64) -> bool
         ensures same { IsTrue result ↔ (option_map (λ ask. ask.request.number) self.now.outstanding ≡ Some number) }
         ensures more { IsTrue result → suc self.now.accepted < 2 ^ 40 }

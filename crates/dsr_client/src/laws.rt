@@ -59,9 +59,9 @@ pub fn asks_tell_choices()
         → (ask : SignedRequest) × (Ask ask ≡ envelope) }
 {}
 
-/// Each accepted reply was given by more than f replicas, each in a take of the log when a request with the reply's number
-/// was outstanding. If at most f replicas are traitors, one of those is loyal. What is accepted stays accepted. A reply
-/// counts for nothing if no request with its number is outstanding, or if the replica has replied to that request before.
+/// More than f replicas gave each accepted reply, each in a take of the log when a request with the reply's number was outstanding. If
+/// at most f replicas are traitors, one of those is loyal. What is accepted stays accepted. A reply counts for nothing if no request
+/// with its number is outstanding, or if the replica has replied to that request before.
 pub fn accepted_replies_have_enough_votes()
     ensures votes { (shape : Shape) (log : List Entry) (reply : AReply) → In reply (accepted shape log) → WasAccepted shape log reply }
     ensures loyal { (shape : Shape) (log : List Entry) (reply : AReply) → HasFewTraitors shape → In reply (accepted shape log)
@@ -75,9 +75,9 @@ pub fn accepted_replies_have_enough_votes()
         × (outstanding shape (Take (Replica p) (Reply reply) ∷ log) ≡ outstanding shape log) }
 {}
 
-/// An entry accepts the reply that it takes, to what was outstanding before it and no longer is; or it accepts nothing, and what was
-/// outstanding still is. If nothing is outstanding, a take changes nothing but the seen front, and an ask that is posted to a replica
-/// becomes the outstanding one. No post accepts anything.
+/// An entry either accepts the reply that it takes, to a request that was outstanding, and then nothing is outstanding; or it accepts
+/// nothing, and an outstanding request stays outstanding. If nothing is outstanding, a take changes nothing but the seen front, and an
+/// ask that is posted to a replica becomes the outstanding one. No post accepts anything.
 pub fn takes_settle()
     ensures settles { (shape : Shape) (entry : Entry) (log : List Entry)
         → AcceptsNone shape entry log ⊎ ((reply : AReply) × Accepts shape entry log reply) }
@@ -88,9 +88,9 @@ pub fn takes_settle()
     ensures posts { (shape : Shape) (to : Actor) (envelope : Envelope) (log : List Entry) → AcceptsNone shape (Post to envelope) log }
 {}
 
-/// Requires that at most f replicas are traitors, and n is at least 2f+1. If a client took, while its request was outstanding,
-/// one and the same reply to it from every loyal replica, and in its whole log no other reply with that number from any of them,
-/// it has accepted that reply. What traitors reply, and when, does not matter.
+/// Let at most f replicas be traitors, and n be at least 2f+1. If a client took, while its request was outstanding, one and the same
+/// reply to it from every loyal replica, and in its whole log no other reply with that number from any of them, it has accepted that
+/// reply. What traitors reply, and when, does not matter.
 pub fn loyal_replies_are_accepted()
     ensures { (shape : Shape) (older newer : List Entry) (ask : SignedRequest) (reply : AReply)
         → HasFewTraitors shape → 2 * shape.f < shape.n
@@ -147,8 +147,8 @@ pub fn issue_fronts_are_of_first_asks()
 {}
 
 /// The seen front is 0 at first and never falls, and it is above the place of each accepted reply. Two entries move it: a `Seen` taken
-/// from a client, to the front that it tells, and an entry that accepts a reply, to just past the reply's place, in each case if that
-/// is greater. Every other entry leaves it. So a `Seen` from a replica counts for nothing, nor does a reply from a client.
+/// from a client, to the front that it reports, and an entry that accepts a reply, to just past the reply's place, in each case if
+/// that is greater. Every other entry leaves it. So neither a `Seen` from a replica nor a reply from a client counts.
 pub fn seen_fronts_only_grow()
     ensures start { (shape : Shape) → seen shape [] ≡ 0 }
     ensures grows { (shape : Shape) (entry : Entry) (log : List Entry) → seen shape log ≤ seen shape (entry ∷ log) }

@@ -18,7 +18,7 @@ pub fn read_content(bytes: &[u8]) -> Option<Option<Requests>>
     Requests::read(bytes).map(Some)
 }
 
-/// Tells whether the content has a token: each of its requests has one.
+/// Returns whether the content has a token: each of its requests has one.
 pub(crate) fn content_fits(content: &Option<Requests>) -> bool
     ensures { IsTrue result ↔ IsContent content.now }
 {

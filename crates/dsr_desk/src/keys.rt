@@ -107,7 +107,7 @@ impl Keys {
         self.shape
     }
 
-    /// Tells whether no key was taken yet.
+    /// Returns whether no key was taken yet.
     pub fn whole(&self) -> bool
         ensures { IsTrue result ↔ IsWhole self.now }
     {
@@ -170,7 +170,7 @@ impl Signature {
         }
     }
 
-    /// Tells whether two signatures are by the same signer on the same statement.
+    /// Returns whether two signatures are by the same signer on the same statement.
     pub fn same(&self, other: &Signature) -> bool
         ensures { IsTrue result ↔ (self.now ≡ other.now) }
     {
@@ -186,14 +186,14 @@ fn untaken(alloc: Global, count: u8) -> Result<Vec<bool>, Refusal>
     Ok(vec![in alloc; false; count as usize]?)
 }
 
-/// Tells whether no flag is set.
+/// Returns whether no flag is set.
 fn none_is_set(flags: &[bool]) -> bool
     ensures { IsTrue result ↔ All (λ flag. flag ≡ false) flags.now }
 {
     flags.iter().all(|flag| !*flag)
 }
 
-/// Sets the flag at this place, and returns whether there is one and it was not set.
+/// Sets the flag at this place. Returns true if there is such a flag and it was not set.
 fn set_flag(flags: &mut Vec<bool>, place: u8) -> bool
     ensures first { IsTrue result ↔ (slice_get flags.old.items place ≡ Some false) }
     ensures set { OnTrue result (flags.new.items ≡ slice_set flags.old.items place true) }

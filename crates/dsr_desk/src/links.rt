@@ -121,7 +121,7 @@ impl Links {
     }
 }
 
-/// Tells whether the signature is on the link of this slot and content after these signers.
+/// Returns whether the signature is on the link of this slot and content after these signers.
 fn is_on_link(
     signature: &Signature,
     slot: u64,
@@ -140,7 +140,7 @@ fn is_on_link(
     }
 }
 
-/// Tells whether two contents are equal: the same requests in the same order, or both idle.
+/// Returns whether two contents are equal: the same requests in the same order, or both idle.
 fn is_content(value: &Option<Requests>, content: &Option<Requests>) -> bool
     ensures { IsTrue result ↔ (value.now ≡ content.now) }
 {

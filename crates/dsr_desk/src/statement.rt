@@ -30,7 +30,7 @@ impl Statement {
         }
     }
 
-    /// Tells whether two statements are equal.
+    /// Returns whether two statements are equal.
     pub fn same(&self, other: &Statement) -> bool
         ensures { IsTrue result ↔ (self.now ≡ other.now) }
     {

@@ -1,5 +1,5 @@
--- Logs: what an actor posted and took, the newest entry first; and what a loyal replica does next (this project; that each
--- round's messages are received before the round ends is the premise of Dolev and Strong 1983 on rounds).
+-- Logs: what an actor posted and took, the newest entry first; and what a loyal replica does next (this project, on the
+-- premise of Dolev and Strong 1983 that replicas receive each round's messages before the round ends).
 use Rattle.std.specs.Prelude.{ℕ, suc, ◌-◌, ◌==◌, List, [], ◌∷◌, ◌++◌, length, if◌then◌else◌}
 use Rattle.dsr_names.specs.Shape.{Shape}
 use Rattle.dsr_names.specs.declared.actor.Actor.{Actor}

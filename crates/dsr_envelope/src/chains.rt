@@ -55,7 +55,7 @@ impl Chains {
         Ok(Chains { items })
     }
 
-    /// Tells whether two lists have the same chains in the same order.
+    /// Returns whether two lists have the same chains in the same order.
     pub fn same(&self, other: &Chains) -> bool
         ensures { IsTrue result ↔ (self.now ≡ other.now) }
     {
@@ -63,7 +63,7 @@ impl Chains {
     }
 }
 
-/// Tells whether two lists have the same chains in the same order.
+/// Returns whether two lists have the same chains in the same order.
 fn are_same(ours: &[Chain], theirs: &[Chain]) -> bool
     ensures { IsTrue result ↔ (ours.now ≡ theirs.now) }
 {

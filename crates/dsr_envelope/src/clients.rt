@@ -26,8 +26,7 @@ impl Model for Clients {
 impl Clients {
     ghost use Rattle.dsr_envelope.specs.Pick.{IsClients};
 
-    /// Makes the list of these clients. `None` if the list is empty, has more than 8 clients or has one
-    /// of them twice.
+    /// Makes the list of these clients. `None` if the list is empty, has more than 8 clients or has one of them twice.
     pub fn of(clients: &[ClientId]) -> Option<Clients>
         ensures some { IfSome result (λ list. list ≡ clients.now) }
         ensures when { IsSome result ↔ IsClients clients.now }
@@ -49,7 +48,7 @@ impl Clients {
     }
 }
 
-/// Tells whether no client is there twice.
+/// Returns whether no client is there twice.
 fn are_different(clients: &[ClientId]) -> bool
     ensures { IsTrue result ↔ AllPairs (λ (a : ℕ) b. a ≢ b) clients.now }
 {

@@ -63,7 +63,7 @@ impl Envelope {
         }
     }
 
-    /// Tells whether the envelope is within the limits: numbers of rounds, slots, places, fronts and requests below 2^40, at
+    /// Returns whether the envelope is within the limits: numbers of rounds, slots, places, fronts and requests below 2^40, at
     /// most 32 chains, at most 16 signatures and 8 requests in each, and the same for the statements of all signatures.
     pub fn fits(&self) -> bool
         ensures { IsTrue result ↔ IsEnvelope self.now }
@@ -79,7 +79,7 @@ impl Envelope {
         }
     }
 
-    /// Tells whether two envelopes are equal.
+    /// Returns whether two envelopes are equal.
     pub fn same(&self, other: &Envelope) -> bool
         ensures { IsTrue result ↔ (self.now ≡ other.now) }
     {

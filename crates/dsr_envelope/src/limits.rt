@@ -16,21 +16,21 @@ const MOST_CHAINS: usize = 32;
 /// The greatest number of signatures on a chain.
 const MOST_SIGNATURES: usize = 16;
 
-/// Tells whether the reply's number and place are within the limits.
+/// Returns whether the reply's number and place are within the limits.
 pub(crate) fn reply_fits(reply: &Reply) -> bool
     ensures { IsTrue result ↔ IsReply reply.now }
 {
     reply.number > 0 && reply.number < NUMBER_END && reply.place < NUMBER_END
 }
 
-/// Tells whether there are at most 32 chains, each within the limits.
+/// Returns whether there are at most 32 chains, each within the limits.
 pub(crate) fn chains_fit(chains: &[Chain]) -> bool
     ensures { IsTrue result ↔ AreChains chains.now }
 {
     chains.len() <= MOST_CHAINS && chains.iter().all(|chain| chain_fits(chain))
 }
 
-/// Tells whether the chain is within the limits.
+/// Returns whether the chain is within the limits.
 fn chain_fits(chain: &Chain) -> bool
     ensures { IsTrue result ↔ IsChain chain.now }
 {
@@ -41,7 +41,7 @@ fn chain_fits(chain: &Chain) -> bool
         && signatures_fit(chain)
 }
 
-/// Tells whether each of the chain's signatures is within the limits.
+/// Returns whether each of the chain's signatures is within the limits.
 fn signatures_fit(chain: &Chain) -> bool
     ensures { IsTrue result ↔ All IsSignature chain.now.signatures }
 {
@@ -53,14 +53,14 @@ fn signatures_fit(chain: &Chain) -> bool
     true
 }
 
-/// Tells whether the request and the signature beside it are within the limits.
+/// Returns whether the request and the signature beside it are within the limits.
 pub(crate) fn signed_fits(ask: &SignedRequest) -> bool
     ensures { IsTrue result ↔ IsSigned ask.now }
 {
     ask.request.fits() && signature_fits(&ask.signature)
 }
 
-/// Tells whether the signer and the statement are within the limits.
+/// Returns whether the signer and the statement are within the limits.
 fn signature_fits(signature: &Signature) -> bool
     ensures { IsTrue result ↔ IsSignature signature.now }
 {

@@ -1,4 +1,4 @@
--- What ends a service before all clients are served (this project).
+-- Why a service fails (this project).
 use Rattle.std.specs.Prelude.{◌≡◌, ◌⊎◌, ℕ, ◌<◌, length}
 use Rattle.dsr_names.specs.Shape.{IsActor}
 use Rattle.dsr_names.specs.declared.actor.Actor.{Actor}
@@ -27,8 +27,8 @@ pub record HasUnserved (script : Script) (logs : Logs) : Type 0 where
   pub inside : client < logs.shape.m
   pub fewer : length (accepted_by logs.shape (logs_of logs) client) < length (ops_of script client)
 
--- the cause of a service's end, by the script and the logs that resulted: a next post of some actor is past a limit; the gate may refuse some actor;
--- a client was not answered, and so has not all of its replies; memory ran out; a thread could not be started
+-- the cause of a service's end, by the script and the logs that resulted: some actor's next post is past a limit; the gate may refuse some actor;
+-- some client accepted fewer replies than it has operations; memory ran out; a thread could not start
 abbrev pub CauseOf : (Actor → Type 0) → Script → Logs → Refusal → Type 0
 CauseOf may script logs Exhausted = HasPastLimit logs
 CauseOf may script logs Stopped = (actor : Actor) × IsActor logs.shape actor × may actor
@@ -60,7 +60,7 @@ pub record IsUnserved (script : Script) (seat : Pass) : Type 0 where
   pub is : seat.actor ≡ Client client
   pub fewer : length (accepted seat.shape seat.log) < length (ops_of script client)
 
--- why the host of a seat is refused: for a reason of any host; or, at a client's seat, because no reply came, so that the client has not all of its
--- replies; or because there was no thread for it
+-- why the host of a seat is refused: for a reason of any host; or, at a client's seat, because no reply came, so that the client lacks replies; or
+-- because no thread could start for it
 abbrev pub SeatRefusal : (Actor → Type 0) → Script → Pass → Refusal → Type 0
 SeatRefusal may script seat refusal = HostRefusal may seat refusal ⊎ (((refusal ≡ Unanswered) × IsUnserved script seat) ⊎ (refusal ≡ NoThread))

@@ -37,8 +37,7 @@ IsLeft script (Loyal seat) = Unit {0}
 IsLeft script (Traitor seat) = Unit {0}
 IsLeft script (OfClient seat) = IsUnserved script seat
 
--- how the host of a seat ended: it did its work, or its service told it to stop, or something
--- refused it
+-- how the host of a seat ended: it did its work, or its service told it to stop, or something refused it
 abbrev pub IsEnding : (Actor → Type 0) → Script → AnySeat → Option End → Type 0
 IsEnding may script seat None = IsDone script seat
 IsEnding may script seat (Some Told) = IsLeft script seat

@@ -39,8 +39,7 @@ impl Ran {
     }
 }
 
-/// Returns the rank of a host's fault: 0 if its thread could not start, else one more than the place of the actor. Requires an actor of the
-/// shape.
+/// Returns the rank of a host's fault: 0 if its thread could not start, else one more than the place of the actor. Requires an actor of the shape.
 fn rank_of(shape: &Shape, back: &Back) -> usize
     requires { IsActor shape.now (pass_of back.now.seat).actor }
     ensures { IsRank shape.now (pass_of back.now.seat).actor back.now.end result }

@@ -31,7 +31,7 @@ pub(crate) struct Service<'a, R, G> {
     pub(crate) clients: &'a AtomicU64,
 }
 
-/// What was done when a host left the service.
+/// What a host did when it left the service.
 #[derive(Drop)]
 pub(crate) struct Leaving {
     told: Option<Told>,

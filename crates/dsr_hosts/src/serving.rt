@@ -22,7 +22,7 @@ use std::alloc::Global;
 use std::sync::Wait;
 use std::thread::Threads;
 
-/// Why a service ended before all clients were served, with the logs until then.
+/// Why a service failed, with the logs until then.
 #[derive(Drop)]
 pub struct ServeFault {
     /// The refusal of the lowest-ranked fault of a host; `Unanswered` if no host has a fault and a client is not served.
@@ -37,9 +37,9 @@ pub struct ServeFault {
 /// A client makes its operations in the script's order, and asks again if no reply comes. When all clients are served, the service tells the
 /// replicas and traitors to stop; they also end after 4,096 rounds. Until then they wait for each other.
 ///
-/// Returns `Ok` if each client accepted the replies to exactly its operations, in order. Else the cause is `Exhausted` if some host's next post is
-/// past a limit, `Stopped` if the gate answers false, `Unanswered` if a client gets no reply before all replicas end, so that it accepts fewer
-/// replies than it has operations, `NoMemory` if memory runs out, or `NoThread` if a thread cannot start.
+/// After `Ok` each client has accepted the replies to exactly its operations, in order. After an error the cause is `Exhausted` if some host's
+/// next post is past a limit, `Stopped` if the gate answers false, `Unanswered` if a client gets no reply before all replicas end, so that it
+/// accepts fewer replies than it has operations, `NoMemory` if memory runs out, or `NoThread` if a thread cannot start.
 ///
 /// The logs until then come with the cause. They are those of all actors; after `NoMemory` they may be empty, if memory runs out before there is a
 /// mail. They are always the logs of a run. In them loyal replicas begin each of their own slots with the requests whose turn it is, and post to

@@ -145,7 +145,7 @@ fn start<'s, E, R: Wait + Sync, G: Gate + Sync>(
     }
 }
 
-/// Makes what comes back from a host for which no thread could be started.
+/// Returns what comes back from a host whose thread could not start.
 fn refused_back(back: Back) -> Back
     ensures seat { result.seat ≡ back.seat }
     ensures end { result.end ≡ Some (Fault NoThread) }

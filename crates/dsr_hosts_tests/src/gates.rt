@@ -227,7 +227,7 @@ impl Meeting {
         }
     }
 
-    /// Tells whether both saw each other.
+    /// Returns whether both saw each other.
     pub(crate) fn both_met(&self) -> bool {
         self.first.met.load(SeqCst) && self.second.met.load(SeqCst)
     }

@@ -13,8 +13,7 @@ use std::process::Abort;
 use std::sync::Wait;
 use std::thread::Threads;
 
-/// The outcome of a service: the logs of all actors, and the cause if the service ended before all clients were
-/// served.
+/// The outcome of a service: the logs of all actors, and the cause if the service failed.
 #[derive(Drop)]
 pub(crate) struct Outcome {
     pub(crate) logs: Logs,

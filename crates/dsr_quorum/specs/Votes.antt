@@ -1,5 +1,5 @@
--- Which reply the replicas vote for (Schneider 1990: if at most f of the replicas are faulty, what f+1 of them put
--- out alike is right). Notes are listed newest first.
+-- Which reply the replicas vote for (Schneider 1990: if at most f of the replicas are faulty, an output on which
+-- f+1 of them agree is right). Notes are listed newest first.
 use Rattle.std.specs.Prelude.{ℕ, ◌==◌, nat_lt, Bool, false, List, [], ◌∷◌, Option, None, Some, if◌then◌else◌}
 use Rattle.std.specs.Option.{option_or}
 use Rattle.dsr_base.specs.Bits.{count_below}

@@ -30,6 +30,6 @@ module _ (shape : Shape) (log : List Entry) where
   last_replied place r answer stands none =
       reply_made shape log r.client ∙ ap (option_map Reply) (reply_last (acted (decided_requests shape log)) place r answer stands none)
 
-  -- a client of whose requests none acted has no reply
+  -- a client without a request that acted has no reply
   pub none_replied : (client : ℕ) → ((r : Request) → In r (acted (decided_requests shape log)) → r.client ≢ client) → reply_to shape log client ≡ None
   none_replied client none = reply_made shape log client ∙ ap (option_map Reply) (reply_none (acted (decided_requests shape log)) client none)

@@ -1,5 +1,5 @@
--- The protocol of a loyal replica (Dolev and Strong 1983, with all its slots in flight at once; that it takes asks from
--- clients and posts replies to them is Schneider's replica, 1990).
+-- The protocol of a loyal replica (Dolev and Strong 1983, with all its slots in flight at once; like the replica of Schneider
+-- 1990 it takes asks from clients and posts replies to them).
 use Rattle.std.specs.Prelude.{◌≡◌, ℕ, zero, suc, ◌-◌, ◌<◌, ◌==◌, ◌&&◌, not, nat_lt, Bool, false, List, [], ◌∷◌, Option, None, Some, slice_get, if◌then◌else◌}
 use Rattle.std.specs.Option.{option_map}
 use Rattle.dsr_names.specs.Shape.{Shape}

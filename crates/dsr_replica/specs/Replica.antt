@@ -56,8 +56,7 @@ value_of r Plain = Some Idle
 value_of r (From clients) = from_held r.shape r.me r.round (asks_of r.asks clients)
 value_of r (Begin op) = None
 
--- the value of the envelope to a replica: at replica 0 the one that the choice proposes, after it the one proposed to
--- replica 0
+-- the value of the envelope to a replica: at replica 0 the one that the choice proposes, after it the one proposed to replica 0
 abbrev pub value_at : Replica → ℕ → Pick → Option SlotValue
 value_at r zero pick = value_of r pick
 value_at r (suc q) Plain = Some r.proposed

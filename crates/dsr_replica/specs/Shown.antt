@@ -1,5 +1,4 @@
--- Which choice an envelope shows (this project; that a sender signs its value in the round that begins its slot is Dolev's and Strong's,
--- 1983).
+-- Which choice an envelope shows (this project; in Dolev and Strong 1983 too a sender signs its value in the round that begins its slot).
 use Rattle.std.specs.Prelude.{◌≡◌, ℕ, zero, suc, List, [], ◌∷◌, ◌++◌, map, if◌then◌else◌}
 use Rattle.dsr_names.specs.Shape.{Shape}
 use Rattle.dsr_names.specs.declared.actor.Actor.{Actor}

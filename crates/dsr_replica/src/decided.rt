@@ -63,7 +63,7 @@ impl Decisions {
         Ok(())
     }
 
-    /// Tells whether there is room for one more decision.
+    /// Returns whether there is room for one more decision.
     pub(crate) fn has_room(&self) -> bool
         ensures { IsTrue result ↔ HasRoom self.now }
     {

@@ -71,7 +71,7 @@ impl Flights {
         self.slots.as_slice()
     }
 
-    /// Tells whether one of these chains would be kept if they were read in the round in progress. If none would, reading
+    /// Returns whether one of these chains would be kept if they were read in the round in progress. If none would, reading
     /// them changes nothing.
     pub(crate) fn would_keep(&self, chains: &[Chain]) -> bool
         ensures { result ≡ false → map (with_chains chains.now) self.now.slots ≡ self.now.slots }
@@ -84,7 +84,7 @@ impl Flights {
         false
     }
 
-    /// Tells whether the chain would be kept if it were read in the round in progress.
+    /// Returns whether the chain would be kept if it were read in the round in progress.
     fn would_keep_one(&self, chain: &Chain) -> bool
         ensures { result ≡ false → map (λ s. with_chain s chain.now) self.now.slots ≡ self.now.slots }
     {
@@ -207,7 +207,7 @@ fn slot_post(
     Ok(chains)
 }
 
-/// Tells whether the key's holder is the sender of the slot, and the slot is in its first round.
+/// Returns whether the key's holder is the sender of the slot, and the slot is in its first round.
 fn begins(slot: &SlotState, key: &Key) -> bool
     ensures { result ≡ is_begun key.now slot.now }
 {

@@ -74,7 +74,7 @@ impl Asks {
         }
     }
 
-    /// Tells whether an ask is held for each of these clients.
+    /// Returns whether an ask is held for each of these clients.
     pub(crate) fn has_each(&self, clients: &[ClientId]) -> bool
         ensures { IsTrue result ↔ IsSome (asks_of self.now clients.now) }
     {
@@ -84,7 +84,7 @@ impl Asks {
         }
     }
 
-    /// Tells whether an ask is held for this client.
+    /// Returns whether an ask is held for this client.
     fn has(&self, client: ClientId) -> bool
         ensures { IsTrue result ↔ IsSome (ask_of self.now client) }
     {
@@ -109,7 +109,7 @@ impl Asks {
     }
 }
 
-/// Tells whether the client signed the ask as its own, and what is held gives way to it.
+/// Returns whether the client signed the ask as its own, and what is held gives way to it.
 fn is_to_be_held(
     shape: &Shape,
     client: ClientId,
@@ -121,14 +121,14 @@ fn is_to_be_held(
     is_own_ask(shape, client, ask) && gives_way(held, ask.request.number())
 }
 
-/// Tells whether the client signed the ask as its own.
+/// Returns whether the client signed the ask as its own.
 fn is_own_ask(shape: &Shape, client: ClientId, ask: &SignedRequest) -> bool
     ensures { result ≡ is_own_ask shape.now client ask.now }
 {
     ask.request.client() == client && ask.is_asked(shape)
 }
 
-/// Tells whether what is held gives way to an ask with this number.
+/// Returns whether what is held gives way to an ask with this number.
 fn gives_way(held: &Option<SharedAsk>, number: u64) -> bool
     ensures { result ≡ gives_way held.now number }
 {

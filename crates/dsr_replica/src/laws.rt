@@ -36,8 +36,8 @@ ghost use Rattle.dsr_envelope.specs.Pick.{IsPick};
 ghost use Rattle.dsr_replica.specs.Posts.{IsOfRound, IsPosted, WasTaken};
 ghost use Rattle.dsr_replica.specs.Shown.{shown_value, shown_clients, shown_choice, IsOwnLast};
 
-/// The log of a `Replica` is a loyal one: the empty log is, and so is a loyal log with the entry that a call adds. The entry is a
-/// post to a replica by an allowed choice, the reply posted to a client, a take that is due, or a take from a client.
+/// The log of a `Replica` is loyal: the empty log is loyal, and so is a loyal log with the entry that a call adds. The entry is a post to
+/// a replica by an allowed choice, the reply posted to a client, a take that is due, or a take from a client.
 pub fn calls_keep_a_log_loyal()
     ensures empty { (shape : Shape) (me : Actor) → IsLoyalLog shape me [] }
     ensures posted { (shape : Shape) (me : Actor) (log : List Entry) → IsLoyalLog shape me log
@@ -183,9 +183,9 @@ pub fn held_asks_can_be_proposed()
         → map (λ c. held shape c log) clients ≡ map Some asks }
 {}
 
-/// If a request of a client acted, the client has a reply: to its last request that acted, with that request's number, its place and
-/// its answer there. So for each request that acted its client has a reply, to that request or to a later one. A client none of whose
-/// requests acted has none.
+/// If a request of a client acted, the client has a reply: to its last request that acted, with that request's number, its place and its
+/// answer there. So for each request that acted its client has a reply, to that request or to a later one. A client without a request
+/// that acted has no reply.
 pub fn last_requests_are_replied()
     ensures some { (shape : Shape) (log : List Entry) (request : Request) → In request (acted (decided_requests shape log))
         → (reply : AReply) × (reply_to shape log request.client ≡ Some (Reply reply))

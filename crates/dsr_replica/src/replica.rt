@@ -117,7 +117,7 @@ impl Replica {
         self.flights.slots()
     }
 
-    /// Tells whether it may post to this replica by this choice: the post is due, the choice gives an envelope, and the round
+    /// Returns whether it may post to this replica by this choice: the post is due, the choice gives an envelope, and the round
     /// is below 2^36.
     pub fn allows(&self, to: ReplicaId, pick: Pick) -> bool
         ensures allowed { IsTrue result ↔ Allows self.now to pick }
@@ -129,9 +129,8 @@ impl Replica {
         self.is_allowed(to, pick)
     }
 
-    /// Makes the envelope for the post to replica `to` by this choice. `NotDue` exactly if the post is not due or the choice is
-    /// not allowed there. Else `Exhausted` exactly in round 2^36; else `NoMemory` if memory runs out or one more handle is
-    /// refused.
+    /// Makes the envelope for the post to replica `to` by this choice. `NotDue` exactly if the post is not due or the choice is not
+    /// allowed there. Else `Exhausted` exactly in round 2^36; else `NoMemory` if memory runs out or one more handle is refused.
     pub fn envelope_for(
         &self,
         alloc: Global,
@@ -203,7 +202,7 @@ impl Replica {
         self.decisions.room()
     }
 
-    /// Tells whether there is room for what the next take may decide.
+    /// Returns whether there is room for what the next take may decide.
     pub fn has_room(&self) -> bool
         ensures { IsTrue result ↔ HasRoom self.now }
     {
@@ -337,14 +336,14 @@ impl Replica {
         Ok(envelope_of(round, chains))
     }
 
-    /// Tells whether the post is due, the choice allowed, and the round below 2^36.
+    /// Returns whether the post is due, the choice allowed, and the round below 2^36.
     fn is_allowed(&self, to: ReplicaId, pick: Pick) -> bool
         ensures { IsTrue result ↔ Allows self.now to pick }
     {
         self.has_value(to, pick) && self.flights.round() < ROUND_END
     }
 
-    /// Tells whether the post to this replica is due, and the choice allowed there.
+    /// Returns whether the post to this replica is due, and the choice allowed there.
     fn has_value(&self, to: ReplicaId, pick: Pick) -> bool
         ensures { IsTrue result ↔ IsSome (value_for self.now to pick) }
     {
@@ -358,15 +357,14 @@ impl Replica {
         }
     }
 
-    /// Tells whether the replica is the sender of the slot that begins with the round, and holds an ask for each of
-    /// these clients.
+    /// Returns whether the replica is the sender of the slot that begins with the round, and holds an ask for each of these clients.
     fn may_propose(&self, clients: Clients) -> bool
         ensures { IsTrue result ↔ IsSome (value_of self.now (From clients)) }
     {
         self.is_sender() && self.asks.has_each(clients.as_slice())
     }
 
-    /// Tells whether the replica is the sender of the slot that begins with the round.
+    /// Returns whether the replica is the sender of the slot that begins with the round.
     fn is_sender(&self) -> bool
         ensures { result ≡ actor_eq self.now.me (sender_of self.now.shape self.now.round) }
     {
@@ -424,7 +422,7 @@ impl Replica {
         }
     }
 
-    /// Tells whether one of the envelope's chains would be kept if it were read in the round in progress.
+    /// Returns whether one of the envelope's chains would be kept if it were read in the round in progress.
     fn would_keep(&self, envelope: &Envelope) -> bool
         ensures nothing { result ≡ false → with_envelope self.now envelope.now ≡ self.now }
         ensures in_flight { AreInFlight self.now.shape self.now.round self.now.slots (closed_slots self.now.shape self.now.round) }
@@ -477,7 +475,7 @@ fn look_at(pick: &Pick)
     }
 }
 
-/// Tells whether the post to this replica is due.
+/// Returns whether the post to this replica is due.
 fn is_due(due: Due, to: ReplicaId) -> bool
     ensures { result ≡ is_due due to }
 {

@@ -1,5 +1,5 @@
 -- The calendar: which slots are in flight in a global round, which of its rounds each slot is in, and which slot
--- closes (broadcasts of f+1 rounds, Dolev and Strong 1983; that one begins in every round is this project's).
+-- closes (broadcasts of f+1 rounds, Dolev and Strong 1983; in this project one begins in every round).
 use Rattle.std.specs.Prelude.{◌≡◌, ℕ, zero, suc, ◌+◌, ◌≤◌, ◌==◌, if◌then◌else◌}
 use Rattle.dsr_names.specs.Shape.{Shape}
 

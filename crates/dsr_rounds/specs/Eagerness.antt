@@ -30,8 +30,7 @@ abbrev pub HasPosted : Pass → Pass → Actor → Pick → Type 0
 HasPosted old new to pick = (envelope : Envelope) × (post_of old.shape old.log old.actor to pick ≡ Some envelope)
     × (new ≡ with_entry old (Post to envelope)) × (is_exhausted old.shape old.log old.actor to pick ≡ false)
 
--- the outcome of a try to post by a choice: true, the seat made the post; false, the box was in the way, and nothing
--- changed
+-- the outcome of a try to post by a choice: true, the seat made the post; false, the box was in the way, and nothing changed
 abbrev pub HasTriedPost : Pass → Pass → Actor → Pick → Bool → Type 0
 HasTriedPost old new to pick true = HasPosted old new to pick
 HasTriedPost old new to pick false = new ≡ old

@@ -23,11 +23,10 @@ use std::sync::Wait;
 /// all replicas, takes from all replicas, and tries once to post to each client to which it owes a reply. If a round is begun already, it is the first
 /// of them.
 ///
-/// Returns `Ok` once exactly `rounds` more rounds are closed. However the call ends, the replica posts to a client only a reply that it owes: it has
-/// not answered the client since the last take from it, and the client's pending request is the one that the reply is for. The replica begins each of
-/// its own slots with the requests that are next: the pending requests of the first 8 waiting clients, in turn after the client that it proposed last.
-/// The gate may let pass the turn of each post and each take, and each has a later turn than the one before it; only the last turn, 2^40-1, may have
-/// several.
+/// Returns `Ok` once exactly `rounds` more rounds are closed. However the call ends, the replica posts to a client only a reply that it owes: it has not
+/// answered the client since the last take from it, and the client's pending request is the one that the reply is for. The replica begins each of its own
+/// slots with the requests that are next: the pending requests of the first 8 waiting clients, in turn after the client that it proposed last. The gate
+/// may let pass the turn of each post and each take, and each has a later turn than the one before it; only the last turn, 2^40-1, may have several.
 ///
 /// `Exhausted` if the replica's next post is past a limit, `Stopped` if the gate answers false, `NoMemory` if memory runs out. What the replica did
 /// before an error stays in the seat's log, and a later call can go on from there. Requires a seat of this mail.

@@ -1,5 +1,5 @@
-//! Whose requests a replica proposes next, and to whom it owes a reply. Both depend only on what its seat knows, so that a call goes on from the point at
-//! which the call before it ended.
+//! Whose requests a replica proposes next, and to whom it owes a reply. Both depend only on what its seat knows, so a call goes on from the end of the
+//! call before it.
 
 ghost use Rattle.std.specs.Prelude.{◌≡◌, ◌↔◌, ◌⊎◌, ◌<◌, ◌≤◌, [], false, length, Some, IsSome, IfSome, IsTrue};
 ghost use Rattle.std.specs.Option.{option_map};

@@ -30,7 +30,7 @@ pub record HasProposed (shape : Shape) (me : Actor) (log : List Entry) (slot : �
   pub posted : slice_get (posted_to (Replica to) log) (first_round shape slot) ≡ Some envelope
   pub start : In (started slot value me) (chains_for (first_round shape slot) envelope)
 
--- the links of the slot that posts of the log carry with the actor's signature are at most `most` distinct ones
+-- the posts of the log carry at most `most` distinct links of the slot with the actor's signature
 pub record HasFewLinks (me : Actor) (log : List Entry) (slot most : ℕ) : Type 0 where
   pub links : List Statement
   pub few : length links ≤ most

@@ -17,8 +17,8 @@ ghost use Rattle.dsr_run.specs.Step.{Step, Logs, log_of};
 
 /// Loyal actors do not know who the traitors are. Under two shapes that differ at most in their traitors, and whatever the logs: each
 /// entry, and each log, keeps the protocol of a loyal replica, or of a client, under both or under neither; the same is due, decided,
-/// outstanding, accepted and seen. And who else is a traitor plays no part: a step of an actor that is loyal under both may be next
-/// under both or under neither.
+/// outstanding, accepted and seen. Who else is a traitor does not matter: a step of an actor that is loyal under both may be next under
+/// both or under neither.
 pub fn loyal_actors_are_blind()
     ensures replicas { (shape other : Shape) → AgreeButForTraitors shape other → (me : Actor) (log : List Entry) (entry : Entry)
         → IsNext shape me log entry ↔ IsNext other me log entry }
@@ -42,8 +42,8 @@ pub fn loyal_actors_are_blind()
 {}
 
 /// A traitor may do all that a loyal replica does: a run of a shape is a run of each shape with more traitors, and the same holds for
-/// logs. So no log shows that a replica is loyal, and a run without traitors is a run whoever they are. With more traitors fewer
-/// replicas determine the history: if at most f were traitors before, it is a prefix of what it was.
+/// logs. So no log shows that a replica is loyal, and a run without traitors is a run with any traitors. With more traitors fewer
+/// replicas determine the history: if at most f were traitors before, the new history is a prefix of the old one.
 pub fn traitors_may_be_loyal()
     ensures runs { (shape other : Shape) → AddsTraitors shape other → (run : List Step) → IsRun shape run → IsRun other run }
     ensures logs { (shape other : Shape) → AddsTraitors shape other → (logs : Logs) → AreLogs shape logs → AreLogs other logs }

@@ -14,10 +14,9 @@ ghost use Rattle.dsr_run.specs.Right.{IsRightReply, IsRight, TookAllReplies, Has
 ghost use Rattle.dsr_run.specs.Run.{IsRun, AreLogs};
 ghost use Rattle.dsr_run.specs.Step.{Step, Logs, log_of};
 
-/// Every run is right if at most f replicas are traitors. For each reply that a client accepted, the request that the client posted under
-/// its number is in the history at the reply's place, with the reply's answer, and that place is not before what the client knew of the
-/// history just before it first asked; no number of a client is in the history twice; and the history at each earlier time is a prefix of
-/// it.
+/// Every run is right if at most f replicas are traitors. For each reply that a client accepted, the request that the client posted under its
+/// number is in the history at the reply's place, with the reply's answer, and that place is not before what the client knew of the history just
+/// before it first asked; no number of a client is in the history twice; and the history at each earlier time is a prefix of it.
 pub fn runs_are_right()
     ensures right { (shape : Shape) (run : List Step) → HasFewTraitors shape → IsRun shape run → IsRight shape run }
     ensures replies { (shape : Shape) (run : List Step) → HasFewTraitors shape → IsRun shape run → (c : ℕ) (reply : AReply)

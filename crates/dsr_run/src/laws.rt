@@ -29,8 +29,8 @@ ghost use Rattle.dsr_run.specs.History.{decided_at, history};
 ghost use Rattle.dsr_run.specs.Run.{IsRun, IsNextStep, AreLogs, HasPosted, IsMadeOrPosted, other_of, envelope_of};
 ghost use Rattle.dsr_run.specs.Step.{Step, Logs, with_step, log_of};
 
-/// In a run the log of each loyal replica is a loyal one, and that of each client a client's; only actors of the shape have entries,
-/// and only with actors of the shape; and at each earlier time the run was one too.
+/// In a run the log of each loyal replica is loyal, and that of each client is a client's; only actors of the shape have entries, and only
+/// with actors of the shape; and at each earlier time the run was a run too.
 pub fn runs_keep_conduct()
     ensures replicas { (shape : Shape) (run : List Step) → IsRun shape run → (p : ℕ) → IsLoyal shape (Replica p)
         → IsLoyalLog shape (Replica p) (log_of run (Replica p)) }

@@ -1,6 +1,6 @@
 -- What a replica keeps for a slot: the first two, with distinct contents, among the proper chains that it reads in the
 -- slot's rounds (Dolev and Strong 1983: a value is extracted when a message of round r carries it with r signatures;
--- that two values are enough is theirs too).
+-- they show that two values are enough).
 use Rattle.std.specs.Prelude.{ℕ, zero, suc, List, [], ◌∷◌, ◌++◌, Option, Bool, ◌&&◌, not, length, nat_lt, fold, if◌then◌else◌}
 use Rattle.std.specs.List.{list_any}
 use Rattle.dsr_names.specs.Shape.{Shape}

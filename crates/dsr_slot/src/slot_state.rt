@@ -118,7 +118,7 @@ impl SlotState {
         self.fate_of(chain)
     }
 
-    /// Tells whether the chain would be kept if it were read now, in the round after the closed ones. If not, reading it changes
+    /// Returns whether the chain would be kept if it were read now, in the round after the closed ones. If not, reading it changes
     /// nothing. Requires that the slot has such a round: that at most f are closed. If the chain's content is already kept, its
     /// signatures are not looked at.
     pub fn would_keep(&self, chain: &Chain) -> bool
@@ -210,8 +210,7 @@ impl SlotState {
         }
     }
 
-    /// Decides as `decide` does, but moves the kept chain instead of copying its value. Requires that round f+1 is
-    /// closed.
+    /// Decides like `decide`, but moves the kept chain instead of copying its value. Requires that round f+1 is closed.
     pub fn into_decision(self) -> Decision
         requires last { self.closed ≡ self.shape.f + 1 }
         ensures decision { result ≡ decision self.kept }
@@ -249,7 +248,7 @@ impl SlotState {
         }
     }
 
-    /// Tells whether a chain with the same content is kept.
+    /// Returns whether a chain with the same content is kept.
     fn is_kept(&self, chain: &Chain) -> bool
         ensures { result ≡ is_kept (content chain.now.value) self.now.kept }
     {
@@ -273,7 +272,7 @@ impl SlotState {
         }
     }
 
-    /// Tells whether the chain is to be kept. The check of its signatures, which costs most, comes last.
+    /// Returns whether the chain is to be kept. The check of its signatures, which costs most, comes last.
     fn is_news(&self, round: u8, chain: &Chain) -> bool
         requires some { 0 < round }
         requires within { round ≤ self.now.shape.f + 1 }
@@ -288,7 +287,7 @@ impl SlotState {
         }
     }
 
-    /// Tells whether the chain is proper for this round of the slot.
+    /// Returns whether the chain is proper for this round of the slot.
     fn is_proper(&self, round: u8, chain: &Chain) -> bool
         requires some { 0 < round }
         requires within { round ≤ self.now.shape.f + 1 }
@@ -309,7 +308,7 @@ fn copy_of(kept: &Option<Kept>) -> Result<Option<Kept>, Refusal>
     }
 }
 
-/// Tells whether there is a kept chain, and it has the same content as `chain`.
+/// Returns whether there is a kept chain, and it has the same content as `chain`.
 fn has_content(kept: &Option<Kept>, chain: &Chain) -> bool
     ensures { result ≡ is_kept (content chain.now.value) (option_to_list kept.now) }
 {
@@ -342,7 +341,7 @@ fn relay(
     chains.push(chain).map_err(|_| Refusal::NoMemory)
 }
 
-/// Tells whether this replica relays the kept chain in this round.
+/// Returns whether this replica relays the kept chain in this round.
 fn is_relayed(kept: &Kept, round: u8, replica: Actor) -> bool
     requires { IsOfSomeRound kept.now }
     ensures { result ≡ is_relayed replica round kept.now }
