@@ -49,7 +49,7 @@ pub record HasMisfit (chain : Chain) : Type 0 where
 abbrev pub HasBadRequest : Shape → Chain → Type 0
 HasBadRequest shape chain = Any (λ s. ¬ IsAsked shape s) (signed_in chain.value)
 
--- what each fault says of a chain, for a round of a slot
+-- what each fault says about a chain, for a round of a slot
 abbrev pub IsFault : Shape → ℕ → ℕ → Chain → ChainFault → Type 0
 IsFault shape slot round chain OtherSlot = IsOfOtherSlot slot chain
 IsFault shape slot round chain WrongCount = HasWrongCount round chain

@@ -95,7 +95,7 @@ module _ (shape : Shape) (client : ℕ) where
     | inr new ↦ record { own = new.2; taken = here (λ i. Take (Client (new.0 i)) (new.1 i)) }
   ]
 
--- ---- the asks held of some clients
+-- ---- the asks held for some clients
 
 pub put_parts : {A : Type 0} (first : Option A) (more : Option (List A)) (all : List A) → put_before first more ≡ Some all
     → (x : A) × (xs : List A) × (first ≡ Some x) × (more ≡ Some xs) × (x ∷ xs ≡ all)

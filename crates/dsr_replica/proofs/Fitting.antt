@@ -47,7 +47,7 @@ all_from : {A : Type 0} (P : A → Type 0) (xs : List A) → ((x : A) → In x x
 all_from P [] each = All-nil P
 all_from P (x ∷ xs) each = All-cons P x xs (each x (here refl)) (all_from P xs (λ y h. each y (there h)))
 
--- the requests of a value within the limits, and what a link says of them
+-- the requests of a value within the limits, and what a link says about them
 content_fits : (value : SlotValue) → length (requests_in value) ≤ 8
     → ((requests : List Request) → content value ≡ Some requests → 0 < length requests) → All IsSigned (signed_in value) → IsContent (content value)
 content_fits Idle few some each = tt

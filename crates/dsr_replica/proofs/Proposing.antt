@@ -47,7 +47,7 @@ module _ (shape : Shape) (me : Actor) (log : List Entry) where
       (false_from_ne_true (actor_eq me (sender_of shape (rounds shape log))) (λ e. other ((actor_eq-Decides me (sender_of shape (rounds shape log))).0 e))))
       ∙ either (is_due (due shape log) 0) None
 
--- ---- the asks held of some clients
+-- ---- the asks held for some clients
 
 put_two : {A : Type 0} (o : Option A) (os : Option (List A)) → IsSome o → IsSome os → IsSome (put_before o os)
 put_two None os one all = absurd (false≢true one)

@@ -129,7 +129,7 @@ module _ (shape : Shape) (me : Actor) (log : List Entry) where
       let last = sender_last (own_asks clients h.value h.proposes) (From clients) envelope e in
       clients_proposed clients last.0 envelope last.1 (shown_last (rounds shape log) last.0 envelope last.2)
 
-  -- a sender's envelope for nothing in particular shows idle
+  -- a sender's envelope for the plain choice shows idle
   pub plain_shows : actor_eq me (sender_of shape (rounds shape log)) ≡ true → (envelope : Envelope)
       → envelope_to shape me log 0 Plain ≡ Some envelope → shown_value envelope ≡ Idle
   plain_shows own envelope e =

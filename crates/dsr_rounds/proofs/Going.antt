@@ -133,7 +133,7 @@ plant_ends may seat to e traitor inside by other = elim by [
   ]
 ]
 
--- ---- the same by what a seat tells of its actor
+-- ---- the same, by what a seat reports about its actor
 
 loyal_is : (shape : Shape) (a : Actor) → IsLoyal shape a → is_traitor_of shape a ≡ false
 loyal_is shape (Replica p) loyal = loyal.1

@@ -195,7 +195,7 @@ module _ (shape : Shape) (log : List Entry) where
       let more = all_are_held xs all.1 in
       (one.0 ∷ more.0, ap₂ put_before one.1 more.1)
 
-  -- of all that are next an ask is held
+  -- the replica holds an ask for each client that is next
   next_held : (asks : List SignedRequest) × (all_held shape log (next_proposed shape log) ≡ Some asks)
   next_held =
       let turns = in_turn shape.m shape.m (first_in_turn shape.m (last_proposed shape log)) in

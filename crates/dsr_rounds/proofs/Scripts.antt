@@ -80,7 +80,7 @@ all_counted t n q less = grind (arith, nat_tests)
 no_count : (t q : ℕ) → count_at t 0 q ≡ t
 no_count t q = grind (arith, nat_tests)
 
--- the counts may be said in another way
+-- other functions may give the same counts
 pub counted : (script : Script) (first later : Pass) (posts takes posts_too takes_too : ℕ → ℕ)
     → ((q : ℕ) → q < first.shape.n → posts q ≡ posts_too q) → ((q : ℕ) → q < first.shape.n → takes q ≡ takes_too q)
     → FollowsScript script first later posts takes → FollowsScript script first later posts_too takes_too
@@ -316,7 +316,7 @@ pub still_takes : (script : Script) (t n k : ℕ) (a b c d e : Pass) → k ≡ n
 still_takes script t n k a b c d e is kept posts answers takes =
     λ first follows. takes script (count_at t n) first (before_takes script t n a b c d kept (same_count script t n k b c is posts) answers first follows)
 
--- nor is more done by a try that changed nothing
+-- nor does a try that changed nothing add anything
 pub stops_posts : (script : Script) (t p : ℕ) (a b c : Pass) → PostsDrafts script t p a b → c ≡ b → StillFollows script (count_at t 0) (count_at t 0) a c
 stops_posts script t p a b c posts e = λ first follows. (
   count_at t p,
@@ -336,7 +336,7 @@ pub at_end : {A : Type 0} (r : Result (Unit {0}) End) → A → OnErr r A
 at_end (Ok nothing) h = tt
 at_end (Err end) h = h
 
--- what follows from what an end leaves
+-- what follows from the state at an end
 pub on_end : {A B : Type 0} (r : Result (Unit {0}) End) → (A → B) → OnErr r A → OnErr r B
 on_end (Ok nothing) step h = tt
 on_end (Err end) step h = step h
@@ -370,7 +370,7 @@ round_step script t first earlier later goes more was made = (
   subst (λ k. FollowsScript script first later (count_at k 0) (count_at k 0)) (one_more t) (made first was),
 )
 
--- ---- what the script says of one post
+-- ---- what the script says about one post
 
 pub scripted_planned : (script : Script) (round to : ℕ) (old new : Pass) → IsScripted script round old new to true
     → (x : Envelope) × (new ≡ with_entry old (Post (Replica to) x)) × IsPlanned script old.shape old.actor old.log round to x

@@ -25,7 +25,7 @@ in_later : (may : ℕ → Type 0) (now next : ℕ) (entries : List Entry) → no
 in_later may now next [] less are = tt
 in_later may now next (entry ∷ older) less are = let before = are.2 in (are.0, are.1, omega (arith, before, less), are.3)
 
--- nothing was done, in one turn or in none
+-- the host did nothing, in one turn or in none
 pub turns_pass : (may : Actor → ℕ → Type 0) (old new : Pass) (now next : ℕ) → new ≡ old → (next ≡ now) ⊎ (next ≡ turn_after now)
     → KeepsTurns may old new now next
 turns_pass may old new now next same (inl is) first was =

@@ -25,7 +25,7 @@ module _ (shape : Shape) where
   pub run_before : (run earlier : List Step) → IsRun shape run → Extends run earlier → IsRun shape earlier
   run_before run earlier is grown = run_with grown.0 earlier (subst (IsRun shape) grown.1 is)
 
-  -- the log of a loyal replica is a loyal one
+  -- the log of a loyal replica is loyal
   pub log_loyal : (p : ℕ) → is_traitor shape p ≡ false → (run : List Step) → IsRun shape run
       → IsLoyalLog shape (Replica p) (log_of run (Replica p))
   log_loyal p loyal [] is = tt

@@ -97,7 +97,7 @@ module _ (shape other : Shape) (adds : AddsTraitors shape other) where
         subst (Extends (history shape (log_of run))) (same ∙ sym h.2) (history_extends shape few run is h.0 (was_loyal h.0 h.1))
   ]
 
--- a shape without traitors has none that any other lacks
+-- each shape adds traitors, perhaps none, to the same shape without traitors
 pub no_traitors : (n f m traitors : ℕ) → AddsTraitors (shape_of n f m 0) (shape_of n f m traitors)
 no_traitors n f m traitors = record {
   agree = record { replicas = refl; most_traitors = refl; clients = refl };
