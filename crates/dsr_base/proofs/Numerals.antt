@@ -54,7 +54,7 @@ only_digit [] apart first = cc
 only_digit (x ∷ []) apart first = refl
 only_digit (x ∷ y ∷ ys) apart first = absurd (apart (omega arith) first)
 
--- what reads digits, if there is no leading zero, reads exactly the decimals
+-- given bytes without a leading zero, a reader of digits reads exactly the decimals
 pub reads_decimals : (bs : List ℕ) (r : Option ℕ) → (1 < length bs → get_or bs 0 0 ≡ 48 → ⊥)
     → SomeIff r (IsNumeral 10 bs × (digits_value 10 bs < 2 ^ 64)) (digits_value 10 bs) → Reads (λ (n : ℕ). n < 2 ^ 64) decimal bs r
 reads_decimals bs None apart h n = (

@@ -1,5 +1,5 @@
--- The number of numbers below n that pass a test: distinct ones that do are no more, lists of all of them are
--- no shorter.
+-- How many numbers below n pass a test: a list of distinct ones is at most as long, a list of all of them at
+-- least.
 use Rattle.std.proofs.Common.{◌≡◌, ◌≢◌, ℕ, zero, suc, ◌+◌, ◌<◌, ◌≤◌, Bool, true, false, not, cond, eqb, List, [], ◌∷◌, length, get_or, ◌⊎◌, refl, ap, ap₂, sym, ◌∙◌, inl, inr, arith, eq-eqb}
 use Rattle.std.specs.Prelude.{All, AllPairs}
 use Rattle.std.proofs.lemmas.Bool.{cases_Bool, cases_eq, cond-true, cond-false, ne_eqb, true≢false}
@@ -120,7 +120,7 @@ in_others p x k xs passes listed = elim (cases_eq k x) [
     behind (here e) other = absurd (other (sym e))
     behind (there h) other = h
 
--- if each number below n that passes a test is listed, they are no more than the list is long
+-- a list with each number below n that passes a test is at least as long as their count
 pub covered : (p : ℕ → Bool) (n : ℕ) (xs : List ℕ) → ((k : ℕ) → k < n → p k ≡ true → In k xs) → count_below p n ≤ length xs
 covered p n [] listed = let none = none_pass p n (λ k inside passes. elim (listed k inside passes) [ ]) in omega (arith, none)
 covered p n (x ∷ xs) listed =

@@ -26,7 +26,7 @@ module _ {X : Type 0} (is : X → Type 0) (text : X → List ℕ) (bytes : List 
   pub only_read : (x : X) → Reads is text bytes (Some x) → (y : X) → is y → bytes ≡ text y → x ≡ y
   only_read x reads y kind spelled = same_Some x y ((reads y).1 (kind, spelled))
 
--- what an answer is if it is known that there is one
+-- what an answer is if its condition holds
 pub some_only : {X : Type 0} (answer : Option X) (P : Type 0) (x : X) → SomeIff answer P x → P → answer ≡ Some x
 some_only None P x h p = absurd (h p)
 some_only (Some y) P x h p = ap Some h.1

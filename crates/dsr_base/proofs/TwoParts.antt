@@ -56,7 +56,7 @@ module _ {A B : Type 0} (is_a : A → Type 0) (text_a : A → List ℕ) (is_b : 
         let second : b ≡ p.1 = only_read is_b text_b rest b reads_b p.1 are.1 (same_cut p are e).1 in
         ap₂ (λ x y. (x, y)) first second)
 
--- ---- what is made of a value that was read
+-- ---- a value made from one that was read
 
 module _ {P X : Type 0} (is_p : P → Type 0) (text_p : P → List ℕ) (is_x : X → Type 0) (text_x : X → List ℕ) (make : P → X) (parts : X → P)
     (back : (x : X) → make (parts x) ≡ x) (kind : (x : X) → is_x x → is_p (parts x)) (same : (x : X) → text_x x ≡ text_p (parts x)) (bytes : List ℕ) where

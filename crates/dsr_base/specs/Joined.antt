@@ -11,7 +11,7 @@ abbrev pub joined : {X : Type 0} → ℕ → (X → List ℕ) → List X → Lis
 joined mark text [] = []
 joined mark text (x ∷ xs) = text x ++ more_joined mark text xs
 
--- the same, or a dash if there is no item
+-- the same, or a dash for an empty list
 abbrev pub joined_or_dash : {X : Type 0} → ℕ → (X → List ℕ) → List X → List ℕ
 joined_or_dash mark text [] = codes "-"
 joined_or_dash mark text (x ∷ xs) = text x ++ more_joined mark text xs

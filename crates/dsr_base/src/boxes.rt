@@ -7,7 +7,7 @@ ghost use Rattle.dsr_base.specs.Boxes.{AreSquare, empty_box, box_in, row_of, box
 use std::alloc::{AllocError, Global};
 use std::marker::Model;
 
-/// A box: the number of items that were ever put into it, and the one that it holds, if it holds one.
+/// A box: how many items were ever put into it, and the item that it holds now; `None` while it is empty.
 #[derive(Drop)]
 pub struct MailBox<T> {
     posts: u64,
@@ -73,7 +73,7 @@ impl<T: Drop> Row<T> {
         };
     }
 
-    /// Takes the item out of the box to this place, if it holds one.
+    /// Empties the box to this place and returns its item; `None` if the box is empty already.
     fn take(&mut self, to: usize) -> Option<T>
         requires inside { to < length self.old }
         ensures item { result ≡ (box_in self.old to).item }
@@ -105,7 +105,7 @@ impl<T: Drop> Boxes<T> {
         self.rows[from].boxes[to].posts
     }
 
-    /// Returns the item in the box from one place to another, if it holds one.
+    /// Returns the item in the box from one place to another; `None` if the box is empty.
     pub fn item(&self, from: usize, to: usize) -> Option<&T>
         requires inside { from < length self.now }
         requires row { to < length (row_of self.now from) }

@@ -42,7 +42,7 @@ impl<T: Copy, const N: usize> Few<T, N> {
         }
     }
 
-    /// Makes the list with these items. `None` if there are none, or more than `N`.
+    /// Makes the list with these items. `None` if `items` is empty or longer than `N`.
     pub fn of(items: &[T]) -> Option<Self>
         ensures some { IfSome result (λ list. list ≡ items.now) }
         ensures when { IsSome result ↔ ((0 < length items.now) × (length items.now ≤ N)) }

@@ -8,7 +8,7 @@ IsUpTo n None = Unit {0}
 IsUpTo n (Some []) = ⊥
 IsUpTo n (Some (x ∷ xs)) = length (x ∷ xs) ≤ n
 
--- the items, none if there is no list
+-- the items of a list; `None` represents the empty one
 abbrev pub items_of : {X : Type 0} → Option (List X) → List X
 items_of None = []
 items_of (Some xs) = xs
