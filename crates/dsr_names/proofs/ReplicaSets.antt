@@ -1,4 +1,4 @@
--- Sets of replicas as the bits of a number, as ascending lists, and as texts.
+-- Three forms of a set of replicas: the bits of a number, an ascending list, and a text.
 use Rattle.std.proofs.Common.{◌≡◌, ◌≢◌, ℕ, zero, suc, ◌+◌, ◌*◌, ◌%◌, ◌/◌, ◌^◌, ◌<◌, ◌≤◌, Bool, true, false, cond, eqb, List, [], ◌∷◌, ◌++◌, length, sym, ◌∙◌, ap, refl, Option, None, Some, add-one, arith, lit<, lit≤, bit_and, eq-eqb, length-append, le_refl}
 use Rattle.std.specs.Prelude.{All}
 use Rattle.std.specs.Int.{bit_at}

@@ -4,7 +4,7 @@ use Rattle.std.specs.Fmt.{decimal}
 use Rattle.dsr_names.specs.declared.refusal.Refusal.{Refusal}
 use Rattle.dsr_names.specs.declared.refusal.Refusal.TheVariants.{BadShape, BadName, BadNumber, Busy, NotDue, BoxFull, BoxEmpty, Forged, Exhausted, Stopped, Unanswered, NoMemory, BadText, NotARun, NoActor, WrongRole, ReadFailed, WriteFailed, NoThread}
 
--- the number of a refusal, by which reports name it as E1 to E19
+-- the number of a refusal; reports write it as E1 to E19
 abbrev pub code_of : Refusal → ℕ
 code_of BadShape = 1
 code_of BadName = 2

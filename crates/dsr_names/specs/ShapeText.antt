@@ -17,7 +17,7 @@ numbers_below test (suc n) = numbers_below test n ++ (if test n then n ∷ [] el
 unfoldable pub replicas_of : ℕ → List ℕ
 replicas_of bits = numbers_below (is_bit_set bits) 16
 
--- replicas joined by a plus, or a dash if there are none
+-- replicas joined by a plus, or a dash for an empty list
 abbrev pub replicas_text : List ℕ → List ℕ
 replicas_text = joined_or_dash 43 replica_text
 

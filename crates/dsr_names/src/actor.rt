@@ -212,7 +212,7 @@ impl fmt::Display for Actor {
     }
 }
 
-/// Returns the replica with this number, if it is below 16.
+/// Returns the replica with this number; `None` from 16 on.
 fn replica_of(number: u64) -> Option<Actor>
     ensures { SomeIff result (number < 16) (Actor.Replica number) }
 {
@@ -225,7 +225,7 @@ fn replica_of(number: u64) -> Option<Actor>
     }
 }
 
-/// Returns the client with this number, if it is below 32.
+/// Returns the client with this number; `None` from 32 on.
 fn client_of(number: u64) -> Option<Actor>
     ensures { SomeIff result (number < 32) (Actor.Client number) }
 {

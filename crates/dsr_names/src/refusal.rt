@@ -124,8 +124,8 @@ impl Refusal {
         }
     }
 
-    /// Returns the words of this refusal's text, and the number of the line that the text names
-    /// after them, if it names one.
+    /// Returns the words of this refusal's text, and the line number that the text has after them;
+    /// `None` for a text of words alone.
     pub(crate) fn parts(&self) -> (&'static str, Option<u64>)
         ensures text { refusal_text self.now ≡ result.0.now ++ line_text result.1 }
         ensures short { length result.0.now ≤ 26 }

@@ -20,7 +20,7 @@ pub fn tell<S: Sink>(sink: &mut S, text: &[u8])
     let _ = write_output(sink, text);
 }
 
-/// Writes `dsr: `, the refusal's text and a line feed as far as they can be written, as `tell` does. Allocates nothing.
+/// Writes `dsr: `, the refusal's text and a line feed like `tell`: a prefix if the sink fails. Allocates nothing.
 pub fn tell_refusal<S: Sink>(sink: &mut S, refusal: Refusal)
     ensures sent { Sent (refusal_line refusal) (S.output sink.old) (S.output sink.new) }
     ensures calls { (S.output sink.new).calls ≤ (S.output sink.old).calls + most_calls }

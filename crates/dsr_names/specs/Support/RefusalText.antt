@@ -2,7 +2,7 @@
 use Rattle.std.specs.Prelude.{ℕ, List, [], Option, None, Some}
 use Rattle.std.specs.Fmt.{decimal}
 
--- the number of the line that the text names, if it names one
+-- the end of a refusal's text: the number of a line, or nothing if the refusal does not name one
 abbrev pub line_text : Option ℕ → List ℕ
 line_text None = []
 line_text (Some line) = decimal line

@@ -6,7 +6,7 @@ use Rattle.dsr_base.proofs.Marks.{not_absent}
 use Rattle.dsr_names.proofs.ReplicaSets.{field_cut}
 use Rattle.dsr_names.proofs.shape_text.read_field.Goals as goal
 
--- with no space there is no field
+-- a text without a space does not begin with a field
 pub returns-in_err-front-clause-read : goal.returns-in_err-front-clause-read
 returns-in_err-front-clause-read c n rest small e = absurd (not_absent 32 (decimal n) rest (subst (IsAbsent 32) e c.in_err-front.ensures.absent))
 
