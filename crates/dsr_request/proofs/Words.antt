@@ -2,11 +2,11 @@
 use Rattle.std.proofs.Common.{◌≡◌, ℕ, ◌↔◌, nat_eq, get_or, false, List, Option, None, Some, ap, arith}
 use Rattle.std.proofs.lemmas.Bool.Decides.{nat_tests}
 
--- what reads as nothing is no text
+-- if bytes read as nothing and are not the text of `x`, neither side of the equivalence holds
 pub reads_nothing : {X : Type 0} {P : Type 0} (r : Option X) (x : X) → r ≡ None → (P → ⊥) → (r ≡ Some x) ↔ P
 reads_nothing r x none never = ((λ e. cc), (λ p. absurd (never p)))
 
--- what is a text does not read as nothing
+-- a text does not read as nothing
 pub reads_something : {X : Type 0} {P : Type 0} (x : X) → (None ≡ Some x) ↔ P → P → ⊥
 reads_something x h p = let e : None ≡ Some x = h.1 p in cc
 

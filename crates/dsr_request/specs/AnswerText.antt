@@ -13,7 +13,7 @@ answer_text (Kept old) = codes "kept " ++ old_text old
 answer_text Full = codes "full"
 answer_text (Removed old) = codes "removed " ++ old_text old
 
--- an answer that a text can write: its number, if it has one, is below 2 ^ 64
+-- an answer that a text can write: a number in it is below 2 ^ 64
 abbrev pub IsAnswer : Answer → Type 0
 IsAnswer (Held old) = IsOld old
 IsAnswer Written = Unit {0}

@@ -1,5 +1,5 @@
 -- How texts write an operation (this project): `read NAME`, `write NAME VAL`, `swap NAME OLD VAL` and `remove NAME`, with
--- one separator between all parts, as in `swap a none 1` and `swap:a:none:1`.
+-- one separator between all parts, such as a space (`swap a none 1`) or a colon (`swap:a:none:1`).
 use Rattle.std.specs.Prelude.{ℕ, ◌<◌, ◌^◌, List, ◌∷◌, ◌++◌, codes}
 use Rattle.std.specs.Fmt.{decimal}
 use Rattle.dsr_names.specs.Token.{IsOld, old_text}

@@ -48,7 +48,7 @@ impl Answer {
     }
 
     /// Returns the word of this answer's text, with a space if more follows, and what the register held, if the text
-    /// has that after it. It serves texts that are made without `Display`.
+    /// has that after it. Callers that write texts without `Display` use it.
     pub fn parts(&self) -> (&'static str, Option<Option<u64>>)
         ensures { answer_text self.now ≡ result.0.now ++ held_text result.1 }
     {

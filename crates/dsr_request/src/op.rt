@@ -43,8 +43,8 @@ pub enum Op {
 }
 
 impl Op {
-    /// Reads an operation's text. Between its parts is the separator: a space, as in `swap a none
-    /// 1`, or a colon, as in `swap:a:none:1`. `None` exactly if the bytes are not such a text.
+    /// Reads an operation's text, with the separator between its parts: a space (`swap a none 1`)
+    /// or a colon (`swap:a:none:1`). `None` exactly if the bytes are not such a text.
     pub fn read(bytes: &[u8], separator: u8) -> Option<Op>
         requires { (separator ≡ 32) ⊎ (separator ≡ 58) }
         ensures { Reads IsOp (op_text separator) bytes.now result }

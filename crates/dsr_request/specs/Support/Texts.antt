@@ -1,4 +1,4 @@
--- The texts of operations and answers are made of bytes that names have, and of separators.
+-- The texts of operations and answers consist of bytes that names may have, and of separators.
 use Rattle.std.proofs.Common.{All, ◌≡◌, ℕ, ◌+◌, ◌%◌, ◌<◌, ◌^◌, List, [], ◌∷◌, ◌++◌, codes, Option, None, Some, IsTrue, false, sym, ◌∙◌, ap, arith, rules}
 use Rattle.std.proofs.lemmas.Bool.{false≢true}
 use Rattle.std.proofs.lemmas.Bool.Decides.{nat_tests}
@@ -28,7 +28,7 @@ decimal_name_bytes n small =
     (λ k ds above so_far. All-push IsNameByte ds (48 + k % 10) so_far (digit_is_name_byte (k % 10) (omega arith)))
     n small
 
--- a byte that no name has is in nothing that is made of names' bytes
+-- a byte that no name may have does not occur among bytes that names may have
 without : (byte : ℕ) (bytes : List ℕ) → is_name_byte byte ≡ false → All IsNameByte bytes → IsAbsent byte bytes
 without byte bytes other h =
     All-weaker IsNameByte (λ b. b ≡ byte → ⊥) (λ b allowed e. false≢true (sym other ∙ (ap is_name_byte (sym e) ∙ allowed))) bytes h
