@@ -1,4 +1,4 @@
--- Entries, some of which hold nothing, and the registers among them that hold a number.
+-- Entries, with a number or without, and the registers with a number among them.
 use Rattle.std.proofs.Common.{◌≡◌, ℕ, ◌+◌, ◌<◌, Bool, true, false, cond, List, [], ◌∷◌, ◌++◌, length, filter, is_some, Option, None, Some, refl, sym, ◌∙◌, ap, subst, arith, zero, suc, ◌≤◌, append-nil, take, drop, get_or, slice_get, set, swap, ap₂, inl, inr, ◌⊎◌, eq-or-lt_of_le, length-set}
 use Rattle.std.specs.List.{IsDistinct, AllByRecursion, cons_option}
 use Rattle.std.specs.Map.{keys_of, values_of, lookup, set_value}
@@ -45,7 +45,7 @@ held_step : (name x : List ℕ) (o : Option ℕ) (rest : Registers) (found : Opt
 held_step name x None rest found h none = with_none (bytes_eq name x) (held_in rest name) found h none
 held_step name x (Some number) rest found h none = with_number (bytes_eq name x) number (held_in rest name) found h
 
--- a register holds what its entry holds, if it has one
+-- a register holds what its entry holds, and nothing without an entry
 pub held_found : (es : Entries) (name : List ℕ) → IsDistinct bytes_eq (keys_of es)
     → held_in (held_entries es) name ≡ option_flatten (lookup (bytes_eq name) es)
 held_found [] name d = refl
@@ -154,7 +154,7 @@ changes_push es fs name number d e is updates push =
     changes es fs name None (Some number) d e is updates
     (let count : length (held_entries fs) ≡ length (held_entries es) + 1 = ap (λ xs. length (held_entries xs)) push ∙ count_push es name number in omega arith)
 
--- nothing is written over if there is no entry
+-- without an entry for the register, an unchanged table still holds nothing for it
 pub changes_nothing : (es fs : Entries) (name : List ℕ) → IsDistinct bytes_eq (keys_of es) → lookup (bytes_eq name) es ≡ None
     → fs ≡ es → Changes (held_entries es) (held_entries fs) name None None
 changes_nothing es fs name d absent same =

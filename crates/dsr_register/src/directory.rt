@@ -12,8 +12,7 @@ use dsr_request::{Answer, Name, Op};
 use std::alloc::Global;
 use std::marker::Model;
 
-/// The registers that hold a value, at most 1,024, by their names. All its memory is allocated when it
-/// is made.
+/// The registers that hold a value, at most 1,024, by their names. `new` allocates all its memory.
 #[derive(Drop)]
 pub struct Directory {
     table: Table,
@@ -82,7 +81,8 @@ impl Directory {
         }
     }
 
-    /// Lets the register hold the value, if it may hold one.
+    /// Lets the register hold the value. Changes nothing and answers `Full` if it holds none and 1,024
+    /// registers hold one.
     fn write(&mut self, name: Name, value: u64) -> Answer
         ensures distinct { IsDistinct bytes_eq (keys_of self.old) }
         ensures answer { result ≡ answer_on (Op.Write name value) (held_in self.old name) (nat_le most_registers (length self.old)) }
@@ -97,7 +97,8 @@ impl Directory {
         }
     }
 
-    /// Lets the register hold `to`, if it holds `from` and may hold a value.
+    /// Lets the register hold `to`. Changes nothing and answers `Kept` if it does not hold `from`, or
+    /// else `Full` if it holds none and 1,024 registers hold one.
     fn swap(&mut self, name: Name, from: Option<u64>, to: u64) -> Answer
         ensures distinct { IsDistinct bytes_eq (keys_of self.old) }
         ensures answer { result ≡ answer_on (Op.Swap name from to) (held_in self.old name) (nat_le most_registers (length self.old)) }

@@ -20,10 +20,10 @@ const MOST_REGISTERS: usize = 1024;
 /// The greatest number of entries of a table: twice as many as can hold a value.
 const MOST_ENTRIES: usize = 2 * MOST_REGISTERS;
 
-/// Registers by their names, each with its value, if it holds one.
+/// Registers by their names, each with the value that it holds, or `None`.
 type Entries = IndexMap<Name, Option<u64>>;
 
-/// The registers that hold a value, at most 1,024, by their names. All its memory is allocated when it is made.
+/// The registers that hold a value, at most 1,024, by their names. `new` allocates all its memory.
 ///
 /// A register whose value is taken out keeps its entry, since no hash map guarantees that a removed entry gives its
 /// room back. If a register needs an entry and all are in use, the table is swept: the entries that hold a value move
@@ -47,7 +47,8 @@ impl Model for Table {
     ghost invariant = { IsTable };
 }
 
-/// Lets the register hold `held`, if it has an entry, and returns what it held before; `None` if it has no entry.
+/// Lets the register hold `held` and returns what it held before. Without an entry for the register, changes nothing
+/// and returns `None`.
 fn write(entries: &mut Entries, name: &Name, held: Option<u64>) -> Option<Option<u64>>
     requires { IsRoomy entries.old }
     ensures changes { IfSome result (λ before.
@@ -152,8 +153,8 @@ impl Table {
         self.len() < MOST_REGISTERS || self.get(name).is_some()
     }
 
-    /// Lets the register hold the value, if it holds one or fewer than 1,024 registers do, and returns whether that
-    /// was so. Allocates nothing.
+    /// Lets the register hold the value and returns true. If it holds none and 1,024 registers hold one, changes nothing
+    /// and returns false. Allocates nothing.
     pub(crate) fn put(&mut self, name: Name, value: u64) -> bool
         ensures done { result ≡ not (is_blocked (held_in self.old name) (nat_le most_registers (length self.old))) }
         ensures contents { (other : List ℕ) → held_in self.new other

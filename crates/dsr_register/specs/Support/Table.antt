@@ -1,11 +1,11 @@
--- How a table is stored in a map of entries, some of which hold nothing.
+-- How a map stores a table: its entries hold a number or nothing.
 use Rattle.std.specs.Prelude.{◌≡◌, ℕ, ◌+◌, ◌≤◌, List, length, Option, None, Some, if◌then◌else◌, filter_map}
 use Rattle.std.specs.Option.{option_map}
 use Rattle.std.specs.Str.{bytes_eq}
 use Rattle.indexmap.specs.IndexMap.{IndexMap, index_map_len, spare, IsUnique}
 use Rattle.dsr_register.specs.Table.{held_in}
 
--- the entry's name and number, if it holds one
+-- the entry's name and number; `None` for an entry without a number
 abbrev pub held_entry : List ℕ × Option ℕ → Option (List ℕ × ℕ)
 held_entry entry = option_map (λ number. (entry.0, number)) entry.1
 
