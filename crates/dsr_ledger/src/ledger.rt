@@ -6,7 +6,7 @@ use dsr_names::{ClientId, Refusal};
 use std::alloc::Global;
 use std::marker::Model;
 
-/// The last reply to each client of a shape, if there was one.
+/// The last reply to each client of a shape; `None` before its first.
 #[derive(Drop)]
 pub struct Ledger {
     replies: Vec<Option<Reply>>,
@@ -22,8 +22,8 @@ impl Model for Ledger {
 }
 
 impl Ledger {
-    /// Creates the ledger of `clients` clients, none of which had a reply. All its memory is allocated here.
-    /// `NoMemory` if memory runs out.
+    /// Creates the ledger of `clients` clients, with no replies yet. Allocates all its memory. `NoMemory` if memory
+    /// runs out.
     pub fn new(alloc: Global, clients: u8) -> Result<Ledger, Refusal>
         ensures empty { IfOk result (λ ledger. ledger ≡ replicate clients None) }
         ensures refusal { IsOkUnless result Refusal.NoMemory }
@@ -33,7 +33,7 @@ impl Ledger {
     }
 
     /// Tells whether a request of this client with this number would act: the number is above that of the client's
-    /// last reply, or at least 1 if there is none. Requires that the client is one of the ledger's.
+    /// last reply, or at least 1 before the first. Requires that the client is one of the ledger's.
     pub fn acts(&self, client: ClientId, number: u64) -> bool
         requires { client < length self.now }
         ensures { IsTrue result ↔ Acts (last_reply self.now client) number }
@@ -44,7 +44,7 @@ impl Ledger {
         }
     }
 
-    /// Returns the client's last reply, if there was one; `None` for a client outside the shape.
+    /// Returns the client's last reply; `None` before its first, and for a client outside the shape.
     pub fn kept(&self, client: ClientId) -> Option<Reply>
         ensures { result ≡ last_reply self.now client }
     {
