@@ -16,12 +16,12 @@ request_without request h =
 regrouped : (request : Request) (after : List ℕ) → request_line request ++ after ≡ request_text 32 32 request ++ 10 ∷ after
 regrouped request after = append_assoc (request_text 32 32 request) (10 ∷ []) after
 
--- if there is no line feed
+-- a text without a line feed does not begin with the line of a request
 pub no_feed : (text : List ℕ) → IsAbsent 10 text → IsNoLine text
 no_feed text whole request after h e =
     not_absent 10 (request_text 32 32 request) after (subst (IsAbsent 10) (e ∙ regrouped request after) whole)
 
--- if the first line is read as no request
+-- nor does a text if its first line does not read as a request
 pub no_request : (text line after : List ℕ) → text ≡ line ++ 10 ∷ after → IsAbsent 10 line
     → ((request : Request) → (◌≡◌ {A = Option Request} None (Some request)) ↔ (IsRequest request × (line ≡ request_text 32 32 request))) → IsNoLine text
 no_request text line after cut whole reads request rest h e =

@@ -44,7 +44,7 @@ abbrev pub applied : List Request → List ℕ
 applied [] = []
 applied (request ∷ older) = applied older ++ answer_line (request ∷ older)
 
--- the text is the lines of these requests, all of which a text can write, and then the rest
+-- the text is the lines of these requests, then the rest; a text can write each of these requests
 pub record BeginsWith (text : List ℕ) (requests : List Request) (rest : List ℕ) : Type 0 where
   pub each : AllByRecursion IsRequest requests
   pub lines : text ≡ request_lines requests ++ rest
@@ -114,7 +114,7 @@ pub record AppliedPart (s : Streams) : Type 0 where
 
 -- what was written after each refusal: after a bad line the answers to the lines before it; nothing if memory ran out,
 -- or if reading failed, which a steady source does only for too many bytes; a prefix of the answers if writing failed;
--- there is no other refusal
+-- no other refusal occurs
 abbrev pub WrittenAfter : Refusal → Streams → Type 0
 WrittenAfter (BadText line) s = AppliedToLine line s
 WrittenAfter NoMemory s = Keeps s.output.contents s.written.contents

@@ -26,8 +26,8 @@ struct Run {
 }
 
 impl Run {
-    /// Lets the service process the request, as a value of its own, and writes the line that answers it. `NoMemory` if
-    /// memory runs out.
+    /// Lets the service process a value with this one request, and writes the line that answers it. `NoMemory` if memory
+    /// runs out.
     fn answer(&mut self, request: &Request) -> Result<(), Refusal>
         requires client { request.now.client < length self.old.service.replies }
         requires short { self.old.service.count < 2 ^ 39 }
@@ -96,8 +96,8 @@ fn first_line(text: &[u8]) -> Option<Line<'_>>
 }
 
 impl Run {
-    /// Answers the lines of the text up to the first bad one, and returns its number, counted from 1, if there is one.
-    /// A line is bad unless it is a request's. `NoMemory` if memory runs out.
+    /// Answers the lines of the text up to the first bad one, and returns its number, counted from 1, or `None` if no line
+    /// is bad. A line is bad unless it is a request's. `NoMemory` if memory runs out.
     fn answer_lines(&mut self, text: &[u8]) -> Result<Option<u64>, Refusal>
         requires clients { length self.old.service.replies ≡ 32 }
         requires new { IsAfter self.old.service [] }
@@ -121,7 +121,7 @@ impl Run {
     }
 }
 
-/// The answers to the lines of a text up to the first bad one, and its number, counted from 1, if there is one.
+/// The answers to the lines of a text up to the first bad one, and its number, counted from 1, or `None`.
 #[derive(Drop)]
 struct Answered {
     answers: Vec<u8>,

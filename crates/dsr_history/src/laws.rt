@@ -1,4 +1,4 @@
-//! Laws over the definitions, as contracts of functions that do nothing.
+//! Laws over the definitions: each is the contract of a function that does nothing.
 
 ghost use Rattle.std.specs.Prelude.{◌≡◌, ◌≢◌, ℕ, ◌<◌, ◌≤◌, None, Some, List, ◌++◌, length};
 ghost use Rattle.dsr_base.specs.Growth.{Extends};

@@ -12,7 +12,7 @@ use std::alloc::Global;
 use std::marker::Model;
 
 /// What the answer to the next request depends on: the directory, the last reply to each client, and how many requests
-/// acted. It stores no history, so all its memory is allocated when it is made.
+/// acted. It stores no history, so `new` allocates all its memory.
 #[derive(Drop)]
 pub(crate) struct Service {
     directory: Directory,
