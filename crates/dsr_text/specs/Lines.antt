@@ -29,7 +29,7 @@ abbrev pub AreLines : {Line : Type 0} → TextKind Line → Shape → List Line 
 AreLines kind shape [] = Unit {0}
 AreLines kind shape (line ∷ earlier) = IsNext kind shape earlier line × AreLines kind shape earlier
 
--- the text after a header with this shape is these lines, each of which can be the next one, and then the rest
+-- the text after a header with this shape is these lines, then the rest; each line can follow those before it
 pub record BeginsWithLines {Line : Type 0} (kind : TextKind Line) (text : List ℕ) (shape : Shape) (lines : List Line) (rest : List ℕ)
     : Type 0 where
   pub each : AreLines kind shape lines

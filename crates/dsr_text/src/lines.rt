@@ -33,8 +33,8 @@ pub trait TakesLines {
         ensures shape { shape self.new ≡ shape self.old }
         ensures refusal { IsOkUnless result Refusal.NoMemory };
 
-    /// Takes in what the line gives, if it can follow the lines that were taken in, and returns whether it can. After a line
-    /// that cannot, what was taken in is of no use. `NoMemory` if memory runs out.
+    /// Takes in what the line gives and returns true. If the line cannot follow the lines that were taken in, returns false:
+    /// then nothing is known about what was taken in. `NoMemory` if memory runs out.
     fn take(&mut self, alloc: Global, line: Self::Line) -> Result<bool, Refusal>
         ensures taken { IfOk result (λ can. IsTrue can → (lines : List Self.Line) → gives self.old lines → gives self.new (line ∷ lines)) }
         ensures when { IfOk result (λ can. (lines : List Self.Line) → gives self.old lines → IsTrue can ↔ kind.CanFollow (shape self.old) lines line) }

@@ -3,7 +3,7 @@ use Rattle.dsr_names.specs.ShapeText.{IsVerdict}
 use Rattle.dsr_text.proofs.HeaderLemmas.{no_header_line, no_titled, same_header, same_token, made_header}
 use Rattle.dsr_text.proofs.header.read_header.Goals as goal
 
--- without a line feed there is no header
+-- a text without a line feed does not begin with a header
 
 pub returns-in_default-clause-refused : goal.returns-in_default-clause-refused
 returns-in_default-clause-refused c = inr (refl, no_header_line c.args.title.now c.args.text.now c.in_default.ensures.absent)

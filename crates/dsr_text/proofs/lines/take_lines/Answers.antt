@@ -89,7 +89,7 @@ loop-rest-preserved g c =
       omega (arith, less, c.loop-rest.invariant.2),
     )
 
--- if none is left, the text is no other lines
+-- once no line is left, the text does not consist of other lines
 pub returns-clause-only : goal.returns-clause-only
 returns-clause-only g c all each e =
     let t = g.T.TakesLines in
