@@ -35,7 +35,7 @@ ask_kinds x = (
   λ h. record { request = h.0; signature = (said_kinds (Ask x.request) h.0 x.signature).1 h.1 },
 )
 
--- without a tilde there is no signed request
+-- bytes without a tilde do not read as a signed request
 pub no_ask : (bytes : List ℕ) → IsAbsent 126 bytes → Reads IsSigned signed_text bytes None
 no_ask bytes free =
     reads_through IsPair pair_text IsSigned signed_text ask_parts ask_kinds (λ x. refl) bytes None None

@@ -27,7 +27,7 @@ module _ (slot : ℕ) (value : Option (List Request)) where
   links_back before [] = refl
   links_back before (s ∷ ss) = ap₂ (λ y ys. y ∷ ys) (said_back (Link slot value before) s) (links_back (before ++ s.signer ∷ []) ss)
 
-  -- the long form of what fits is never said
+  -- a text never writes the long form of a statement that fits
   abbrev pub AreShort : List Actor → List Spelled → Type 0
   AreShort before xs = xs ≡ spelled_links slot value before (said_by slot value before xs)
 
@@ -36,7 +36,7 @@ module _ (slot : ℕ) (value : Option (List Request)) where
     pub whole : AreShort before rest → AreShort [] links
     pub part : AreShort [] links → AreShort before rest
 
-  -- each signature that is said has the property if each of the rest has it
+  -- each signature of the whole list has the property if each of the rest has it
   pub record HeldOn (P : Signature → Type 0) (links : List Spelled) (before : List Actor) (rest : List Spelled) : Type 0 where
     pub whole : All P (said_by slot value before rest) → All P (said_by slot value [] links)
     pub part : All P (said_by slot value [] links) → All P (said_by slot value before rest)

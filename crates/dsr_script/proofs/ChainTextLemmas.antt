@@ -131,18 +131,18 @@ no_chain bytes reads =
     reads_through IsWhole whole_text IsSpelledChain chain_text chain_parts chain_kinds (λ x. refl) bytes None None reads
     (λ x. (λ e. absurd (none-some x e), λ e. absurd (none-some (chain_parts x) e)))
 
--- without a slash there is no chain
+-- bytes without a slash do not read as a chain
 pub no_slash : (bytes : List ℕ) → IsAbsent 47 bytes → Reads IsSpelledChain chain_text bytes None
 no_slash bytes free = no_chain bytes (no_parts IsCount decimal IsEnd end_text 47 (at_byte 47) no_slash_in_slot bytes free)
 
--- nor with only one
+-- nor do bytes with only one
 pub one_slash : (bytes slot rest : List ℕ) → bytes ≡ slot ++ 47 ∷ rest → IsAbsent 47 slot → IsFree 47 false rest → Reads IsSpelledChain chain_text bytes None
 one_slash bytes slot rest parts part free =
     no_chain bytes
     (no_rest IsCount decimal IsEnd end_text 47 (at_byte 47) no_slash_in_slot bytes slot rest parts part
     (no_parts IsValue value_text AreLinks links_joined 47 (outside 47) value_apart rest free))
 
--- with two there is the chain of its three parts
+-- bytes with two read as the chain of their three parts
 pub reads_chain : (bytes slot rest value links : List ℕ) → bytes ≡ slot ++ 47 ∷ rest → IsAbsent 47 slot → rest ≡ value ++ 47 ∷ links → IsPart 47 value
     → (ra : Option ℕ) (rb : Option SlotValue) (rc : Option (List Spelled)) (r : Option Chain) → Reads IsCount decimal slot ra → Reads IsValue value_text value rb
     → Reads AreLinks links_joined links rc → ((x : Chain) → (r ≡ Some x) ↔ (pair_of ra (pair_of rb rc) ≡ Some (chain_parts x)))

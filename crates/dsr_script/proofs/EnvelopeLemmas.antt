@@ -33,7 +33,7 @@ other_key xs ys differ e =
     let same : get_or xs 0 0 + get_or xs 1 0 ≡ get_or ys 0 0 + get_or ys 1 0 = ap (λ zs. get_or zs 0 0 + get_or zs 1 0) e in
     grind (arith, nat_tests)
 
--- what is made from what follows a word
+-- an envelope made from what follows a word
 record IsMade {P : Type 0} (is_p : P → Type 0) (text_p : P → List ℕ) (make : P → Envelope) (rest : List ℕ) (x : Envelope) : Type 0 where
   pub part : P
   pub kind : is_p part

@@ -1,4 +1,4 @@
--- Readings of two parts, and of what is made of parts.
+-- Readings of two parts, and of values with parts.
 use Rattle.std.proofs.Common.{◌≡◌, ℕ, ◌↔◌, List, ◌∷◌, ◌++◌, Option, None, Some, sym, ◌∙◌}
 use Rattle.dsr_base.specs.Reads.{Reads}
 use Rattle.dsr_base.proofs.TwoParts.{Cuts, both_text, AreBoth, no_front, no_rest, reads_parts}

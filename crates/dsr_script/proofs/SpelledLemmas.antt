@@ -47,7 +47,7 @@ same_other true fitting s other decides e = absurd (none-some other (sym e))
 same_other false fitting s other decides e = (same_Some other s.statement e, λ same. false≢true (decides.1 same))
 
 module _ (fitting : Statement) (x : Spelled) where
-  -- what fits is said shortly
+  -- a text writes the short form if the statement fits
   pub fits_said : x.other ≡ None → x ≡ spelled_at fitting (said_in fitting x)
   fits_said none =
       ap (said_of x.signer) none
@@ -55,14 +55,14 @@ module _ (fitting : Statement) (x : Spelled) where
       ∙ ap (λ other. spelled_at fitting (signed x.signer (unwrap_or other fitting))) (sym none))
 
   module _ (statement : Statement) (some : x.other ≡ Some statement) where
-    -- what does not fit is said in full
+    -- a text writes in full a statement that does not fit
     other_said : (statement ≡ fitting → ⊥) → x ≡ spelled_at fitting (said_in fitting x)
     other_said differs =
         ap (said_of x.signer) some
         ∙ (sym (not_at_place fitting (signed x.signer statement) differs)
         ∙ ap (λ other. spelled_at fitting (signed x.signer (unwrap_or other fitting))) (sym some))
 
-    -- and nothing that fits is
+    -- but never writes in full one that fits
     fitting_not_said : statement ≡ fitting → x ≡ spelled_at fitting (said_in fitting x) → ⊥
     fitting_not_said fits e =
         let s = said_in fitting x in

@@ -30,7 +30,7 @@ abbrev pub spelled_links : ℕ → Option (List Request) → List Actor → List
 spelled_links slot value before [] = []
 spelled_links slot value before (s ∷ ss) = spelled_at (Link slot value before) s ∷ spelled_links slot value (before ++ s.signer ∷ []) ss
 
--- the text of a chain's signatures: joined by plus signs, or a dash if there are none
+-- the text of a chain's signatures: joined by plus signs, or a dash for an empty list
 abbrev pub links_text : Chain → List ℕ
 links_text chain = joined_or_dash 43 spelled_text (spelled_links chain.slot (content chain.value) [] chain.signatures)
 

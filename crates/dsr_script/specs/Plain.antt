@@ -1,5 +1,5 @@
--- Plain envelopes (this project): what texts could write before values had lists of requests and registers could be removed. No value has
--- more than one request, nothing is removed, and the same holds for all that is signed.
+-- Plain envelopes (this project): what texts could write before the project added lists of requests in values, and removals. No value has
+-- more than one request, no operation or answer is a removal, and the same holds for all that is signed.
 use Rattle.std.specs.Prelude.{◌≤◌, List, All, length, Option, None, Some}
 use Rattle.dsr_request.specs.Request.{Request}
 use Rattle.dsr_request.specs.declared.op.Op.{Op}

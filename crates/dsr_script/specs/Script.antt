@@ -27,7 +27,7 @@ ops_of script client = get_or script.ops client []
 abbrev pub place_of : ℕ → ℕ → Actor → Place
 place_of from round to = record { from = from; round = round; to = to }
 
--- the draft at a place, if there is one
+-- the draft at a place; `None` for a place without one
 abbrev pub draft_at : Script → Place → Option Envelope
 draft_at script place = lookup (place_eq place) script.drafts
 

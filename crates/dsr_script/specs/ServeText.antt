@@ -17,7 +17,7 @@ use Rattle.dsr_script.specs.Support.PlaceEquality.{place_eq}
 
 -- ---- one line
 
--- the word with which a line begins
+-- the first word of a line
 abbrev pub line_word : ServeLine → List ℕ
 line_word (Ask client op) = codes "ask"
 line_word (Post place envelope) = codes "script"
@@ -63,6 +63,6 @@ abbrev pub CanFollow : Shape → List ServeLine → ServeLine → Type 0
 CanFollow shape earlier (Ask client op) = IsActor shape (Client client)
 CanFollow shape earlier (Post place envelope) = IsTraitor shape place.from × IsActor shape place.to × (drafted_at earlier place ≡ None)
 
--- serve scripts, as texts that are a header and lines
+-- serve scripts: texts that consist of a header and lines
 abbrev pub serve_scripts : TextKind ServeLine
 serve_scripts = record { title = codes "dsr-serve 1"; line_text = line_text; IsLine = IsLine; CanFollow = CanFollow }

@@ -22,7 +22,7 @@ abbrev pub other_text : Option Statement → List ℕ
 other_text None = []
 other_text (Some statement) = 40 ∷ (statement_text statement ++ 41 ∷ [])
 
--- the text of such a description: the signer, and the other statement in parentheses, if there is one
+-- the text of such a description: the signer, then any other statement in parentheses
 abbrev pub spelled_text : Spelled → List ℕ
 spelled_text s = actor_text s.signer ++ other_text s.other
 

@@ -21,8 +21,8 @@ use dsr_names::{Actor, Refusal};
 use dsr_request::Requests;
 use std::alloc::Global;
 
-/// Makes the envelope that the draft describes. A signature by the holder of one of the keys is made; any other is taken from the
-/// known ones. `Forged` if one is neither by the holder of one of the keys nor known; `NoMemory` if memory runs out. What a draft
+/// Makes the envelope that the draft describes: signs for the holders of the keys, and takes every other signature from the known
+/// ones. `Forged` if a signature is neither by the holder of one of the keys nor known; `NoMemory` if memory runs out. What a draft
 /// describes is always within the limits of envelopes.
 pub fn build(alloc: Global, draft: &Draft, keys: &[Key], known: &Known) -> Result<Envelope, Refusal>
     ensures same { IfOk result (λ envelope. envelope ≡ draft.now) }
@@ -37,7 +37,7 @@ pub fn build(alloc: Global, draft: &Draft, keys: &[Key], known: &Known) -> Resul
     }
 }
 
-/// Makes the envelope that the plan describes, as `build` does.
+/// Makes the envelope that the plan describes, like `build`.
 fn build_plan(alloc: Global, plan: &Plan, keys: &[Key], known: &Known) -> Result<Envelope, Refusal>
     ensures same { IfOk result (λ envelope. envelope ≡ described plan.now) }
     ensures unforged { IfOk result (λ envelope. IsUnforged keys.now known.now.signatures envelope) }
@@ -125,7 +125,7 @@ fn are_links_held(
 }
 
 /// Tells whether the signature that a chain with this slot and content describes after these signers is not forged. What it says in
-/// full takes much room, so that is made only if none of the keys is the signer's.
+/// full takes much room, so the code makes that only if none of the keys is the signer's.
 fn is_link_held(
     slot: u64,
     content: &Option<Requests>,
@@ -156,7 +156,7 @@ pub(crate) fn is_held(said: &Said, keys: &[Key], known: &Known) -> bool
     key_of(keys, said.signer()).is_some() || known.find(said).is_some()
 }
 
-/// Returns the key of this signer, if it is one of the keys.
+/// Returns the key of this signer; `None` if it is not among the keys.
 fn key_of(keys: &[Key], signer: Actor) -> Option<&Key>
     ensures signer { IfSome result (λ key. key.now ≡ signer) }
     ensures when { IsSome result ↔ Any (λ holder. holder ≡ signer) keys.now }
@@ -257,7 +257,7 @@ fn request_of(said: &SaidRequest, keys: &[Key], known: &Known) -> SignedRequest
     }
 }
 
-/// Returns the signature that says this: made, if one of the keys is its signer's, else taken from the known ones.
+/// Returns the signature that says this: signs with the signer's key if it is among the keys, else takes the known one.
 fn signature_of(said: &Said, keys: &[Key], known: &Known) -> Signature
     requires { IsHeldOrKnown keys.now known.now.signatures said.now }
     ensures { result ≡ said.now }

@@ -112,7 +112,7 @@ impl Draft {
     }
 }
 
-/// Shows that a text can write the answer, as it can write every answer in a program.
+/// Shows that a text can write any answer in a program.
 fn spell_answer(answer: Answer)
     ensures { IsAnswer answer }
 {

@@ -96,7 +96,7 @@ fn read_round(alloc: Global, bytes: &[u8]) -> Result<Option<Plan>, Refusal>
     }
 }
 
-/// Makes the chains of a global round from its parts, if both are there.
+/// Makes the chains of a global round from its parts; `None` if one is missing.
 fn round_of_parts(round: Option<u64>, chains: Option<Vec<SaidChain>>) -> Option<Plan>
     ensures { option_map described result ≡ option_map round_of (pair_of round (option_map (λ list. list.items) chains)) }
 {
@@ -165,7 +165,7 @@ fn read_number(bytes: &[u8]) -> Option<u64>
     }
 }
 
-/// Makes the reply from its parts, if all are there.
+/// Makes the reply from its parts; `None` if one is missing.
 fn reply_of_parts(number: Option<u64>, place: Option<u64>, answer: Option<Answer>) -> Option<Reply>
     ensures { (x : AReply) → (result ≡ Some x) ↔ (pair_of number (pair_of place answer) ≡ Some (reply_parts x)) }
 {

@@ -31,7 +31,8 @@ pub struct Forged {
 }
 
 /// Returns a signature in the draft for which `build` refuses it as forged: it is neither by the holder of one of the keys nor known. `None`
-/// exactly if there is none. (Of several, the first is returned: chains come in their order, and in each its links before its requests.)
+/// exactly if the draft has no such signature. If it has several, the contract leaves open which one this is. (The code returns the first: it
+/// goes through the chains in their order, and in each through its links before its requests.)
 pub fn forged_in(draft: &Draft, keys: &[Key], known: &Known) -> Option<Forged>
     ensures carried { IfSome result (λ forged. Carries draft.now (signed forged.signer forged.statement)) }
     ensures forged { IfSome result (λ forged. ¬ IsHeldOrKnown keys.now known.now.signatures (signed forged.signer forged.statement)) }
@@ -138,7 +139,7 @@ fn forged_beside(asks: &[SaidRequest], keys: &[Key], known: &Known) -> Option<Fo
     }
 }
 
-/// Returns the signature beside the request, if it is forged.
+/// Returns the signature beside the request; `None` if it is not forged.
 fn forged_request(ask: &SaidRequest, keys: &[Key], known: &Known) -> Option<Forged>
     ensures carried { IfSome result (λ forged. ask.now.signature ≡ signed forged.signer forged.statement) }
     ensures forged { IfSome result (λ forged. ¬ IsHeldOrKnown keys.now known.now.signatures (signed forged.signer forged.statement)) }
@@ -147,7 +148,7 @@ fn forged_request(ask: &SaidRequest, keys: &[Key], known: &Known) -> Option<Forg
     forged_of(&ask.said(), keys, known)
 }
 
-/// Returns the described signature, if it is forged.
+/// Returns the described signature; `None` if it is not forged.
 fn forged_of(said: &Said, keys: &[Key], known: &Known) -> Option<Forged>
     ensures carried { IfSome result (λ forged. said.now ≡ signed forged.signer forged.statement) }
     ensures forged { IfSome result (λ forged. ¬ IsHeldOrKnown keys.now known.now.signatures (signed forged.signer forged.statement)) }

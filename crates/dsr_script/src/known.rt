@@ -80,7 +80,7 @@ impl Known {
         self.reserve(MOST_CARRIED)
     }
 
-    /// Returns the signature that says this, if it is known.
+    /// Returns the known signature that says this; `None` if no known one does.
     pub(crate) fn find(&self, said: &Said) -> Option<Signature>
         ensures found { IfSome result (λ signature. signature ≡ said.now) }
         ensures when { IsSome result ↔ In said.now self.now.signatures }

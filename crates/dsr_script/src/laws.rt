@@ -1,5 +1,5 @@
-//! Laws, as contracts of functions that do nothing: `build` forges nothing, what texts can write is within the limits of envelopes,
-//! and a text and its draft determine each other.
+//! Laws, each the contract of a function that does nothing: `build` forges nothing, what texts can write is within the limits of
+//! envelopes, and a text and its draft determine each other.
 
 ghost use Rattle.std.specs.Prelude.{◌≡◌, ◌⊎◌, ℕ, List, Some};
 ghost use Rattle.dsr_base.specs.Reads.{Reads};
@@ -28,7 +28,7 @@ pub fn spelled_is_within_limits()
     ensures { (envelope : Envelope) → IsSpelledEnvelope envelope → IsEnvelope envelope }
 {}
 
-/// Each draft has a text, so its text is read as that draft again.
+/// Each draft has a text, so a reader of its text gets that draft again.
 pub fn each_draft_has_a_text(draft: &Draft)
     ensures { IsSpelledEnvelope draft.now }
 {

@@ -66,7 +66,7 @@ fn is_plain_ask(ask: &SaidRequest) -> bool
     is_plain_request(&ask.request()) && is_plain_brief(ask.brief())
 }
 
-/// Tells whether a statement that does not fit is plain, if there is one.
+/// Tells whether the description has no other statement than the fitting one, or a plain one.
 fn is_plain_brief(brief: &Brief) -> bool
     ensures { IsTrue result ↔ IsPlainSaid brief.now }
 {

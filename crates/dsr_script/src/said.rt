@@ -123,7 +123,7 @@ impl SaidRequest {
         }
     }
 
-    /// Makes this from both parts, if both are there and the second is not the long form of a signature on the request.
+    /// Makes this from both parts. `None` if one is missing, or the second is the long form of a signature on the request.
     /// `NoMemory` if memory runs out.
     fn of_parts(
         alloc: Global,

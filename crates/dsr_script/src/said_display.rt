@@ -47,7 +47,7 @@ impl fmt::Display for SaidChain {
     }
 }
 
-/// Writes the value with these requests: `idle` if there are none.
+/// Writes the value with these requests: `idle` for an empty list.
 fn write_value<W: fmt::Write>(asks: &[SaidRequest], f: &mut fmt::Formatter<W>) -> fmt::Result
     ensures { DisplaysOnOk W.write_str_gives f.old result (Some (value_text (value_of asks.now))) f.new }
 {
@@ -60,7 +60,7 @@ fn write_value<W: fmt::Write>(asks: &[SaidRequest], f: &mut fmt::Formatter<W>) -
     }
 }
 
-/// Writes what a text says about the signatures of a chain: a dash if there are none.
+/// Writes what a text says about the signatures of a chain: a dash for an empty list.
 fn write_links<W: fmt::Write>(links: &[Brief], f: &mut fmt::Formatter<W>) -> fmt::Result
     ensures { DisplaysOnOk W.write_str_gives f.old result (Some (joined_or_dash 43 spelled_text links.now)) f.new }
 {

@@ -110,7 +110,7 @@ impl SaidChain {
     }
 }
 
-/// Makes the chain from its parts, if all are there and no link is the long form of what fits its place.
+/// Makes the chain from its parts. `None` if one is missing, or a link is the long form of what fits its place. `NoMemory` if memory runs out.
 fn chain_of_parts(
     alloc: Global,
     slot: Option<u64>,
@@ -175,7 +175,7 @@ fn are_links(slot: u64, content: &Option<Requests>, links: &[Brief]) -> bool
     true
 }
 
-/// Returns the requests without the signatures beside them, or `None` if there are none.
+/// Returns the requests without the signatures beside them; `None` for an empty list.
 pub(crate) fn content_of(asks: &[SaidRequest]) -> Option<Requests>
     requires { length asks.now ≤ 8 }
     ensures { result ≡ content_in asks.now }

@@ -42,8 +42,8 @@ impl Script {
     /// Reads a script: a header `dsr-serve 1 SHAPE`, then lines `ask CLIENT OPERATION` and `script TRAITOR ROUND ACTOR ENVELOPE`, in any order.
     ///
     /// `BadShape` if the header's shape is outside the limits, whatever follows it. `BadText` names the first bad line, counted from 1:
-    /// a line that is not written so, that has no line feed, whose client or actor is not of the shape, whose traitor is not a traitor
-    /// of the shape, or that is the second for the same traitor, round and actor. `NoMemory` if memory runs out.
+    /// a line that does not fit this grammar, that has no line feed, whose client or actor is not of the shape, whose traitor is not a
+    /// traitor of the shape, or that is the second for the same traitor, round and actor. `NoMemory` if memory runs out.
     pub fn read(alloc: Global, text: &[u8]) -> Result<Script, Refusal>
         ensures script { IfOk result (Spells text.now) }
         ensures refused { IfErr result (IsScriptRefusal text.now) }
@@ -79,7 +79,7 @@ impl Script {
         }
     }
 
-    /// Returns what the traitor is to post to the actor in this round, counted from 0, if the script says it.
+    /// Returns what the traitor is to post to the actor in this round, counted from 0; `None` if the script leaves it open.
     pub fn draft(&self, from: ReplicaId, round: u64, to: Actor) -> Option<&Draft>
         ensures { option_map (λ d. d.now) result ≡ draft_at self.now (place_of from round to) }
     {
@@ -103,8 +103,8 @@ impl Script {
         })
     }
 
-    /// Takes in what the line gives, if it can follow the lines that were taken in, and returns whether it can. After a line
-    /// that cannot, the script is of no use.
+    /// Takes in what the line gives and returns true. If the line cannot follow the lines that were taken in, returns false:
+    /// then nothing but the shape is known about the script.
     fn take(&mut self, line: ServeLine) -> Result<bool, Refusal>
         ensures taken { IfOk result (λ can. IsTrue can → (lines : List ServeLine) → Gives lines self.old → Gives (line ∷ lines) self.new) }
         ensures when { IfOk result (λ can. (lines : List ServeLine) → Gives lines self.old → IsTrue can ↔ CanFollow self.old.shape lines line) }

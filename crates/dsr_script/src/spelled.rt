@@ -68,7 +68,7 @@ impl Spelled {
     }
 }
 
-/// Returns the statement, if it is not the one that fits.
+/// Returns the statement; `None` if it equals the one that fits.
 fn other_than(statement: &Statement, fitting: &Statement) -> Option<Statement>
     ensures { result ≡ (if statement_eq statement.now fitting.now then None else Some statement.now) }
 {

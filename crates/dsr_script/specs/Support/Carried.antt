@@ -1,4 +1,4 @@
--- The signatures that an envelope carries, as a list.
+-- The list of the signatures that an envelope carries.
 use Rattle.std.specs.Prelude.{List, [], ◌∷◌, ◌++◌, flat_map, All}
 use Rattle.dsr_names.specs.declared.actor.Actor.{Actor}
 use Rattle.dsr_desk.specs.Signature.{Signature}

@@ -3,6 +3,6 @@ use Rattle.std.specs.Prelude.{IfSome}
 use Rattle.dsr_script.specs.Plain.{IsPlainStatement}
 use Rattle.dsr_script.specs.SignatureText.{Spelled}
 
--- the other statement is plain, if there is one
+-- the description has no other statement, or a plain one
 abbrev pub IsPlainSaid : Spelled → Type 0
 IsPlainSaid said = IfSome said.other IsPlainStatement

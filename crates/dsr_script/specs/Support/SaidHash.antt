@@ -20,7 +20,7 @@ abbrev pub actor_fed : Actor → fed.HashWrites
 actor_fed (Replica r) = fed.u8 r
 actor_fed (Client c) = fed.u8 (c + 16)
 
--- what the operation is, and with which values
+-- the operation's kind and its values
 abbrev pub verb_fed : Op → fed.HashWrites
 verb_fed (Read name) = fed.u8 0
 verb_fed (Write name value) = fed.u8 1 ++ fed.u64 value

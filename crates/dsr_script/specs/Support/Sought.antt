@@ -1,4 +1,4 @@
--- The key by which a signature is found among those that were seen.
+-- The key for finding a signature among those that were seen.
 use Rattle.std.specs.Prelude.{◌≡◌, Bool}
 use Rattle.std.specs.Bool.{Decides}
 use Rattle.std.specs.Cmp.{IsEquivalence, IsPartialEquivalence, both_ways, partial_equiv_from_equiv}

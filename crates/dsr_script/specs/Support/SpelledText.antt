@@ -41,7 +41,7 @@ short_form signer = record { signer = signer; other = None }
 abbrev pub long_form : Actor × Statement → Spelled
 long_form p = record { signer = p.0; other = Some p.1 }
 
--- both, if both are there
+-- the pair of both; `None` if one is missing
 abbrev pub pair_of : {A B : Type 0} → Option A → Option B → Option (A × B)
 pair_of None b = None
 pair_of (Some a) None = None

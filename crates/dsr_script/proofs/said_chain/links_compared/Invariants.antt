@@ -2,7 +2,7 @@ use Rattle.std.proofs.Common.{◌≡◌, ◌++◌, [], length, drop}
 use Rattle.dsr_script.specs.ChainText.{spelled_links}
 use Rattle.dsr_script.proofs.said_chain.links_compared.Given as goal
 
--- what is said so far
+-- the links so far and the descriptions of the remaining signatures are together those of the chain
 abbrev pub invariant-loop-place : goal.invariant-loop-place
 invariant-loop-place l = record {
   said :
