@@ -40,7 +40,7 @@ same_word xs ys word r is holds same = (bytes_eq-Decides xs ys).0 (sym is ∙ ho
 pub not_same_word : (xs ys word : List ℕ) (r : Bool) → r ≡ bytes_eq xs ys → r ≡ false → ys ≡ word → xs ≢ word
 not_same_word xs ys word r is fails same e = false≢true (sym fails ∙ (is ∙ (bytes_eq-Decides xs ys).1 (e ∙ sym same)))
 
--- ---- what is made of what follows a word
+-- ---- lines made from what follows a word
 
 record IsMade {P : Type 0} (is_p : P → Type 0) (text_p : P → List ℕ) (make : P → PlayLine) (rest : List ℕ) (x : PlayLine) : Type 0 where
   pub part : P

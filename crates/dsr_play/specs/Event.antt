@@ -12,6 +12,6 @@ actor_of (Plant from to draft) = from
 actor_of (Take at from) = at
 actor_of (Tell from to) = from
 
--- an event that a text can write, as a line of a play
+-- an event that a line of a play can write
 abbrev pub IsSpelledEvent : Event → Type 0
 IsSpelledEvent event = IsPlayLine (One event)

@@ -1,5 +1,5 @@
--- How texts write plays (this project): a header `dsr-play 1 n f m traitors`, then lines, each of which represents one event or
--- several. Lines are listed newest first: the last line is the first of the list.
+-- How texts write plays (this project): a header `dsr-play 1 n f m traitors`, then lines of one event or several each. Lines are
+-- listed newest first: the last line is the first of the list.
 use Rattle.std.specs.Prelude.{ℕ, zero, suc, ◌<◌, ◌≤◌, ◌==◌, if◌then◌else◌, All, List, [], ◌∷◌, ◌++◌, length, codes}
 use Rattle.dsr_base.specs.Joined.{joined}
 use Rattle.dsr_names.specs.Actor.{IsNumbered, actor_text, client_text, replica_text}
@@ -19,7 +19,7 @@ use Rattle.dsr_play.specs.declared.play_line.PlayLine.TheVariants.{One, Posts, P
 
 -- ---- one line
 
--- the word with which a line begins
+-- the first word of a line
 abbrev pub line_word : PlayLine → List ℕ
 line_word (One (Post from to pick)) = codes "post"
 line_word (One (Plant from to envelope)) = codes "plant"
@@ -142,6 +142,6 @@ all_events shape (line ∷ earlier) = all_events shape earlier ++ events_of shap
 abbrev pub CanFollow : Shape → List PlayLine → PlayLine → Type 0
 CanFollow shape earlier line = length (all_events shape (line ∷ earlier)) ≤ 1000000
 
--- plays, as texts that are a header and lines
+-- plays: texts that consist of a header and lines
 abbrev pub plays : TextKind PlayLine
 plays = record { title = codes "dsr-play 1"; line_text = line_text; IsLine = IsPlayLine; CanFollow = CanFollow }

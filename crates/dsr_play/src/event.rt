@@ -12,7 +12,7 @@ pub enum Event {
         from: Actor,
         /// The actor to which it posts.
         to: Actor,
-        /// What it chooses, if its protocol leaves a choice.
+        /// Its choice among the posts that its protocol allows.
         pick: Choice,
     },
     /// A traitor posts an envelope of its own.

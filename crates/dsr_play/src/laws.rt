@@ -1,5 +1,5 @@
-//! The law that each event can be written in a play, as the contract of
-//! a function that does nothing.
+//! The law that each event can be written in a play: it is the contract
+//! of a function that does nothing.
 
 ghost use Rattle.std.specs.Prelude.{◌<◌, All, ℕ};
 ghost use Rattle.dsr_names.specs.Actor.{IsNumbered};
@@ -11,7 +11,7 @@ use dsr_envelope::Pick;
 use dsr_names::{Actor, ClientId};
 use dsr_script::each_draft_has_a_text;
 
-/// Each event can be written, as a line of a play.
+/// States that a line of a play can write each event.
 pub fn each_event_has_a_line(event: &Event)
     ensures { IsSpelledEvent event.now }
 {
@@ -37,7 +37,7 @@ pub fn each_event_has_a_line(event: &Event)
     }
 }
 
-/// Shows that the actor has a number that texts can name, as every actor has.
+/// Shows that texts can name the number of any actor.
 fn number_actor(actor: &Actor)
     ensures { IsNumbered actor.now }
 {
@@ -51,7 +51,7 @@ fn number_actor(actor: &Actor)
     }
 }
 
-/// Shows that a text can write the choice, as it can write every choice.
+/// Shows that a text can write any choice.
 fn spell_pick(pick: &Pick)
     ensures { IsSpelledPick pick.now }
 {
@@ -64,7 +64,7 @@ fn spell_pick(pick: &Pick)
     }
 }
 
-/// Shows that the clients have numbers below 32, as every client has.
+/// Shows that the numbers of any clients are below 32.
 fn number_clients(clients: &[ClientId])
     ensures { All (λ (c : ℕ). c < 32) clients.now }
 {

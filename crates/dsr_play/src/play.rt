@@ -32,10 +32,10 @@ impl Model for Play {
 }
 
 impl Play {
-    /// Reads a play: a header `dsr-play 1 SHAPE`, then lines, each of which represents one event or several.
+    /// Reads a play: a header `dsr-play 1 SHAPE`, then lines of one event or several each.
     ///
     /// `BadShape` if the header's shape is outside the limits, whatever follows it. `BadText` names the first bad line, counted
-    /// from 1: a line that is not written so, that has no line feed, or with which the events are more than 1,000,000.
+    /// from 1: a line that does not fit this grammar, that has no line feed, or that makes the events more than 1,000,000.
     /// `NoMemory` if memory runs out.
     pub fn read(alloc: Global, text: &[u8]) -> Result<Play, Refusal>
         ensures play { IfOk result (Spells text.now) }
@@ -101,7 +101,7 @@ impl Reading {
     }
 
     /// Takes in the events that the line represents, and returns whether the events are then at most 1,000,000. If they are more,
-    /// what was read is of no use. `NoMemory` if memory runs out.
+    /// no play has them. `NoMemory` if memory runs out.
     fn add(&mut self, alloc: Global, line: PlayLine) -> Result<bool, Refusal>
         ensures taken { OnOk result (self.new.events ≡ self.old.events ++ events_of self.old.shape line) }
         ensures when { IfOk result (λ can. IsTrue can ↔ length (self.old.events ++ events_of self.old.shape line) ≤ 1000000) }

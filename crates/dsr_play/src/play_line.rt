@@ -116,7 +116,7 @@ fn read_post(alloc: Global, rest: &[u8]) -> Result<Option<PlayLine>, Refusal>
     Ok(line)
 }
 
-/// Makes the line with this post, if there is one. `NoMemory` if memory runs out.
+/// Makes the line with this post; `None` without one. `NoMemory` if memory runs out.
 fn post_line(
     alloc: Global,
     posted: Option<(Actor, (Actor, Pick))>,
@@ -142,7 +142,7 @@ fn read_plant(alloc: Global, rest: &[u8]) -> Result<Option<PlayLine>, Refusal>
     Ok(plant_line(planted))
 }
 
-/// Makes the line with this planted envelope, if there is one.
+/// Makes the line with this planted envelope; `None` without one.
 fn plant_line(planted: Option<(Actor, (Actor, Draft))>) -> Option<PlayLine>
     ensures { result ≡ plant_line planted }
 {
@@ -159,7 +159,7 @@ fn read_take(rest: &[u8]) -> Option<PlayLine>
     take_line(read_ends(rest))
 }
 
-/// Makes the line with a take by the first actor from the other, if both are there.
+/// Makes the line in which the first actor takes from the other; `None` without actors.
 fn take_line(ends: Option<(Actor, Actor)>) -> Option<PlayLine>
     ensures { result ≡ take_line ends }
 {
@@ -176,7 +176,7 @@ fn read_tell(rest: &[u8]) -> Option<PlayLine>
     tell_line(read_ends(rest))
 }
 
-/// Makes the line by which the first actor posts its seen front to the other, if both are there.
+/// Makes the line in which the first actor posts its seen front to the other; `None` without actors.
 fn tell_line(ends: Option<(Actor, Actor)>) -> Option<PlayLine>
     ensures { result ≡ tell_line ends }
 {
@@ -197,7 +197,8 @@ fn read_posts(rest: &[u8]) -> Option<PlayLine>
     }
 }
 
-/// Makes the line with the posts of this replica with this choice, if it is a replica and can choose so.
+/// Makes the line with the posts of this replica with this choice; `None` for a client, for a choice that only clients make, and
+/// without a choice.
 fn posts_line(choice: Option<(Actor, Pick)>) -> Option<PlayLine>
     ensures { result ≡ posts_line choice }
 {
@@ -208,7 +209,7 @@ fn posts_line(choice: Option<(Actor, Pick)>) -> Option<PlayLine>
     }
 }
 
-/// Makes the line with the posts of this replica with this choice, if a replica can choose so.
+/// Makes the line with the posts of this replica with this choice; `None` for a choice that only clients make.
 fn replicas_line(by: ReplicaId, pick: Pick) -> Option<PlayLine>
     ensures { result ≡ posts_line (Some (Replica by, pick)) }
 {
@@ -228,7 +229,7 @@ fn read_plants(alloc: Global, rest: &[u8]) -> Result<Option<PlayLine>, Refusal>
     Ok(plants_line(planted))
 }
 
-/// Makes the line with this envelope planted for each replica, if there is one.
+/// Makes the line that plants this envelope for each replica; `None` without one.
 fn plants_line(planted: Option<(ReplicaId, Draft)>) -> Option<PlayLine>
     ensures { result ≡ plants_line planted }
 {
@@ -256,7 +257,8 @@ fn read_asks(rest: &[u8]) -> Option<PlayLine>
     asks_line(read_choice(rest))
 }
 
-/// Makes the line with the posts of this client with this choice, if it is a client and can choose so.
+/// Makes the line with the posts of this client with this choice; `None` for a replica, for a choice that only replicas make, and
+/// without a choice.
 fn asks_line(choice: Option<(Actor, Pick)>) -> Option<PlayLine>
     ensures { result ≡ asks_line choice }
 {
@@ -267,7 +269,7 @@ fn asks_line(choice: Option<(Actor, Pick)>) -> Option<PlayLine>
     }
 }
 
-/// Makes the line with the posts of this client with this choice, if a client can choose so.
+/// Makes the line with the posts of this client with this choice; `None` for a choice that only replicas make.
 fn clients_line(by: ClientId, pick: Pick) -> Option<PlayLine>
     ensures { result ≡ asks_line (Some (Client by, pick)) }
 {
@@ -302,7 +304,7 @@ fn read_ends(bytes: &[u8]) -> Option<(Actor, Actor)>
     }
 }
 
-/// Reads who posts, to whom, and with which choice.
+/// Reads the poster, the actor to which it posts, and its choice.
 fn read_posted(bytes: &[u8]) -> Option<(Actor, (Actor, Pick))>
     ensures { Reads IsPosted posted_text bytes.now result }
 {
@@ -312,7 +314,7 @@ fn read_posted(bytes: &[u8]) -> Option<(Actor, (Actor, Pick))>
     }
 }
 
-/// Returns both, if both are there.
+/// Returns the pair of both; `None` if one is missing.
 fn posted(from: Option<Actor>, choice: Option<(Actor, Pick)>) -> Option<(Actor, (Actor, Pick))>
     ensures { result ≡ option_zip from choice }
 {
@@ -331,7 +333,7 @@ fn read_choice(bytes: &[u8]) -> Option<(Actor, Pick)>
     }
 }
 
-/// Returns both, if both are there.
+/// Returns the pair of both; `None` if one is missing.
 fn chosen(actor: Option<Actor>, pick: Option<Pick>) -> Option<(Actor, Pick)>
     ensures { result ≡ option_zip actor pick }
 {
@@ -366,7 +368,7 @@ fn read_clients(bytes: &[u8]) -> Option<Clients>
     Clients::of(list.as_slice())
 }
 
-/// Reads who plants, for whom, and which envelope.
+/// Reads the actor that plants, the actor to which it plants, and the envelope.
 fn read_planted(alloc: Global, bytes: &[u8]) -> Result<Option<(Actor, (Actor, Draft))>, Refusal>
     ensures read { IfOk result (Reads IsPlanted planted_text bytes.now) }
     ensures refusal { IsOkUnless result Refusal.NoMemory }
@@ -377,7 +379,7 @@ fn read_planted(alloc: Global, bytes: &[u8]) -> Result<Option<(Actor, (Actor, Dr
     }
 }
 
-/// Reads for whom an envelope is planted, and the envelope.
+/// Reads the actor to which an envelope is planted, and the envelope.
 fn read_end(alloc: Global, bytes: &[u8]) -> Result<Option<(Actor, Draft)>, Refusal>
     ensures read { IfOk result (Reads IsEnd end_text bytes.now) }
     ensures refusal { IsOkUnless result Refusal.NoMemory }

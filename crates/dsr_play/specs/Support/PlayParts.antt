@@ -80,7 +80,7 @@ IsPlantedForAll p = (p.0 < 16) × IsSpelledEnvelope p.1
 abbrev pub planted_for_all_text : ℕ × Envelope → List ℕ
 planted_for_all_text p = replica_text p.0 ++ 32 ∷ envelope_text p.1
 
--- the lines with a post, a planted envelope, a take, the post of a seen front, and an envelope planted for each replica, if there is one
+-- the lines with a post, a planted envelope, a take, the post of a seen front, and an envelope planted for each replica; `None` without one
 abbrev pub post_line : Option (Actor × (Actor × Pick)) → Option PlayLine
 post_line posted = option_map (λ p. One (Post p.0 p.1.0 p.1.1)) posted
 
