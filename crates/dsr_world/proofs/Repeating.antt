@@ -65,7 +65,7 @@ loyal_is : (shape : Shape) (who : Actor) → IsLoyal shape who → IsActor shape
 loyal_is shape (Replica p) loyal = loyal.0
 loyal_is shape (Client c) loyal = loyal
 
--- a post that is made is due
+-- if a replica posts to `q`, a post to `q` is due
 due_at : (d : Due) (q : ℕ) (x : Envelope) (o : Option Envelope) → (if is_due d q then o else None) ≡ Some x → d ≡ PostTo q
 due_at (PostTo k) q x o e = elim (cases_Bool (k == q)) [
   | inl yes_due ↦ ap PostTo ((Decides-eqb k q).0 yes_due)
@@ -144,7 +144,7 @@ module _ (shape : Shape) (run : List Step) (letters : List (Option Envelope)) (a
   letters_posted from (Replica (suc q)) x actor = letters_left (from, Post (Replica (suc q)) x) (λ loyal. tt)
   letters_posted from (Client c) x actor = letters_left (from, Post (Client c) x) (λ loyal. tt)
 
-  -- what a loyal replica posts next to a replica other than 0, by the plain choice, is the letter that is kept, if one is
+  -- if a letter is stored for a loyal replica, it is what the replica posts to another than replica 0 by the plain choice
   pub posts_again : IsRun shape run → (p q : ℕ) → IsLoyal shape (Replica p) → (x y : Envelope) → slice_index_or letters p None ≡ Some x
       → post_of shape (log_of run (Replica p)) (Replica p) (Replica (suc q)) Plain ≡ Some y
       → post_of shape (log_of run (Replica p)) (Replica p) (Replica (suc q)) Plain ≡ Some x

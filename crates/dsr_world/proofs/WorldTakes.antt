@@ -112,7 +112,7 @@ module _ (shape : Shape) (run : List Step) (nodes : List Node) (rows : List (Lis
     box_within (Client c) from x is.actor is.other full,
   )
 
-  -- the parts while room is made
+  -- the parts after an actor's node has made room
   pub parts_with_room : (at : Actor) (node : Node) → IsActor shape at → Plays shape at (log_of run at) node
       → AreParts shape run (slice_set nodes (place_of shape at) node) rows keys known
   parts_with_room at node actor plays = record {

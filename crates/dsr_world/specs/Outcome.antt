@@ -59,7 +59,7 @@ pub record Counts (outcomes : List (Option Refusal)) (end : RunEnd) : Type 0 whe
   pub starved : end.starved ≡ starved_in outcomes
   pub first : end.first ≡ first_from 0 outcomes
 
--- how the events ended: each of them was done or refused in turn, as many as the numbers say
+-- how the events ended: each in turn was done or refused, and the end has the numbers of these outcomes
 pub record HasEnded (shape : Shape) (later earlier : List Step) (events : List Event) (end : RunEnd) : Type 0 where
   pub outcomes : List (Option Refusal)
   pub are : AreOutcomes shape later earlier events outcomes

@@ -1,4 +1,4 @@
-//! What events do does not depend on who else is a traitor. A law, as the contract of a function that does nothing.
+//! The law that what events do does not depend on who else is a traitor: the contract of a function that does nothing.
 
 ghost use Rattle.std.specs.Prelude.{◌≡◌};
 ghost use Rattle.dsr_names.specs.Shape.{Shape, AgreeButForTraitors};

@@ -65,7 +65,7 @@ pub(crate) fn kept_of(to: &Actor, letter: &Letter) -> Result<Option<Letter>, Ref
     }
 }
 
-/// Stores the letter of a post at its poster's place, if there is one to store.
+/// Stores the letter of a post at its poster's place; does nothing for `None`.
 pub(crate) fn keep_letter(letters: &mut Vec<Option<Letter>>, place: usize, letter: Option<Letter>)
     requires { place < length letters.old.items }
     ensures { letters.new.items ≡ with_letter place letter letters.old.items }

@@ -6,8 +6,8 @@ use dsr_envelope::{Envelope, Letter};
 use dsr_names::{Actor, Refusal};
 use std::alloc::Global;
 
-/// The letter that was last made for a post to each client, if there was one. All loyal replicas give a client the same reply, so the
-/// next one to post it posts this letter again. Nothing depends on what is stored here: a letter is posted again only if it is the same.
+/// The letter of the last post to each client; `None` before the first. All loyal replicas give a client the same reply, so the next
+/// one to post it posts this letter again. No outcome depends on what is stored here: a post reuses a letter only if it is the same.
 #[derive(Drop)]
 pub(crate) struct Replies {
     last: Vec<Option<Letter>>,
@@ -55,7 +55,7 @@ impl Replies {
         Ok(())
     }
 
-    /// Returns the last letter to this actor, if it is a client, and the letter holds this envelope.
+    /// Returns the last letter to this actor if it holds this envelope. `None` if it holds another, and for a replica.
     fn same_before(&self, to: &Actor, envelope: &Envelope) -> Option<&Letter>
         ensures { IfSome result (λ letter. letter.now ≡ envelope.now) }
     {

@@ -61,7 +61,7 @@ pub struct World {
     boxes: Boxes<Letter>,
     keys: Vec<Key>,
     known: Known,
-    /// The letter that each loyal actor last posted to replica 0, at the actor's place, if it is stored.
+    /// The letter that each loyal actor last posted to replica 0, at the actor's place; `None` if no such letter is stored.
     letters: Vec<Option<Letter>>,
     replies: Replies,
     entries: Vec<(Actor, Entry)>,
@@ -203,9 +203,9 @@ impl World {
         self.boxes.posts(poster, taker)
     }
 
-    /// Returns a signature in the draft for which a traitor's post of it would be refused as forged now: the signature is not a
-    /// traitor's, and its signer has not posted it. `None` exactly if there is none. In a shape without traitors the answer says nothing
-    /// about forgery, since there posts are not noted.
+    /// Returns a signature in the draft for which the world would refuse a traitor's post of it as forged now: the signature is not a
+    /// traitor's, and its signer has not posted it. `None` exactly if the draft has no such signature. In a shape without traitors the
+    /// answer says nothing about forgery, because there the world does not note the posts.
     pub fn forged_in(&self, draft: &Draft) -> Option<Forged>
         ensures carried { IfSome result (λ forged. Carries draft.now (signed forged.signer forged.statement)) }
         ensures forged { (p : ℕ) → IsTraitor self.now.shape (ReplicaNumber p)
@@ -361,8 +361,8 @@ impl World {
         self.replies.letters_of(alloc, to, envelope)
     }
 
-    /// Returns the letter that a loyal actor has already posted to replica 0, if it posts that again: a replica's in the round in
-    /// progress, to another replica, or a client's ask with the outstanding request.
+    /// Returns the letter that a loyal actor posted to replica 0 and now posts again: a replica's of the round in progress, to another
+    /// replica, or a client's ask with the outstanding request. `None` for any other post, and if no such letter is stored.
     fn posted_before(&self, from: &Actor, to: &Actor, pick: &Pick) -> Option<&Letter>
         requires { refusal_of self.now.shape (log_of self.now.run) (Post from.now to.now pick.now) ≡ None }
         ensures { IfSome result (λ letter. post_of self.now.shape (log_of self.now.run from.now) from.now to.now pick.now ≡ Some letter.now) }
@@ -376,7 +376,7 @@ impl World {
         }
     }
 
-    /// Returns the ask that a client has already posted to replica 0, if its request is still outstanding.
+    /// Returns the stored ask that a client posted to replica 0; `None` if the client does not have its request outstanding.
     fn asked_before(&self, client: ClientId) -> Option<&Letter>
         requires { client < self.now.shape.m }
         ensures { IfSome result (λ letter. ask_to self.now.shape client (log_of self.now.run (ClientNumber client)) Plain ≡ Some letter.now) }
@@ -507,7 +507,7 @@ impl World {
         }
     }
 
-    /// Returns the refusal of a loyal actor's post, if there is one.
+    /// Returns the refusal of a loyal actor's post; `None` if the post is allowed.
     fn post_refusal(&self, from: &Actor, to: &Actor, pick: &Pick) -> Option<Refusal>
         ensures { result ≡ refusal_of self.now.shape (log_of self.now.run) (Post from.now to.now pick.now) }
     {
@@ -524,7 +524,7 @@ impl World {
         }
     }
 
-    /// Returns the refusal of a traitor's post before its signatures are looked at, if there is one.
+    /// Returns the refusal of a traitor's post for any reason but its signatures; `None` if only they, or a lack of memory, can refuse it.
     fn plant_refusal(&self, from: &Actor, to: &Actor, _draft: &Draft) -> Option<Refusal>
         ensures { result ≡ refusal_of self.now.shape (log_of self.now.run) (Plant from.now to.now _draft.now) }
     {
@@ -537,7 +537,7 @@ impl World {
         self.box_refusal(from, to)
     }
 
-    /// Returns the refusal of a take, if there is one.
+    /// Returns the refusal of a take; `None` if the take is allowed.
     fn take_refusal(&self, at: &Actor, from: &Actor) -> Option<Refusal>
         ensures { result ≡ refusal_of self.now.shape (log_of self.now.run) (Take at.now from.now) }
     {
@@ -557,7 +557,7 @@ impl World {
         None
     }
 
-    /// Returns the refusal of an actor's post of its seen front to another, if there is one.
+    /// Returns the refusal of an actor's post of its seen front to another; `None` if the post is allowed.
     fn tell_refusal(&self, from: &Actor, to: &Actor) -> Option<Refusal>
         ensures { result ≡ refusal_of self.now.shape (log_of self.now.run) (Tell from.now to.now) }
     {
@@ -570,7 +570,7 @@ impl World {
         self.box_refusal(from, to)
     }
 
-    /// Returns the refusal of a post by the box from one actor to another, if there is one.
+    /// Returns why the box from one actor to another refuses a post; `None` if it does not.
     fn box_refusal(&self, from: &Actor, to: &Actor) -> Option<Refusal>
         requires from { IsActor self.now.shape from.now }
         requires to { IsActor self.now.shape to.now }
@@ -637,7 +637,7 @@ fn is_own_client(one: &Actor, other: &Actor) -> bool
     }
 }
 
-/// Looks at the choice: from then on it is known that it is an allowed one.
+/// Looks at the choice, so that the prover knows it to be an allowed one.
 fn look_at(pick: &Pick)
     ensures pick { IsPick pick.now }
     ensures spelled { HasSpelledOp pick.now }
@@ -677,8 +677,8 @@ fn log_post(entries: &mut Vec<(Actor, Entry)>, from: &Actor, to: &Actor, envelop
     entries.push_reserved((*from, Entry::Post { to: *to, envelope }));
 }
 
-/// Notes the signatures of a loyal actor's post as known, if there are traitors that could send them on. `NoMemory` if memory
-/// runs out: then nothing changes.
+/// Notes the signatures of a loyal actor's post as known. Without a traitor's key it notes nothing, because nobody could send them
+/// on. `NoMemory` if memory runs out: then nothing changes.
 fn learn(known: &mut Known, keys: &[Key], envelope: &Envelope) -> Result<(), Refusal>
     ensures learned { (holder : Actor) → Any (λ h. h ≡ holder) keys.now → (s : Signature)
         → OnOk result (In s known.new.signatures ↔ (In s known.old.signatures ⊎ Carries envelope.now s)) }
@@ -738,7 +738,7 @@ fn client_node(alloc: Global, shape: &Shape, keys: &mut Keys, number: u8) -> Nod
     Node::Client(Customer::new(alloc, Client::new(key, shape)))
 }
 
-/// Adds the key, if there is one. `NoMemory` if memory runs out.
+/// Adds the key; does nothing for `None`. `NoMemory` if memory runs out.
 fn keep(keys: &mut Vec<Key>, key: Option<Key>) -> Result<(), Refusal>
     ensures kept { OnOk result (keys.new.items ≡ keys.old.items ++ option_to_list key) }
     ensures refusal { IsOkUnless result Refusal.NoMemory }

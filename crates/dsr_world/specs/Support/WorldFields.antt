@@ -52,7 +52,7 @@ kept_of (Replica zero) x = Some x
 kept_of (Replica (suc q)) x = None
 kept_of (Client c) x = None
 
--- the stored letters after a post: its letter, if it is to be stored, is at the poster's place
+-- the stored letters after a post: a letter to be stored is now at the poster's place
 abbrev pub with_letter : ℕ → Option Envelope → List (Option Envelope) → List (Option Envelope)
 with_letter place None letters = letters
 with_letter place (Some x) letters = slice_set letters place (Some x)
@@ -73,7 +73,7 @@ box_refusal logs from to =
     else if is_full logs from to then Some BoxFull
     else None
 
--- while a world is opened: there are nodes for the actors at the first `k` places, none of which has taken a step
+-- during the opening of a world: the actors at the first `k` places have nodes that took no step
 pub record AreOpened (shape : Shape) (k : ℕ) (nodes : List Node) : Type 0 where
   pub count : length nodes ≡ k
   pub each : (who : Actor) → IsActor shape who → place_of shape who < k → (d : Node) → Plays shape who [] (slice_index_or nodes (place_of shape who) d)
