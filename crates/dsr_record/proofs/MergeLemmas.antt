@@ -30,7 +30,7 @@ use Rattle.dsr_record.specs.declared.merging.Rest.{Rest}
 
 -- ---- lists
 
--- the first entry, or another if there is none
+-- the first entry, or `d` for an empty list
 first_or : Entry → List Entry → Entry
 first_or d [] = d
 first_or d (entry ∷ more) = entry

@@ -13,8 +13,8 @@ use std::alloc::Global;
 use std::fmt;
 use std::fmt::Write;
 
-/// Reads the record whose transcript the source gives. `ReadFailed` if reading fails, as in `read_input`, also for more than 16,777,216
-/// bytes; the other refusals are those of `Record::of_text`. After a refusal what was read is gone.
+/// Reads the record whose transcript the source gives. `ReadFailed` if `read_input` fails, also for more than 16,777,216 bytes; the
+/// other refusals are those of `Record::of_text`. After a refusal what was read is gone.
 pub fn read<S: Source>(alloc: Global, source: &mut S) -> Result<Record, Refusal>
     ensures given { IfOk result (GivesRecord (S.input source.old)) }
     ensures refused { IfErr result (IsReadRefusal (S.input source.old)) }
@@ -29,8 +29,8 @@ pub fn read<S: Source>(alloc: Global, source: &mut S) -> Result<Record, Refusal>
 
 /// Writes the transcript of the record. Requires that its steps can be in a transcript of its version.
 ///
-/// `NoMemory` if memory runs out: then nothing is written. `WriteFailed` if the sink fails, as in `write_output`: then a prefix of the
-/// transcript has gone out.
+/// `NoMemory` if memory runs out: then nothing is written. `WriteFailed` if `write_output` fails: then a prefix of the transcript has
+/// gone out.
 pub fn write<S: Sink>(alloc: Global, recorded: &Record, sink: &mut S) -> Result<(), Refusal>
     requires { Fits recorded.now }
     ensures done { OnOk result (SentAll (record_text recorded.now) (S.output sink.old) (S.output sink.new)) }

@@ -43,7 +43,7 @@ impl LastRead {
         }
     }
 
-    /// Reads a draft's text, as `Draft::read` does. If it is the text that was read last, the draft of that is shared.
+    /// Reads a draft's text, like `Draft::read`. For the text that was read last, shares the draft of that.
     fn read(&mut self, alloc: Global, bytes: &[u8]) -> Result<Option<Draft>, Refusal>
         ensures read { IfOk result (λ draft. Reads IsSpelledEnvelope envelope_text bytes.now draft) }
         ensures refusal { IsOkUnless result Refusal.NoMemory }
@@ -109,7 +109,7 @@ impl LastReads {
         Ok(LastReads { posters })
     }
 
-    /// Reads the text of a draft that this actor posted, as `Draft::read` does.
+    /// Reads the text of a draft that this actor posted, like `Draft::read`.
     pub(crate) fn read(
         &mut self,
         alloc: Global,

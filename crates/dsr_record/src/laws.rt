@@ -1,4 +1,4 @@
-//! The laws that each step can be written in a transcript, and that a record's transcript is read as that record: the contracts of
+//! The laws that a transcript can write each step, and that a reader of a record's transcript gets that record: the contracts of
 //! functions that do nothing.
 
 ghost use Rattle.dsr_names.specs.Actor.{IsNumbered};
@@ -9,7 +9,7 @@ use crate::record::Record;
 use dsr_names::Actor;
 use dsr_script::each_draft_has_a_text;
 
-/// Each step can be written, as a line of a transcript of version 2.
+/// States that a line of a transcript of version 2 can write each step.
 pub fn each_step_has_a_line(step: &NotedStep)
     ensures { IsSpelledStep step.now }
 {
@@ -26,15 +26,15 @@ pub fn each_step_has_a_line(step: &NotedStep)
     }
 }
 
-/// The transcript of a record is a text of that record, if its entries can be in a transcript of its version. So it
-/// is read as that record again.
+/// States that the transcript of a record is a text of that record if a transcript of its version can have its
+/// entries. So a reader of the transcript gets that record again.
 pub fn transcripts_spell_their_records(recorded: &Record)
     ensures { Fits recorded.now → Spells (record_text recorded.now) recorded.now }
 {
     let _n = recorded.shape().n();
 }
 
-/// Shows that the actor has a number that texts can name, as every actor has.
+/// Shows that texts can name the number of any actor.
 fn number_actor(actor: &Actor)
     ensures { IsNumbered actor.now }
 {

@@ -1,4 +1,4 @@
-//! Recorded runs: a shape and the steps of all actors in one order, as data, and the texts that write them.
+//! Recorded runs as data: a shape and the steps of all actors in one order. Also the texts that write them.
 #![tactic(auto)]
 
 mod files;

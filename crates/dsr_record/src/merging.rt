@@ -24,7 +24,7 @@ use std::alloc::Global;
 impl Record {
     /// Makes a record of all entries of the logs, in one order: again and again the next entry of the lowest actor, replicas before clients,
     /// whose next entry can go on. A post can go on if its box is empty, a take if its box holds that envelope. The record is of version 1 if
-    /// each step can be in a transcript of version 1, else of version 2. Nothing says that the steps are a run.
+    /// each step can be in a transcript of version 1, else of version 2. The steps need not be a run.
     ///
     /// `NotARun` if entries are left and none of them can go on: its line is the first that the transcript lacks.
     /// `NoMemory` if memory runs out.
@@ -53,13 +53,13 @@ impl Record {
     }
 }
 
-/// What is not yet merged of an actor's log.
+/// The rest of an actor's log that is not merged yet.
 #[derive(Drop)]
 pub(crate) struct Rest<'a> {
     entries: &'a [Entry],
 }
 
-/// A merge of logs, as far as it has gone.
+/// A merge of logs in progress.
 #[derive(Drop)]
 pub(crate) struct Merging<'a> {
     logs: &'a Logs,

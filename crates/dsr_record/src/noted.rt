@@ -42,7 +42,7 @@ impl Model for NotedStep {
 }
 
 impl NotedStep {
-    /// Makes the step of this actor by which its log got this entry.
+    /// Makes the step in which this actor's log got this entry.
     pub fn new(actor: Actor, entry: NotedEntry) -> NotedStep
         ensures { result ≡ (actor, entry_of entry) }
     {

@@ -10,7 +10,7 @@ use dsr_names::{Refusal, Shape};
 use std::alloc::Global;
 use std::marker::Model;
 
-/// What was recorded: a shape, and steps of actors in one order, as data. Nothing says that they are a run.
+/// Recorded data: a shape, and steps of actors in one order. The steps need not be a run.
 #[derive(Drop)]
 pub struct Record {
     version: Version,
@@ -44,8 +44,8 @@ impl Record {
     /// Reads a transcript: a header `dsr-transcript 1 SHAPE` or `dsr-transcript 2 SHAPE`, then a line for each step.
     ///
     /// `BadShape` if the header's shape is outside the limits, whatever follows it. `BadText` names the first bad line, counted from 1:
-    /// line 1 if the text begins with a header of neither version, else a line that is not written so, that has no line feed, or, in
-    /// version 1, that only version 2 has. `NoMemory` if memory runs out.
+    /// line 1 if the text begins with a header of neither version, else a line that does not fit this grammar, that has no line feed,
+    /// or, in version 1, that only version 2 has. `NoMemory` if memory runs out.
     pub fn of_text(alloc: Global, text: &[u8]) -> Result<Record, Refusal>
         ensures spelled { IfOk result (Spells text.now) }
         ensures refused { IfErr result (IsRecordRefusal text.now) }

@@ -18,7 +18,7 @@ use dsr_text::{TakesLines, read_header, take_lines};
 use std::alloc::Global;
 use std::marker::PhantomData;
 
-/// Reads a transcript, as `Record::of_text` does.
+/// Reads a transcript, like `Record::of_text`.
 pub(crate) fn read_record(alloc: Global, text: &[u8]) -> Result<Record, Refusal>
     ensures spelled { IfOk result (Spells text.now) }
     ensures refused { IfErr result (IsRecordRefusal text.now) }
@@ -42,7 +42,7 @@ fn has_no_header(read: &Result<Record, Refusal>) -> bool
     }
 }
 
-/// A version, as a type.
+/// A type that represents a version.
 trait Format {
     ghost use Rattle.dsr_record.specs.declared.version.Version.{Version};
 
@@ -92,7 +92,7 @@ impl NotedStep {
     }
 }
 
-/// Reads a line's text, as `NotedStep::read` does.
+/// Reads a line's text, like `NotedStep::read`.
 fn read_step(
     alloc: Global,
     last: &mut LastReads,
@@ -137,7 +137,7 @@ fn read_entry(
     }
 }
 
-/// Makes the post with both, if both are there.
+/// Makes the post to this end; `None` without one.
 fn posted(end: Option<(Actor, Draft)>) -> Option<NotedEntry>
     ensures { result ≡ posted end }
 {
@@ -147,7 +147,7 @@ fn posted(end: Option<(Actor, Draft)>) -> Option<NotedEntry>
     }
 }
 
-/// Makes the take with both, if both are there.
+/// Makes the take from this end; `None` without one.
 fn taken(end: Option<(Actor, Draft)>) -> Option<NotedEntry>
     ensures { result ≡ taken end }
 {

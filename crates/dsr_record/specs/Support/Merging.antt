@@ -18,7 +18,7 @@ use Rattle.dsr_record.specs.declared.mailboxes.Held.{Held}
 use Rattle.dsr_record.specs.declared.merging.Rest.{Rest}
 use Rattle.dsr_record.specs.declared.merging.Merging.{Merging}
 
--- what a box holds, as a list
+-- the list of what a box holds: one envelope or nothing
 abbrev pub held_in : Option Held → List Envelope
 held_in None = []
 held_in (Some held) = held.envelope.now ∷ []
@@ -48,7 +48,7 @@ pub record AreRests (shape : Shape) (logs merged : Logs) (rests : List Rest) : T
   pub count : length rests ≡ size shape
   pub each : (a : Actor) → IsActor shape a → (d : Rest) → logs a ≡ reverse (slice_index_or rests (place_of shape a) d).entries.now ++ merged a
 
--- while the rests are made: there are rests for the actors at the first `k` places, of whose logs nothing is merged
+-- during the making of the rests: the actors at the first `k` places have rests, and nothing of their logs is merged
 pub record AreRestsBelow (shape : Shape) (k : ℕ) (logs : Logs) (rests : List Rest) : Type 0 where
   pub count : length rests ≡ k
   pub each : (a : Actor) → IsActor shape a → place_of shape a < k → (d : Rest)

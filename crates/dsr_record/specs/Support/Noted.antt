@@ -32,10 +32,10 @@ IsEnd p = IsNumbered p.0 × IsSpelledEnvelope p.1
 abbrev pub end_text : Actor × Envelope → List ℕ
 end_text p = actor_text p.0 ++ 32 ∷ envelope_text p.1
 
--- the post to that end, if there is one
+-- the post to that end; `None` without one
 abbrev pub posted : Option (Actor × Envelope) → Option NotedEntry
 posted end = option_map (λ p. Post p.0 p.1) end
 
--- the take from that end, if there is one
+-- the take from that end; `None` without one
 abbrev pub taken : Option (Actor × Envelope) → Option NotedEntry
 taken end = option_map (λ p. Take p.0 p.1) end
