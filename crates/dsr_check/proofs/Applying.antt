@@ -19,7 +19,7 @@ stays table name held left is same q = by (bytes_eq name q) refl
     by true e = ap (held_in table) (sym ((bytes_eq-Decides name q).0 (sym e))) ∙ sym is ∙ sym same
     by false e = refl
 
--- one more operation, if its register holds what the operation leaves, and the others what they held
+-- one more operation: its register holds what the operation leaves, and the others what they held
 pub applied : (old new : Registers) (op : Op) (ops : List Op) (name : List ℕ) (held left : Option ℕ) (full : Bool) → IsInOrder old
     → name ≡ register_of op → held ≡ held_in old name → full ≡ nat_le 1024 (length old) → left ≡ left_by op held full
     → ((q : List ℕ) → held_in new q ≡ cond (bytes_eq name q) left (held_in old q)) → StandsFor old ops → StandsFor new (op ∷ ops)

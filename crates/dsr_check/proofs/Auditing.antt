@@ -86,7 +86,7 @@ own_of : (shape : Shape) (logs : Logs) (me : Actor) (entry : Entry) → KeepsCon
 own_of shape logs (Replica p) entry keeps = keeps.0
 own_of shape logs (Client c) entry keeps = keeps
 
--- a step that may be next keeps its actor's protocol, as the actor's own log shows it
+-- a step that may be next keeps its actor's protocol by the actor's own log
 pub next_keeps : (shape : Shape) (logs : Logs) (me : Actor) (entry : Entry) → IsNextStep shape logs (me, entry) → KeepsOwn shape me (logs me) entry
 next_keeps shape logs me entry next = own_of shape logs me entry next.conduct
 

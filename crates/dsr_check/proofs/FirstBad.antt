@@ -27,7 +27,7 @@ reverse_more steps i step inside is =
     ap reverse (take_more steps i step inside)
     ∙ (reverse-append (take i steps) (slice_index_or steps i step ∷ []) ∙ ap (λ s. s ∷ reverse (take i steps)) (sym is))
 
--- the step at place i, as the first bad one
+-- the step at place i is the first bad one
 pub first_bad : (shape : Shape) (steps : List Step) (i : ℕ) (step : Step) (line : ℕ) → i < length steps → step ≡ slice_index_or steps i step
     → IsRun shape (reverse (take i steps)) → ¬ IsNextStep shape (log_of (reverse (take i steps))) step → line ≡ i + 2
     → IsFirstBad shape (reverse steps) line

@@ -78,7 +78,7 @@ pub no_keys : (shape : Shape) → AreKeysBelow shape 0 []
 no_keys shape (Replica p) = (λ h. let below = h.2 in absurd (omega (arith, below)), λ h. let below = h.0 in absurd (omega (arith, below)))
 no_keys shape (Client c) = (λ h. let below = h.2 in absurd (omega (arith, below)), λ h. elim h [ ])
 
--- the key of one more replica, if it is a traitor
+-- one more replica: it adds its key exactly if it is a traitor
 pub more_keys : (shape : Shape) (k : ℕ) (keys : List Actor) (o : Option Actor) → AreKeysBelow shape k keys → IfSome o (λ key. key ≡ Replica k)
     → IsSome o ↔ (is_traitor shape k ≡ true) → AreKeysBelow shape (suc k) (keys ++ option_to_list o)
 more_keys shape k keys None are is when a = subst (λ ks. Any (λ h. h ≡ a) ks ↔ IsTraitorBelow shape (suc k) a) (sym (append-nil keys)) (

@@ -95,7 +95,7 @@ module _ (shape : Shape) (run : List Step) (firsts : List (Option Held)) (are : 
             (before.0, (before.1.0, ap (posted_to (Replica 0)) other.1 ∙ before.1.1))
       ]
 
-  -- so it is after a post to replica 0, of which a copy is stored, and after every other post
+  -- this still holds after a post to replica 0, with a copy of it stored, and after every other post
   pub firsts_posted : (from to : Actor) (h : Held) (kept : Option Held) → h.draft.now ≡ h.envelope → IsActor shape from → IsFirstOf to h kept
       → AreFirsts shape (log_of ((from, Post to h.envelope) ∷ run)) (with_first firsts (place_of shape from) kept)
   firsts_posted from (Replica zero) h kept recorded actor is =
@@ -111,7 +111,7 @@ module _ (shape : Shape) (run : List Step) (firsts : List (Option Held)) (are : 
 
 -- ---- a loyal replica's posts of one round
 
--- a post that is made is due
+-- if a replica posts to `q`, a post to `q` is due
 due_at : (d : Due) (q : ℕ) (x : Envelope) (o : Option Envelope) → (if is_due d q then o else None) ≡ Some x → d ≡ PostTo q
 due_at (PostTo k) q x o e = elim (cases_Bool (k == q)) [
   | inl yes_due ↦ ap PostTo ((Decides-eqb k q).0 yes_due)

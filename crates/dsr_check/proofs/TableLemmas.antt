@@ -98,7 +98,7 @@ set_is xs i y within = set_split xs i y within ∙ sym (insert_removed xs i y wi
 whole_is : {X : Type 0} (xs : List X) (i : ℕ) (d : X) → i < length xs → xs ≡ insert (remove xs i) i (get_or xs i d)
 whole_is xs i d within = sym (set-get_or xs i d) ∙ set_is xs i (get_or xs i d) within
 
--- the rest, and in it the register, if it holds a number
+-- the rest, with the register at its place unless it holds nothing
 with_held : Registers → List ℕ → ℕ → Option ℕ → Registers
 with_held rest name place None = rest
 with_held rest name place (Some value) = insert rest place (name, value)

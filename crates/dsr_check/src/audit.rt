@@ -27,7 +27,7 @@ use dsr_record::{NotedEntry, NotedStep};
 use dsr_script::{Draft, Known, build};
 use std::alloc::Global;
 
-/// All actors of a shape and the boxes between them, as the steps followed so far, which are a run, have left them.
+/// All actors of a shape and the boxes between them, after the steps that the audit followed so far. These steps are a run.
 #[derive(Drop)]
 pub(crate) struct Audit<'a> {
     /// The shape.
@@ -36,7 +36,7 @@ pub(crate) struct Audit<'a> {
     pub(crate) parties: Vec<Party>,
     /// The boxes between them.
     pub(crate) boxes: Boxes<Held<'a>>,
-    /// A key for each actor: those of a notary, with which envelopes are made from data.
+    /// A key for each actor: a notary has all of them, to make envelopes from data.
     pub(crate) notary: Vec<Key>,
     /// The traitors' keys.
     pub(crate) keys: Vec<Key>,
@@ -69,7 +69,7 @@ impl<'a> Audit<'a> {
         })
     }
 
-    /// Tells whether the step may be next. If so, it is followed; else the audit must not be asked anything more. `NoMemory` if memory runs out.
+    /// Tells whether the step may be next, and follows it if so. After a step that may not, drop the audit. `NoMemory` if memory runs out.
     pub(crate) fn follow(&mut self, alloc: Global, step: &'a NotedStep) -> Result<bool, Refusal>
         requires { Stands self.old }
         ensures shape { self.new.shape ≡ self.old.shape }
@@ -86,7 +86,7 @@ impl<'a> Audit<'a> {
         }
     }
 
-    /// Tells whether this post may be next. If so, it is followed.
+    /// Tells whether this post may be next, and follows it if so.
     fn post(
         &mut self,
         alloc: Global,
@@ -117,7 +117,7 @@ impl<'a> Audit<'a> {
         Ok(next)
     }
 
-    /// Tells whether this take may be next. If so, it is followed.
+    /// Tells whether this take may be next, and follows it if so.
     fn take(&mut self, at: &Actor, from: &Actor, draft: &Draft) -> Result<bool, Refusal>
         requires { Stands self.old }
         ensures shape { self.new.shape ≡ self.old.shape }
@@ -137,7 +137,7 @@ impl<'a> Audit<'a> {
     }
 
     /// Tells whether a loyal replica may post next, to a replica other than 0, what it last posted to replica 0, recorded like this. If so,
-    /// that is followed, else nothing changes.
+    /// follows that, else changes nothing.
     fn post_again(
         &mut self,
         alloc: Global,
@@ -247,7 +247,7 @@ impl<'a> Audit<'a> {
         Ok(made)
     }
 
-    /// Tells whether the protocol of an actor lets it post this envelope, which forges nothing. If so, the envelope is put into its box.
+    /// Tells whether the protocol of an actor lets it post this envelope, which forges nothing. If so, puts the envelope into its box.
     /// Requires that the box is open.
     fn put(
         &mut self,
@@ -308,7 +308,7 @@ fn made_by(
     }
 }
 
-/// Notes the signatures of a loyal actor's post as known, if there are traitors that could send them on. `NoMemory` if memory runs out.
+/// Notes the signatures of a post as known if its poster is loyal and traitors could send them on. `NoMemory` if memory runs out.
 fn learn(
     known: &mut Known,
     keys: &[Key],
@@ -340,7 +340,8 @@ fn no_firsts<'a>(alloc: Global, count: usize) -> Result<Vec<Option<Held<'a>>>, R
     Ok(firsts)
 }
 
-/// Returns a copy of the stored envelope, if it was recorded like this. `NoMemory` if memory runs out or one more handle is refused.
+/// Returns a copy of the stored envelope; `None` if nothing is stored, or the recorded draft differs from this one. `NoMemory` if memory runs
+/// out or one more handle is refused.
 fn copy_of(alloc: Global, first: &Option<Held>, draft: &Draft) -> Result<Option<Envelope>, Refusal>
     ensures copy { IfOk result (λ copy. IfSome copy (λ envelope. (held : AHeld) × (first.now ≡ Some held) × (held.draft.now ≡ draft.now) × (envelope ≡ held.envelope))) }
     ensures refusal { IsOkUnless result Refusal.NoMemory }
@@ -357,7 +358,8 @@ fn copy_of(alloc: Global, first: &Option<Held>, draft: &Draft) -> Result<Option<
     }
 }
 
-/// Returns what is to be stored for a post: a copy of it, if it goes to replica 0. `NoMemory` if memory runs out or one more handle is refused.
+/// Returns what is to be stored for a post: a copy of a post to replica 0, `None` for any other. `NoMemory` if memory runs out or one more
+/// handle is refused.
 fn first_of<'a>(alloc: Global, to: &Actor, held: &Held<'a>) -> Result<Option<Held<'a>>, Refusal>
     ensures first { IfOk result (λ first. IsFirstOf to.now held.now first) }
     ensures refusal { IsOkUnless result Refusal.NoMemory }
@@ -374,7 +376,7 @@ fn first_of<'a>(alloc: Global, to: &Actor, held: &Held<'a>) -> Result<Option<Hel
     }
 }
 
-/// Stores an actor's post at the actor's place, if there is one to store.
+/// Stores an actor's post at the actor's place; does nothing for `None`.
 fn keep_first<'a>(firsts: &mut Vec<Option<Held<'a>>>, place: usize, first: Option<Held<'a>>)
     requires { place < length firsts.old.items }
     ensures { firsts.new.items ≡ with_first firsts.old.items place first.entry }

@@ -18,7 +18,7 @@ use std::alloc::Global;
 /// A party for each actor of the shape, in the order of the actors' places, and the traitors' keys.
 #[derive(Drop)]
 pub(crate) struct Parties {
-    /// The parties, none of which has taken a step.
+    /// The parties, before their first steps.
     pub(crate) parties: Vec<Party>,
     /// The keys of the traitors.
     pub(crate) traitors: Vec<Key>,
@@ -133,7 +133,7 @@ fn client_party(alloc: Global, shape: &Shape, keys: &mut Keys, number: u8) -> Pa
     Party::Client(Customer::new(alloc, Client::new(key, shape)))
 }
 
-/// Adds the key, if there is one. `NoMemory` if memory runs out.
+/// Adds the key; does nothing for `None`. `NoMemory` if memory runs out.
 fn keep(keys: &mut Vec<Key>, key: Option<Key>) -> Result<(), Refusal>
     ensures kept { OnOk result (keys.new.items ≡ keys.old.items ++ option_to_list key) }
     ensures refusal { IsOkUnless result Refusal.NoMemory }

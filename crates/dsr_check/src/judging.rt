@@ -17,15 +17,15 @@ use dsr_request::Request;
 /// The most clients of a shape.
 const MOST_CLIENTS: usize = 32;
 
-/// For each client how many of the first accepted replies are done with, as far as they are replies to this client.
+/// For each client a place in the list of accepted replies: the replies to this client before that place are done with.
 type Heads = [usize; MOST_CLIENTS];
 
 /// Tells whether the replies are right by this history, wherever both are from: the numbers of each client rise in the history, and
 /// each reply answers a request of the client beside it, which is at the reply's place, with the reply's number, and the answer
 /// there is that of one directory that goes through the history. It needs no allocator.
 ///
-/// It goes through the history once if the replies of each client are in the order of their places, as in a verdict; otherwise once
-/// more, at most, for each time that the place of a client's next reply is not a later one.
+/// It goes through the history once if the replies of each client are in the order of their places, like those of a verdict;
+/// otherwise at most once more for each time that the place of a client's next reply is not a later one.
 pub fn judge(history: &[Request], accepted: &[(ClientId, Reply)]) -> bool
     ensures { IsTrue result ↔ IsJudgedRight history.now accepted.now }
 {
@@ -81,7 +81,7 @@ fn first_heads(accepted: &[(ClientId, Reply)]) -> Heads
     heads
 }
 
-/// Returns the place of the first reply to this client at `from` or later; the end if there is none.
+/// Returns the place of the first reply to this client at `from` or later, or the end of the list.
 fn next_of(accepted: &[(ClientId, Reply)], client: u8, from: usize) -> usize
     requires { from ≤ length accepted.now }
     ensures { IsNext accepted.now client from result }

@@ -1,4 +1,4 @@
-//! Checks whether a recorded run is one, and what it gave. Each loyal actor is a real replica or client, which repeats the recorded steps.
+//! Checks whether recorded steps are a run, and what it gave. A real replica or client repeats the recorded steps of each loyal actor.
 #![tactic(auto)]
 
 mod audit;

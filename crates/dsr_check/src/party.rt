@@ -22,8 +22,8 @@ use dsr_names::{Actor, ClientId, Refusal, ReplicaId};
 use dsr_replica::Replica;
 use std::alloc::Global;
 
-/// A party repeats an actor's steps. A loyal actor is a real replica or client; a traitor may do what it likes as long as it forges
-/// nothing, so there is no code for it.
+/// A party repeats an actor's steps. A loyal actor is a real replica or client; a traitor may do anything but forge, so it needs no
+/// code.
 #[derive(Drop)]
 pub(crate) enum Party {
     /// A loyal replica.

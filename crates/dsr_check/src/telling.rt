@@ -65,7 +65,7 @@ impl<'a> Audit<'a> {
         Ok(list)
     }
 
-    /// Returns the replica with this number, if it is loyal.
+    /// Returns the loyal replica with this number; `None` for a traitor.
     fn replica(&self, number: u8) -> Option<&Replica>
         requires stands { Stands self.now }
         requires inside { number < self.now.shape.n }

@@ -23,7 +23,7 @@ pub record ArePlayed (shape : Shape) (logs : Logs) (parties : List Party) : Type
   pub count : length parties ≡ shape.n + shape.m
   pub each : (who : Actor) → IsActor shape who → (d : Party) → Plays shape who (logs who) (slice_index_or parties (place_of shape who) d)
 
--- what a box holds, as a list
+-- the list of what a box holds: one envelope or nothing
 abbrev pub held_in : Option Held → List Envelope
 held_in None = []
 held_in (Some held) = held.envelope ∷ []
@@ -34,7 +34,7 @@ pub record IsBoxOf (box : MailBox Held) (posted taken : List Envelope) : Type 0 
   pub holds : posted ≡ taken ++ held_in box.item
   pub recorded : (held : Held) → box.item ≡ Some held → held.draft.now ≡ held.envelope
 
--- the box can get one more envelope: it is empty, and with that it will have had fewer than 2^40
+-- the box can get one more envelope: it is empty, and with one more it still counts fewer than 2^40
 abbrev pub IsOpen : MailBox Held → Type 0
 IsOpen box = (box.item ≡ None) × (suc box.posts < 2 ^ 40)
 
@@ -48,18 +48,18 @@ pub record AreBoxes (shape : Shape) (logs : Logs) (rows : List (List (MailBox He
   pub each : (from to : Actor) → IsActor shape from → IsActor shape to
       → IsBoxOf (box_at rows (place_of shape from) (place_of shape to)) (posted_to to (logs from)) (taken_from from (logs to))
 
--- there is a place for each actor, and what is stored there, if anything, is what the actor last posted to replica 0, as it was recorded
+-- there is a place for each actor; an envelope stored there equals its recorded draft, and is what the actor last posted to replica 0
 pub record AreFirsts (shape : Shape) (logs : Logs) (firsts : List (Option Held)) : Type 0 where
   pub count : length firsts ≡ shape.n + shape.m
   pub last : (who : Actor) → IsActor shape who → (held : Held) → slice_index_or firsts (place_of shape who) None ≡ Some held
       → (held.draft.now ≡ held.envelope) × ((older : List Envelope) × (posted_to (Replica 0) (logs who) ≡ older ++ held.envelope ∷ []))
 
--- what is stored after a post: the envelope at the poster's place, if there is one to store
+-- what is stored after a post: an envelope to be stored is now at the poster's place
 abbrev pub with_first : List (Option Held) → ℕ → Option Held → List (Option Held)
 with_first firsts place None = firsts
 with_first firsts place (Some held) = slice_set firsts place (Some held)
 
--- what is to be stored for this post: a copy of it, if it went to replica 0
+-- what is to be stored for this post: a copy of a post to replica 0, nothing for any other
 abbrev pub IsFirstOf : Actor → Held → Option Held → Type 0
 IsFirstOf (Replica zero) held kept = (first : Held) × (kept ≡ Some first) × (first.draft.now ≡ held.draft.now) × (first.envelope ≡ held.envelope)
 IsFirstOf (Replica (suc q)) held kept = kept ≡ None
@@ -69,7 +69,7 @@ IsFirstOf (Client c) held kept = kept ≡ None
 abbrev pub box_of : Audit → Actor → Actor → MailBox Held
 box_of a from to = box_at a.boxes (place_of a.shape from) (place_of a.shape to)
 
--- if a traitor posts this envelope, it forges nothing; of loyal actors this asks nothing
+-- if a traitor posts this envelope, it forges nothing; this asks nothing of loyal actors
 abbrev pub ForgesNone : Shape → Logs → Actor → Envelope → Type 0
 ForgesNone shape logs from envelope = IsTraitor shape from → (s : Signature) → Carries envelope s → IsMadeOrPosted shape logs s
 
@@ -96,7 +96,7 @@ StandsFor a run = AreParts a.shape run a.parties.items a.boxes a.notary.items a.
 abbrev pub Stands : Audit → Type 0
 Stands a = (run : List Step) × StandsFor a run
 
--- while the parties are cast: there are parties for the actors at the first `k` places, none of which has taken a step
+-- during the casting: the actors at the first `k` places have parties that took no step
 pub record AreCast (shape : Shape) (k : ℕ) (parties : List Party) : Type 0 where
   pub count : length parties ≡ k
   pub each : (who : Actor) → IsActor shape who → place_of shape who < k → (d : Party) → Plays shape who [] (slice_index_or parties (place_of shape who) d)

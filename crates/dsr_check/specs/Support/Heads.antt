@@ -1,5 +1,5 @@
--- How far the replies of each client are judged. The head of a client is how many of the first accepted replies are done with, as far
--- as they are replies to this client.
+-- How far the replies of each client are judged. The head of a client is a place in the list of accepted replies: the replies to this
+-- client before that place are done with.
 use Rattle.std.specs.Prelude.{◌≡◌, ℕ, ◌≤◌, List, length, take, slice_get, slice_index_or, Some, ◌⊎◌}
 use Rattle.dsr_base.specs.Member.{In}
 use Rattle.dsr_request.specs.Request.{Request}
@@ -10,7 +10,7 @@ use Rattle.dsr_history.specs.History.{IsReplyTo}
 abbrev pub head_of : List ℕ → ℕ → ℕ
 head_of heads client = slice_index_or heads client 0
 
--- `here` is the first place from `from` on with a reply to the client, or, if there is none, the end
+-- `here` is the first place from `from` on with a reply to the client, or the end of the list if no such reply follows
 pub record IsNext (accepted : List (ℕ × Reply)) (client from here : ℕ) : Type 0 where
   pub after : from ≤ here
   pub within : here ≤ length accepted

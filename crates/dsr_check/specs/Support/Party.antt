@@ -15,7 +15,7 @@ use Rattle.dsr_check.specs.declared.customer.Customer.{Customer}
 use Rattle.dsr_check.specs.declared.party.Party.{Party}
 use Rattle.dsr_check.specs.declared.party.Party.TheVariants.{Loyal, Traitor, Client}
 
--- the choice of these clients; the plain one if there are none
+-- the choice of these clients; without clients, the plain one
 abbrev pub choice_by : Option (List ℕ) → Pick
 choice_by None = Plain
 choice_by (Some clients) = From clients

@@ -2,7 +2,7 @@ use Rattle.std.proofs.Common.{◌≡◌, ℕ, ◌<◌, ◌≤◌, length, revers
 use Rattle.dsr_check.specs.Support.Heads.{head_of, IsHead}
 use Rattle.dsr_check.proofs.judging.judge.Given as goal
 
--- the replies before the heads are right, and each head moved with each walk, as long as it was not at the end
+-- the replies before the heads are right, and each walk moved each head that was not at the end
 abbrev pub invariant-loop : goal.invariant-loop
 invariant-loop l = record {
   size : length l.heads ≡ 32;
