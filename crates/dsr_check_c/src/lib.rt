@@ -15,7 +15,7 @@ use std::alloc::Global;
 
 /// Checks the transcript that the text is, and reports what was found.
 ///
-/// The status is 0 exactly if the text is the transcript of a run, as long as there is memory; otherwise it is the number
+/// The status is 0 exactly if the text is the transcript of a run and memory does not run out; otherwise it is the number
 /// of the refusal: 1 if the header's shape is not allowed, 13 if a line is not one of a transcript, 14 if a step may not
 /// be next, 12 if memory ran out.
 #[unsafe(no_mangle)]
