@@ -38,14 +38,14 @@ put_some None os one more = absurd (false≢true one)
 put_some (Some x) None one more = absurd (false≢true more)
 put_some (Some x) (Some xs) one more = refl
 
--- there are all asks if there is one for each place
+-- the replica holds the asks of all clients if it holds one for each place
 pub each_place_held : (shape : Shape) (log : List Entry) (clients : List ℕ)
     → ((i c : ℕ) → slice_get clients i ≡ Some c → IsSome (held shape c log)) → IsSome (all_held shape log clients)
 each_place_held shape log [] each = refl
 each_place_held shape log (client ∷ more) each =
     put_some (held shape client log) (all_held shape log more) (each 0 client refl) (each_place_held shape log more (λ i. each (suc i)))
 
--- and not all if there is none for one
+-- and not those of all if it holds none of one client
 pub unheld_none : (shape : Shape) (log : List Entry) (clients : List ℕ) (place client : ℕ) → slice_get clients place ≡ Some client
     → held shape client log ≡ None → all_held shape log clients ≡ None
 unheld_none shape log [] place client at none = absurd (none-some client at)
@@ -54,7 +54,7 @@ unheld_none shape log (first ∷ more) zero client at none =
 unheld_none shape log (first ∷ more) (suc place) client at none =
     ap (put_before (held shape first log)) (unheld_none shape log more place client at none) ∙ put_none (held shape first log)
 
--- nothing is there if its part is not
+-- if the mapped value is `None`, so is the value
 pub none_mapped : {A B : Type 0} (f : A → B) (o : Option A) → option_map f o ≡ None → o ≡ None
 none_mapped f None e = refl
 none_mapped f (Some x) e = absurd (none-some (f x) (sym e))
@@ -75,7 +75,7 @@ pub due_here : (shape : Shape) (me : Actor) (log : List Entry) (q : ℕ) (pick :
 due_here shape me log q pick e =
     ap (λ b. if b then chosen shape me log q pick else None) (ap (λ d. is_due d q) e ∙ (Decides-eqb q q).1 refl)
 
--- if it is not, there is none
+-- if the post is not due, it has no envelope
 pub not_due_here : (shape : Shape) (me : Actor) (log : List Entry) (q : ℕ) (pick : Pick) (next : Due) → due shape log ≡ next → is_due next q ≡ false
     → envelope_to shape me log q pick ≡ None
 not_due_here shape me log q pick next e undue =
@@ -115,7 +115,7 @@ from_none shape me round = by_sender (actor_eq me (sender_of shape round))
     by_sender true = refl
     by_sender false = refl
 
--- if all asks are held and there is no envelope, another actor is the sender
+-- if the replica holds all asks but has no envelope, another actor is the sender
 pub sender_else : (shape : Shape) (me : Actor) (log : List Entry) (clients : List ℕ) → due shape log ≡ PostTo 0 → IsSome (all_held shape log clients)
     → envelope_to shape me log 0 (From clients) ≡ None → actor_eq me (sender_of shape (rounds shape log)) ≡ false
 sender_else shape me log clients here some none = by_sender (actor_eq me (sender_of shape (rounds shape log))) refl

@@ -42,7 +42,7 @@ pub record ArePartedAt (place : ℕ) (ours theirs : List Chain) (how : Parting) 
   pub part : PartAt place ours theirs next other
   pub is : IsParting ours theirs next other how
 
--- how two lists of chains differ, if one of the envelopes is the empty one: they part somewhere, or neither has a chain, and then only the
+-- how two lists of chains differ if one belongs to the empty envelope: they part somewhere, or neither has a chain, and then only the
 -- kinds of the envelopes differ
 abbrev pub DifferInChains : List Chain → List Chain → Difference → Type 0
 DifferInChains ours theirs (Chains place how) = ArePartedAt place ours theirs how

@@ -19,7 +19,7 @@ use Rattle.dsr_facts.specs.declared.fault.Fault.TheVariants.{Refused, OtherPoste
 use Rattle.dsr_facts.specs.declared.cause.Cause.TheVariants.{NotDue, Exhausted}
 use Rattle.dsr_facts.specs.declared.cause.Limit.TheVariants.{Rounds}
 
--- the choice of these clients; the plain one if there are none
+-- the choice of these clients; without clients, the plain one
 abbrev pub choice_by : Option (List ℕ) → Pick
 choice_by None = Plain
 choice_by (Some clients) = From clients
@@ -28,8 +28,8 @@ choice_by (Some clients) = From clients
 abbrev pub IsRead : Shape → Actor → ℕ → Envelope → Pick → Type 0
 IsRead shape me q found pick = IsPick (shown_choice shape me q found) → pick ≡ shown_choice shape me q found
 
--- why a loyal replica with this log does not post this envelope to this replica, if its choice is this one: by that choice no post is due;
--- or the rounds are exhausted; or another envelope is posted, from which this one differs as stated
+-- why a loyal replica with this log and this choice does not post this envelope to this replica: no post is due; or the rounds are
+-- exhausted; or the replica posts another envelope, and this one differs from that as stated
 abbrev pub IsRoundFault : Shape → Actor → List Entry → ℕ → Envelope → Pick → Fault → Type 0
 IsRoundFault shape me log q found pick (Refused (NotDue why)) = IsUndueRound shape me log q pick why
 IsRoundFault shape me log q found pick (Refused (Exhausted Rounds)) = IsSome (envelope_to shape me log q pick) × (rounds shape log < 2 ^ 36 → ⊥)
@@ -43,6 +43,6 @@ pub record HoldsRoundFault (shape : Shape) (me : Actor) (log : List Entry) (q : 
   pub plain : (IsPick (shown_choice shape me q found) → ⊥) → pick ≡ Plain
   pub why : IsRoundFault shape me log q found pick fault
 
--- a loyal replica with this log may post this envelope to this replica, as far as its own log shows
+-- by its own log, a loyal replica may post this envelope to this replica
 abbrev pub MayPostRound : Shape → Actor → List Entry → ℕ → Envelope → Type 0
 MayPostRound shape me log q found = IsNext shape me log (Post (Replica q) found) × (rounds shape log < 2 ^ 36)

@@ -17,8 +17,8 @@ use Rattle.dsr_facts.specs.Fault.{IsRead}
 use Rattle.dsr_facts.specs.declared.fault.Fault.{Fault}
 use Rattle.dsr_facts.specs.declared.fault.Fault.TheVariants.{Refused, OtherHeld, OtherPosted}
 
--- why a loyal replica does not post this envelope to a replica, if its choice is this one: the post is refused, or another envelope is
--- posted, from which this one differs as stated
+-- why a loyal replica does not post this envelope to a replica by this choice: the post is refused, or the replica posts another
+-- envelope, and this one differs from that as stated
 abbrev pub IsPostFault : Shape → Logs → ℕ → ℕ → Envelope → Pick → Fault → Type 0
 IsPostFault shape logs p q found pick (Refused cause) = HoldsCause shape logs (Post (Replica p) (Replica q) pick) cause
 IsPostFault shape logs p q found pick OtherHeld = ⊥

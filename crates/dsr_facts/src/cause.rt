@@ -72,7 +72,7 @@ pub enum Cause {
     Forged(Forged),
 }
 
-/// Returns why the event is refused by this world. `None` exactly if the event may be done, as far as there is memory. Allocates nothing.
+/// Returns why this world refuses the event. `None` exactly if only a lack of memory can refuse it. Allocates nothing.
 pub fn why_refused(world: &World, event: &Event) -> Option<Cause>
     ensures some { IfSome result (HoldsCause world.now.shape (log_of world.now.run) event.now) }
     ensures none { IfNone result (MayBeDone world.now.shape (log_of world.now.run) event.now) }
@@ -133,7 +133,7 @@ fn plant_cause(world: &World, from: &Actor, to: &Actor, draft: &Draft) -> Option
     Some(Cause::Forged(forged))
 }
 
-/// Returns a signature that a traitor who posts the draft would forge, if there is one.
+/// Returns a signature that a traitor who posts the draft would forge; `None` if the traitor forges nothing.
 fn forged_by(world: &World, from: &Actor, draft: &Draft) -> Option<Forged>
     requires inside { IsActor world.now.shape from.now }
     requires traitor { is_traitor_of world.now.shape from.now ≡ true }
@@ -304,7 +304,7 @@ fn has_no_round(replica: &Replica, to: ReplicaId, pick: &Pick) -> bool
     }
 }
 
-/// Tells whether a client is to begin a request for which there is no number.
+/// Tells whether a client is to begin a request but has no number left for it.
 fn has_no_number(client: &Client, pick: &Pick) -> bool
     ensures { (log : List Entry) (to : AnActor) → StandsForClient client.now log
         → is_none (post_of client.now.shape log (ClientNumber client.now.me) to pick.now) ≡ false
@@ -340,7 +340,7 @@ fn client_of(world: &World, number: ClientId) -> &Client
     }
 }
 
-/// Returns the first of these two that is not an actor of the shape, if there is one.
+/// Returns the first of these two that is not an actor of the shape; `None` if both are actors.
 fn outsider(shape: &Shape, one: &Actor, other: &Actor) -> Option<Actor>
     ensures some { IfSome result (IsOutsider shape.now one.now other.now) }
     ensures refused { IfSome result (λ actor. (is_actor shape.now one.now && is_actor shape.now other.now) ≡ false) }
@@ -402,7 +402,7 @@ fn is_full(world: &World, from: &Actor, to: &Actor) -> bool
     world.in_box(from, to).is_some()
 }
 
-/// Tells whether the box from one actor to another has had all the posts that it may have.
+/// Tells whether the posts into the box from one actor to another have reached their limit.
 fn is_used_up(world: &World, from: &Actor, to: &Actor) -> bool
     requires from { IsActor world.now.shape from.now }
     requires to { IsActor world.now.shape to.now }

@@ -41,7 +41,7 @@ pub(crate) fn shown_clients(
     }
 }
 
-/// Makes the choice of these clients, or the plain one if there are none.
+/// Makes the choice of these clients; without clients, the plain one.
 pub(crate) fn pick_of(clients: &Option<Clients>) -> Pick
     ensures { result ≡ choice_by clients.now }
 {

@@ -41,7 +41,7 @@ pub fn take_fault(
     }
 }
 
-/// Returns what the box from one actor to another holds, as data. Requires that it holds something. `NoMemory` if memory runs out.
+/// Returns a draft of the envelope in the box from one actor to another. Requires that the box holds one. `NoMemory` if memory runs out.
 fn held_in(alloc: Global, world: &World, from: &Actor, to: &Actor) -> Result<Draft, Refusal>
     requires from { IsActor world.now.shape from.now }
     requires to { IsActor world.now.shape to.now }
