@@ -20,7 +20,7 @@ one_entry r after count h entry next stands me shape = record {
   stands = stands;
 }
 
--- after a post to a replica, with the choice for which the envelope was made
+-- after a post to a replica, by the choice that gives this envelope
 pub one_post : (r after : Replica) (count to : ℕ) (asked pick : Pick) (envelope : Envelope) → HasLog r count → IsPick pick → asked ≡ pick
     → ((log : List Entry) → StandsFor r log → envelope_to r.shape r.me log to asked ≡ Some envelope)
     → ((log : List Entry) (e : Envelope) → StandsFor r log → envelope_to r.shape r.me log to pick ≡ Some e

@@ -80,7 +80,7 @@ fn text_of_answer(alloc: Global, answered: &Answered) -> Result<String, Refusal>
     Ok(line)
 }
 
-/// Returns what the call answers. A call that was refused since memory ran out is made a second time.
+/// Makes the call and returns its answer. If memory runs out, makes the call a second time.
 fn answer(desk: &Desk, opened: &mut Opened, words: &Words) -> Answered {
     let mut first = *words;
     let mut second = *words;

@@ -111,7 +111,7 @@ impl Customer {
     }
 }
 
-/// Answers with the ask, if there is one.
+/// Answers with the ask, or with `Nothing`.
 fn said_ask(alloc: Global, ask: Option<SignedRequest>) -> Answered {
     match ask {
         Some(ask) => {

@@ -120,7 +120,7 @@ fn joined(alloc: Global, front: &[u8], back: &[u8]) -> Result<Vec<u8>, Failure> 
     Ok(bytes)
 }
 
-/// Returns the envelope of this round with these chains, as a draft.
+/// Returns the draft of the envelope of this round with these chains.
 pub(crate) fn draft_of_round(
     alloc: Global,
     round: u64,

@@ -13,7 +13,7 @@ pub(crate) fn plain(alloc: Global, words: &Words) -> Answered {
     Ok(Said::Whether(draft_of(alloc, words.rest())?.is_plain()))
 }
 
-/// A kind of envelope that is made from parts, which may be outside the limits.
+/// A kind of envelope to make from parts, which may be outside the limits.
 #[derive(Clone, Copy)]
 enum Kind {
     /// `round ROUND SLOT COUNT`: COUNT chains that replica 0 starts for the slot, with the value idle.

@@ -22,7 +22,7 @@ use dsr_script::Script;
 use dsr_slot::SlotState;
 use std::alloc::Global;
 
-/// The open value, at which later calls of a row are made.
+/// The open value: later calls of a row use it.
 #[derive(Drop)]
 pub(crate) enum Opened {
     /// No value is open yet.
@@ -49,7 +49,7 @@ pub(crate) enum Opened {
     Script(Script),
     /// A play.
     Play(Play),
-    /// A history by which replies are judged.
+    /// A history to judge replies by.
     History(History),
     /// A transcript.
     Record(Record),

@@ -13,7 +13,7 @@ use dsr_names::ClientId;
 use dsr_request::{Name, Op, Request, Requests};
 use std::alloc::Global;
 
-/// A history by which replies are judged.
+/// A history to judge replies by.
 #[derive(Drop)]
 pub(crate) struct History {
     requests: Vec<Request>,

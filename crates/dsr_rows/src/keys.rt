@@ -13,7 +13,7 @@ use std::fmt;
 /// A call at the keys of a shape.
 #[derive(Clone, Copy)]
 enum Call {
-    /// `take ACTOR`: the signer of the key that is given, if one is.
+    /// `take ACTOR`: takes the actor's key; answers with the key's signer, or with `Nothing` if the key is missing.
     Take,
     /// `whole`: whether no key was taken yet.
     Whole,

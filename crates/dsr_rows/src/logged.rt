@@ -109,7 +109,7 @@ impl Logged {
         Ok(())
     }
 
-    /// Returns the reply that it would post to this client, if it has one.
+    /// Returns the reply that it would post to this client; `None` if it has no reply to the client.
     pub(crate) fn owed(&self, client: ClientId) -> Result<Option<Envelope>, Failure> {
         if client.number() >= self.replica.shape().m() {
             return Err(Failure::NoCall);
@@ -117,7 +117,7 @@ impl Logged {
         Ok(self.replica.reply_for(client))
     }
 
-    /// Posts its reply to this client, if it has one, and returns it.
+    /// Posts its reply to this client and returns it; `None` if it has no reply to the client.
     pub(crate) fn reply(&mut self, client: ClientId) -> Result<Option<Envelope>, Failure> {
         let entries = one_more(self.entries)?;
         if client.number() >= self.replica.shape().m() {

@@ -193,7 +193,7 @@ fn said_post(alloc: Global, replica: &Replica, to: ReplicaId, pick: &Pick) -> An
     said_envelope(alloc, Some(envelope))
 }
 
-/// Answers with the envelope, if there is one.
+/// Answers with the envelope, or with `Nothing`.
 fn said_envelope(alloc: Global, envelope: Option<Envelope>) -> Answered {
     match envelope {
         Some(envelope) => Ok(Said::Envelope(draft_of_envelope(alloc, &envelope)?)),

@@ -14,9 +14,9 @@ use std::fmt;
 /// The answer of a call.
 #[derive(Drop)]
 pub(crate) enum Said {
-    /// The call was made, and answers nothing more.
+    /// The call succeeded and returns no value.
     Done,
-    /// There is no such value.
+    /// No such value exists.
     Nothing,
     /// Whether something holds.
     Whether(bool),
@@ -42,7 +42,7 @@ pub(crate) enum Said {
     Due(Due),
     /// An envelope.
     Envelope(Draft),
-    /// Anything else, as text.
+    /// The text of anything else.
     Text(String),
 }
 
@@ -53,7 +53,7 @@ pub(crate) enum Failure {
     BadRow,
     /// The call's contract forbids it here, so it was not made.
     NoCall,
-    /// There is no such verb here.
+    /// The verb is unknown here.
     Skip,
     /// The call was refused.
     Refused(Refusal),

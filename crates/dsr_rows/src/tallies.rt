@@ -47,7 +47,7 @@ const CALLS: [(&str, Call); 5] = [
 ];
 
 impl Votes {
-    /// Opens `tally F N`: an empty tally for N replicas, at most F of which may lie.
+    /// Opens `tally F N`: an empty tally for N replicas, at most F of them liars.
     pub(crate) fn open(words: &mut Words) -> Result<Votes, Failure> {
         let f = words.small_number()?;
         let n = words.small_number()?;

@@ -46,7 +46,7 @@ pub(crate) fn words_of(alloc: Global, text: &[u8]) -> Result<String, AllocError>
     Ok(words)
 }
 
-/// Returns the items with a mark between them; a dash if there are none.
+/// Returns the items with a mark between them; a dash for an empty list.
 pub(crate) fn listed<T: Display>(
     alloc: Global,
     items: &[T],

@@ -110,7 +110,7 @@ pub(crate) fn token(alloc: Global, words: &mut Words) -> Answered {
     }
 }
 
-/// Tells whether the bytes are the token of this value, as which they were read; if not, answers with the token.
+/// Answers whether the bytes are the token of the value that they read as: ok, or that token; false without a value.
 fn spells<T: Display + Drop>(alloc: Global, value: Option<T>, bytes: &[u8]) -> Answered
     ensures none { IsNone value → result ≡ Ok (Whether false) }
     ensures token { result ≡ Ok Done → IfSome value (λ v. IfSome (T.output v) (λ token. token ≡ bytes.now)) }

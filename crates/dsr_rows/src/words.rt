@@ -18,7 +18,7 @@ impl<'a> Words<'a> {
         Words { rest: line }
     }
 
-    /// Takes the next word: all of the rest, if there is no space in it.
+    /// Takes the next word: the part before the next space, or all of the rest without one.
     pub(crate) fn next(&mut self) -> &'a [u8] {
         let (word, rest) = match split_once(self.rest, b' ') {
             Some((word, rest)) => (word, rest),
