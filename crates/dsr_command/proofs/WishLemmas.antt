@@ -84,7 +84,7 @@ pub first_is : {X : Type 0} (text : X → List ℕ) (xs : List X) (x : X) → 1 
 first_is text [] x some is = absurd (omega arith)
 first_is text (y ∷ ys) x some is = ap (λ z. Some (text z)) (sym is)
 
--- the words after the first, as the code takes them
+-- the words after the first, in the form of the code's slice
 abbrev pub rest_of : {X : Type 0} → List X → List X
 rest_of xs = take (length xs - 1) (drop 1 xs)
 

@@ -56,7 +56,7 @@ abbrev pub is_refusal : Kinds → Bool
 is_refusal [] = false
 is_refusal (kind ∷ kinds) = list_all is_other (kind ∷ kinds)
 
--- the same, as a statement
+-- the statement that the boolean is true
 abbrev pub IsRefused : Kinds → Type 0
 IsRefused kinds = is_refusal kinds ≡ true
 
@@ -106,7 +106,7 @@ flipped a b other = go (b == a) refl
     go false e = refl
     go true e = absurd (true≢false (sym ((Decides-eqb a b).1 (sym ((Decides-eqb b a).0 e))) ∙ other))
 
--- if the name before `=` passes the test against a known name, and there is no `=`, the whole text is that name
+-- if the part before `=` of a text without `=` passes the test against a known name, the whole text is that name
 name_is : (known t : Text) → bytes_eq known (before_first is_equals t) ≡ true → has_byte 61 t ≡ false → t ≡ known
 name_is known t named valued = sym ((bytes_eq-Decides known (before_first is_equals t)).0 named ∙ without_equals t valued)
 
@@ -335,7 +335,7 @@ by_name P name word is other = go (bytes_eq word name) refl
     go true e = subst P (sym ((bytes_eq-Decides word name).0 e)) is
     go false e = other e
 
--- the words after a task's name ask for this: by cases if there are none, if the first is `--`, if it is a flag, and else
+-- what the words after a task's name ask for, by cases: no words, a first word `--`, a flag, or any other word
 words_by : (takes : Takes) (name : Text) (rows : List Row) (says : List Text → Asked) → Says takes name rows (says []) []
     → ((rest : List Text) → Says takes name rows (says (codes "--" ∷ rest)) (codes "--" ∷ rest))
     → ((word : Text) (rest : List Text) → is_flag takes word ≡ true → Says takes name rows (says (word ∷ rest)) (word ∷ rest))
@@ -535,7 +535,7 @@ by_help : (words : List Text) (b : Bool) → IsEntered words (if b then help els
 by_help words true = tt
 by_help words false = tt
 
--- if the words enter a task, further words after them ask for a task only if there are none
+-- if words enter a task, they ask for it by themselves; with further words after them they ask for no task
 plain_entered : (words : List Text) (named : Task) → IsEntered (words ++ []) (task named) → (rest : List Text) → IsEntered (words ++ rest) (asked_after named rest)
 plain_entered words named alone [] = alone
 plain_entered words named alone (word ∷ rest) = by_help (words ++ (word ∷ rest)) (is_help word)

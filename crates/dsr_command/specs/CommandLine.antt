@@ -1,4 +1,4 @@
--- The command that `clap` is given, as the contracts of `clap` see it.
+-- The command that the program gives to `clap`, in the terms of `clap`'s contracts.
 use Rattle.std.specs.Prelude.{Bool, List, ℕ, Option, None, Some, codes, if◌then◌else◌, false, true}
 use Rattle.std.specs.Option.{option_map_or}
 use Rattle.std.specs.Str.{bytes_eq}
@@ -9,7 +9,7 @@ use Rattle.dsr_command.specs.declared.Task.{Task}
 use Rattle.dsr_command.specs.declared.Task.TheVariants.{Apply, Check, Play, Serve}
 
 -- the program `dsr` before its tasks are listed: the words begin after the program's name, and
--- there is no word `help`
+-- `help` is not a subcommand
 abbrev pub program : App
 program = on_top (λ s. record s { no_binary_name = true; disable_help_subcommand = true })
     (new_app (codes "dsr"))
@@ -38,7 +38,7 @@ command_line = with_subcommand (with_subcommand keeping (new_app (codes "check")
 abbrev pub is_given : List ℕ → List Row → Bool
 is_given name rows = option_map_or (λ given. bytes_eq given (codes "true")) (first_of name rows) false
 
--- the task of the subcommand that the words name, as `clap` reports it; `apply` if they do not name one
+-- the task of the subcommand that `clap` reports for the words; `apply` if it reports none
 abbrev pub task_entered : Option (List ℕ × List Row) → Task
 task_entered None = Apply
 task_entered (Some entered) =

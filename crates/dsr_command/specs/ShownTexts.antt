@@ -1,4 +1,4 @@
--- The texts that are shown if the words ask for the version or the help, or are unknown (this project).
+-- The texts that the program shows for words that ask for the version or the help, or are unknown (this project).
 use Rattle.std.specs.Prelude.{◌≡◌, ◌++◌, ◌≤◌, List, ℕ, codes, length}
 
 -- the version line: the program's version, and the toolchain that it is proved with
@@ -17,7 +17,7 @@ usage_title = codes "error: "
 abbrev pub most_shown : ℕ
 most_shown = 4096
 
--- the text begins with `begin` and has at most `most_shown` bytes; nothing is said about the rest
+-- the text begins with `begin` and has at most `most_shown` bytes; the rest is open
 pub record IsTitled (begin text : List ℕ) : Type 0 where
   pub rest : List ℕ
   pub is : text ≡ begin ++ rest

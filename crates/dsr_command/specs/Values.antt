@@ -1,4 +1,4 @@
--- The values of options, as words encode them (this project).
+-- How words encode the values of options (this project).
 use Rattle.std.specs.Prelude.{◌&&◌, ◌^◌, ℕ, List, Option, None, Some, drop, if◌then◌else◌, nat_lt}
 use Rattle.std.specs.Fmt.{decimal}
 use Rattle.std.specs.Str.{bytes_eq}
@@ -7,7 +7,7 @@ use Rattle.dsr_names.specs.Actor.{client_text, replica_text}
 use Rattle.dsr_names.specs.declared.actor.Actor.{Actor}
 use Rattle.dsr_names.specs.declared.actor.Actor.TheVariants.{Client, Replica}
 
--- the slot that a word names: the number below 2 ^ 40 whose decimal is the word, if there is one
+-- the slot that a word names: the number below 2 ^ 40 whose decimal is the word; `None` without one
 abbrev pub slot_of : List ℕ → Option ℕ
 slot_of word =
     let n = digits_value 10 word in

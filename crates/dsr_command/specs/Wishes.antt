@@ -13,7 +13,7 @@ asked_by (Explain narrowing) = task (explained narrowing)
 asked_by Help = help
 asked_by Unknown = unknown
 
--- the first of the words, if there is one
+-- the first of the words; `None` for an empty list
 abbrev pub first_of : List (List ℕ) → Option (List ℕ)
 first_of [] = None
 first_of (word ∷ rest) = Some word

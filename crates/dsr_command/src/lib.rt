@@ -22,7 +22,7 @@ pub use narrowing::Narrowing;
 use std::alloc::{AllocError, Global};
 use std::convert::AsStr;
 
-/// The version line: the program's version, and the toolchain that it is proved with, as `rt version` names it.
+/// The version line: the program's version, and the name that `rt version` gives to the toolchain of its proof.
 const VERSION: &str = "dsr 1.0.0 (rattle-kit-13f logic dac8208d650f15bf)\n";
 
 /// The first sentence of each help.

@@ -49,7 +49,7 @@ pub(crate) enum Wish {
     Explain(Narrowing),
     /// The help.
     Help,
-    /// Nothing that the program knows.
+    /// Something that the program does not know.
     Unknown,
 }
 
@@ -94,7 +94,7 @@ fn further_wish<S: AsStr>(words: &[S], so_far: Narrowing) -> Wish
     other_wish(word)
 }
 
-/// Returns the slot that the first word names; `None` if it does not name one, or there is no word.
+/// Returns the slot that the first word names; `None` if it does not name one, and for an empty list.
 #[tactic(auto, using(crate::proofs::WishLemmas::slot_read))]
 fn first_slot<S: AsStr>(words: &[S]) -> Option<u64>
     ensures { result ≡ option_and_then slot_of (first_of (map S.text words.now)) }
@@ -105,7 +105,7 @@ fn first_slot<S: AsStr>(words: &[S]) -> Option<u64>
     }
 }
 
-/// Returns the actor that the first word names; `None` if it does not name one, or there is no word.
+/// Returns the actor that the first word names; `None` if it does not name one, and for an empty list.
 #[tactic(auto, using(crate::proofs::WishLemmas::actor_read))]
 fn first_actor<S: AsStr>(words: &[S]) -> Option<Actor>
     ensures { result ≡ option_and_then actor_of (first_of (map S.text words.now)) }
