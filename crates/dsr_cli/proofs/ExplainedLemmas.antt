@@ -39,7 +39,7 @@ module _ (s : Streams) (text : List ℕ) (fault : Option Refusal) (told : List �
   all_told : SentAll told s.output s.written → ExplainedTo fault s
   all_told out = record { text = text; short = short; given = given; refused = refused; told = told; went_out = out }
 
-  -- all of it went out, and there is no fault
+  -- all of it went out, without a fault
   pub all_explained : (r : Result (Unit {0}) Refusal) → OnOk r ((fault ≡ None) × SentAll told s.output s.written) → OnOk r (ExplainedAll s)
   all_explained (Ok nothing) h = subst (λ (f : Option Refusal). ExplainedTo f s) h.0 (all_told h.1)
   all_explained (Err refusal) h = tt

@@ -41,7 +41,7 @@ has_next y (z ∷ zs) before later end entry e =
 
 -- ---- boxes
 
--- what was taken from an actor stays the first part of all that is taken from it, as a log grows
+-- if a log grows, the envelopes that it took from an actor stay the first part of all that it takes from that actor
 taken_grows : (a : Actor) (newer log : List Entry) → IsPrefixOf (taken_from a log) (taken_from a (newer ++ log))
 taken_grows a [] log = ([], sym (append-nil (taken_from a log)))
 taken_grows a (Post to x ∷ newer) log = taken_grows a newer log
@@ -146,7 +146,7 @@ take_box posted posted_later taken x full (y ∷ more, grown) (inr other) =
     absurd (omega (arith, long, old, length-append posted (y ∷ more), length-append taken (x ∷ []), length-append taken (other.0 ∷ [])))
 
 module _ (shape : Shape) (logs : Logs) (merged : List Step) (merge : IsMerge shape logs merged) (stuck : IsStuck shape logs merged) where
-  -- an entry that respected its box in a part of what is merged respects it now, if its actor has made no step since
+  -- an entry that respected its box in a part of what is merged still respects it unless its actor made a step since
   still_kept : (actor : Actor) (entry : Entry) (older : List Step) → KeepsBox (log_of older) actor entry
       → ((a : Actor) → Extends (log_of merged a) (log_of older a)) → log_of merged actor ≡ log_of older actor → KeepsBox (log_of merged) actor entry
   still_kept actor (Post to x) older kept before same =

@@ -16,7 +16,7 @@ use Rattle.dsr_record.specs.RecordFile.{GivesRecord, IsReadRefusal}
 use Rattle.dsr_check.specs.Check.{IsFirstBad}
 use Rattle.dsr_cli.specs.Report.{accepted_text, history_text}
 
--- the report on a run: how many steps it has, and what clients accepted and which requests acted, as in the report of a play
+-- the report on a run: how many steps it has, then the lines of a play's report on what clients accepted and which requests acted
 abbrev pub run_text : Shape → List Step → List ℕ
 run_text shape run =
     codes "run " ++ (decimal (length run) ++ (codes "\n" ++ (accepted_text shape (log_of run) ++ history_text (history shape (log_of run)))))
@@ -29,7 +29,7 @@ pub record HasChecked (recorded : Record) (report : List ℕ) : Type 0 where
   pub reported : report ≡ run_text recorded.shape recorded.run
 
 -- what each refusal of a record says: which line has the first step that may not follow those before it, or, if memory ran out, nothing;
--- there is no other refusal
+-- no other refusal occurs
 abbrev pub IsCheckRefusal : Record → Refusal → Type 0
 IsCheckRefusal recorded (NotARun line) = IsFirstBad recorded.shape recorded.run line
 IsCheckRefusal recorded NoMemory = Unit {0}
@@ -52,7 +52,7 @@ pub record CheckedPart (s : Streams) : Type 0 where
   pub too_many : CanFailToTake (length report) s.output
   pub went_out : SentPrefix report s.output s.written
 
--- the source gave a transcript of steps that are not a run, as this line of it shows, and nothing went out
+-- the source gave a transcript of steps that are not a run, with the first bad step on this line, and nothing went out
 pub record FoundNoRun (line : ℕ) (s : Streams) : Type 0 where
   pub recorded : Record
   pub given : GivesRecord s.input recorded

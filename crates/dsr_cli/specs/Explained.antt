@@ -9,8 +9,8 @@ use Rattle.dsr_history.specs.Applied.{IsTextOf}
 use Rattle.dsr_play.specs.Play.{IsPlayRefusal}
 use Rattle.dsr_cli.specs.Played.{RefusedText}
 
--- all of an explanation of the text that the source gave went out; a fault, if there is one, is one by which the text is refused as a play, or
--- that memory ran out
+-- all of an explanation of the text that the source gave went out; any fault is a reason to refuse the text as a play, or a lack of
+-- memory
 pub record ExplainedTo (fault : Option Refusal) (s : Streams) : Type 0 where
   pub text : List ℕ
   pub short : length text ≤ most_bytes
@@ -34,7 +34,7 @@ ExplainedAll s = ExplainedTo None s
 
 -- what each refusal leaves: a text that is not a play is refused by what is wrong with it, and an explanation was written, or nothing; likewise
 -- if memory ran out; if reading failed, which a steady source does only for too many bytes, nothing was written; if writing
--- failed, a prefix was; there is no other refusal
+-- failed, a prefix was; no other refusal occurs
 abbrev pub LeftAfterExplain : Refusal → Streams → Type 0
 LeftAfterExplain BadShape s = RefusedText BadShape s ⊎ ExplainedTo (Some BadShape) s
 LeftAfterExplain (BadText line) s = RefusedText (BadText line) s ⊎ ExplainedTo (Some (BadText line)) s

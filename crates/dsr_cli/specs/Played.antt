@@ -113,9 +113,8 @@ pub record RefusedText (refusal : Refusal) (s : Streams) : Type 0 where
   pub unwritten : Keeps s.output.contents s.written.contents
 
 -- what each refusal leaves: a text that is not a play is refused by what is wrong with it, and nothing was written; if memory ran
--- out, nothing was written, or all of the output of a play of which some events were refused for that; if reading failed, which
--- a steady source does only for too many bytes, nothing was written; if writing failed, a prefix was; there is
--- no other refusal
+-- out, nothing was written, or all of the output of a play with some events refused for that; if reading failed, which a steady
+-- source does only for too many bytes, nothing was written; if writing failed, a prefix was; no other refusal occurs
 abbrev pub LeftAfterPlay : Form → Refusal → Streams → Type 0
 LeftAfterPlay Tells BadShape s = RefusedText BadShape s
 LeftAfterPlay Tells (BadText line) s = RefusedText (BadText line) s

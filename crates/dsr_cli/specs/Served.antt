@@ -136,7 +136,7 @@ pub record RefusedScript (refusal : Refusal) (s : Streams) : Type 0 where
 -- what each refusal leaves: a text that is not a script is refused by what is wrong with it, and nothing was written; a counter at its limit, a
 -- client without an answer, or a thread that could not be started ended the service, and all of its output was written; so did memory that ran
 -- out, or nothing was written; if reading failed, which a steady source does only for too many bytes, nothing was written; if writing
--- failed, a prefix was; there is no other refusal
+-- failed, a prefix was; no other refusal occurs
 abbrev pub LeftAfterService : ServiceForm → Refusal → Streams → Type 0
 LeftAfterService Tells BadShape s = RefusedScript BadShape s
 LeftAfterService Tells (BadText line) s = RefusedScript (BadText line) s

@@ -56,8 +56,8 @@ IsAlone (Serve transcript) = ⊥
 IsAlone other = Unit {0}
 
 -- a task was done: all lines were answered; the whole report of a play, or the transcript of its run, went out, and no event of the play
--- was refused because memory ran out, nor, if it was to be strict, for another reason; all clients of a script were served, and the whole report
--- of the service, or its transcript, went out; the whole report on a transcript's run went out; or all of an explanation of a play did
+-- was refused because memory ran out, nor any event of a strict play for another reason; all clients of a script were served, and the whole
+-- report of the service, or its transcript, went out; the whole report on a transcript's run went out; or all of an explanation of a play did
 abbrev pub IsDone : Task → Streams → Type 0
 IsDone Apply s = AppliedAll s
 IsDone (Play false transcript) s = (refused : ℕ) × PlayedAll (form_of transcript) refused s
@@ -100,7 +100,7 @@ pub record EndedSo (named : Task) (status : ℕ) (run : Run) : Type 0 where
   pub quiet : IsQuiet run
   pub ended : HasEndedAs ending named run.io
 
--- after 0 the task was done; after 1 with nothing on the error stream, a strict play had a refused event; else the status is that of a refusal
+-- after 0 the task was done; after 1 with nothing on the error stream, an event of a strict play was refused; else the status is a refusal's
 abbrev pub WhatTaskLeft : Task → ℕ → Run → Type 0
 WhatTaskLeft named status run = EndedSo named status run ⊎ EndedBy (LeftAfter named) status run
 

@@ -17,8 +17,8 @@ use dsr_record::{Record, read};
 use std::alloc::Global;
 use std::fmt::Write;
 
-/// Reads a transcript, and writes the report on its run. Nothing is checked before the end of the text, and nothing is written before all
-/// steps are checked.
+/// Reads a transcript, and writes the report on its run. Checks nothing before the end of the text, and writes nothing before it has
+/// checked all steps.
 ///
 /// `BadShape` and `BadText` say what is wrong with the text, and `NotARun` names the line of the first step that may not follow those before
 /// it. After them, and after `ReadFailed` and `NoMemory`, nothing was written; after `WriteFailed` a prefix of the report was. What was read
@@ -47,7 +47,7 @@ pub(crate) fn run_check<S: Source, K: Sink>(
     }
 }
 
-/// Returns the report on the recorded steps, if they are a run.
+/// Returns the report on the recorded steps. `NotARun` if they are not a run; `NoMemory` if memory runs out.
 fn report_on(alloc: Global, recorded: &Record) -> Result<String, Refusal>
     ensures checked { IfOk result (λ report. HasChecked recorded.now (string_bytes report)) }
     ensures refused { IfErr result (IsCheckRefusal recorded.now) }

@@ -13,7 +13,7 @@ use dsr_names::{Refusal, Sink, Source, read_input, write_output};
 use std::alloc::Global;
 use std::mem::forget;
 
-/// Reads a play, and explains its outcome in the parts that `narrowing` names. Nothing is written before the end of the text.
+/// Reads a play, and explains its outcome in the parts that `narrowing` names. Writes nothing before the end of the text.
 ///
 /// `BadShape` and `BadText` say what is wrong with the text; an explanation of the fault was written before, or nothing was. After
 /// `ReadFailed` nothing was written, and after `WriteFailed` a prefix of the explanation. `NoMemory` if memory ran out: all of an

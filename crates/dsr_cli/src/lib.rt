@@ -50,9 +50,9 @@ pub const NO_MEMORY: u8 = 3;
 /// The end of a task that was not refused.
 #[derive(Clone, Copy)]
 enum Ending {
-    /// What was asked for was done.
+    /// The task was done.
     Done,
-    /// All was done and written, but the play was to be strict, and an event of it was refused.
+    /// A strict play was played and all its output written, but some of its events were refused.
     Unmet,
 }
 
@@ -91,7 +91,7 @@ pub fn run<R: Threads + Wait + Sync, S: AsStr, I: Source, O: Sink, E: Sink>(
 }
 
 /// Does the task, and returns the status that `run` returns after words that ask for this task. Requires a task that starts no threads, so it is
-/// for callers that have none. What is said of a strict play, of memory and of calls at `run` holds here too.
+/// for callers that have none. The notes at `run` on strict plays, memory and calls hold here too.
 pub fn run_task<I: Source, O: Sink, E: Sink>(
     alloc: Global,
     task: Task,
@@ -292,7 +292,7 @@ fn show<O: Sink, E: Sink>(text: &str, output: &mut O, errors: &mut E) -> u8
     }
 }
 
-/// Writes the refusal on `errors`, and returns the status with which it ends the program.
+/// Writes the refusal on `errors`, and returns the program's exit status for it.
 fn refuse<E: Sink>(errors: &mut E, refusal: Refusal) -> u8
     ensures status { result ≡ status_of refusal }
     ensures some { 0 < result }

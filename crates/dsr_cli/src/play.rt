@@ -67,7 +67,7 @@ fn outcome_of(alloc: Global, text: &[u8]) -> Result<Outcome, Refusal>
 }
 
 /// Reads a play, plays it in a new world, writes the report of its outcome, and returns how many of its events were refused.
-/// Nothing is played before the end of the text, and nothing is written before the end of the play.
+/// Plays nothing before the end of the text, and writes nothing before the end of the play.
 ///
 /// `BadShape` and `BadText` say what is wrong with the text; after them, and after `ReadFailed`, nothing was written. After
 /// `WriteFailed` a prefix of the report was. `NoMemory` if memory ran out: if some events were refused for that, the whole

@@ -1,4 +1,4 @@
-//! The outcome of a play, as lines of text.
+//! Writes the outcome of a play in lines of text.
 
 ghost use Rattle.std.specs.Prelude.{◌≡◌, ◌<◌, ◌++◌, IfOk, OnOk, IsOkUnless, reverse, string_bytes};
 ghost use Rattle.dsr_run.specs.Step.{log_of};
@@ -28,7 +28,7 @@ pub(crate) fn report_of(alloc: Global, world: &World, end: &RunEnd) -> Result<St
     Ok(report)
 }
 
-/// Writes how many events were done, how many were refused, and the first refusal, if there is one.
+/// Writes how many events were done, how many were refused, and the first refusal unless no event was refused.
 fn write_end(out: &mut String, end: &RunEnd) -> Result<(), Refusal>
     ensures text { OnOk result (string_bytes out.new ≡ string_bytes out.old ++ end_text end.now) }
     ensures refusal { IsOkUnless result Refusal.NoMemory }

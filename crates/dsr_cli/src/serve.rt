@@ -36,11 +36,11 @@ impl Gate for Open {
 pub(crate) struct Service {
     /// The logs of all actors.
     pub(crate) logs: Logs,
-    /// The fault that ended it, if one did.
+    /// The fault that ended it; `None` if no fault did.
     pub(crate) cause: Option<Refusal>,
 }
 
-/// The report of a service, and the fault that ended it, if there was one.
+/// The report of a service, and the fault that ended it; `None` if no fault did.
 #[derive(Drop)]
 struct Outcome {
     report: String,
@@ -104,7 +104,7 @@ fn outcome_of<R: Threads + Wait + Sync>(
 }
 
 /// Reads a script, serves it by one host for each actor, each in a thread of its own, and writes the report: what clients accepted, and the
-/// history. Nothing is served before the end of the text, and nothing is written before the end of the service.
+/// history. Serves nothing before the end of the text, and writes nothing before the end of the service.
 ///
 /// `BadShape` and `BadText` say what is wrong with the text; after them, and after `ReadFailed`, nothing was written. After
 /// `WriteFailed` a prefix of the report was. `Exhausted`, `Unanswered`, `NoThread` and `NoMemory` if that ended the service before all
@@ -142,7 +142,7 @@ fn give_out<K: Sink>(sink: &mut K, outcome: &Outcome) -> Result<(), Refusal>
     }
 }
 
-/// Returns the cause as `Err`, or `Ok` if there is none.
+/// Returns the cause as `Err`; `Ok` without a cause.
 pub(crate) fn ended_by(cause: &Option<Refusal>) -> Result<(), Refusal>
     ensures done { OnOk result (cause.now ≡ None) }
     ensures refused { IfErr result (λ refusal. cause.now ≡ Some refusal) }

@@ -1,4 +1,4 @@
-//! The outcome of a service, as lines of text.
+//! Writes the outcome of a service in lines of text.
 
 ghost use Rattle.std.specs.Prelude.{◌≡◌, ◌<◌, ◌++◌, IfOk, OnOk, IsOkUnless, string_bytes};
 ghost use Rattle.dsr_run.specs.History.{accepted_by};

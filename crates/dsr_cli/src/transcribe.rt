@@ -45,8 +45,8 @@ fn recording_of(alloc: Global, text: &[u8]) -> Result<Recording, Refusal>
     })
 }
 
-/// Reads a play, plays it as `run_play` does, and writes the transcript of all steps in place of the report. Its refusals, and what remains
-/// after each, are those of `run_play`. `NoMemory` also comes if there is no memory for the transcript; then nothing was written.
+/// Reads a play, plays it like `run_play`, and writes the transcript of all steps in place of the report. Its refusals, and what remains
+/// after each, are those of `run_play`. It also returns `NoMemory` if memory for the transcript runs out; then it wrote nothing.
 pub(crate) fn transcribe_play<S: Source, K: Sink>(
     alloc: Global,
     source: &mut S,

@@ -15,15 +15,15 @@ use std::mem::forget;
 use std::sync::Wait;
 use std::thread::Threads;
 
-/// The steps of a service's actors, and the fault that ended it, if one did.
+/// The steps of a service's actors, and the fault that ended it; `None` if no fault did.
 #[derive(Drop)]
 struct Recording {
     recorded: Record,
     cause: Option<Refusal>,
 }
 
-/// Serves the script that the text encodes, and records all steps. Logs of a run are always merged whole, so there is a record if memory
-/// suffices.
+/// Serves the script that the text encodes, and records all steps. Logs of a run always merge whole, so only a lack of memory can leave
+/// no record.
 fn recording_of<R: Threads + Wait + Sync>(
     rt: &R,
     alloc: Global,
@@ -48,8 +48,8 @@ fn recording_of<R: Threads + Wait + Sync>(
     Ok(Recording { recorded, cause })
 }
 
-/// Reads a script, serves it as `run_serve` does, and writes the transcript of all steps in place of the report. Its refusals, and what
-/// remains after each, are those of `run_serve`. `NoMemory` also comes if there is no memory for the transcript; then nothing was written.
+/// Reads a script, serves it like `run_serve`, and writes the transcript of all steps in place of the report. Its refusals, and what
+/// remains after each, are those of `run_serve`. It also returns `NoMemory` if memory for the transcript runs out; then it wrote nothing.
 pub(crate) fn transcribe_service<R: Threads + Wait + Sync, S: Source, K: Sink>(
     rt: &R,
     alloc: Global,
