@@ -5,7 +5,7 @@ use Rattle.dsr_command.specs.declared.Task.{Task}
 use Rattle.dsr_cli.specs.Status.{WhatTaskLeft, run_of}
 use Rattle.dsr_page.specs.declared.memory.Done.{Done}
 
--- the text, as an input that never fails
+-- an input that gives the text and never fails
 abbrev pub text_input : List ℕ → Input
 text_input text = record unknown_input { left = Some text; is_steady = Unit {0} }
 
@@ -13,7 +13,7 @@ text_input text = record unknown_input { left = Some text; is_steady = Unit {0} 
 abbrev pub memory : List ℕ → ℕ → Output
 memory bytes room = record unknown_output { contents = Some bytes; room = Some room }
 
--- the room begins with the bytes, or, where it is shorter, is the beginning of them
+-- the room begins with the bytes; if it is shorter, it is their beginning
 abbrev pub HasPrefixOf : List ℕ → List ℕ → Type 0
 HasPrefixOf bytes room = take (min (length bytes) (length room)) room ≡ take (min (length bytes) (length room)) bytes
 
@@ -34,6 +34,6 @@ pub record HasDone (named : Task) (text : List ℕ) (done : Done) (output errors
   pub given : HasPrefixOf written output
   pub given_told : HasPrefixOf told errors
 
--- nothing was done, as the number is no task's
+-- nothing was done, because no task has the number
 abbrev pub IsUnknown : Done → Type 0
 IsUnknown done = (done.status ≡ 2) × (done.written ≡ 0) × (done.told ≡ 0)

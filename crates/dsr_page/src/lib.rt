@@ -1,4 +1,4 @@
-//! The tasks of `dsr` that start no threads, as a static library for the page: over a text in memory, into memory that the caller lends.
+//! A static library for the page: the tasks of `dsr` that start no threads. They read a text in memory, and write into memory from the caller.
 #![tactic(auto)]
 
 ghost use Rattle.std.specs.Prelude.{IfNone, IfSome};
@@ -11,11 +11,11 @@ mod task;
 pub use memory::Done;
 use std::alloc::Global;
 
-/// Does the task of this number with the text, as `dsr` does it with its standard input. What `dsr` writes on standard output goes to `output`, and
-/// what it writes on standard error to `errors`: of each as much as there is room for. `done` gets the exit status, and how much of each there is.
-/// The numbers are those of `task_numbered`; for any other number nothing is done, and the status is 2.
+/// Does the task of this number with the text, like `dsr` with its standard input. What `dsr` writes on standard output goes to `output`, and
+/// what it writes on standard error to `errors`: of each as much as there is room for. `done` gets the exit status, and the whole length of each.
+/// The numbers are those of `task_numbered`; for any other number the call does nothing, and the status is 2.
 ///
-/// What a play took is not freed, so this is for a module that is dropped after the call.
+/// The call does not free the memory of a play, so it is for a module that the caller drops afterwards.
 #[unsafe(no_mangle)]
 pub extern "C" fn dsr_page_run(
     alloc: Global,

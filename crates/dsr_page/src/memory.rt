@@ -1,4 +1,4 @@
-//! A task over a text in memory, and what it wrote, in memory that the caller lends.
+//! Does a task with a text in memory, and puts what it writes into memory that the caller lends.
 
 ghost use Rattle.std.specs.Prelude.{◌≡◌, length};
 ghost use Rattle.dsr_cli.specs.Status.{IsAlone};
@@ -20,7 +20,7 @@ pub struct Done {
     pub told: u64,
 }
 
-/// Nothing was done.
+/// The outcome for a number that no task has: the call did nothing.
 pub(crate) const UNKNOWN: Done = Done {
     status: USAGE_FAULT as u64,
     written: 0,

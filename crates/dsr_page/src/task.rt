@@ -6,7 +6,7 @@ ghost use Rattle.dsr_page.specs.Tasks.{task_numbered};
 
 use dsr_command::{Narrowing, Task};
 
-/// The whole explanation, as data lines.
+/// The whole explanation in data lines.
 const AS_DATA: Narrowing = Narrowing {
     slot: None,
     actor: None,
@@ -14,7 +14,7 @@ const AS_DATA: Narrowing = Narrowing {
     as_data: true,
 };
 
-/// The task of this number.
+/// Returns the task of this number.
 pub(crate) fn task_numbered(number: u64) -> Option<Task>
     ensures task { result ≡ task_numbered number }
     ensures alone { IfSome result IsAlone }
