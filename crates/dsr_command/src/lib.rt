@@ -101,10 +101,10 @@ asks A, asks A begin OP            the client A posts to all replicas\n  \
 hears A                            each replica (traitors too) takes from the client A\n  \
 replies A                          each loyal replica posts to the client A (traitors do not)\n\n\
 In a round a replica posts to all replicas, then takes from all, and so closes it. No loyal replica closes a round\n\
-before it has taken from each traitor: each traitor A, too, has to post to all replicas, as by `plants A empty`. In\n\
-the first round of its own slot a replica may propose.\n\n\
+before it has taken from each traitor: each traitor A, too, has to post to all replicas, for example with\n\
+`plants A empty`. In the first round of its own slot a replica may propose.\n\n\
 E is empty; round NUMBER and chains; ask REQUEST~c0; reply NUMBER PLACE ANSWER; or seen PLACE. A chain is\n\
-SLOT/VALUE/SIGNERS, such as 0/c0#1:write:a:5~c0/r0+r1; its VALUE is idle if there are no requests, as in 0/idle/r0.\n\n\
+SLOT/VALUE/SIGNERS, such as 0/c0#1:write:a:5~c0/r0+r1; VALUE is idle without requests, for example 0/idle/r0.\n\n\
 The report:\n  \
 done N, refused N      how many events were done, and how many were refused and changed nothing\n  \
 first I E NAME         the first refused event, counted from 0, and why\n  \
@@ -112,8 +112,8 @@ accepted C K PLACE A   the client C accepted the answer A, at this place, to its
 seen C PLACE           how much history C knows: all places before this one\n  \
 decided R VALUES       what the loyal replica R decided, slot by slot, idle for no request; - if no slot is closed\n  \
 history N              how many requests acted (were executed); then each of them after its place\n\n\
-With --transcript the steps of all actors are written in place of the report, each post and each take in their order,\n\
-as `dsr check --help` explains.\n\n\
+With --transcript dsr writes the steps of all actors in place of the report, each post and each take in order;\n\
+`dsr check --help` explains them.\n\n\
 Example:\n  \
 $ printf 'dsr-play 1 1 0 1 -\\nasks c0 begin write a 7\\nhears c0\\nposts r0 from c0\\ntakes *\\nreplies c0\\ntakes c0\\n' | dsr play\n  \
 done 6\n  \
@@ -146,7 +146,7 @@ of two clients comes first depends on the threads, and may differ each time.\n\n
 The report:\n  \
 accepted C K PLACE A   the client C accepted the answer A, at this place, to its request K; client by client\n  \
 history N              how many requests acted (were executed); then each of them after its place\n\n\
-With --transcript the steps of all actors are written in place of the report, as `dsr check --help` explains.\n\n\
+With --transcript dsr writes the steps of all actors in place of the report; `dsr check --help` explains them.\n\n\
 Example:\n  \
 $ printf 'dsr-serve 1 1 0 1 -\\nask c0 write a 7\\n' | dsr serve\n  \
 accepted c0 1 0 written\n  \
