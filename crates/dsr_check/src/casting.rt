@@ -71,6 +71,7 @@ fn replica_key(shape: &Shape, keys: &mut Keys, number: u8) -> Key
     ensures others { (other : Actor) → other ≢ ReplicaNumber number → is_taken keys.new other ≡ is_taken keys.old other }
     ensures key { result ≡ ReplicaNumber number }
 {
+    // For the proof: n is at most 16.
     let _n = shape.n();
     let Some(key) = keys.take(Actor::Replica(ReplicaId::of(number))) else {
         unreachable!()
@@ -87,6 +88,7 @@ fn client_key(shape: &Shape, keys: &mut Keys, number: u8) -> Key
     ensures others { (other : Actor) → other ≢ ClientNumber number → is_taken keys.new other ≡ is_taken keys.old other }
     ensures key { result ≡ ClientNumber number }
 {
+    // For the proof: m is at most 32.
     let _m = shape.m();
     let Some(key) = keys.take(Actor::Client(ClientId::of(number))) else {
         unreachable!()

@@ -34,6 +34,7 @@ pub fn check(alloc: Global, recorded: &Record) -> Result<Verdict, Refusal>
     ensures refusal { IfErr result (λ refusal. refusal ≡ Refusal.NoMemory ⊎ ((line : ℕ) × (refusal ≡ Refusal.NotARun line))) }
 {
     let shape = recorded.shape();
+    // For the proof: at most f replicas are traitors.
     let _n = shape.n();
     let mut audit = Audit::open(alloc, shape)?;
     let entries = match follow_all(alloc, &mut audit, recorded.entries()) {

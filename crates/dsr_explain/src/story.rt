@@ -78,6 +78,7 @@ impl Story {
     /// Makes room for the text about `events` events, if all of it is wanted. If that is refused, the text grows as needed.
     pub(crate) fn make_room(&mut self, events: usize) {
         if self.wanted.is_of_all() && !self.wanted.refused {
+            // Without this room the text grows as needed.
             let _ = self.out.reserve(events.saturating_mul(ROOM_OF_AN_EVENT));
         }
     }

@@ -32,6 +32,7 @@ pub fn post_fault(
         (IsNextStep world.now.shape (log_of world.now.run) (ReplicaNumber from, Post (ReplicaNumber to) found.now))) }
     ensures refusal { IsOkUnless result Refusal.NoMemory }
 {
+    // For the proof: the limits of the shape, and that the logs are those of a run.
     let _n = world.shape().n();
     let _entries = world.entries();
     let clients = shown_clients(alloc, world.shape(), &Actor::Replica(from), to, found)?;

@@ -31,6 +31,7 @@ pub fn take_fault(
     if let Some(cause) = take_cause(world, at, from) {
         return Ok(Some(Fault::Refused(cause)));
     }
+    // For the proof: the limits of the shape, and that the logs are those of a run.
     let _n = world.shape().n();
     let _entries = world.entries();
     let held = held_in(alloc, world, from, at)?;
@@ -49,6 +50,7 @@ fn held_in(alloc: Global, world: &World, from: &Actor, to: &Actor) -> Result<Dra
     ensures same { IfOk result (λ held. in_box (log_of world.now.run) from.now to.now ≡ Some held) }
     ensures refusal { IsOkUnless result Refusal.NoMemory }
 {
+    // For the proof: the logs are those of a run.
     let _entries = world.entries();
     let Some(letter) = world.in_box(from, to) else {
         unreachable!()

@@ -103,6 +103,7 @@ impl<'a, R: Wait, G: Gate> Service<'a, R, G> {
         ensures course { IfErr result (λ refusal. HasCourse None 1000 seat.old seat.new (Err refusal)) }
         ensures refused { IfErr result (ClientRefusal (G.may_refuse self.now.host.gate.now) seat.new) }
     {
+        // The contract alone names the operation: it is that of the outstanding request.
         let _ = op;
         // For the proof: what their contracts say.
         calls_follow_each_other();

@@ -37,6 +37,7 @@ impl Shape {
         if place < n {
             Actor::Replica(ReplicaId::of(place as u8))
         } else {
+            // For the proof: m is at most 32.
             let _m = self.m();
             Actor::Client(ClientId::of((place - n) as u8))
         }

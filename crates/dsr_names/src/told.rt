@@ -17,6 +17,7 @@ pub fn tell<S: Sink>(sink: &mut S, text: &[u8])
     ensures sent { Sent text.now (S.output sink.old) (S.output sink.new) }
     ensures calls { (S.output sink.new).calls ≤ (S.output sink.old).calls + most_calls }
 {
+    // A failure to write cannot be reported any further.
     let _ = write_output(sink, text);
 }
 

@@ -275,6 +275,7 @@ fn round_refusal(replica: &Replica, to: ReplicaId, pick: Pick) -> Option<Refusal
     ensures same { (p : ℕ) (log : List Entry) → replica.now.me ≡ ReplicaNumber p → StandsFor replica.now log
         → result ≡ post_refusal replica.now.shape log (ReplicaNumber p) (ReplicaNumber to) pick }
 {
+    // For the proof: the replica's shape and round are those of its log.
     let _due = replica.due();
     replica.refusal(to, pick)
 }

@@ -31,6 +31,7 @@ pub fn each_step_has_a_line(step: &NotedStep)
 pub fn transcripts_spell_their_records(recorded: &Record)
     ensures { Fits recorded.now → Spells (record_text recorded.now) recorded.now }
 {
+    // For the proof: the limits of the shape.
     let _n = recorded.shape().n();
 }
 

@@ -59,6 +59,7 @@ pub(crate) fn move_envelope<'a>(
             boxes.put(shape.place(actor), shape.place(to), Held { envelope });
         }
         Entry::Take { from, .. } => {
+            // The entry has the envelope already.
             let _held = boxes.take(shape.place(from), shape.place(actor));
         }
     }

@@ -136,5 +136,6 @@ fn accept(machine: &mut Machine, requests: &[Request])
     ensures few { length machine.new.history ≤ length machine.old.history + 8 }
     ensures clients { machine.new.clients ≡ machine.old.clients }
 {
+    // Room for 8 requests is there, so memory does not run out.
     let _accepted = machine.accept_value(requests);
 }

@@ -75,6 +75,7 @@ impl Replica {
         ensures shape { IfOk result (λ replica. replica.shape ≡ shape.now) }
         ensures refusal { IsOkUnless result Refusal.NoMemory }
     {
+        // For the proof: the limits of the shape.
         let _n = shape.n();
         let flights = Flights::new(alloc, shape)?;
         let decisions = Decisions::new(alloc, shape)?;
@@ -401,6 +402,7 @@ impl Replica {
         requires below { self.old.round < 2 ^ 36 }
         ensures { self.new ≡ record self.old { next = TakeFrom number } }
     {
+        // For the proof: n is at most 16.
         let _n = self.flights.shape().n();
         self.due = Due::Take(replica_of(number));
     }

@@ -68,6 +68,7 @@ impl Request {
         ensures same { result ≡ self.now.op }
         ensures spelled { IsOp result }
     {
+        // For the proof: the limits of a name.
         let _name = self.op.name();
         self.op
     }

@@ -196,6 +196,7 @@ impl<'a, R: Wait, G: Gate> Host<'a, R, G> {
             if self.try_post(seat, turn, &Actor::Replica(to), pick)? {
                 return Ok(());
             }
+            // A wait may end early; the next try shows whether the box is free.
             let _ = seat.wait_to(self.rt, self.mail, Actor::Replica(to));
         }
         unreachable!()
@@ -235,6 +236,7 @@ impl<'a, R: Wait, G: Gate> Host<'a, R, G> {
             if self.try_take(seat, turn, &Actor::Replica(from))? {
                 return Ok(());
             }
+            // A wait may end early; the next try shows whether the box is full.
             let _ = seat.wait_from(self.rt, self.mail, Actor::Replica(from));
         }
         unreachable!()

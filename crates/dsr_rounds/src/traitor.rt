@@ -218,6 +218,7 @@ impl<'a, R: Wait, G: Gate> Host<'a, R, G> {
                 Planting::Forged => return Ok(false),
                 Planting::Full => {}
             }
+            // A wait may end early; the next try shows whether the box is free.
             let _ = seat.wait_to(self.rt, self.mail, Actor::Replica(to));
         }
         unreachable!()
@@ -294,6 +295,7 @@ impl<'a, R: Wait, G: Gate> Host<'a, R, G> {
             if self.try_take_of(seat, turn, &Actor::Replica(from))? {
                 return Ok(());
             }
+            // A wait may end early; the next try shows whether the box is full.
             let _ = seat.wait_from(self.rt, self.mail, Actor::Replica(from));
         }
         unreachable!()

@@ -102,6 +102,7 @@ fn read(state: &mut SlotState, chain: Chain) -> Answered {
 
 /// Answers `would-keep CHAIN`, if a round is left.
 fn would_keep(state: &SlotState, chain: &Chain) -> Answered {
+    // For the proof: the number of closed rounds is within the shape's.
     let _closed = state.closed_rounds();
     if state.decide().is_some() {
         return Err(Failure::NoCall);
@@ -111,6 +112,7 @@ fn would_keep(state: &SlotState, chain: &Chain) -> Answered {
 
 /// Answers `close`, if a round is left.
 fn close(state: &mut SlotState) -> Answered {
+    // For the proof: the number of closed rounds is within the shape's.
     let _closed = state.closed_rounds();
     if state.decide().is_some() {
         return Err(Failure::NoCall);
@@ -179,6 +181,7 @@ fn decide(state: &SlotState) -> Said {
 /// Answers `take-decision`, if the last round is closed, from a copy of the state, which this consumes.
 fn take_decision(alloc: Global, state: &SlotState) -> Answered {
     let copy = state.try_copy()?;
+    // For the proof: the number of closed rounds is within the shape's.
     let _closed = copy.closed_rounds();
     if copy.decide().is_none() {
         return Err(Failure::NoCall);

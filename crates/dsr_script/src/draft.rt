@@ -118,6 +118,7 @@ fn spell_answer(answer: Answer)
 {
     match answer {
         Answer::Held(Some(value)) | Answer::Kept(Some(value)) | Answer::Removed(Some(value)) => {
+            // For the proof: the value is a `u64`.
             let _value = value;
         }
         _ => {}

@@ -148,6 +148,7 @@ impl Known {
         ensures noted { self.new.signatures ≡ noted_all self.old.signatures (on_chain chain.now) }
         ensures room { self.old.room ≤ self.new.room + 24 }
     {
+        // For the proof: a chain has at most 16 signatures.
         let _few = chain.signature_count();
         self.note_own(chain);
         self.note_beside(chain.signed());

@@ -292,6 +292,7 @@ impl World {
             let outcome = self.step(alloc, event).err();
             end = end.with(outcome);
         }
+        // For the proof: at most f replicas are traitors.
         let _n = self.shape.n();
         end
     }
@@ -316,6 +317,7 @@ impl World {
             return Err(refusal);
         }
         look_at(pick);
+        // For the proof: at most f replicas are traitors.
         let _n = self.shape.n();
         let (poster, taker) = (self.shape.place(from), self.shape.place(to));
         let Ok(letters) = self.letters_for(alloc, from, to, pick) else {
@@ -403,6 +405,7 @@ impl World {
         if let Some(refusal) = self.take_refusal(at, from) {
             return Err(refusal);
         }
+        // For the proof: at most f replicas are traitors.
         let _n = self.shape.n();
         let (poster, taker) = (self.shape.place(from), self.shape.place(at));
         make_room(&mut self.entries)?;
@@ -434,6 +437,7 @@ impl World {
         if let Some(refusal) = self.tell_refusal(from, to) {
             return Err(refusal);
         }
+        // For the proof: at most f replicas are traitors.
         let _n = self.shape.n();
         let (poster, taker) = (self.shape.place(from), self.shape.place(to));
         let envelope = Envelope::Seen(self.nodes[poster].seen());
@@ -471,6 +475,7 @@ impl World {
             Ok(envelope) => envelope,
             Err(refusal) => return Err(refusal),
         };
+        // For the proof: at most f replicas are traitors.
         let _n = self.shape.n();
         let (poster, taker) = (self.shape.place(from), self.shape.place(to));
         let letters = Letters::of(alloc, envelope)?;
@@ -709,6 +714,7 @@ fn replica_node(
     ensures traitor { IfOk result (λ made. IsSome made.1 ↔ (is_traitor shape.now number ≡ true)) }
     ensures refusal { IsOkUnless result Refusal.NoMemory }
 {
+    // For the proof: n is at most 16.
     let _n = shape.n();
     let actor = Actor::Replica(ReplicaId::of(number));
     let Some(key) = keys.take(actor) else {
@@ -730,6 +736,7 @@ fn client_node(alloc: Global, shape: &Shape, keys: &mut Keys, number: u8) -> Nod
     ensures others { (other : Actor) → other ≢ ClientNumber number → is_taken keys.new other ≡ is_taken keys.old other }
     ensures plays { Plays shape.now (ClientNumber number) [] result }
 {
+    // For the proof: m is at most 32.
     let _m = shape.m();
     let actor = Actor::Client(ClientId::of(number));
     let Some(key) = keys.take(actor) else {
