@@ -186,7 +186,7 @@ impl Client {
     }
 
     /// Makes the next request, with this operation and the client's signature; `None` if one is outstanding, or the next
-    /// number would be 2^40.
+    /// number would be 2^40. It is apart from `first_ask`, because the proof of `stands` there builds on this contract.
     fn next_ask(&self, op: Op) -> Option<SignedRequest>
         ensures ask { IfSome result (λ ask. ask ≡ ask_of self.now.me (suc self.now.accepted) op) }
         ensures when { IsSome result ↔ MayBegin self.now }

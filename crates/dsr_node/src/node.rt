@@ -157,7 +157,8 @@ impl Node {
         }
     }
 
-    /// Takes the envelope from this actor, and returns the reply that a client accepts with it, if any. Requires that the node can take it.
+    /// Takes the envelope from this actor, and returns the reply that a client accepts with it, if any. It is for callers that own
+    /// the envelope and have made room (`room`); `take` is for those to whom it is lent. Requires that the node can take it.
     pub fn taken(&mut self, from: Actor, envelope: Envelope) -> Option<Reply>
         requires { CanTake self.old from envelope }
         ensures plays { (shape : Shape) (me : Actor) (log : List Entry) → Plays shape me log self.old

@@ -337,7 +337,8 @@ impl Replica {
         Ok(envelope_of(round, chains))
     }
 
-    /// Returns whether the post is due, the choice allowed, and the round below 2^36.
+    /// Returns whether the post is due, the choice allowed, and the round below 2^36. It is apart from `allows`, because the
+    /// proof of `stands` there builds on this contract.
     fn is_allowed(&self, to: ReplicaId, pick: Pick) -> bool
         ensures { IsTrue result ↔ Allows self.now to pick }
     {
@@ -373,7 +374,8 @@ impl Replica {
         self.key.signer() == sender
     }
 
-    /// Notes the post to this replica by this choice. Requires that it is allowed.
+    /// Notes the post to this replica by this choice. Requires that it is allowed. It is apart from `posted`, because the proof of
+    /// `stands` there builds on this contract.
     fn post(&mut self, to: ReplicaId, pick: Pick)
         requires { Allows self.old to pick }
         ensures { (value : SlotValue) → value_for self.old to pick ≡ Some value

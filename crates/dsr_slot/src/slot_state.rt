@@ -223,7 +223,8 @@ impl SlotState {
         }
     }
 
-    /// Tells what becomes of a chain that is read in the round after the closed ones.
+    /// Tells what becomes of a chain that is read in the round after the closed ones. It is apart from `fate`, because the proof
+    /// of `keeps` there builds on this contract.
     fn fate_of(&self, chain: &Chain) -> Fate
         requires { self.now.closed ≤ self.now.shape.f }
         ensures { IsFate self.now.shape self.now.slot (suc self.now.closed) self.now.kept chain.now result }
