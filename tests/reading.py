@@ -1,8 +1,10 @@
 #!/usr/bin/env python3
-"""The tables of docs/tables/, which are generated from the sources: what is promised call by call, law by law, and what must be believed.
+"""What one reads: tests/reading.py, or with the names of some of its parts. With --write it writes the tables anew first.
 
-tests/reading.py            Compares each table with the sources.
-tests/reading.py --write    Writes the tables anew first.
+named: each crate, file and folder that a document names is there, and so is each file and each heading to which one of its links leads. The documents are
+those of `DOCUMENTS`. A name in capital letters in a path represents any name, and a star does.
+
+tables: the tables of docs/tables/, which are generated from the sources: what is promised call by call, law by law, and what must be believed.
 
 crates.md           What each crate is, what it stands on and what it offers.
 calls.md            The contract of each public call: what the line above it says, and the names of its clauses.
@@ -29,6 +31,14 @@ from kit.written import tables as tables_by_hand
 TABLES = f"{TOP}/docs/tables"
 DEFINITION = re.compile(r"(?:(?:abbrev|unfoldable|data|record|pub) )+([\w-]+)")
 MADE = "Generated from the sources by `tests/reading.py --write`; `./test` checks that it is current.\n"
+# Documents that are written by hand. Those of docs/tables are generated.
+DOCUMENTS = ["*.md", "docs/*.md", "docs/details/*.md", "examples/*.md", "examples/*/*.md", "conformance/*.md", "bench/*.md"]
+# What a document may name: a crate or a function of that name, a path from the top, and, in a link, a path from the document and a heading.
+DSR_NAME = re.compile(r"\bdsr_[a-z_]*[a-z]\b")
+DSR_FUNCTION = re.compile(r"\bfn (dsr_[a-z_]+)")
+TOP_PATH = re.compile(r"(?<![\w./-])(?:tests|crates|tools|conformance|examples|docs|page|bench)/[\w./*-]*[\w*]")
+LINK = re.compile(r"\]\(([^)#\s]*)(?:#([^)\s]+))?\)")
+CAPITALS = re.compile(r"\b[A-Z][A-Z-]*\b")
 BESIDE_THE_CODE = ("dsr_mail_tries", "dsr_mail_office", "dsr_own_service", "dsr_rows")
 
 
@@ -291,5 +301,56 @@ def judged_tables(report, is_written):
         report.judge(f"docs/tables/{path}", "nothing makes it")
 
 
+# ---- what documents name
+
+
+def names_of_crates():
+    """The names of crates, and of the functions of theirs that begin as these do."""
+    found = set(os.listdir(f"{TOP}/crates"))
+    for path in glob.glob(f"{TOP}/crates/*/src/*.rt"):
+        found.update(DSR_FUNCTION.findall("\n".join(lines_of(path))))
+    return found
+
+
+def is_there(path):
+    """Whether there is such a file or folder, or building makes it; also if the path leaves out how its name ends."""
+    if "/out/" in path:
+        return True
+    path = f"{TOP}/{CAPITALS.sub('*', path)}"
+    return bool(glob.glob(path) or glob.glob(f"{path}.*"))
+
+
+def headings_in(path):
+    """The headings of a document, as links spell them."""
+    heads = [line.lstrip("#").strip().lower() for line in lines_of(path) if line.startswith("#")]
+    return {re.sub(r"[^\w -]", "", re.sub(r"\[(.*?)\]\(.*?\)", r"\1", head)).replace(" ", "-") for head in heads}
+
+
+def fault_of_link(document, path, heading):
+    """Where a link of this document leads to nothing, or None."""
+    target = os.path.normpath(os.path.join(os.path.dirname(document), path)) if path else document
+    if "://" in path:
+        return None
+    if not os.path.exists(target):
+        return f"a link to {path}"
+    return f"a link to {path}#{heading}" if heading and heading not in headings_in(target) else None
+
+
+def faults_of(document, crates_there):
+    """What the document names that is not there."""
+    text = "\n".join(lines_of(document))
+    yield from sorted({name for name in DSR_NAME.findall(text) if name not in crates_there})
+    yield from sorted({path for path in TOP_PATH.findall(text) if not is_there(path)})
+    yield from filter(None, (fault_of_link(document, *link) for link in LINK.findall(text)))
+
+
+def named(report, _):
+    crates_there = names_of_crates()
+    for document in sorted(path for pattern in DOCUMENTS for path in glob.glob(f"{TOP}/{pattern}")):
+        faults = list(faults_of(document, crates_there))
+        report.judge(f"what {name_of(document)} names", f"there is not: {'; '.join(faults)}" if faults else None, None)
+
+
 if __name__ == "__main__":
-    sys.exit(main(__doc__, {"tables": judged_tables}, "--write", without_program=["tables"]))
+    PARTS = {"named": named, "tables": judged_tables}
+    sys.exit(main(__doc__, PARTS, "--write", without_program=PARTS))
