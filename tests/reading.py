@@ -10,7 +10,7 @@ crates.md           What each crate is, what it stands on and what it offers.
 calls.md            The contract of each public call: what the line above it says, and the names of its clauses.
 laws.md             The laws, likewise.
 models.md           What contracts see of each type.
-definitions.md      For each headline promise of tests/written/promises.txt the definitions that the contracts of its functions name, those that these
+definitions.md      For each chosen promise of tests/written/promises.txt the definitions that the contracts of its functions name, those that these
                     name, and so on, as far as they stand in a `specs/` of this repository; and the types of the code that they name. The tests of
                     equality in `specs/Support/` are left out, as docs/READING.md says. Beside each promise stands how many lines these have,
                     without comments.
@@ -152,7 +152,7 @@ def definitions_table(all_crates):
         text, counts = definitions_of(named, order)
         rows.append(f"| {title} | {counts[False]} | {counts[True]} |")
         parts.append(f"## {title}\n\n{text}")
-    head = f"# What must be believed\n\n{MADE}\nOf each headline promise the definitions that its contracts rest on, file by file. "
+    head = f"# What must be believed\n\n{MADE}\nFor each chosen promise the definitions on which its contracts rest, file by file. "
     head += "What types show stands in [models.md](models.md), what each means in [meanings.md](meanings.md).\n\n"
     return head + table(["Promise", "Lines of definitions", "Lines of types of the code"], rows) + "\n" + "\n".join(parts)
 
