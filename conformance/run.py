@@ -9,8 +9,9 @@ It never reads what the rows want.
 All rows of a file go to one start of the adapter. If that start ends early, takes longer than N seconds, or writes too little or too much, each row of
 the file goes to a start of its own, so that only the rows at fault fail.
 
-At the end stand a line for each group; if rows failed, a line for each rule that they have as a tag; and `N passed, M failed, K skipped`. The status is
-0 if no row failed and some row passed. FILE of `--known` names rows that are known to fail, one a line: each of them passes if it fails, and fails if
+Of a row that fails it says in which file and line the row is, the rule and the notes on it, its calls so far, and what was wanted. At the end it prints a line
+for each group; if rows failed, a line for each rule that they have as a tag; if rows were skipped, the verbs that were, each with the count of its rows; and
+`N passed, M failed, K skipped`. The status is 0 if no row failed and some row passed. FILE of `--known` names rows that are known to fail, one a line: each of them passes if it fails, and fails if
 it does not. FILE of `--junit` gets the outcomes as JUnit XML, which most build servers read.
 
 With `--random` the rows are N of each group by chance, the same for the same S, as tests/rows_by_chance.py has the models answer them. With `--answers`
@@ -35,6 +36,9 @@ MOST_BYTES = 16 * 2**20
 NAME = re.compile("[a-z0-9]+(-[a-z0-9]+)*")
 # What no XML may have, escaped or not.
 NO_XML = re.compile("[^\t\n\x20-\ud7ff]")
+# How much is shown of a line that is no answer, and what begins lines that an adapter may copy from its input.
+MOST_SHOWN = 60
+COPIED = ("row ", "note ", "> ")
 # Tags that say what a row has in it. All others name the rule that the row is about.
 KINDS = ("lists", "remove", "contract", "cut")
 
@@ -43,10 +47,11 @@ KINDS = ("lists", "remove", "contract", "cut")
 
 
 class Row:
-    """A row: its name, its tags, its notes, and its calls, each with the answer that is wanted."""
+    """A row: its name, its tags, its notes, and its calls, each with the answer that is wanted. Once its file is read, also what is told of it if it fails: the
+    file and line in which it begins, the rule that it is about, and its other notes."""
 
     def __init__(self, name, tags):
-        self.name, self.tags, self.notes, self.calls = name, tags, [], []
+        self.name, self.tags, self.notes, self.calls, self.told = name, tags, [], [], []
 
     def text(self):
         return "".join([f"row {self.name}\n", *(f"> {call}\n" for call, _ in self.calls)])
@@ -92,7 +97,19 @@ def read_rows(path):
             raise SystemExit(f"{path}: line {number} is not in the grammar of rows") from None
     if asked is not None or not all(row.calls for row in rows) or not text.endswith("\n"):
         raise SystemExit(f"{path}: a call has no answer, a row has no call, or the last line is not ended")
+    fill_told(os.path.relpath(path), lines, rows)
     return group, rows
+
+
+def fill_told(path, lines, rows):
+    """Gives each row what is told of it if it fails. A rule is a note that begins with `Rule:` and the notes of that row after it; it is about the rows up to
+    the next rule."""
+    begun = [number for number, line in enumerate(lines, 2) if line.startswith("row ")]
+    rule = []
+    for row, number in zip(rows, begun):
+        stated = next((at for at, note in enumerate(row.notes) if note.startswith("Rule:")), len(row.notes))
+        rule = row.notes[stated:] or rule
+        row.told = [f"{path}:{number}", *rule, *row.notes[:stated]]
 
 
 def all_rows(folder):
@@ -151,7 +168,8 @@ def start(command, rows, errors):
 
 
 def answers_of(command, rows, seconds, errors=None):
-    """Returns the answers of one start of the adapter on these rows, and what is wrong with how it ended, or None."""
+    """Returns the answers of one start of the adapter on these rows, what is wrong with how it ended, or None, and the first line that is neither an answer
+    nor copied, or None."""
     adapter = start(command, rows, errors)
     try:
         with adapter.stdout as pipe:
@@ -159,18 +177,21 @@ def answers_of(command, rows, seconds, errors=None):
         fault = fault or ended(adapter, seconds)
     finally:
         stop(adapter)
-    lines = written.decode("latin-1").split("\n")[:-1]
-    return [line[2:] for line in lines if line.startswith("< ")], fault
+    *lines, rest = written.decode("latin-1").split("\n")
+    strange = next((f"`{line[:MOST_SHOWN]}`" for line in lines if line and not line.startswith(("< ", *COPIED))), None)
+    if strange is None and rest:
+        strange = f"`{rest[:MOST_SHOWN]}` without a line feed at the end"
+    return [line[2:] for line in lines if line.startswith("< ")], fault, strange
 
 
 # ---- what comes of rows
 
 
 class Outcome:
-    """What came of a row: `passed`, `failed` or `skipped`, and in words why it failed."""
+    """What came of a row: `passed`, `failed` or `skipped`; in words why it failed; and which verbs were skipped."""
 
-    def __init__(self, kind, why=""):
-        self.kind, self.why = kind, why
+    def __init__(self, kind, why="", verbs=()):
+        self.kind, self.why, self.verbs = kind, why, verbs
 
 
 def failed_at(row, place, answered):
@@ -183,26 +204,33 @@ def judged(row, answers):
     """Returns the outcome of a row with all its answers: the first that is not as wanted decides."""
     for place, ((_, wanted), answer) in enumerate(zip(row.calls, answers)):
         if answer == "skip":
-            return Outcome("skipped")
+            return Outcome("skipped", verbs={call.split(" ")[0] for (call, _), other in zip(row.calls, answers) if other == "skip"})
         if answer != wanted:
             return failed_at(row, place, f"answered  {answer}")
     return Outcome("passed")
 
 
+def lack_of_answer(fault, strange):
+    """Returns in words that a call has no answer, by how the adapter ended and what it wrote in place of answers."""
+    if strange:
+        return f"no line `< ANSWER` for it; the adapter wrote {strange}{f', and {fault}' if fault else ''}"
+    return f"no answer: {fault or 'it ended'}"
+
+
 def alone(command, row, seconds):
     """Returns the outcome of a row that has a start of the adapter for itself."""
-    answers, fault = answers_of(command, [row], seconds)
+    answers, fault, strange = answers_of(command, [row], seconds)
     outcome = judged(row, answers)
     if outcome.kind == "failed" or fault is None and len(answers) == len(row.calls):
         return outcome
     if len(answers) < len(row.calls):
-        return failed_at(row, len(answers), f"no answer: {fault or 'it ended'}")
+        return failed_at(row, len(answers), lack_of_answer(fault, strange))
     return Outcome("failed", f"      {fault or f'{len(answers)} answers to {len(row.calls)} calls'}")
 
 
 def outcomes(command, rows, seconds):
     """Yields each row with its outcome."""
-    answers, fault = answers_of(command, rows, seconds, subprocess.DEVNULL) if rows else ([], None)
+    answers, fault, _ = answers_of(command, rows, seconds, subprocess.DEVNULL) if rows else ([], None, None)
     together = fault is None and len(answers) == sum(len(row.calls) for row in rows)
     for row in rows:
         count = len(row.calls)
@@ -229,7 +257,7 @@ class Report:
     def note(self, group, row, outcome):
         self.groups.setdefault(group, []).append((row, outcome))
         if outcome.kind == "failed":
-            print(f"{row.name}: FAILED\n{outcome.why}", flush=True)
+            print("\n".join([f"{row.name}: FAILED", *(f"    {line}" for line in row.told), outcome.why]), flush=True)
 
     def all(self):
         return [pair for pairs in self.groups.values() for pair in pairs]
@@ -244,8 +272,14 @@ class Report:
         for rule in sorted(failed, key=lambda rule: (-failed[rule] / whole[rule], rule)):
             yield rule, failed[rule], whole[rule]
 
+    def skipped(self):
+        """Returns each verb that was skipped with the count of its rows; first those of most rows."""
+        count = collections.Counter(verb for _, outcome in self.all() for verb in outcome.verbs)
+        return [f"{verb} {count[verb]}" for verb in sorted(count, key=lambda verb: (-count[verb], verb))]
+
     def summary(self):
-        """Prints a line for each group, one for each rule of which rows failed, and one for all. Returns the count of all."""
+        """Prints a line for each group, one for each rule of which rows failed, one with the verbs that were skipped, and one for all. Returns the count of
+        all."""
         total = count_of(self.all())
         width = max(map(len, self.groups), default=0)
         for group, pairs in self.groups.items():
@@ -254,6 +288,8 @@ class Report:
             print(f"{group:{width}}  {', '.join(parts)}")
         for rule, failed, whole in self.rules():
             print(f"rule {rule}: {failed} of {whole} rows failed")
+        if self.skipped():
+            print(f"verbs that were skipped, each with the count of its rows: {', '.join(self.skipped())}")
         print(f"{total['passed']} passed, {total['failed']} failed, {total['skipped']} skipped")
         return total
 
@@ -304,12 +340,16 @@ def rows_by_chance(count, seed):
     with tempfile.TemporaryDirectory(prefix="dsr-rows-") as folder:
         if subprocess.run([sys.executable, "-B", program, folder, str(seed), str(count)], check=False).returncode != 0:
             raise SystemExit("no rows by chance: they need the folder tests of the repository")
-        return all_rows(folder)
+        files = all_rows(folder)
+    for _, rows in files:
+        for row in rows:
+            del row.told[0]
+    return files
 
 
 def with_answers(command, rows, seconds):
     """Returns the rows that the command answers, with its answers in place of theirs."""
-    answers, fault = answers_of(shlex.split(command), rows, seconds) if rows else ([], None)
+    answers, fault, _ = answers_of(shlex.split(command), rows, seconds) if rows else ([], None, None)
     if fault or len(answers) != sum(len(row.calls) for row in rows):
         raise SystemExit(f"{command} answers not all calls: {fault or f'{len(answers)} answers'}")
     found = iter(answers)
@@ -350,5 +390,16 @@ def main():
     return 1 if total["failed"] or not total["passed"] else 0
 
 
+def main_on_a_pipe():
+    """Does what `main` does; but if nobody reads standard output any more, it ends with status 1 and says nothing."""
+    try:
+        status = main()
+        sys.stdout.flush()
+        return status
+    except BrokenPipeError:
+        os.dup2(os.open(os.devnull, os.O_WRONLY), sys.stdout.fileno())
+        return 1
+
+
 if __name__ == "__main__":
-    sys.exit(main())
+    sys.exit(main_on_a_pipe())

@@ -6,12 +6,14 @@ files: each file is in the grammar of conformance/README.md, and no name stands 
 
 models: tests/models/parts.py, which was written anew from the documents, answers all rows as they say, but for a few that it skips.
 
-runner: what conformance/run.py says of adapters. An adapter that goes wrong in one row fails that row, and no other. A row that is known to fail and does
-not, a call that is skipped, answers of another program, and files that are no rows. tests/suite.py has the adapters of conformance/adapters, and all else that
+runner: what conformance/run.py says of adapters. An adapter that goes wrong in one row fails that row, and no other; where that row is, and its notes, are told. A
+row that is known to fail and does not, a call that is skipped, answers without their mark or line feed, answers of another program, files that are no rows, and an
+output that nobody reads. tests/suite.py has the adapters of conformance/adapters, and all else that
 is about the suite.
 """
 
 import functools
+import os
 import re
 import shlex
 import sys
@@ -54,6 +56,8 @@ row some/first
 < ok
 row some/middle tagged
 note It goes wrong here.
+note Rule: all is ok,
+note also here.
 > two
 < ok
 > three
@@ -62,6 +66,9 @@ row some/last
 > four
 < ok
 """
+
+# What is told of the middle row if it fails: its line, the rule, and its other note.
+WHERE = b"some.rows:5\n    Rule: all is ok,\n    also here.\n    It goes wrong here.\n"
 
 # An adapter that gives one answer to all calls, and does something else at the call `three`.
 ADAPTER = """
@@ -116,10 +123,20 @@ def told(counts):
     return counts and "{} rows passed, {} failed, {} skipped".format(*counts)
 
 
-def fault_of_run(words, status, wanted, says=b""):
-    """How the run with these words differs from the wanted status and counts, or says not this, or fails badly; or None."""
+def fault_of_run(words, status, wanted, *says):
+    """How the run with these words differs from the wanted status and counts, or does not say one of these, or fails badly; or None."""
     ran, counts = conformance_run(*words)
-    return None if (ran[0], counts) == (status, wanted) and says in ran[1] and b"Traceback" not in ran[2] else f"{counts}, {shown(ran)}"
+    is_well = (ran[0], counts) == (status, wanted) and all(said in ran[1] for said in says) and b"Traceback" not in ran[2]
+    return None if is_well else f"{counts}, {shown(ran)}"
+
+
+def fault_of_closed_pipe(words):
+    """What is wrong with a run whose standard output nobody reads, or None: it ends with status 1, and says nothing."""
+    reader, writer = os.pipe()
+    os.close(reader)
+    status, _, errors = run([sys.executable, "-B", f"{TOP}/conformance/run.py", *words], stdout=writer)
+    os.close(writer)
+    return None if (status, errors) == (1, b"") else f"status {status}, errors {errors[:200]!r}"
 
 
 def models(report, _):
@@ -140,14 +157,22 @@ def written(room, name, text):
 
 
 def choices(room):
-    """What is tried: rows that are known to fail, left out, skipped, or missing; with which words, and the status and the counts that are wanted."""
+    """What is tried: rows that are known to fail, left out, skipped, or missing, and answers that are none; with which words, and the status, the counts and
+    perhaps the words that are wanted."""
     known = ["--known", written(room, "known", "some/middle\n")]
     says_no, says_ok, skips = map(adapter, [WRONG["answers something else"], "pass", "print('< skip'); continue"])
     yield "a row that is known to fail and fails", [*known, *says_no], 0, (3, 0, 0)
     yield "a row that is known to fail and passes", [*known, *says_ok], 1, (2, 1, 0)
     yield "a row that is left out", ["--without", "tagged", *says_no], 0, (2, 0, 0)
-    yield "a row that is skipped", skips, 0, (2, 0, 1)
-    yield "all rows skipped", adapter("pass", "skip"), 1, (0, 0, 3)
+    yield "a row that is skipped", skips, 0, (2, 0, 1), b"its rows: three 1\n"
+    yield "all rows skipped", adapter("pass", "skip"), 1, (0, 0, 3), b"its rows: four 1, one 1, three 1, two 1\n"
+    wrote = b"no line `< ANSWER` for it; the adapter wrote "
+    for what, statement, why in [
+        ("an answer without its mark", "print('ok'); continue", wrote + b"`ok`\n"),
+        ("an answer without a line feed", "print('< ok', end='', flush=True); os._exit(0)", wrote + b"`< ok` without a line feed at the end\n"),
+        ("a call that is copied, and not answered", "print(line, end=''); continue", b"no answer: it ended\n"),
+    ]:
+        yield what, adapter(statement), 1, (2, 1, 0), b"> three\n      wanted    ok\n      " + why
     yield "a group that there is not", ["--group", "other", *says_ok], 1, None
     yield "a known row that there is not", ["--known", written(room, "strange", "some/row\n"), *says_ok], 1, None
     yield "a program that there is not", ["--", f"{room}/nothing"], 1, None
@@ -161,7 +186,7 @@ def choices(room):
 def check_of_wrong(words, what):
     """What an adapter does that goes wrong, and what is wrong with the run of it, or None."""
     words = [*words, "--seconds", str(SECONDS_OF_A_WRONG_ONE), *adapter(WRONG[what])]
-    return f"an adapter that {what}", fault_of_run(words, 1, (2, 1, 0), b"some/middle: FAILED\n"), None
+    return f"an adapter that {what}", fault_of_run(words, 1, (2, 1, 0), b"some/middle: FAILED\n", WHERE), None
 
 
 def runner(report, _):
@@ -174,6 +199,8 @@ def runner(report, _):
         report.judge_all(in_threads(functools.partial(check_of_wrong, words), WRONG))
         for what, more, *wanted in choices(room):
             report.judge(what, fault_of_run([*words, *more], *wanted), None)
+        for what, statement in [("all is well", "pass"), ("a row fails", WRONG["answers something else"])]:
+            report.judge(f"nobody reads that {what}", fault_of_closed_pipe([*words, *adapter(statement)]), None)
 
 
 if __name__ == "__main__":
