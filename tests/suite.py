@@ -43,11 +43,17 @@ LEAST_ROWS, LEAST_CHECKS = 2000, 400
 # ---- what the README says
 
 
+def calls_check_alone(row):
+    return all(call.startswith("check ") for call, _ in row.calls)
+
+
 def readme(report, _):
     rows = [row for _, found in conformance.all_rows(ROWS) for row in found]
-    alone = sum(all(call.startswith("check ") for call, _ in row.calls) for row in rows)
+    alone = sum(map(calls_check_alone, rows))
     made = len({name for name, *_ in mistakes.MISTAKES})
+    of_chain, alone_there = [sum(row.name.startswith("chain/") and is_so(row) for row in rows) for is_so in (lambda row: True, calls_check_alone)]
     for said, is_so in [
+        (f": {alone_there} of the {of_chain} rows of the first group\ncall nothing else", True),
         (f"has more than {LEAST_ROWS:,} cases of such rules", len(rows) > LEAST_ROWS), (f"; more than {LEAST_CHECKS} rows call nothing else", alone > LEAST_CHECKS),
         (f": {made} mistakes that were made", True),
     ]:
