@@ -333,6 +333,19 @@ async function asAReader(page) {
     assert.match(await browser.value(`document.getElementById("why").textContent`), /^line 7: event 13, r0 and r1: refused, E8: the signature of c0 on c0#1:write:a:9 is forged/);
     assert.ok(await browser.value(`document.querySelector("#rows .refused") !== null`));
   });
+  await check(said("of a changed attack it is told how it was, and who is not answered"), async () => {
+    const isTitled = () => browser.value(`!document.getElementById("as-it-was").hidden`);
+    await page.sample("two-faced-sender");
+    assert.strictEqual(await isTitled(), false);
+    await page.after(`document.querySelectorAll(".try")[2].click()`);
+    assert.strictEqual(await isTitled(), true);
+    assert.ok((await browser.value(`document.querySelector("#result .short").textContent`)).includes("c0 has accepted no reply to its request 1."));
+    await page.after(`document.getElementById("reset").click()`);
+    assert.strictEqual(await isTitled(), false);
+    assert.ok(!(await browser.value(`document.querySelector("#result .short").textContent`)).includes("has accepted no reply"));
+    await page.after(`document.querySelectorAll(".try")[3].click()`);
+    assert.ok((await browser.value(`document.querySelector("#result .short").textContent`)).includes("none was refused"));
+  });
   await check(said("a link has the text in it"), async () => {
     const hash = await browser.value(`addressNow()`), text = await browser.value(`document.getElementById("text").value`);
     assert.match(hash, /^#z:[\w-]+\/explain/);
@@ -403,6 +416,8 @@ async function shots(page, folder, scheme) {
     await shot("6-bad-line");
     await browser.value(`(document.getElementById("limits").open = true, 0)`);
     await shot("7-limits");
+    await browser.value(`(document.getElementById("limits").open = false, document.getElementById("legend").open = true, 0)`);
+    await shot("8-legend");
   }
 }
 

@@ -14,7 +14,8 @@ const TRIES = {
   "two-faced-sender": [
     { told: "Make r0 honest", old: "plant r0 r2 round 0 0/c1#1:write:a:2~c1/r0", to: "plant r0 r2 round 0 0/c0#1:write:a:1~c0/r0" },
     { told: "Forge c0's request", old: "plant r0 r1 round 0 0/c0#1:write:a:1~c0/r0", to: "plant r0 r1 round 0 0/c0#1:write:a:9~c0/r0" },
-    { told: "Post to r1 nothing", old: "plant r0 r1 round 0 0/c0#1:write:a:1~c0/r0\n", to: "" },
+    { told: "Leave out the post to r1", old: "plant r0 r1 round 0 0/c0#1:write:a:1~c0/r0\n", to: "" },
+    { told: "Stay silent to r1", old: "plant r0 r1 round 0 0/c0#1:write:a:1~c0/r0", to: "plant r0 r1 empty" },
     { told: "Misspell a line", old: "hears c1", to: "heers c1" },
   ],
 };
@@ -95,6 +96,7 @@ async function perform() {
   hasRun = false;
   by("cut")?.remove();
   drawTabs(what);
+  by("as-it-was")?.toggleAttribute("hidden", isSample());
   try {
     const ended = await ask(doing, text());
     if (mine !== round) return;
@@ -211,7 +213,8 @@ const inline = told => escaped(told).replace(/`([^`]*)`/g, "<code>$1</code>");
 
 function tellSample() {
   const tries = (TRIES[sample.name] || []).map(({ told }, at) => `<button class="try" data-try="${at}">${escaped(told)}</button>`).join("");
-  by("told").innerHTML = sample.told.map(told => `<p>${inline(told).replace(/^([^:.]{1,16}):/, "<b>$1</b>:")}</p>`).join("") + `<div>Change it: ${tries || "in the lines below"} <button class="try" id="reset">as it was</button></div>`;
+  const title = `<p id="as-it-was" class="soft" hidden>In ${sample.group === "Attacks" ? "the attack" : "the text"} as it was:</p>`;
+  by("told").innerHTML = title + sample.told.map(told => `<p>${inline(told).replace(/^([^:.]{1,16}):/, "<b>$1</b>:")}</p>`).join("") + `<div>Change it: ${tries || "in the lines below"} <button class="try" id="reset">as it was</button></div>`;
 }
 
 function chooseSample(index) {

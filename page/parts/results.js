@@ -16,16 +16,21 @@ function some(items) {
   return items.length > MOST_LISTED ? [...items.slice(0, MOST_LISTED), `… and ${items.length - MOST_LISTED} more`] : items;
 }
 
-// What a play came to in a few sentences, by its report.
-function inShort(report) {
+// What a play came to in a few sentences, by its report, and by its explanation if there is one.
+function inShort(report, explained = "") {
   const rows = report.split("\n").map(line => line.split(" ")), of = word => rows.filter(row => row[0] === word).map(row => row.slice(1));
   const [[done] = [0]] = of("done"), [[refused] = [0]] = of("refused"), [first] = of("first"), found = [];
   found.push(`${plural(Number(done), "event")} happened, and ${Number(refused) ? `<b class="drop">${plural(Number(refused), "event")} ${refused === "1" ? "was" : "were"} refused</b>` : "none was refused"}.` +
     (first ? ` The first is <a href="#" data-explain="${first[0]}">event ${first[0]}</a>, with ${code(first.slice(1).join(" "))}.` : ""));
   found.push(...decisions(of("decided")));
   const accepted = of("accepted").map(([client, number, place, ...answer]) => `<b class="good">${client} accepted ${code(answer.join(" "))}</b> as the answer to its request ${number}, which is at place ${place} of the history.`);
-  found.push(...(accepted.length ? some(accepted) : ["No client accepted a reply."]));
+  found.push(...(accepted.length ? some(accepted) : ["No client accepted a reply."]), ...some(unanswered(explained)));
   return `<ul class="short">${found.map(line => `<li>${line}</li>`).join("")}</ul>`;
+}
+
+// The clients that still wait at the end of an explanation.
+function unanswered(explained) {
+  return [...explained.matchAll(/^(c\d+): waits [^;\n]*\brequest (\d+)/gm)].map(([, client, number]) => `${client} has accepted no reply to its request ${number}.`);
 }
 
 // What loyal replicas decided, slot by slot; some may have decided more than others.
@@ -77,9 +82,9 @@ function eventRow({ line, event, told, notes }, isDull, isFirst) {
 function explanation({ output, more, report }) {
   const events = eventsOf(output), first = events.findIndex(event => event.event !== null && !isDull(event));
   const rows = events.map((event, at) => eventRow(event, isDull(event), at === first)).join("");
-  return `<h2>What came of it</h2>${inShort(report)}<h2>Why <label><input type="checkbox" id="every" ${showsAll ? "checked" : ""}> every event, also those that change little</label></h2>` +
-    `<p class="soft">A line leads to its line of the play, and to its place in the picture. In <code>0/c0#1:write:a:1~c0/r0+r1</code> slot 0 is proposed request 1 of c0, ` +
-    `which c0 signed (<code>~c0</code>); the whole is signed by r0, then by r1.</p>` +
+  return `<h2>What came of it</h2>${inShort(report, output)}<h2>Why <label><input type="checkbox" id="every" ${showsAll ? "checked" : ""}> every event, also those that change little</label></h2>` +
+    `<p class="soft">A line leads to its line of the play, and to its place in the picture. <code>0/c0#1:write:a:1~c0/r0+r1</code> is a chain of slot 0. It proposes ` +
+    `c0's request 1, which c0 signed (<code>~c0</code>). The chain is signed by r0, then by r1.</p>` +
     `<div id="events" role="list" class="${showsAll ? "" : "brief"}" aria-label="Events: the arrow keys go from one to the next">${rows}</div>` +
     (more ? `<p class="soft">And ${more.toLocaleString("en")} bytes more, which are not shown.</p>` : "");
 }
