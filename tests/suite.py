@@ -53,7 +53,7 @@ def readme(report, _):
     made = len({name for name, *_ in mistakes.MISTAKES})
     of_chain, alone_there = [sum(row.name.startswith("chain/") and is_so(row) for row in rows) for is_so in (lambda row: True, calls_check_alone)]
     for said, is_so in [
-        (f": {alone_there} of the {of_chain} rows of the first group\ncall nothing else", True),
+        (f": {alone_there} of the {of_chain} rows of the group `chain`\ncall nothing else", True),
         (f"has more than {LEAST_ROWS:,} cases of such rules", len(rows) > LEAST_ROWS), (f"; more than {LEAST_CHECKS} rows call nothing else", alone > LEAST_CHECKS),
         (f": {made} mistakes that were made", True),
     ]:
