@@ -14,6 +14,8 @@ file .known, which name the rule that it breaks. One whose compiler is not there
 
 chance: rows by chance, as conformance/run.py --random has them.
 
+texts: conformance/texts is as tools/whole_texts.py writes it, and conformance/run_texts.py passes commands that write what is wanted of a text, and no others.
+
 outcomes: the outcomes as JUnit XML, the rule that is told of a row that failed, and an adapter that hangs, which is given up in time.
 """
 
@@ -34,6 +36,7 @@ from rows import ROWS, SECONDS, SOME_ROWS, WRONG, adapter, conformance, conforma
 sys.path.insert(0, f"{TOP}/tools")
 
 import rows_json  # noqa: E402
+import whole_texts  # noqa: E402
 
 ADAPTERS = f"{TOP}/conformance/adapters"
 # The rows that there are at least, and those that call `check` alone.
@@ -159,6 +162,47 @@ def by_chance(report, _):
         f", {told(failed)}")
 
 
+# ---- whole texts
+
+
+# Commands of a shell for a text of a kind: whether they pass, and what must be told of those that do not.
+REPORT, PLAY = "examples/record/honest.out", "attacks/two-faced-sender"
+LIES = "echo dsr: not a run at line"
+COMMANDS = [
+    ("check", "record/honest", f"cat {REPORT}", True, b""),
+    ("check", "record/honest", f"head -n 3 {REPORT}", False, b"in line 4\n      wanted   accepted c1 1 1 written\n      written  nothing\n"),
+    ("check", "record/honest", f"cat {REPORT}; echo 5", False, b"\n      wanted   nothing\n      written  5\n"),
+    ("check", "record/honest", f"cat {REPORT}; echo late >&2; exit 3", False, b"it ended with status 3, and late\n"),
+    ("check", "record/honest", "sleep 60", False, b"it did not end within 2 seconds\n"),
+    ("check", "record/honest", "exec >&-; sleep 60", False, b"it wrote no more, and did not end within 2 seconds\n"),
+    ("check", "record/lying", f"{LIES} 47 >&2; exit 1", True, b""),
+    ("check", "record/lying", f"{LIES} 46 >&2; exit 1", False, b"wanted             not a run at line 47\n      on standard error  dsr: not a run at line 46\n"),
+    ("check", "record/lying", "echo run 5", False, b"wanted   a refusal: not a run at line 47\n      written  run 5\n"),
+    ("play", PLAY, f"cat examples/{PLAY}.out", True, b""),
+    ("transcript", PLAY, f"cat examples/{PLAY}.transcript", True, b""),
+    ("transcript", PLAY, "cat", False, b"in line 1\n"),
+    ("events", PLAY, f"cat conformance/texts/{PLAY}.events; echo why it is so; echo hold r1 more", True, b""),
+    ("events", PLAY, f"sed 's/ idle$/ none/' conformance/texts/{PLAY}.events", False, b"wanted   decide r1 0 2 idle\n"),
+]
+
+
+def fault_of_texts_run(kind, name, script, passes, says):
+    """What is wrong with what conformance/run_texts.py makes of this command on a text, or None."""
+    words = [f"{TOP}/conformance/run_texts.py", kind, "--text", name, "--seconds", "2", "--", "sh", "-c", script]
+    ran = run([sys.executable, "-B", *words], cwd=TOP)
+    last = b"1 passed, 0 failed, 0 skipped\n" if passes else b"0 passed, 1 failed, 0 skipped\n"
+    return None if ran[0] == (0 if passes else 1) and ran[1].endswith(last) and says in ran[1] and not ran[2] else told_by(ran)
+
+
+def texts(report, _):
+    stale = [path for path, _ in whole_texts.stale()]
+    report.judge("conformance/texts", f"not current: {', '.join(stale)}; tools/whole_texts.py --write writes them" if stale else None)
+    for command in COMMANDS:
+        report.judge(f"of the {command[0]} of {command[1]}: {command[2]}", fault_of_texts_run(*command), None)
+    unheard = run([sys.executable, "-B", f"{TOP}/conformance/run_texts.py", "play", "--text", "none", "--", "cat"])
+    report.judge("a text that is not there", None if unheard[0] == 1 and unheard[2] == b"no text of this kind has the name none\n" else told_by(unheard), None)
+
+
 # ---- outcomes
 
 
@@ -211,5 +255,5 @@ def outcomes(report, _):
 
 
 if __name__ == "__main__":
-    PARTS = {"readme": readme, "rules": rules, "json": as_json, "mistakes": noticed, "adapters": adapters, "chance": by_chance, "outcomes": outcomes}
+    PARTS = {"readme": readme, "rules": rules, "json": as_json, "mistakes": noticed, "adapters": adapters, "chance": by_chance, "texts": texts, "outcomes": outcomes}
     sys.exit(main(__doc__, PARTS, without_program=PARTS))

@@ -19,6 +19,8 @@ samples: each `$ COMMAND` with the lines it prints, in README.md, examples/recor
 docs/FORMATS.md the requests with their answers, two or more spaces after them; each text of code in the table of bad lines, if the row says no more about it;
 each transcript, play and script with the report that one of the later blocks has, in their order; and each text of code in the first columns of
 the tables of lines that are no steps, right after the header that the table names.
+
+texts: the program passes all whole texts of conformance/texts, by conformance/run_texts.py: what each transcript, each play, and each event of a play comes to.
 """
 
 import fnmatch
@@ -32,7 +34,7 @@ import xml.etree.ElementTree
 
 from kit import inputs
 from kit.inputs import lines_text
-from kit.program import TOP, bytes_of, least_time, name_of, program, run, shown, text_of, write_bytes
+from kit.program import TOP, bytes_of, command_of, least_time, name_of, program, run, shown, text_of, write_bytes
 from kit.report import main
 from kit.written import tables
 from models import explain_model, histories
@@ -462,5 +464,18 @@ def samples(report, _):
         report.judge(*check_of_samples(f"dsr {help_words}", shown_commands(output_of(help_words, "")[1])))
 
 
+# ---- whole texts of the conformance suite
+
+# The program's words for each kind of texts.
+WORDS_OF_KINDS = {"check": "check", "play": "play", "transcript": "play --transcript", "events": "explain --data"}
+
+
+def texts(report, _):
+    for kind, words in WORDS_OF_KINDS.items():
+        status, output, errors = run([sys.executable, "-B", f"{TOP}/conformance/run_texts.py", kind, "--", *command_of(words)])
+        counts = (output.decode().splitlines() or [""])[-1]
+        report.judge(f"whole texts, dsr {words}", None if status == 0 and not errors else (output[-2000:] + errors).decode(), f", {counts}")
+
+
 if __name__ == "__main__":
-    sys.exit(main(__doc__, {"explanations": explanations, "pictures": pictures, "samples": samples}, "--write"))
+    sys.exit(main(__doc__, {"explanations": explanations, "pictures": pictures, "samples": samples, "texts": texts}, "--write"))
