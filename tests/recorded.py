@@ -1,8 +1,8 @@
 #!/usr/bin/env python3
 """The checker from other languages, by the library for programs in C: tests/recorded.py. The library is built, and a shared object of it, as
-examples/record/check.py says; then check.py and the Rust crate examples/record/rust are run on what examples/record/service.py printed, honest and
-lying, and on texts that are no transcripts. What they must print and end with is written here. A language without its tools here is skipped. Both must
-also answer many texts in one process alike: check.py in threads.
+examples/record/check.py says; then check.py, the Rust crate examples/record/rust and the Go program examples/record/go are run on what
+examples/record/service.py printed, honest and lying, and on texts that are no transcripts. What they must print and end with is written here. A language without
+its tools here is skipped, and counted. check.py must also answer many texts in one process alike, in threads.
 """
 
 import os
@@ -20,7 +20,7 @@ import check  # noqa: E402
 import libraries  # noqa: E402
 
 LIBRARY = "dsr_check_c"
-SECONDS_OF_CARGO = 600
+SECONDS_OF_BUILDING = 600
 
 # Each text, and what must be printed, and the status.
 ROWS = [
@@ -64,8 +64,25 @@ def cargo(room):
     words = ["cargo", "build", "--offline", "--quiet", "--locked", "--target-dir", f"{room}/target", "--manifest-path",
         f"{TOP}/examples/record/rust/Cargo.toml"]
     folders = {"DSR_CHECK_LIBRARIES": f"{room}:{libraries.toolchain().KIT}/c", "RUSTFLAGS": "-D warnings"}
-    made = subprocess.run(words, capture_output=True, text=True, timeout=SECONDS_OF_CARGO, env={**os.environ, **folders})
+    made = subprocess.run(words, capture_output=True, text=True, timeout=SECONDS_OF_BUILDING, env={**os.environ, **folders})
     return None if made.returncode == 0 else f"the crate is not built: {made.stderr}"
+
+
+def go(room):
+    """What is wrong with building the Go program in this folder, or None."""
+    words = ["go", "build", "-buildvcs=false", "-o", f"{room}/check-record-go", "."]
+    settings = {"CGO_ENABLED": "1", "CGO_LDFLAGS": f"-L{room} -L{libraries.toolchain().KIT}/c", "CC": "cc", "GOCACHE": f"{room}/go-cache", "GOFLAGS": "", "GOPROXY": "off"}
+    made = subprocess.run(words, cwd=f"{TOP}/examples/record/go", capture_output=True, text=True, timeout=SECONDS_OF_BUILDING, env={**os.environ, **settings})
+    return None if made.returncode == 0 else f"the program is not built: {made.stderr}"
+
+
+def judge_built(report, language, tool, build, fault, room, program):
+    """The rows by a program that this tool builds, if it is here."""
+    if shutil.which(tool):
+        judge_rows(report, language, fault or build(room), [f"{room}/{program}"])
+    else:
+        say(f"{language}: skipped, since there is no {tool}")
+        report.add(0, 0, len(ROWS))
 
 
 def languages(report, _):
@@ -73,11 +90,8 @@ def languages(report, _):
         fault = fault_of_library(room)
         judge_rows(report, "Python", fault, [sys.executable, "-B", f"{TOP}/examples/record/check.py", f"{room}/libdsr_check.so"])
         judge_threads(report, fault, room)
-        if shutil.which("cargo"):
-            judge_rows(report, "Rust", fault or cargo(room), [f"{room}/target/debug/check-record"])
-        else:
-            say("Rust: skipped, since there is no cargo")
-            report.add(0, 0, len(ROWS))
+        judge_built(report, "Rust", "cargo", cargo, fault, room, "target/debug/check-record")
+        judge_built(report, "Go", "go", go, fault, room, "check-record-go")
 
 
 if __name__ == "__main__":

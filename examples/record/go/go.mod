@@ -1,0 +1,3 @@
+module check-record
+
+go 1.19
