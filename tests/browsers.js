@@ -6,7 +6,8 @@
 // Each attack and each play that is wrong in one line is chosen and played, explained, checked and drawn. What the page shows must be the files beside the play:
 // its report NAME.out, its explanation NAME.explained, its transcript NAME.transcript; the picture must have as many events as the report counts.
 // Then the page is gone through as a reader would. Screenshots, 1280 and 400 pixels wide, light and dark, are left in FOLDER for somebody to look at.
-// With the word `long` it runs texts at the limits, and says for how long at most the page did not answer.
+// With the word `long` it runs texts at the limits, goes through the picture of one, and says for how long at most the page did not answer; it must be less than
+// 100 ms.
 //
 // The last line is `N passed, M failed, K skipped`.
 const fs = require("fs"), path = require("path"), os = require("os"), { spawn, spawnSync } = require("child_process"), assert = require("assert"), zlib = require("zlib");
@@ -366,6 +367,33 @@ async function asAReader(page) {
   });
 }
 
+// A play of 2,700 events, of which a picture has not all.
+const LONG_PLAY = `"dsr-play 1 3 1 2 -\\n" + "posts *\\ntakes *\\n".repeat(150)`;
+
+// The picture of a longer run has a part of it, and goes to others.
+async function inStretches(page) {
+  const { browser } = page, are = (first, last) => `document.getElementById("shown").textContent === "This picture shows events ${first} to ${last} of 2,700."`;
+  const draws = async (act, drawn, where) => {
+    await browser.value(`(document.getElementById("status").textContent = "...", 0)`);
+    await act();
+    await page.ready();
+    await page.untilInPicture(are(...drawn));
+    await page.untilInPicture(`document.getElementById("where").textContent.startsWith(${JSON.stringify(where)})`);
+  };
+  const inFrame = act => () => browser.frameValue(`(${act}, 0)`);
+  await check(`${browser.name}: a longer run is drawn in parts`, async () => {
+    await page.open();
+    await page.type(LONG_PLAY);
+    await draws(() => browser.value(`(document.getElementById("tab-picture").click(), 0)`), ["0", "1,999"], "A part of the run");
+    await draws(inFrame(`document.getElementById("later").click()`), ["800", "2,699"], "Event 2000, line 224");
+    await draws(inFrame(`document.getElementById("earlier").click()`), ["200", "2,199"], "Event 799, line 90");
+    await draws(() => browser.value(`(goTo(300), document.getElementById("text").dispatchEvent(new Event("click")), 0)`), ["800", "2,699"], "Event 2682, line 300");
+    await draws(() => browser.value(`(showPicture(5, 2), 0)`), ["0", "1,999"], "Event 5, line 2");
+    await browser.value(`(goTo(3), document.getElementById("text").dispatchEvent(new Event("click")), 0)`);
+    await page.untilInPicture(`document.getElementById("where").textContent.startsWith("Event 9, line 3")`);
+  });
+}
+
 // With keys alone: to the tabs, to the explanation, through its rows.
 async function byKeys(page) {
   const { browser } = page;
@@ -412,6 +440,12 @@ async function shots(page, folder, scheme) {
     if (width < 860) await browser.value(`(document.getElementById("right").scrollIntoView(), 0)`);
     await shot("5-picture-of-an-event");
     await page.open();
+    await page.type(LONG_PLAY);
+    await page.tab("picture");
+    await page.untilInPicture(`!document.getElementById("stretch").hidden`);
+    if (width < 860) await browser.value(`(document.getElementById("right").scrollIntoView(), 0)`);
+    await shot("8-part-of-a-long-run");
+    await page.open();
     await page.type(`samples[0].text.replace("asks c0 begin", "asks c0 begn")`);
     await shot("6-bad-line");
     await browser.value(`(document.getElementById("limits").open = true, 0)`);
@@ -436,6 +470,42 @@ function longTexts() {
   return { play: playOf(MOST_EVENTS), transcript };
 }
 
+// Does this, and checks that the page could have answered a click within 100 ms all the time: a timer's gaps are the times when it could not.
+async function answering({ browser }, what, body) {
+  await check(`${browser.name}: ${what}`, async () => {
+    await browser.value(`(window.most = 0, window.last = performance.now(), 0)`);
+    await body();
+    const most = Math.round(await browser.value("window.most"));
+    console.log(`${browser.name}: ${what}, ${await browser.value(`document.getElementById("status").textContent`)}; not answering for at most ${most} ms`);
+    assert.ok(most < 100, `the page did not answer for ${most} ms`);
+  });
+}
+
+// Which events the picture says that it shows.
+const drawnAre = (first, last) => `document.getElementById("shown").textContent === "This picture shows events ${first} to ${last} of 1,000,000."`;
+
+// Through the picture of a long run, stretch by stretch.
+async function throughStretches(page) {
+  const { browser } = page, press = id => `document.getElementById("${id}").click()`;
+  const goTo = number => `((at) => { at.value = "${number}"; at.dispatchEvent(new Event("change")); })(document.getElementById("at"))`;
+  for (const [what, act, ...drawn] of [
+    ["later", press("later"), "1,500", "3,499"], ["to an event", goTo(700_123), "699,600", "701,599"], ["earlier", press("earlier"), "699,000", "700,999"],
+    ["to the last one", goTo(999_999), "998,100", "999,999"], ["to the first one", goTo(0), "0", "1,999"],
+  ]) {
+    await answering(page, `the picture, ${what}`, async () => {
+      await browser.value(`(document.getElementById("status").textContent = "...", 0)`);
+      await browser.frameValue(`(${act}, 0)`);
+      await page.ready();
+      await page.untilInPicture(drawnAre(...drawn));
+    });
+  }
+  await answering(page, "a step in the picture", async () => {
+    const took = await browser.frameValue(`(begun => (${press("on")}, performance.now() - begun))(performance.now())`);
+    assert.ok(took < 100, `the step takes ${took} ms`);
+    await page.until(`spot.event === 1`);
+  });
+}
+
 async function longOnes(page) {
   const { browser } = page;
   await page.open();
@@ -445,15 +515,14 @@ async function longOnes(page) {
     await browser.value(`(window.made = [], 0)`);
     for (let at = 0; at < content.length; at += 1 << 20) await browser.value(`(window.made.push(${JSON.stringify(content.slice(at, at + (1 << 20)))}), 0)`);
     for (const task of name === "play" ? ["play", "explain", "check", "picture"] : ["check"]) {
-      await check(`${browser.name}: a ${name} of ${content.length} bytes, ${task}`, async () => {
-        await browser.value(`(window.most = 0, window.last = performance.now(), 0)`);
+      await answering(page, `a ${name} of ${content.length} bytes, ${task}`, async () => {
         await page.after(name !== page.held ? `openBlob(new Blob(window.made), "a long text")` : `document.getElementById("tab-${task}").click()`);
         page.held = name;
-        console.log(`${browser.name}: ${name}, ${await browser.value(`document.getElementById("status").textContent`)}; not answering for at most ${Math.round(await browser.value("window.most"))} ms`);
-        assert.ok(await browser.value("window.most") < 100, "the page did not answer for 100 ms");
+        if (task === "picture") await page.untilInPicture(drawnAre("0", "1,999"));
       });
       if (task === "play") await page.tab("play");
     }
+    if (name === "play") await throughStretches(page);
   }
   await check(`${browser.name}: Stop`, async () => {
     await browser.value(`(document.getElementById("tab-check").click(), 0)`);
@@ -493,6 +562,7 @@ async function main([folder, ...words]) {
       await page.open();
       await eachPlay(page);
       await asAReader(page);
+      await inStretches(page);
       await byKeys(page);
       await shots(page, folder, "light");
     });

@@ -10,7 +10,7 @@ that `rt ci` leaves, and a C compiler, `cc`.
 module: the same by the module that the page has in it, in node.
 
 pictures: what page/parts/picture.js makes of data lines, in node, must be what tools/picture_run.py makes of them for SVGs, as far as those show it; and what it says of
-some events is written here.
+some events is written here. A long run is drawn in stretches (page/parts/stretch.js): each must have what the picture of the whole has there.
 
 The texts are the examples of all words but `serve`, all transcripts, 20 random plays, and a play that writes far more than it says. Without a node that knows the module's memory, the module and the
 pictures are skipped, and counted.
@@ -221,6 +221,23 @@ def drawn(data):
     }
 
 
+# Events around which a stretch of a long play is drawn, which has 4,204.
+STRETCHES, LONG_ROUNDS = [0, 700, 1000, 1001, 2600, 4000, 4203], 120
+
+
+def long_play():
+    """A play of many rounds, in which r3 tells two things in its slots and forges a signature, clients ask, and their replies are taken late."""
+    lines = ["dsr-play 1 4 1 2 r3"]
+    for number in range(LONG_ROUNDS):
+        lines += ["asks c0 begin write a 1", "asks c1 begin read a", "hears c0", "hears c1"] if number % 8 == 4 else []
+        lines += [f"posts r{replica}" + (f" from c{number // 8 % 2}" if number % 8 == replica + 4 else "") for replica in range(3)]
+        told = [f"round {number} {number}/{value}/r3" for value in ("idle", "c0#1:write:a:1~c0")] if number % 4 == 3 else ["empty", "empty"]
+        lines += [f"plant r3 r{replica} {told[replica % 2]}" for replica in range(4)]
+        lines += [f"plant r3 r1 round {number} {number}/idle/r0"] if number % 10 == 9 else []
+        lines += ["takes *"] + (["replies c0", "replies c1", "takes c0", "takes c1"] if number % 16 == 1 else [])
+    return "".join(f"{line}\n" for line in lines).encode()
+
+
 def pictures(report, _):
     lines = []
     for name, text in texts().items():
@@ -235,6 +252,9 @@ def pictures(report, _):
     for name, event, said in SAYINGS:
         data = wanted("explain --data", bytes_of(f"examples/attacks/{name}.play"))[1]
         lines.append({"name": f"what is said of event {event} of {name}", "data": in_base64(data), "event": event, "said": said})
+    data = wanted("explain --data", long_play())[1]
+    report.compare("events of a long play", data.count(b"\nevent "), STRETCHES[-1] + 1)
+    lines += [{"name": f"the stretch around event {at} of a long play", "data": in_base64(data), "at": at} for at in STRETCHES]
     judge_in_node(report, "pictures drawn", lines)
 
 

@@ -3,16 +3,17 @@
 const dsr = (() => {
   // The tasks, in the order of their numbers (crates/dsr_page/specs/Tasks.antt).
   const TASKS = ["apply", "play", "play --transcript", "check", "explain", "explain --data"];
-  // Room that is lent costs little before it is used. If it is too small, the task is done once more.
-  const ROOM = 1 << 20, MOST_ROOM = 1 << 26, ROOM_FOR_ERRORS = 4096, SIZE_OF_DONE = 24;
+  // Room that is lent costs little before it is used. If it is too small, the task is done once more: what a million events are told in has this room.
+  const ROOM = 1 << 20, MOST_ROOM = 1 << 28, ROOM_FOR_ERRORS = 4096, SIZE_OF_DONE = 24;
   const NO_MEMORY = { status: 3, written: 0, output: new Uint8Array(0), errors: new TextEncoder().encode("dsr: no memory\n"), memory: 0 };
 
-  // What the task makes of this text, in bytes, as `dsr` writes it on its two streams, with its exit status.
-  function run(module, task, text) {
-    let room = Math.min(MOST_ROOM, ROOM + 64 * text.length);
+  // What the task makes of this text, in bytes, as `dsr` writes it on its two streams, with its exit status and with how much it wrote; of a longer output only
+  // the first `most` bytes.
+  function run(module, task, text, most = Infinity) {
+    let room = Math.min(most, MOST_ROOM, ROOM + 64 * text.length);
     for (;;) {
       const done = runOnce(module, TASKS.indexOf(task), text, room);
-      if (done.written <= room) return done;
+      if (done.written <= room || room === most) return done;
       room = done.written;
     }
   }

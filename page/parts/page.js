@@ -48,7 +48,7 @@ async function ask(task, content) {
   return new Promise((resolve, refuse) => {
     const id = ++serial;
     waiting.set(id, { resolve, refuse });
-    worker.postMessage({ id, task, text: content, title: isSample() ? sample.name : "A play of your own" });
+    worker.postMessage({ id, task, text: content, title: isSample() ? sample.name : "A play of your own", spot });
   });
 }
 
@@ -94,7 +94,6 @@ function beginBusy(doing) {
 async function perform() {
   const mine = ++round, what = kind(), doing = asked(what), begun = performance.now(), busy = beginBusy(doing);
   hasRun = false;
-  by("cut")?.remove();
   drawTabs(what);
   by("as-it-was")?.toggleAttribute("hidden", isSample());
   try {
@@ -151,7 +150,10 @@ function goToSpot(line, event, from) {
   if (from !== "text") show(line);
   if (from !== "events" && row && isWide.matches) row.scrollIntoView({ block: "nearest" });
   say();
-  if (from !== "picture" && frame) frame.contentWindow.postMessage(event === null ? { line } : { event }, "*");
+  if (from !== "picture" && frame) {
+    if (!isDrawn(line, event)) return perform();
+    frame.contentWindow.postMessage(event === null ? { line } : { event }, "*");
+  }
   showAddress();
 }
 
@@ -183,6 +185,12 @@ function showPicture(event, line) {
   choose("picture");
 }
 
+// Draws the stretch of the run that has this event.
+function drawAt(event) {
+  spot = { line: 0, event };
+  perform();
+}
+
 function choose(wanted) {
   task = wanted;
   perform();
@@ -203,6 +211,7 @@ function hearPicture({ data, source }) {
   const frame = document.querySelector("#result iframe");
   if (!frame || source !== frame.contentWindow || !data) return;
   if (Number.isInteger(data.line)) goToSpot(data.line, data.event, "picture");
+  if (Number.isInteger(data.draw)) drawAt(data.draw);
   if (data.copy) copyAddress();
   if (data.explain && spot.event !== null) explain(spot.event);
 }

@@ -25,6 +25,8 @@ const picture = (() => {
   const MARKED = new Set(["refused", "second", "dropped", "decided", "idle", "stale", "no-vote", "accepted"]);
   const ORDER = ["kept", "second", "dropped", "decided", "idle", "acts", "stale", "vote", "no-vote", "accepted"];
   const MOST_LETTERS = 26, MOST_SHOWN = 3, MOST_LINES = 40;
+  // Of so many slots before a stretch it is known what was kept: more than a wide window shows.
+  const MOST_SLOTS = 100;
 
   class BadData extends Error {}
 
@@ -102,9 +104,72 @@ const picture = (() => {
     of(word) { return this.notes.filter(note => note[0] === word).map(note => note[1]); }
   }
 
+  // Notes in a table of slots what this note of an event says was kept or decided.
+  function noteSlot(table, index, word, note) {
+    const row = slot => at(table, slot, () => ({ kept: new Map(), decided: new Map() }));
+    if (word === "chain" && KEPT.includes(note.fate)) {
+      const round = note.slot + note.round - 1;
+      at(row(note.slot).kept, `${note.replica} ${round}`, () => [note.replica, round, []])[2].push([index, note.content, note.fate === "second"]);
+    } else if (word === "decide") {
+      row(Number(note[1])).decided.set(note[0], [index, Number(note[2]), note[3]]);
+    }
+  }
+
+  // What the events before a stretch of a run leave behind: how many they are, the lines of posts that are in their boxes, how many rounds each replica closed,
+  // and what was kept and decided of the last slots. Besides, requests of the whole run, in the order in which they are met, so that each stretch names them alike.
+  class Before {
+    constructor(requests = []) { this.first = 0; this.boxes = new Map(); this.rounds = new Map(); this.slots = new Map(); this.requests = requests; }
+
+    copy() {
+      const rows = ({ kept, decided }) => ({ kept: new Map([...kept].map(([key, [replica, round, told]]) => [key, [replica, round, [...told]]])), decided: new Map(decided) });
+      const slots = new Map([...this.slots].map(([slot, row]) => [slot, rows(row)]));
+      return Object.assign(new Before(this.requests), { first: this.first, boxes: new Map(this.boxes), rounds: new Map(this.rounds), slots });
+    }
+
+    // Reads lines of events and notes, each ended, which follow those that were read.
+    read(text) {
+      for (const line of text.split("\n")) {
+        if (line.startsWith("event ")) this.readEvent(line);
+        else if (line.startsWith("chain ") && KEPT.some(fate => line.endsWith(` ${fate}`))) noteSlot(this.slots, this.first - 1, "chain", chainOf(line.slice(6).split(" ")));
+        else if (line.startsWith("decide ")) noteSlot(this.slots, this.first - 1, "decide", parts(line.slice(7), 4));
+        else if (line.startsWith("close ")) this.readClose(line.slice(6).split(" "));
+      }
+      for (const slot of this.slots.keys()) if (this.slots.size > MOST_SLOTS) this.slots.delete(slot); else break;
+    }
+
+    readEvent(line) {
+      const [, index, , kind, a, b, outcome] = line.split(" ", 7);
+      this.first = number(index) + 1;
+      if (outcome !== "done") return;
+      if (kind === "take") this.boxes.delete(`${b} ${a}`); else this.boxes.set(`${a} ${b}`, line);
+    }
+
+    readClose([replica, round]) { this.rounds.set(replica, number(round) + 1); }
+  }
+
+  // The requests in an envelope, or in the line of an event.
+  function requestsIn(text) { return text.match(/c\d+#\d+:[a-z0-9:._-]+/g) || []; }
+
+  // Of many lines of events and notes, the first requests in envelopes, until there are too many for letters.
+  function addRequests(found, text) {
+    for (const line of text.split("\n")) {
+      if (found.size > MOST_LETTERS) return;
+      if (line.startsWith("event ")) for (const request of requestsIn(line)) found.add(request);
+    }
+  }
+
+  // The event of these words.
+  function eventOf(rest) {
+    const [index, line, kind, a, b, outcome, envelope] = parts(rest, 7);
+    if (envelope === undefined) throw new BadData();
+    return new Event(number(index), number(line), kind, a, b, outcome, envelope === "-" ? "" : envelope);
+  }
+
+  // A run, or a stretch of it: then `before` is what the events before it leave behind. Events keep their numbers.
   class Run {
-    constructor(text) {
+    constructor(text, before = new Before()) {
       const lines = text.split("\n");
+      this.before = before;
       if (!lines[0].startsWith(TITLE) || lines[lines.length - 1]) throw new BadData("the first line is no header, or the last one is not ended");
       const shape = lines[0].slice(TITLE.length).split(" ");
       if (shape.length !== 4 || !shape.slice(0, 3).every(word => /^\d+$/.test(word))) throw new BadData("the first line has no shape");
@@ -134,9 +199,9 @@ const picture = (() => {
     read(line) {
       const cut = line.indexOf(" "), word = cut < 0 ? line : line.slice(0, cut), rest = cut < 0 ? "" : line.slice(cut + 1);
       if (word === "event") {
-        const [index, at, kind, a, b, outcome, envelope] = parts(rest, 7);
-        if (envelope === undefined || number(index) !== this.events.length) throw new BadData();
-        this.events.push(new Event(number(index), number(at), kind, a, b, outcome, envelope === "-" ? "" : envelope));
+        const event = eventOf(rest);
+        if (event.index !== this.before.first + this.events.length) throw new BadData();
+        this.events.push(event);
       } else if (word === "waits") {
         const words = rest.split(" ");
         if (words.length !== 4) throw new BadData();
@@ -162,7 +227,7 @@ const picture = (() => {
 
     // Finds to each take its post, and in which round a loyal replica took it.
     pair() {
-      const boxes = new Map(), rounds = new Map(this.loyal.map(replica => [replica, 0]));
+      const boxes = new Map([...this.before.boxes].map(([key, line]) => [key, eventOf(line.slice(6))])), rounds = new Map(this.loyal.map(replica => [replica, this.before.rounds.get(replica) || 0]));
       for (const event of this.events) {
         if (!event.isDone) continue;
         if (!event.isTake) { boxes.set(`${event.a} ${event.b}`, event); continue; }
@@ -210,8 +275,8 @@ const picture = (() => {
 
     // A letter for each request that stands in an envelope; where they are too many, its client and number.
     findNames() {
-      const found = new Set();
-      for (const event of this.events) for (const [request] of event.envelope.matchAll(/c\d+#\d+:[a-z0-9:._-]+/g)) found.add(request);
+      const found = new Set(this.before.requests);
+      for (const event of this.events) for (const request of requestsIn(event.envelope)) found.add(request);
       this.requests = [...found];
       this.hasLetters = this.requests.length <= MOST_LETTERS;
       const told = new Map();
@@ -481,25 +546,16 @@ const picture = (() => {
       return [...marks].filter(([, mark]) => isLower(mark)).map(([content, mark]) => `${mark} = ${this.contentName(content)}`).join(", ");
     }
 
-    // What was kept and decided of each slot.
+    // What was kept and decided of each slot; of a stretch, also before it.
     slots() {
-      const table = new Map(), row = slot => at(table, slot, () => ({ kept: new Map(), decided: new Map() }));
-      for (const event of this.events) {
-        for (const [word, note] of event.notes) {
-          if (word === "chain" && KEPT.includes(note.fate)) {
-            const round = note.slot + note.round - 1;
-            at(row(note.slot).kept, `${note.replica} ${round}`, () => [note.replica, round, []])[2].push([event.index, note.content, note.fate === "second"]);
-          } else if (word === "decide") {
-            row(Number(note[1])).decided.set(note[0], [event.index, Number(note[2]), note[3]]);
-          }
-        }
-      }
+      const table = this.before.copy().slots;
+      for (const event of this.events) for (const [word, note] of event.notes) noteSlot(table, event.index, word, note);
       return table;
     }
 
     // How many rounds some loyal replica closed, and the one after them if anything was posted in it.
     rounds() {
-      let most = 1;
+      let most = Math.max(1, ...this.before.rounds.values());
       for (const event of this.events) {
         for (const [, round] of event.of("close")) most = Math.max(most, Number(round) + 1);
         for (const chain of event.chains) if (KEPT.includes(chain.fate)) most = Math.max(most, chain.slot + chain.round);
@@ -527,12 +583,14 @@ const picture = (() => {
     ];
   }
 
-  // Of an event: kind, the two ends, whether it is done, band, the other half (-1 for none), whether it says anything, whether something of it
-  // is dropped, line, sentence, envelope, what came of it, badges, and whether the keys n and p go to it.
+  // Of an event: kind, the two ends, whether it is done, band, where the other half is in the stretch (less than 0 for none), whether it says anything, whether
+  // something of it is dropped, line, sentence, envelope, what came of it, badges, and whether the keys n and p go to it.
   function eventRow(run, event, texts, places) {
     const notes = run.sentences(event).map(([kind, text]) => [kind, texts.place(text)]), place = actor => places.has(actor) ? places.get(actor) : -1;
+    const mate = event.mate ? event.mate.index - run.before.first : -1;
+    if (event.mate && mate < 0) notes.push(["plain", texts.place(`It was posted at event ${event.mate.index}, before the events that are shown.`)]);
     return [
-      Math.max(0, KINDS.indexOf(event.kind)), place(event.a), place(event.b), Number(event.isDone), event.band, event.mate ? event.mate.index : -1,
+      Math.max(0, KINDS.indexOf(event.kind)), place(event.a), place(event.b), Number(event.isDone), event.band, mate,
       Number(run.isLoud(event)), Number(run.isDropped(event)), event.line, texts.place(run.sentence(event)), texts.place(event.envelope), notes,
       badges(run, event), Number(notes.some(([kind]) => MARKED.has(kind))),
     ];
@@ -541,39 +599,46 @@ const picture = (() => {
   // Of each slot: what was kept (replica, round, event, mark, content, whether it is the second), what was decided (replica, event, how many were
   // kept, content), and what the marks stand for.
   function slotRows(run, places) {
-    const rows = {};
+    const rows = {}, { first } = run.before;
     for (const [slot, { kept, decided }] of run.slots()) {
       const marks = run.marks([...kept.values()].flatMap(([, , told]) => told.map(([, content]) => content)));
       const cells = [...kept.values()].flatMap(([replica, round, told]) => told.map(([event, content, isSecond]) =>
-        [places.get(replica), round, event, marks.get(content), run.contentName(content), Number(isSecond)]));
-      const decisions = [...decided].map(([replica, [event, count, content]]) => [places.get(replica), event, count, run.contentName(content)]);
+        [places.get(replica), round, event - first, marks.get(content), run.contentName(content), Number(isSecond)]));
+      const decisions = [...decided].map(([replica, [event, count, content]]) => [places.get(replica), event - first, count, run.contentName(content)]);
       rows[slot] = [cells, decisions, run.keyOf(marks)];
     }
     return rows;
   }
 
-  // What the page draws of these data lines.
-  function dataOf(text, title) {
-    const run = new Run(text), texts = new Texts(), places = new Map(run.actors.map((actor, at) => [actor, at]));
+  // Which rounds were closed: replica, round, and where the event is in the stretch, -1 for before it.
+  function closedRows(run, places) {
+    const before = [...run.before.rounds].map(([replica, rounds]) => [places.get(replica), rounds - 1, -1]);
+    return [...before, ...run.events.flatMap((event, at) => event.of("close").map(([replica, round]) => [places.get(replica), Number(round), at]))];
+  }
+
+  // What the page draws of these data lines: of a whole run, or of a stretch of one with `total` events, after those that `before` tells of.
+  function dataOf(text, title, before = new Before(), total = null) {
+    const run = new Run(text, before), texts = new Texts(), places = new Map(run.actors.map((actor, at) => [actor, at])), { first } = before;
     // The texts are numbered in the order in which they are met.
-    const bands = run.bands.map(band => [Number(band.isPosts), band.events[0].index, band.events[band.events.length - 1].index, band.label, run.linesOf(band, MOST_LINES)]);
+    const bands = run.bands.map(band =>
+      [Number(band.isPosts), band.events[0].index - first, band.events[band.events.length - 1].index - first, band.label, run.linesOf(band, MOST_LINES)]);
     return {
-      title, shape: run.shapeWords(), n: run.n, f: run.f, actors: run.actors, rounds: run.rounds(),
+      title, first, total: total === null ? run.events.length : total, shape: run.shapeWords(), n: run.n, f: run.f, actors: run.actors, rounds: run.rounds(),
       traitors: [...run.traitors].map(traitor => places.get(traitor)).sort((a, b) => a - b),
       bands, events: run.events.map(event => eventRow(run, event, texts, places)), slots: slotRows(run, places),
-      closed: run.events.flatMap(event => event.of("close").map(([replica, round]) => [places.get(replica), Number(round), event.index])),
+      closed: closedRows(run, places),
       names: run.hasLetters ? run.requests.map(request => [run.names.get(request), request]) : [],
       waits: run.waitsSentences(), texts: texts.all,
     };
   }
 
-  // The page of a picture: the text of tools/picture_page.html with what is drawn put into it.
-  function pageOf(template, text, title) {
+  // The page of a picture, of a run or a stretch: the text of tools/picture_page.html with what is drawn put into it.
+  function pageOf(template, text, title, before, total) {
     const escaped = title.replace(/&/g, "&amp;").replace(/</g, "&lt;").replace(/>/g, "&gt;").replace(/"/g, "&quot;").replace(/'/g, "&#x27;");
-    const data = JSON.stringify(dataOf(text, title)).replaceAll("</", "<\\/").replaceAll("<" + "!--", "<\\!--");
+    const data = JSON.stringify(dataOf(text, title, before, total)).replaceAll("</", "<\\/").replaceAll("<" + "!--", "<\\!--");
     return template.replace("TITLE", () => escaped).replace('"DATA"', () => data);
   }
 
-  return { BadData, dataOf, pageOf };
+  return { BadData, Before, MOST_LETTERS, addRequests, dataOf, pageOf };
 })();
 if (typeof module !== "undefined") module.exports = picture;

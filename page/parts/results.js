@@ -91,13 +91,20 @@ function explanation({ output, more, report }) {
 
 // ---- pictures
 
-let shownPage = "";
+let shownPage = "", shownPart = null;
 
-function framed({ page, isCut, most }) {
+function framed({ page, part }) {
   URL.revokeObjectURL(shownPage);
   shownPage = URL.createObjectURL(page);
-  if (isCut) by("told").insertAdjacentHTML("beforeend", `<p class="soft" id="cut">The picture has the first ${most.toLocaleString("en")} events; tools/picture draws all.</p>`);
-  return `<iframe title="The picture of the run" src="${shownPage}${spot.event === null ? "" : `#event-${spot.event}`}"></iframe>`;
+  shownPart = part;
+  return `<iframe title="The picture of the run" src="${shownPage}${part.event === null ? "" : `#event-${part.event}`}"></iframe>`;
+}
+
+// Whether the picture that is shown has this event; or, if that is null, what there is of events of this line.
+function isDrawn(line, event) {
+  const { first, end, total, lines: [low, high] } = shownPart;
+  if (event !== null) return first <= event && event < end;
+  return (first === 0 || low <= line) && (end === total || line <= high);
 }
 
 // ---- all of it

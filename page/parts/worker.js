@@ -1,8 +1,11 @@
 "use strict";
 // The worker of the page. It is told the module and the page of pictures, and then texts, each with what to do. What it answers is short, however long the
 // text is: of an output the beginning, and how long it is.
-const MOST_SHOWN = 100_000, MOST_DRAWN = 2000, MOST_MARKS = 2000;
+const MOST_SHOWN = 100_000, MOST_MARKS = 2000;
 let compiled, template;
+// The play that was drawn last, and its data lines, of which another stretch may be drawn next; null if another task was done since than one of these.
+let held = null;
+const KEEPS_DRAWN = ["picture", "marks"];
 
 async function unpacked(bytes) {
   return new Response(new Blob([bytes]).stream().pipeThrough(new DecompressionStream("gzip"))).arrayBuffer();
@@ -11,38 +14,40 @@ async function unpacked(bytes) {
 const decoded = bytes => new TextDecoder().decode(bytes);
 
 // What is told of a run: the beginning of its output up to the last line that has room, how many bytes that leaves out, and its errors.
-function told({ status, output, errors, memory }) {
-  const whole = output.length <= MOST_SHOWN, end = whole ? output.length : output.lastIndexOf(10, MOST_SHOWN) + 1;
-  return { status, output: decoded(output.subarray(0, end)), more: output.length - end, errors: decoded(errors), memory };
+function told({ status, output, written, errors, memory }) {
+  const end = written <= MOST_SHOWN ? written : output.lastIndexOf(10, MOST_SHOWN) + 1;
+  return { status, output: decoded(output.subarray(0, end)), more: written - end, errors: decoded(errors), memory };
 }
 
 const perform = (task, text) => dsr.run(compiled, task, text);
+// The same, if no more is needed than what is told of it.
+const tell = (task, text) => told(dsr.run(compiled, task, text, MOST_SHOWN));
 
-// The data lines of a play's first events, how many there are of these, and how many there are of all; the last cut leaves nothing half.
-function firstEvents(output) {
-  const whole = decoded(output.subarray(0, 1 << 24)), cut = whole.indexOf(`\nevent ${MOST_DRAWN} `);
-  const lines = cut >= 0 ? whole.slice(0, cut + 1) : whole.slice(0, whole.lastIndexOf("\n") + 1);
-  return { lines, isCut: lines.length < whole.length || output.length > 1 << 24 };
-}
+const isSame = (one, other) => one.length === other.length && one.every((byte, at) => byte === other[at]);
 
-function drawn(text, title) {
-  const ended = perform("explain --data", text);
-  if (ended.status) return told(ended);
-  const { lines, isCut } = firstEvents(ended.output), page = picture.pageOf(template, lines, title);
-  return { status: 0, errors: "", memory: ended.memory, page: new Blob([page], { type: "text/html" }), isCut, most: MOST_DRAWN };
+// A picture of a play, or of the stretch of it for this spot.
+function drawn(text, title, spot) {
+  if (!held || !isSame(held.text, text)) {
+    held = null;
+    const ended = perform("explain --data", text);
+    if (ended.status) return told(ended);
+    held = { text, memory: ended.memory, run: stretch.indexed(ended.output) };
+  }
+  const { page, part } = stretch.drawn(held.run, template, title, spot);
+  return { status: 0, errors: "", memory: held.memory, page: new Blob([page], { type: "text/html" }), part };
 }
 
 // A play is played, and its transcript checked.
 function checked(text) {
   const played = perform("play --transcript", text);
   if (played.status) return told(played);
-  return { ...told(perform("check", played.output)), transcript: told(played) };
+  return { ...tell("check", played.output), transcript: told(played) };
 }
 
 // The report of a play, by which its outcome is told in short, and the explanation.
 function explained(text) {
-  const ended = perform("explain", text);
-  return { ...told(ended), report: ended.status ? "" : told(perform("play", text)).output };
+  const ended = tell("explain", text);
+  return { ...ended, report: ended.status ? "" : tell("play", text).output };
 }
 
 // Of a play what is expected in its first bad line, as [line, column, what], or else its refused events.
@@ -77,7 +82,9 @@ onmessage = async ({ data }) => {
       return;
     }
     const text = typeof data.text === "string" ? new TextEncoder().encode(data.text) : new Uint8Array(await data.text.arrayBuffer());
-    const begun = performance.now(), answer = DO[data.task] ? DO[data.task](text, data.title) : told(perform(data.task, text));
+    const begun = performance.now();
+    if (!KEEPS_DRAWN.includes(data.task)) held = null;
+    const answer = DO[data.task] ? DO[data.task](text, data.title, data.spot) : tell(data.task, text);
     postMessage({ id: data.id, milliseconds: performance.now() - begun, ...answer });
   } catch (fault) {
     postMessage({ id: data.id, fault: String(fault && fault.message || fault) });
