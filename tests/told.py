@@ -363,7 +363,8 @@ NO_EXPLANATIONS = [
 def fault_of_none(text):
     """What is wrong with how tools/picture ends on a text that is no explanation, or None."""
     status, output, errors = ran = picture(text)
-    return None if (status, output) == (1, b"") and errors.startswith(b"tools/picture: ") else shown(ran)
+    is_sentence = errors.startswith(b"tools/picture: ") and errors.count(b"\n") == 1 and errors.endswith(b"\n")
+    return None if (status, output) == (1, b"") and is_sentence and (b"dsr explain --data" in errors or text.startswith(HEADER[:15])) else shown(ran)
 
 
 def pictures(report, is_written):

@@ -106,13 +106,16 @@ class Run:
 
     def __init__(self, text):
         lines = text.split("\n")
-        if not lines[0].startswith(TITLE) or lines[-1]:
-            raise BadData("the first line is no header, or the last one is not ended")
+        if not lines[0].startswith(TITLE):
+            what = "this is a play" if lines[0].startswith("dsr-play ") else f"the first line is not a header `{TITLE}N F M TRAITORS`"
+            raise BadData(f"{what}: pass what `dsr explain --data` writes of a play, as in `./dsr explain --data < NAME.play | tools/picture > NAME.html`")
+        if lines[-1]:
+            raise BadData("the last line has no line feed: the data lines are cut short")
         try:
             n, f, m, traitors = lines[0][len(TITLE):].split(" ")
             self.n, self.f, self.m = int(n), int(f), int(m)
         except ValueError:
-            raise BadData("the first line has no shape") from None
+            raise BadData(f"the first line has no shape: it must be `{TITLE}N F M TRAITORS`") from None
         self.traitors = set() if traitors == "-" else set(traitors.split("+"))
         self.replicas = [f"r{number}" for number in range(self.n)]
         self.clients = [f"c{number}" for number in range(self.m)]
@@ -123,7 +126,7 @@ class Run:
             try:
                 self.read(line)
             except (ValueError, IndexError, KeyError):
-                raise BadData(f"line {number} is none that is known: {line[:80]}") from None
+                raise BadData(f"line {number} is not a data line that may come here: {line[:80]}") from None
         self.pair()
         self.find_bands()
         self.find_names()
