@@ -1,11 +1,11 @@
 -- When a loyal replica has an envelope for a choice, and when none.
-use Rattle.std.proofs.Common.{◌≡◌, ℕ, zero, suc, ◌<◌, ◌==◌, Bool, true, false, List, [], ◌∷◌, Option, None, Some, if◌then◌else◌, refl, ap, sym, ◌∙◌, subst, arith}
+use Rattle.std.proofs.Common.{◌≡◌, ℕ, zero, suc, ◌<◌, ◌==◌, Bool, true, false, nat_lt, List, [], ◌∷◌, length, Option, None, Some, if◌then◌else◌, refl, ap, sym, ◌∙◌, subst, arith}
 use Rattle.std.specs.Prelude.{IsSome, IfNone, slice_get}
 use Rattle.std.specs.Option.{option_map}
 use Rattle.std.proofs.lemmas.Bool.{true≢false, false≢true}
-use Rattle.std.proofs.lemmas.Bool.Decides.{Decides-eqb}
+use Rattle.std.proofs.lemmas.Bool.Decides.{Decides-eqb, nat_tests}
 use Rattle.std.proofs.lemmas.Option.{none-some, same_Some}
-use Rattle.dsr_names.specs.Shape.{Shape}
+use Rattle.dsr_names.specs.Shape.{Shape, sender}
 use Rattle.dsr_names.specs.declared.actor.Actor.{Actor}
 use Rattle.dsr_names.specs.declared.actor.Actor.TheVariants.{Replica as ReplicaNumber}
 use Rattle.dsr_names.specs.Support.ActorEquality.{actor_eq}
@@ -20,6 +20,7 @@ use Rattle.dsr_envelope.specs.declared.due.Due.TheVariants.{Post as PostTo, Take
 use Rattle.dsr_envelope.specs.declared.pick.Pick.{Pick}
 use Rattle.dsr_envelope.specs.declared.pick.Pick.TheVariants.{Plain, From, Begin}
 use Rattle.dsr_envelope.specs.Log.{posted_to, due, rounds}
+use Rattle.dsr_replica.specs.Counts.{posts_at}
 use Rattle.dsr_replica.specs.Conduct.{from_held, envelope_with, chosen, is_due, envelope_to}
 use Rattle.dsr_replica.specs.Held.{held, put_before, all_held}
 use Rattle.dsr_replica.specs.Replica.{Replica, IsLaterPost, StandsFor}
@@ -63,10 +64,6 @@ some_mapped : {A B : Type 0} (f : A → B) (o : Option A) → IsSome o → IsSom
 some_mapped f None some = some
 some_mapped f (Some x) some = refl
 
-some_not_none : {A : Type 0} (o : Option A) → o ≡ None → IsSome o → ⊥
-some_not_none None e some = false≢true some
-some_not_none (Some x) e some = none-some x (sym e)
-
 -- ---- what is due
 
 -- if the post is due, its envelope is what is chosen
@@ -84,6 +81,15 @@ not_due_here shape me log q pick next e undue =
 pub is_due_post : (d : Due) (q : ℕ) → is_due d q ≡ true → d ≡ PostTo q
 is_due_post (PostTo k) q e = ap PostTo ((Decides-eqb k q).0 e)
 is_due_post (TakeFrom p) q e = absurd (false≢true e)
+
+-- if the post is due, as many envelopes were posted there as rounds are closed
+posts_before : (t q : ℕ) → posts_at (PostTo q) t q ≡ t
+posts_before t q = let no : nat_lt q q ≡ false = grind (arith, nat_tests) in ap (λ b. if b then suc t else t) no
+
+pub posts_are_rounds : (r : Replica) (log : List Entry) (q posts : ℕ) → StandsFor r log → q < r.shape.n → r.next ≡ PostTo q
+    → posts ≡ length (posted_to (ReplicaNumber q) log) → r.round ≡ posts
+posts_are_rounds r log q posts stands inside next same =
+    sym (same ∙ (stands.counts.posts q inside ∙ (ap (λ d. posts_at d r.round q) (sym stands.due_is ∙ next) ∙ posts_before r.round q)))
 
 -- the plain choice has an envelope if the post is due
 plain_chosen : (r : Replica) (log : List Entry) (q : ℕ) → StandsFor r log → r.next ≡ PostTo q → rounds r.shape log ≡ r.round
@@ -115,17 +121,32 @@ from_none shape me round = by_sender (actor_eq me (sender_of shape round))
     by_sender true = refl
     by_sender false = refl
 
--- if the replica holds all asks but has no envelope, another actor is the sender
-pub sender_else : (shape : Shape) (me : Actor) (log : List Entry) (clients : List ℕ) → due shape log ≡ PostTo 0 → IsSome (all_held shape log clients)
-    → envelope_to shape me log 0 (From clients) ≡ None → actor_eq me (sender_of shape (rounds shape log)) ≡ false
-sender_else shape me log clients here some none = by_sender (actor_eq me (sender_of shape (rounds shape log))) refl
-  where
-    by_sender : (b : Bool) → actor_eq me (sender_of shape (rounds shape log)) ≡ b → b ≡ false
-    by_sender false e = refl
-    by_sender true e =
-        let made = from_sender shape me (rounds shape log) (all_held shape log clients) e some in
-        absurd (some_not_none (chosen shape me log 0 (From clients)) (sym (due_here shape me log 0 (From clients) here) ∙ none)
-        (some_mapped (envelope_with shape me log) (from_held shape me (rounds shape log) (all_held shape log clients)) made))
+-- the sender has an envelope if it holds all asks
+pub own_there : (shape : Shape) (me : Actor) (log : List Entry) (clients : List ℕ) → due shape log ≡ PostTo 0
+    → actor_eq me (sender_of shape (rounds shape log)) ≡ true → IsSome (all_held shape log clients)
+    → IsSome (envelope_to shape me log 0 (From clients))
+own_there shape me log clients here own some =
+    subst IsSome (sym (due_here shape me log 0 (From clients) here))
+    (some_mapped (envelope_with shape me log) (from_held shape me (rounds shape log) (all_held shape log clients))
+    (from_sender shape me (rounds shape log) (all_held shape log clients) own some))
+
+-- a choice by another replica than the sender, by the sender that does not hold all asks, and by the sender that does
+module _ (shape : Shape) (me : Actor) (log : List Entry) (q : ℕ) (clients : List ℕ) (round other : ℕ) (here : due shape log ≡ PostTo q) (first : q ≡ 0)
+    (same : rounds shape log ≡ round) (is : other ≡ sender shape round) where
+  pub by_another : actor_eq me (ReplicaNumber other) ≡ false → IsUndueRound shape me log q (From clients) (OtherSender round other)
+  by_another apart = (here, first, sym same, is, apart)
+
+  own_slot : actor_eq me (ReplicaNumber other) ≡ true → actor_eq me (sender_of shape (rounds shape log)) ≡ true
+  own_slot own = subst (λ k. actor_eq me (ReplicaNumber k) ≡ true) (is ∙ ap (sender shape) (sym same)) own
+
+  pub unheld_by : (client : ℕ) → actor_eq me (ReplicaNumber other) ≡ true → IsFirstUnheld shape log clients client
+      → IsUndueRound shape me log q (From clients) (NothingHeld client)
+  unheld_by client own unheld = (here, first, own_slot own, unheld)
+
+  pub held_by : actor_eq me (ReplicaNumber other) ≡ true → IsSome (all_held shape log clients) → IsSome (envelope_to shape me log q (From clients))
+  held_by own some =
+      subst (λ k. IsSome (envelope_to shape me log k (From clients))) (sym first)
+      (own_there shape me log clients (here ∙ ap PostTo first) (own_slot own) some)
 
 -- ---- a cause refuses
 
@@ -147,11 +168,12 @@ undue_refuses shape me log q (From clients) (NothingHeld client) is =
     due_here shape me log q (From clients) is.0
     ∙ subst (λ k. chosen shape me log k (From clients) ≡ None) (sym is.1)
     (ap (option_map (envelope_with shape me log))
-    (ap (from_held shape me (rounds shape log)) (unheld_none shape log clients is.2.place client is.2.at is.2.none) ∙ from_none shape me (rounds shape log)))
-undue_refuses shape me log q (From clients) OtherSender is =
+    (ap (from_held shape me (rounds shape log)) (unheld_none shape log clients is.3.place client is.3.at is.3.none) ∙ from_none shape me (rounds shape log)))
+undue_refuses shape me log q (From clients) (OtherSender slot other) is =
+    let apart = subst (λ k. actor_eq me (ReplicaNumber k) ≡ false) (is.3 ∙ ap (sender shape) is.2) is.4 in
     due_here shape me log q (From clients) is.0
     ∙ subst (λ k. chosen shape me log k (From clients) ≡ None) (sym is.1)
-    (ap (option_map (envelope_with shape me log)) (from_other shape me (rounds shape log) (all_held shape log clients) is.3))
+    (ap (option_map (envelope_with shape me log)) (from_other shape me (rounds shape log) (all_held shape log clients) apart))
 undue_refuses shape me log q pick why is = elim is [ ]
 
 -- ---- options

@@ -1,8 +1,9 @@
-ghost use Rattle.std.specs.Prelude.{◌≡◌, ◌&&◌, ◌||◌, ◌<◌, ℕ, true, false, List, None, IfSome, IfNone, IsTrue};
+ghost use Rattle.std.specs.Prelude.{◌≡◌, ◌&&◌, ◌||◌, ◌<◌, ℕ, true, false, List, None, IfSome, IfNone, IsSome, IsTrue};
 ghost use Rattle.std.specs.Option.{is_none};
 ghost use Rattle.dsr_names.specs.Shape.{Shape as AShape, IsActor, IsLoyal};
 ghost use Rattle.dsr_names.specs.declared.actor.Actor.TheVariants.{Replica as ReplicaNumber, Client as ClientNumber};
 ghost use Rattle.dsr_envelope.specs.declared.entry.Entry.{Entry};
+ghost use Rattle.dsr_replica.specs.Conduct.{envelope_to};
 ghost use Rattle.dsr_replica.specs.Replica.{StandsFor};
 ghost use Rattle.dsr_client.specs.Client.{StandsFor as StandsForClient};
 ghost use Rattle.dsr_node.specs.Conduct.{post_of, is_exhausted, is_undue, is_actor, is_traitor_of, are_clients, is_own_client};
@@ -18,6 +19,7 @@ ghost use Rattle.dsr_node.specs.Node.{PlaysReplica};
 ghost use Rattle.dsr_play.specs.declared.event.Event.{Event as AnEvent};
 ghost use Rattle.dsr_facts.specs.declared.cause.Cause.{Cause as ACause};
 ghost use Rattle.dsr_facts.specs.Cause.{HoldsCause, refusal_by, IsOutsider, IsUndue, IsUndueAsk, IsUndueReply, IsSpent};
+ghost use Rattle.dsr_facts.specs.Undue.{IsUndueRound};
 
 use crate::undue::{Undue, undue_round};
 use dsr_client::Client;
@@ -198,15 +200,26 @@ fn undue_post(world: &World, from: &Actor, to: &Actor, pick: &Pick) -> Option<Un
     ensures none { IfNone result (is_none (post_of world.now.shape (log_of world.now.run from.now) from.now to.now pick.now) ≡ false) }
 {
     match (from, to) {
-        (Actor::Replica(poster), Actor::Replica(taker)) => {
-            undue_round(loyal_of(world, *poster), *taker, pick)
-        }
+        (Actor::Replica(poster), Actor::Replica(taker)) => undue_at(world, *poster, *taker, pick),
         (Actor::Replica(poster), Actor::Client(client)) => {
             undue_reply(loyal_of(world, *poster), *client, pick)
         }
         (Actor::Client(client), Actor::Replica(_)) => undue_ask(client_of(world, *client), pick),
         (Actor::Client(_), Actor::Client(_)) => unreachable!(),
     }
+}
+
+/// Returns why a loyal replica does not post to this replica by this choice; `None` if it has an envelope for it.
+fn undue_at(world: &World, poster: ReplicaId, to: ReplicaId, pick: &Pick) -> Option<Undue>
+    requires loyal { IsLoyal world.now.shape (ReplicaNumber poster) }
+    requires to { IsActor world.now.shape (ReplicaNumber to) }
+    ensures some { IfSome result (IsUndueRound world.now.shape (ReplicaNumber poster) (log_of world.now.run (ReplicaNumber poster)) to pick.now) }
+    ensures none { IfNone result (IsSome (envelope_to world.now.shape (ReplicaNumber poster) (log_of world.now.run (ReplicaNumber poster)) to pick.now)) }
+{
+    let loyal = loyal_of(world, poster);
+    // if the post is due, it has posted there in each closed round
+    let round = world.posts(&Actor::Replica(poster), &Actor::Replica(to));
+    undue_round(loyal, &Actor::Replica(poster), round, to, pick)
 }
 
 /// Returns why a loyal replica posts no reply to this client by this choice; `None` if it posts one.

@@ -1,6 +1,7 @@
 ghost use Rattle.std.specs.Prelude.{◌≡◌, ℕ, List, IfOk, IfSome, IfNone, IsOkUnless};
 ghost use Rattle.dsr_names.specs.Shape.{Shape};
 ghost use Rattle.dsr_names.specs.declared.actor.Actor.{Actor as AnActor};
+ghost use Rattle.dsr_envelope.specs.declared.due.Due.TheVariants.{Post as PostTo};
 ghost use Rattle.dsr_envelope.specs.declared.entry.Entry.{Entry};
 ghost use Rattle.dsr_envelope.specs.declared.envelope.Envelope.{Envelope as AnEnvelope};
 ghost use Rattle.dsr_replica.specs.Replica.{StandsFor};
@@ -28,15 +29,17 @@ pub enum Fault {
 }
 
 /// Returns why the replica, which is `me`, may not post this envelope to this replica next, by its own log. `None` exactly if it may, whatever
-/// the box holds. `NoMemory` if memory runs out.
+/// the box holds. Requires its round in progress, if the post is due. `NoMemory` if memory runs out.
 pub fn round_fault(
     alloc: Global,
     replica: &Replica,
     me: &Actor,
+    round: u64,
     to: ReplicaId,
     found: &Envelope,
 ) -> Result<Option<Fault>, Refusal>
-    requires { replica.now.me ≡ me.now }
+    requires me { replica.now.me ≡ me.now }
+    requires round { replica.now.next ≡ PostTo to → replica.now.round ≡ round }
     ensures some { (log : List Entry) → StandsFor replica.now log
         → IfOk result (λ fault. IfSome fault (HoldsRoundFault replica.now.shape me.now log to found.now)) }
     ensures none { (log : List Entry) → StandsFor replica.now log
@@ -45,7 +48,7 @@ pub fn round_fault(
 {
     let shape = replica.shape();
     let clients = shown_clients(alloc, &shape, me, to, found)?;
-    if let Some(why) = undue_round(replica, to, &pick_of(&clients)) {
+    if let Some(why) = undue_round(replica, me, round, to, &pick_of(&clients)) {
         return Ok(Some(Fault::Refused(Cause::NotDue(why))));
     }
     if !replica.allows(to, pick_of(&clients)) {

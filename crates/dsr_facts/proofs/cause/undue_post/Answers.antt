@@ -4,7 +4,6 @@ use Rattle.std.specs.Option.{is_none}
 use Rattle.dsr_names.specs.declared.actor.Actor.TheVariants.{Replica, Client}
 use Rattle.dsr_node.specs.Conduct.{post_of}
 use Rattle.dsr_run.specs.Step.{log_of}
-use Rattle.dsr_facts.specs.Undue.{IsUndueRound}
 use Rattle.dsr_facts.proofs.CauseLemmas.{undue_none}
 use Rattle.dsr_facts.proofs.cause.undue_post.Goals as goal
 
@@ -15,14 +14,11 @@ returns-in-Replica-Replica-clause-refused c =
     let pick = c.args.pick.now in
     let p = c.in-Replica-Replica.poster in
     let q = c.in-Replica-Replica.taker in
-    let o = c.undue_round.result in
-    let is = c.loyal_of.ensures in
+    let o = c.undue_at.result in
     let log = log_of run (Replica p) in
-    let some = subst (λ m. IfSome o (IsUndueRound shape m log q pick)) is.me
-    (subst (λ s. IfSome o (IsUndueRound s c.loyal_of.result.now.me log q pick)) is.shape_is (c.undue_round.ensures.some log is.stands)) in
     subst (λ a. IfSome o (λ why. is_none (post_of shape (log_of run a) a c.args.to.now pick) ≡ true)) (sym c.in-Replica-Replica.is-0)
     (subst (λ b. IfSome o (λ why. is_none (post_of shape log (Replica p) b pick) ≡ true)) (sym c.in-Replica-Replica.is-1)
-    (undue_none shape log p q pick o some))
+    (undue_none shape log p q pick o c.undue_at.ensures.some))
 
 pub returns-in-Replica-Client-clause-none : goal.returns-in-Replica-Client-clause-none
 returns-in-Replica-Client-clause-none c =
@@ -32,7 +28,7 @@ returns-in-Replica-Client-clause-none c =
     let p = c.in-Replica-Client.poster in
     let d = c.in-Replica-Client.client in
     let o = c.undue_reply.result in
-    let is = c.loyal_of-in-Replica-Client.ensures in
+    let is = c.loyal_of.ensures in
     let log = log_of run (Replica p) in
     subst (λ a. IfNone o (is_none (post_of shape (log_of run a) a c.args.to.now pick) ≡ false)) (sym c.in-Replica-Client.is-0)
     (subst (λ b. IfNone o (is_none (post_of shape log (Replica p) b pick) ≡ false)) (sym c.in-Replica-Client.is-1)

@@ -24,7 +24,7 @@ returns-in-Some-clause-some c log stands =
       pick = c.pick_of.result;
       read = λ good. c.pick_of.ensures ∙ shown good;
       plain = λ bad. c.pick_of.ensures ∙ plain bad;
-      why = subst (λ m. IsUndueRound r.shape m log q c.pick_of.result c.in-Some.why) c.requires (c.in-Some.ensures.some log stands);
+      why = subst (λ m. IsUndueRound r.shape m log q c.pick_of.result c.in-Some.why) c.requires.me (c.in-Some.ensures.some log stands);
     }
 
 pub returns-then-not-allows-clause-some : goal.returns-then-not-allows-clause-some
@@ -45,7 +45,7 @@ returns-then-not-allows-clause-some c log stands =
       read = λ good. c.pick_of.ensures ∙ shown good;
       plain = λ bad. c.pick_of.ensures ∙ plain bad;
       why = (
-        subst (λ m. IsSome (envelope_to r.shape m log q c.pick_of.result)) c.requires some,
+        subst (λ m. IsSome (envelope_to r.shape m log q c.pick_of.result)) c.requires.me some,
         λ below.
             let allowed = (c.allows.ensures.stands log stands).1 (subst (λ p. IsSome (envelope_to r.shape r.me log q p)) same some, below) in
             true≢false (sym allowed ∙ c.if-not-allows.true),
@@ -67,7 +67,7 @@ returns-in-Some-how_differs-clause-some c log stands =
       read = λ good. c.pick_of-3.ensures ∙ shown good;
       plain = λ bad. c.pick_of-3.ensures ∙ plain bad;
       why = (
-        subst (λ m. envelope_to r.shape m log q c.pick_of-3.result ≡ Some c.in-Ok.wanted) c.requires (c.in-Ok.ensures.given log stands),
+        subst (λ m. envelope_to r.shape m log q c.pick_of-3.result ≡ Some c.in-Ok.wanted) c.requires.me (c.in-Ok.ensures.given log stands),
         c.in-Some-how_differs.ensures.some,
       );
     }
