@@ -14,5 +14,6 @@ pub use cause::{Cause, Limit, Part, causes_refuse, why_refused};
 pub use difference::{Difference, Parting, how_differs};
 pub use fault::{Fault, round_fault, round_faults_stop};
 pub use posts::{post_fault, post_faults_stop};
+pub use shown::{pick_of, shown_clients};
 pub use takes::{take_fault, take_faults_stop};
 pub use undue::{Undue, undue_round};

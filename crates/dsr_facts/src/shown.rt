@@ -14,7 +14,7 @@ use std::alloc::Global;
 /// Returns the clients whose requests a loyal replica's post to this replica shows as chosen; `None` for the plain choice,
 /// and if it shows clients that cannot be a choice. Whatever the replica's log is, no other choice gives this envelope.
 /// `NoMemory` if memory runs out.
-pub(crate) fn shown_clients(
+pub fn shown_clients(
     alloc: Global,
     shape: &Shape,
     me: &Actor,
@@ -42,7 +42,7 @@ pub(crate) fn shown_clients(
 }
 
 /// Makes the choice of these clients; without clients, the plain one.
-pub(crate) fn pick_of(clients: &Option<Clients>) -> Pick
+pub fn pick_of(clients: &Option<Clients>) -> Pick
     ensures { result ≡ choice_by clients.now }
 {
     match clients {
