@@ -1,0 +1,67 @@
+ghost use Rattle.std.specs.Prelude.{◌≡◌, IfOk, IfSome, IfNone, IsOkUnless};
+ghost use Rattle.dsr_check.specs.Check.{IsFirstBad};
+ghost use Rattle.dsr_run.specs.Run.{IsRun};
+ghost use Rattle.dsr_run.specs.Step.{log_of};
+ghost use Rattle.dsr_lines.specs.Line.{HoldsItsCause};
+ghost use Rattle.dsr_lines.specs.Record.{IsFaultAt};
+
+use crate::following::follow;
+use crate::line_fault::LineFault;
+use crate::notary::Notary;
+use dsr_names::Refusal;
+use dsr_record::Record;
+use dsr_world::World;
+use std::alloc::Global;
+
+/// The line of a transcript's header; the first step is in the next one.
+const HEADER_LINE: u64 = 1;
+
+/// Where a record stops being a run.
+#[derive(Drop)]
+pub struct Stop {
+    /// The line of the first step that may not follow; the header is line 1.
+    pub line: u64,
+    /// Why it may not follow.
+    pub fault: LineFault,
+}
+
+/// A world that has gone on with recorded steps, up to the first that may not follow.
+#[derive(Drop)]
+pub struct Followed {
+    /// The world: its run has the steps before that one, or all of them.
+    pub world: World,
+    /// Where the steps stop being a run, if they do.
+    pub stop: Option<Stop>,
+}
+
+/// Lets a new world go on with the recorded steps, and tells where and why they stop being a run. They are a run exactly if there is no such
+/// line. `NoMemory` if memory runs out.
+pub fn follow_all(alloc: Global, recorded: &Record) -> Result<Followed, Refusal>
+    ensures shape { IfOk result (λ followed. followed.world.shape ≡ recorded.now.shape) }
+    ensures run { IfOk result (λ followed. IfNone followed.stop (followed.world.run ≡ recorded.now.run)) }
+    ensures none { IfOk result (λ followed. IfNone followed.stop (IsRun recorded.now.shape recorded.now.run)) }
+    ensures line { IfOk result (λ followed. IfSome followed.stop (λ stop. IsFirstBad recorded.now.shape recorded.now.run stop.line)) }
+    ensures fault { IfOk result (λ followed. IfSome followed.stop (λ stop.
+        IsFaultAt recorded.now.shape recorded.now.run followed.world.run stop.line stop.fault)) }
+    ensures cause { IfOk result (λ followed. IfSome followed.stop (λ stop.
+        HoldsItsCause followed.world.shape (log_of followed.world.run) stop.fault)) }
+    ensures refusal { IsOkUnless result Refusal.NoMemory }
+{
+    let shape = recorded.shape();
+    let mut world = World::open(alloc, shape)?;
+    let notary = Notary::new(alloc, &shape)?;
+    let mut line = HEADER_LINE;
+    for step in recorded.entries() {
+        line += 1;
+        let _earlier = world.entries();
+        let fault = follow(alloc, &mut world, &notary, step)?;
+        if let Some(fault) = fault {
+            return Ok(Followed {
+                world,
+                stop: Some(Stop { line, fault }),
+            });
+        }
+    }
+    let _entries = world.entries();
+    Ok(Followed { world, stop: None })
+}

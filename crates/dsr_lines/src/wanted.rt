@@ -1,0 +1,178 @@
+//! What a loyal actor posts, and by which choice.
+
+ghost use Rattle.std.specs.Prelude.{◌≡◌, ◌<◌, ℕ, List, None, Some, true, false, IfOk, IfSome, IfNone, IsOkUnless};
+ghost use Rattle.std.specs.Option.{is_none};
+ghost use Rattle.dsr_names.specs.Shape.{IsLoyal};
+ghost use Rattle.dsr_names.specs.declared.actor.Actor.TheVariants.{Replica as ReplicaNumber, Client as ClientNumber};
+ghost use Rattle.dsr_envelope.specs.declared.entry.Entry.{Entry};
+ghost use Rattle.dsr_envelope.specs.declared.envelope.Envelope.TheVariants.{Ask};
+ghost use Rattle.dsr_client.specs.Client.{StandsFor as StandsForClient};
+ghost use Rattle.dsr_client.specs.Conduct.{ask_to};
+ghost use Rattle.dsr_client.specs.State.{outstanding};
+ghost use Rattle.dsr_replica.specs.Replica.{StandsFor};
+ghost use Rattle.dsr_node.specs.Conduct.{post_of, is_exhausted};
+ghost use Rattle.dsr_node.specs.Node.{PlaysReplica};
+ghost use Rattle.dsr_play.specs.declared.event.Event.TheVariants.{Post};
+ghost use Rattle.dsr_run.specs.Step.{log_of};
+ghost use Rattle.dsr_world.specs.Event.{refusal_of};
+ghost use Rattle.dsr_lines.specs.Line.{begun_by};
+
+use dsr_chain::SignedRequest;
+use dsr_client::{Client, asks_tell_choices};
+use dsr_envelope::{Envelope, Pick};
+use dsr_names::{Actor, ClientId, Refusal, ReplicaId};
+use dsr_replica::Replica;
+use dsr_world::World;
+use std::alloc::Global;
+
+/// Makes what a loyal actor posts by this choice. Requires that nothing refuses the post. `NoMemory` if memory runs out.
+pub(crate) fn wanted_post(
+    alloc: Global,
+    world: &World,
+    from: &Actor,
+    to: &Actor,
+    pick: &Pick,
+) -> Result<Envelope, Refusal>
+    requires { refusal_of world.now.shape (log_of world.now.run) (Post from.now to.now pick.now) ≡ None }
+    ensures given { IfOk result (λ wanted. post_of world.now.shape (log_of world.now.run from.now) from.now to.now pick.now ≡ Some wanted) }
+    ensures refusal { IsOkUnless result Refusal.NoMemory }
+{
+    match (from, to) {
+        (Actor::Replica(poster), Actor::Replica(taker)) => {
+            wanted_round(alloc, world, *poster, *taker, pick)
+        }
+        (Actor::Replica(poster), Actor::Client(client)) => {
+            Ok(wanted_reply(world, *poster, *client, pick))
+        }
+        (Actor::Client(client), Actor::Replica(taker)) => {
+            wanted_ask(alloc, world, *client, *taker, pick)
+        }
+        (Actor::Client(_), Actor::Client(_)) => unreachable!(),
+    }
+}
+
+/// Makes what a loyal replica posts to a replica by this choice. Requires that nothing refuses the post. `NoMemory` if memory runs out.
+fn wanted_round(
+    alloc: Global,
+    world: &World,
+    from: ReplicaId,
+    to: ReplicaId,
+    pick: &Pick,
+) -> Result<Envelope, Refusal>
+    requires { refusal_of world.now.shape (log_of world.now.run) (Post (ReplicaNumber from) (ReplicaNumber to) pick.now) ≡ None }
+    ensures given { IfOk result (λ wanted.
+        post_of world.now.shape (log_of world.now.run (ReplicaNumber from)) (ReplicaNumber from) (ReplicaNumber to) pick.now ≡ Some wanted) }
+    ensures refusal { IsOkUnless result Refusal.NoMemory }
+{
+    match loyal_of(world, from).envelope_for(alloc, to, *pick) {
+        Ok(wanted) => Ok(wanted),
+        Err(_) => Err(Refusal::NoMemory),
+    }
+}
+
+/// Returns what a loyal replica posts to a client by this choice. Requires that nothing refuses the post.
+fn wanted_reply(world: &World, from: ReplicaId, to: ClientId, pick: &Pick) -> Envelope
+    requires { refusal_of world.now.shape (log_of world.now.run) (Post (ReplicaNumber from) (ClientNumber to) pick.now) ≡ None }
+    ensures { post_of world.now.shape (log_of world.now.run (ReplicaNumber from)) (ReplicaNumber from) (ClientNumber to) pick.now ≡ Some result }
+{
+    match reply_by(loyal_of(world, from), to, pick) {
+        Some(wanted) => wanted,
+        None => unreachable!(),
+    }
+}
+
+/// Returns what a loyal replica posts to a client by this choice; `None` if it posts nothing.
+fn reply_by(replica: &Replica, to: ClientId, pick: &Pick) -> Option<Envelope>
+    ensures { (log : List Entry) (p : ℕ) → StandsFor replica.now log
+        → result ≡ post_of replica.now.shape log (ReplicaNumber p) (ClientNumber to) pick.now }
+{
+    match pick {
+        Pick::Plain => replica.reply_for(to),
+        Pick::From(_) | Pick::Begin(_) => None,
+    }
+}
+
+/// Makes what a client posts to a replica by this choice. Requires that nothing refuses the post. `NoMemory` if memory runs out.
+fn wanted_ask(
+    alloc: Global,
+    world: &World,
+    from: ClientId,
+    to: ReplicaId,
+    pick: &Pick,
+) -> Result<Envelope, Refusal>
+    requires { refusal_of world.now.shape (log_of world.now.run) (Post (ClientNumber from) (ReplicaNumber to) pick.now) ≡ None }
+    ensures given { IfOk result (λ wanted.
+        post_of world.now.shape (log_of world.now.run (ClientNumber from)) (ClientNumber from) (ReplicaNumber to) pick.now ≡ Some wanted) }
+    ensures refusal { IsOkUnless result Refusal.NoMemory }
+{
+    match ask_by(client_of(world, from), to, pick) {
+        Some(ask) => Envelope::ask(alloc, ask),
+        None => unreachable!(),
+    }
+}
+
+/// Returns the request for which a client asks by this choice. `None` if it asks for none, or its number would be past the limit.
+fn ask_by(client: &Client, to: ReplicaId, pick: &Pick) -> Option<SignedRequest>
+    ensures some { (log : List Entry) → StandsForClient client.now log
+        → IfSome result (λ ask. ask_to client.now.shape client.now.me log pick.now ≡ Some (Ask ask)) }
+    ensures none { (log : List Entry) (q : ℕ) → StandsForClient client.now log
+        → is_exhausted client.now.shape log (ClientNumber client.now.me) (ReplicaNumber q) pick.now ≡ false
+        → IfNone result (is_none (ask_to client.now.shape client.now.me log pick.now) ≡ true) }
+{
+    asks_tell_choices();
+    match pick {
+        Pick::Plain => client.ask_for(to),
+        Pick::Begin(op) => client.first_ask(*op),
+        Pick::From(_) => None,
+    }
+}
+
+/// Returns the choice that a client's post of this envelope to a replica shows.
+pub(crate) fn shown_pick(world: &World, client: ClientId, found: &Envelope) -> Pick
+    ensures { client < world.now.shape.m
+        → result ≡ begun_by found.now (outstanding world.now.shape (log_of world.now.run (ClientNumber client))) }
+{
+    match world.client(client) {
+        Ok(asking) => pick_beside(asking, found),
+        Err(_) => Pick::Plain,
+    }
+}
+
+/// Returns the choice that the client's post of this envelope to a replica shows.
+fn pick_beside(client: &Client, found: &Envelope) -> Pick
+    ensures { (log : List Entry) → StandsForClient client.now log → result ≡ begun_by found.now (outstanding client.now.shape log) }
+{
+    match found {
+        Envelope::Ask(ask) => match client.outstanding() {
+            Some(_) => Pick::Plain,
+            None => Pick::Begin(ask.signed().request.op()),
+        },
+        Envelope::Empty | Envelope::Round { .. } | Envelope::Reply(_) | Envelope::Seen(_) => {
+            Pick::Plain
+        }
+    }
+}
+
+/// Returns the loyal replica with this number.
+fn loyal_of(world: &World, number: ReplicaId) -> &Replica
+    requires { IsLoyal world.now.shape (ReplicaNumber number) }
+    ensures { PlaysReplica world.now.shape number (log_of world.now.run (ReplicaNumber number)) result.now }
+{
+    match world.replica(number) {
+        Ok(loyal) => loyal,
+        Err(_) => unreachable!(),
+    }
+}
+
+/// Returns the client with this number.
+fn client_of(world: &World, number: ClientId) -> &Client
+    requires { number < world.now.shape.m }
+    ensures stands { StandsForClient result.now (log_of world.now.run (ClientNumber number)) }
+    ensures me { result.now.me ≡ number }
+    ensures shape { result.now.shape ≡ world.now.shape }
+{
+    match world.client(number) {
+        Ok(client) => client,
+        Err(_) => unreachable!(),
+    }
+}
