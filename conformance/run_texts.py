@@ -42,7 +42,8 @@ WORDS_OF_NO_VOTE, LINE_FEED = 3, b"\n"
 class Text:
     """A text: its name, its path, and what is to be written, or why it is refused."""
 
-    tags = ()
+    # As of a row; a text has no rule, and its name says where it is.
+    tags = told = ()
 
     def __init__(self, kind, entry):
         _, given, written = KINDS[kind]
