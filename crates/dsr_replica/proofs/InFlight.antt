@@ -14,7 +14,8 @@ use Rattle.dsr_chain.specs.Chain.{Chain}
 use Rattle.dsr_slot.specs.Keeping.{keep_one}
 use Rattle.dsr_slot.specs.SlotState.{SlotState, opened, with_chain, with_closed}
 use Rattle.dsr_slot.proofs.Lemmas.{skips_other_slots}
-use Rattle.dsr_replica.specs.Support.Flights.{AreInFlight, HasOpenRound, IsFirstLast, AreOf, with_chains, slot_post, posts_of, rest_of, going_on}
+use Rattle.dsr_replica.specs.Replica.{AreInFlight}
+use Rattle.dsr_replica.specs.Support.Flights.{HasOpenRound, IsFirstLast, AreOf, with_chains, slot_post, posts_of, rest_of, going_on}
 
 -- each of these slots after one more chain is read
 abbrev pub all_with : Chain → List SlotState → List SlotState

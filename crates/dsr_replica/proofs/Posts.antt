@@ -23,8 +23,8 @@ use Rattle.dsr_replica.specs.Counts.{takes_at}
 use Rattle.dsr_replica.specs.Decided.{read_in, slot_read, slot_kept}
 use Rattle.dsr_envelope.specs.Envelope.{round_envelope}
 use Rattle.dsr_envelope.specs.Log.{taken_from, due}
-use Rattle.dsr_replica.specs.Replica.{Replica, StandsFor}
-use Rattle.dsr_replica.specs.Support.Flights.{AreInFlight, HasOpenRound, slot_post, posts_of}
+use Rattle.dsr_replica.specs.Replica.{AreInFlight, Replica, StandsFor}
+use Rattle.dsr_replica.specs.Support.Flights.{HasOpenRound, slot_post, posts_of}
 use Rattle.dsr_replica.proofs.InFlight.{open_from}
 use Rattle.dsr_replica.proofs.Reading.{each_none, none_read}
 use Rattle.dsr_replica.proofs.Standing.{facts_of, rounds_are}

@@ -35,8 +35,8 @@ use Rattle.dsr_replica.specs.Counts.{IsInside, takes_at, HasCounts}
 use Rattle.dsr_replica.specs.Decided.{slot_read, slot_kept, slot_decided, values, chains_of, sent, decided_values}
 use Rattle.dsr_envelope.specs.Envelope.{chains_for, round_envelope}
 use Rattle.dsr_envelope.specs.Log.{taken_from, due, rounds}
-use Rattle.dsr_replica.specs.Replica.{Replica, IsLaterPost, ask_of, StandsFor}
-use Rattle.dsr_replica.specs.Support.Flights.{Flights, AreInFlight, with_chains, going_on, rest_of, first_decided, decided_with}
+use Rattle.dsr_replica.specs.Replica.{AreInFlight, Replica, IsLaterPost, ask_of, StandsFor}
+use Rattle.dsr_replica.specs.Support.Flights.{Flights, with_chains, going_on, rest_of, first_decided, decided_with}
 use Rattle.dsr_replica.specs.Support.ReplicaFields.{with_envelope, with_decided, next_round, IsAfterTake}
 use Rattle.dsr_replica.proofs.Counting.{after_take}
 use Rattle.dsr_replica.proofs.Growing.{HasTaken, decided_same, values_same, chains_same}

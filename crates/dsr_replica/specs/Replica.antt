@@ -1,5 +1,5 @@
 -- A replica as contracts see it, and when it represents a log (this project).
-use Rattle.std.specs.Prelude.{◌≡◌, ◌⊎◌, ℕ, zero, suc, ◌<◌, ◌≤◌, ◌^◌, List, [], ◌∷◌, Option, None, Some, IsSome, slice_get, slice_index_or, if◌then◌else◌}
+use Rattle.std.specs.Prelude.{◌≡◌, ◌⊎◌, ℕ, zero, suc, ◌+◌, ◌<◌, ◌≤◌, ◌^◌, List, [], ◌∷◌, Option, None, Some, IsSome, slice_get, slice_index_or, if◌then◌else◌}
 use Rattle.dsr_base.specs.Member.{In}
 use Rattle.dsr_names.specs.Shape.{Shape}
 use Rattle.dsr_names.specs.declared.actor.Actor.{Actor}
@@ -35,6 +35,13 @@ pub record Replica : Type 0 where
   pub asks : List (Option SignedRequest)
   pub requests : ℕ
   pub places : ℕ
+
+-- these are the states of the slots from `first` to the one that begins with this round, in their order, each with its
+-- earlier rounds closed
+abbrev pub AreInFlight : Shape → ℕ → List SlotState → ℕ → Type 0
+AreInFlight shape round [] first = first ≡ suc round
+AreInFlight shape round (s ∷ more) first =
+    (s.shape ≡ shape) × (s.slot ≡ first) × (first + s.closed ≡ round) × AreInFlight shape round more (suc first)
 
 -- it has room for what the next take may decide
 pub record HasRoom (r : Replica) : Type 0 where

@@ -5,7 +5,8 @@ ghost use Rattle.dsr_chain.specs.Proper.{IsAsked};
 ghost use Rattle.dsr_chain.specs.Content.{value_of};
 ghost use Rattle.dsr_rotation.specs.Calendar.{closed_slots};
 ghost use Rattle.dsr_slot.specs.SlotState.{SlotState, opened, with_chain, with_closed};
-ghost use Rattle.dsr_replica.specs.Support.Flights.{AreInFlight, HasOpenRound, IsFirstLast, AreOf, with_chains, is_begun, slot_post, posts_of, rest_of, next_flights, first_decided, decided_with};
+ghost use Rattle.dsr_replica.specs.Replica.{AreInFlight};
+ghost use Rattle.dsr_replica.specs.Support.Flights.{HasOpenRound, IsFirstLast, AreOf, with_chains, is_begun, slot_post, posts_of, rest_of, next_flights, first_decided, decided_with};
 
 use dsr_chain::{Chain, SignedRequest};
 use dsr_desk::Key;
@@ -66,7 +67,8 @@ impl Flights {
 
     /// Returns the slots in flight.
     pub(crate) fn slots(&self) -> &[SlotState]
-        ensures { result.now ≡ self.now.slots }
+        ensures same { result.now ≡ self.now.slots }
+        ensures in_flight { AreInFlight self.now.shape self.now.round self.now.slots (closed_slots self.now.shape self.now.round) }
     {
         self.slots.as_slice()
     }

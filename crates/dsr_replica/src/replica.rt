@@ -22,8 +22,8 @@ ghost use Rattle.dsr_envelope.specs.Envelope.{chains_for, round_envelope};
 ghost use Rattle.dsr_replica.specs.Held.{held};
 ghost use Rattle.dsr_envelope.specs.Log.{due, rounds};
 ghost use Rattle.dsr_envelope.specs.Pick.{IsPick};
-ghost use Rattle.dsr_replica.specs.Replica.{Replica, HasRoom, StandsFor, ask_of, value_of, value_for, Allows, IsPostRefusal};
-ghost use Rattle.dsr_replica.specs.Support.Flights.{AreInFlight, with_chains, posts_of};
+ghost use Rattle.dsr_replica.specs.Replica.{AreInFlight, Replica, HasRoom, StandsFor, ask_of, value_of, value_for, Allows, IsPostRefusal};
+ghost use Rattle.dsr_replica.specs.Support.Flights.{with_chains, posts_of};
 ghost use Rattle.dsr_replica.specs.Support.Decisions.{HasRoom as HasPlaces};
 ghost use Rattle.dsr_replica.specs.Support.ReplicaFields.{with_envelope, with_decided, next_round, after_post_to, IsAfterTake};
 
@@ -108,10 +108,21 @@ impl Replica {
         self.due
     }
 
-    /// Returns the slots in flight in the round in progress, by their numbers: at most f+1. Each has read what came in
-    /// its rounds so far.
+    /// Returns the round in progress: the number of rounds that it closed, at most 2^36.
+    pub fn round(&self) -> u64
+        ensures same { result ≡ self.now.round }
+        ensures stands { (log : List Entry) → StandsFor self.now log → result ≡ rounds self.now.shape log }
+        ensures most { result ≤ 2 ^ 36 }
+    {
+        self.flights.round()
+    }
+
+    /// Returns the slots in flight in the round in progress, by their numbers: from the first that is not closed to the one
+    /// that begins with this round, so at most f+1. Each has closed its earlier rounds, and has read what came in them and
+    /// in this round so far.
     pub fn in_flight(&self) -> &[SlotState]
         ensures same { result.now ≡ self.now.slots }
+        ensures slots { AreInFlight self.now.shape self.now.round result.now (closed_slots self.now.shape self.now.round) }
         ensures stands { (log : List Entry) (state : SlotStateOf) → StandsFor self.now log → In state result.now
             → HasRead state (slot_read state.shape log state.slot) }
     {

@@ -17,12 +17,6 @@ pub record Flights : Type 0 where
   pub round : ℕ
   pub slots : List SlotState
 
--- these are the slots from the first one to the one that begins with this round, each with its earlier rounds closed
-abbrev pub AreInFlight : Shape → ℕ → List SlotState → ℕ → Type 0
-AreInFlight shape round [] first = first ≡ suc round
-AreInFlight shape round (s ∷ more) first =
-    (s.shape ≡ shape) × (s.slot ≡ first) × (first + s.closed ≡ round) × AreInFlight shape round more (suc first)
-
 -- a slot after these chains are read in the round after its closed ones
 abbrev pub with_chains : List Chain → SlotState → SlotState
 with_chains chains s = record s { kept = keep s.shape s.slot (suc s.closed) s.kept chains }

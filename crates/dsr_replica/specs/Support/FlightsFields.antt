@@ -2,7 +2,8 @@
 use Rattle.std.specs.Prelude.{◌+◌, ◌≤◌, vec_capacity}
 use Rattle.dsr_rotation.specs.Calendar.{closed_slots}
 use Rattle.dsr_replica.specs.declared.flights.Flights.TheInside.{Inside}
-use Rattle.dsr_replica.specs.Support.Flights.{Flights, AreInFlight}
+use Rattle.dsr_replica.specs.Replica.{AreInFlight}
+use Rattle.dsr_replica.specs.Support.Flights.{Flights}
 
 -- the slots in flight in these fields
 abbrev pub flights_of : Inside → Flights

@@ -3,7 +3,7 @@ use Rattle.std.specs.Prelude.{slice_set}
 use Rattle.std.proofs.lemmas.Bool.{cases_lt}
 use Rattle.dsr_rotation.specs.Calendar.{closed_slots}
 use Rattle.dsr_slot.specs.SlotState.{with_chain}
-use Rattle.dsr_replica.specs.Support.Flights.{AreInFlight}
+use Rattle.dsr_replica.specs.Replica.{AreInFlight}
 use Rattle.dsr_replica.specs.Support.FlightsFields.{flights_of}
 use Rattle.dsr_replica.proofs.InFlight.{all_with, reads_earlier, reads_later, reads_at, flies_on, has_open_round}
 use Rattle.dsr_replica.proofs.flights.Flights.read.Goals as goal
