@@ -1,2 +1,2 @@
 mod EntryLemmas
-mod ValueLemmas
+pub mod ValueLemmas
