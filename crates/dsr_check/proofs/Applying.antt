@@ -7,7 +7,7 @@ use Rattle.dsr_request.specs.declared.op.Op.{Op}
 use Rattle.dsr_register.specs.Table.{held_in, StandsFor}
 use Rattle.dsr_register.specs.Values.{answer_after, answer_on, left_by}
 use Rattle.dsr_check.specs.Support.Table.{IsInOrder}
-use Rattle.dsr_check.proofs.RegisterCounts.{stands_after, answer_stands}
+use Rattle.dsr_register.proofs.ValueLemmas.{stands_after, answer_stands}
 use Rattle.dsr_check.proofs.TableLemmas.{Registers, distinct_in_order}
 
 -- a table in which the register holds what it is to hold stays as it is

@@ -3,10 +3,10 @@ mod Asking
 mod Auditing
 mod FirstBad
 mod HeadLemmas
+mod KeyLemmas
 mod Legality
 mod Opening
 mod Playing
-mod RegisterCounts
 mod Repeating
 mod Showing
 mod Stepping

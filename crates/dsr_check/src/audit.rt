@@ -16,8 +16,9 @@ ghost use Rattle.dsr_run.specs.Run.{IsNextStep};
 ghost use Rattle.dsr_run.specs.Step.{Step, log_of};
 ghost use Rattle.dsr_check.specs.Support.Audit.{ForgesNone, Holds, IsFirstOf, IsOpen, with_first, Stands, StandsFor, box_of};
 
-use crate::casting::{all_keys, all_parties};
+use crate::casting::all_parties;
 use crate::held::Held;
+use crate::keys::all_keys;
 use crate::party::Party;
 use dsr_base::Boxes;
 use dsr_desk::Key;

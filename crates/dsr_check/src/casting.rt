@@ -1,17 +1,18 @@
-ghost use Rattle.std.specs.Prelude.{◌≡◌, ◌+◌, ◌≢◌, ◌<◌, ◌++◌, ℕ, [], ◌↔◌, true, false, IfOk, IfSome, IsSome, OnOk, IsOkUnless};
+ghost use Rattle.std.specs.Prelude.{◌≡◌, ◌+◌, ◌≢◌, ◌<◌, ◌++◌, [], ◌↔◌, true, false, IfOk, IfSome, IsSome, OnOk, IsOkUnless};
 ghost use Rattle.std.specs.Option.{option_to_list};
 ghost use Rattle.dsr_names.specs.Shape.{IsActor, is_traitor};
 ghost use Rattle.dsr_names.specs.declared.actor.Actor.{Actor};
 ghost use Rattle.dsr_names.specs.declared.actor.Actor.TheVariants.{Replica as ReplicaNumber, Client as ClientNumber};
 ghost use Rattle.dsr_desk.specs.Keys.{is_taken};
-ghost use Rattle.dsr_check.specs.Support.Audit.{AreCast, AreKeysBelow, HasAllKeys};
+ghost use Rattle.dsr_check.specs.Support.Audit.{AreCast, AreKeysBelow};
 ghost use Rattle.dsr_check.specs.Support.Party.{Plays};
 
 use crate::customer::Customer;
+use crate::keys::{client_key, replica_key};
 use crate::party::Party;
 use dsr_client::Client;
 use dsr_desk::{Key, Keys};
-use dsr_names::{Actor, ClientId, Refusal, ReplicaId, Shape};
+use dsr_names::{Refusal, Shape};
 use dsr_replica::Replica;
 use std::alloc::Global;
 
@@ -42,58 +43,6 @@ pub(crate) fn all_parties(alloc: Global, shape: &Shape) -> Result<Parties, Refus
         parties.push(client_party(alloc, shape, &mut keys, number))?;
     }
     Ok(Parties { parties, traitors })
-}
-
-/// Makes a key for each actor of the shape: those of a notary, who signs whatever was recorded. `NoMemory` if memory runs out.
-pub(crate) fn all_keys(alloc: Global, shape: &Shape) -> Result<Vec<Key>, Refusal>
-    ensures all { IfOk result (λ keys. HasAllKeys shape.now keys.items) }
-    ensures refusal { IsOkUnless result Refusal.NoMemory }
-{
-    let mut untaken = Keys::new(alloc, *shape)?;
-    let mut keys = Vec::with_capacity(alloc, shape.n() as usize + shape.m() as usize)?;
-    for number in 0..shape.n() {
-        let key = replica_key(shape, &mut untaken, number);
-        keys.push(key)?;
-    }
-    for number in 0..shape.m() {
-        let key = client_key(shape, &mut untaken, number);
-        keys.push(key)?;
-    }
-    Ok(keys)
-}
-
-/// Takes the key of a replica of the shape. Requires that it was not taken.
-fn replica_key(shape: &Shape, keys: &mut Keys, number: u8) -> Key
-    requires inside { number < shape.now.n }
-    requires keys { keys.old.shape ≡ shape.now }
-    requires untaken { is_taken keys.old (ReplicaNumber number) ≡ false }
-    ensures keys { keys.new.shape ≡ keys.old.shape }
-    ensures others { (other : Actor) → other ≢ ReplicaNumber number → is_taken keys.new other ≡ is_taken keys.old other }
-    ensures key { result ≡ ReplicaNumber number }
-{
-    // For the proof: n is at most 16.
-    let _n = shape.n();
-    let Some(key) = keys.take(Actor::Replica(ReplicaId::of(number))) else {
-        unreachable!()
-    };
-    key
-}
-
-/// Takes the key of a client of the shape. Requires that it was not taken.
-fn client_key(shape: &Shape, keys: &mut Keys, number: u8) -> Key
-    requires inside { number < shape.now.m }
-    requires keys { keys.old.shape ≡ shape.now }
-    requires untaken { is_taken keys.old (ClientNumber number) ≡ false }
-    ensures keys { keys.new.shape ≡ keys.old.shape }
-    ensures others { (other : Actor) → other ≢ ClientNumber number → is_taken keys.new other ≡ is_taken keys.old other }
-    ensures key { result ≡ ClientNumber number }
-{
-    // For the proof: m is at most 32.
-    let _m = shape.m();
-    let Some(key) = keys.take(Actor::Client(ClientId::of(number))) else {
-        unreachable!()
-    };
-    key
 }
 
 /// Makes the party of a replica of the shape, and its key if it is a traitor. `NoMemory` if memory runs out.

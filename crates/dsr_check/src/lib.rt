@@ -7,6 +7,7 @@ mod checking;
 mod customer;
 mod held;
 mod judging;
+mod keys;
 mod party;
 mod shown;
 mod table;
@@ -15,4 +16,5 @@ mod verdict;
 
 pub use checking::check;
 pub use judging::{judge, verdicts_are_judged_right};
+pub use keys::all_keys;
 pub use verdict::Verdict;

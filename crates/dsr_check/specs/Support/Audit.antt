@@ -13,6 +13,7 @@ use Rattle.dsr_envelope.specs.Log.{posted_to, taken_from}
 use Rattle.dsr_run.specs.Known.{AreKeys, KnowsAll}
 use Rattle.dsr_run.specs.Run.{IsMadeOrPosted, IsRun, IsTraitor}
 use Rattle.dsr_run.specs.Step.{Step, Logs, log_of}
+use Rattle.dsr_check.specs.Keys.{HasAllKeys}
 use Rattle.dsr_check.specs.Support.Party.{Plays}
 use Rattle.dsr_check.specs.declared.audit.Audit.{Audit}
 use Rattle.dsr_check.specs.declared.held.Held.{Held}
@@ -72,10 +73,6 @@ box_of a from to = box_at a.boxes (place_of a.shape from) (place_of a.shape to)
 -- if a traitor posts this envelope, it forges nothing; this asks nothing of loyal actors
 abbrev pub ForgesNone : Shape → Logs → Actor → Envelope → Type 0
 ForgesNone shape logs from envelope = IsTraitor shape from → (s : Signature) → Carries envelope s → IsMadeOrPosted shape logs s
-
--- each actor of the shape has a key among these
-abbrev pub HasAllKeys : Shape → List Actor → Type 0
-HasAllKeys shape keys = (a : Actor) → IsActor shape a → Any (λ holder. holder ≡ a) keys
 
 -- the parts of an audit represent a run: the parties, the boxes, the notary's keys, the traitors' keys, the known signatures, and what is
 -- stored of posts to replica 0
