@@ -1,5 +1,5 @@
 -- A step that has a fault may not follow.
-use Rattle.std.proofs.Common.{◌≡◌, ◌≢◌, ℕ, List, ◌∷◌, Option, None, Some, inl, inr, refl, ap, sym, ◌∙◌}
+use Rattle.std.proofs.Common.{◌≡◌, List, ◌∷◌, None, inl, inr, ap, sym, ◌∙◌}
 use Rattle.std.proofs.lemmas.Option.{none-some, same_Some}
 use Rattle.dsr_names.specs.Shape.{Shape, IsActor}
 use Rattle.dsr_names.specs.declared.actor.Actor.{Actor}
@@ -16,11 +16,10 @@ use Rattle.dsr_run.specs.Step.{Step, Logs, log_of}
 use Rattle.dsr_run.proofs.Lemmas.{actors_within, step_made}
 use Rattle.dsr_world.specs.Event.{refusal_of, IsForged, MayBeDone}
 use Rattle.dsr_facts.specs.Cause.{HoldsCause}
-use Rattle.dsr_facts.specs.Difference.{IsDifference}
 use Rattle.dsr_facts.specs.declared.cause.Cause.{Cause}
 use Rattle.dsr_facts.specs.declared.cause.Cause.TheVariants.{NoActor, WrongRole, NotDue, Exhausted, BoxFull, BoxEmpty, Forged}
 use Rattle.dsr_facts.specs.declared.difference.Difference.{Difference}
-use Rattle.dsr_lines.specs.Line.{HoldsFault, HoldsItsCause, IsEventOf, IsOtherHeld, IsOtherPosted, IsSignedOutside}
+use Rattle.dsr_lines.specs.Line.{HoldsFault, HoldsItsCause, IsOtherHeld, IsOtherPosted, IsSignedOutside}
 use Rattle.dsr_lines.specs.declared.line_fault.LineFault.{LineFault}
 use Rattle.dsr_lines.specs.declared.line_fault.LineFault.TheVariants.{Refused, OtherHeld, OtherPosted, SignedOutside}
 use Rattle.dsr_script.specs.declared.forged.Forged.{Forged as AForged}

@@ -1,6 +1,5 @@
 pub mod FaultLemmas
 mod JudgedLemmas
-mod KeyLemmas
 mod NextLemmas
 mod StopLemmas
 mod WantedLemmas

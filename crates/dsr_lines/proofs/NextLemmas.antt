@@ -13,7 +13,7 @@ use Rattle.dsr_names.specs.declared.refusal.Refusal.TheVariants.{NoActor, WrongR
 use Rattle.dsr_chain.specs.declared.signed_request.SignedRequest.{SignedRequest}
 use Rattle.dsr_request.specs.declared.op.Op.{Op}
 use Rattle.dsr_envelope.specs.declared.envelope.Envelope.{Envelope}
-use Rattle.dsr_envelope.specs.declared.envelope.Envelope.TheVariants.{Ask, Seen}
+use Rattle.dsr_envelope.specs.declared.envelope.Envelope.TheVariants.{Ask}
 use Rattle.dsr_envelope.specs.declared.entry.Entry.{Entry}
 use Rattle.dsr_envelope.specs.declared.entry.Entry.TheVariants.{Post as PostEntry, Take as TakeEntry}
 use Rattle.dsr_envelope.specs.declared.pick.Pick.{Pick}
@@ -21,20 +21,19 @@ use Rattle.dsr_envelope.specs.declared.pick.Pick.TheVariants.{Plain, From, Begin
 use Rattle.dsr_envelope.specs.Limits.{IsEnvelope, IsSigned}
 use Rattle.dsr_envelope.specs.Log.{posted_to, taken_from, due, rounds}
 use Rattle.dsr_envelope.specs.Pick.{IsPick}
-use Rattle.dsr_client.specs.Conduct.{ask_of, next_number, chosen_beside, ask_to, told_choice}
-use Rattle.dsr_client.specs.State.{outstanding, seen}
+use Rattle.dsr_client.specs.Conduct.{ask_of, next_number, chosen_beside, ask_to}
+use Rattle.dsr_client.specs.State.{outstanding}
 use Rattle.dsr_client.proofs.Lemmas.{chosen_ask, choice_told}
 use Rattle.dsr_replica.specs.Conduct.{envelope_to}
-use Rattle.dsr_replica.specs.Shown.{shown_choice}
 use Rattle.dsr_replica.proofs.Lemmas.{choice_shown}
 use Rattle.dsr_node.specs.Conduct.{post_of, is_exhausted, is_undue, is_actor, is_traitor_of, are_clients, is_own_client, are_two_clients, takes_from}
 use Rattle.dsr_play.specs.declared.event.Event.{Event}
 use Rattle.dsr_play.specs.declared.event.Event.TheVariants.{Post, Plant, Take, Tell}
 use Rattle.dsr_run.specs.Run.{IsNextStep, IsTraitor}
 use Rattle.dsr_run.specs.Step.{Step, Logs}
-use Rattle.dsr_world.specs.Event.{in_box, is_full, is_used_up, refusal_of, first_of, step_of, IsForged}
+use Rattle.dsr_world.specs.Event.{is_full, is_used_up, refusal_of, first_of, step_of, IsForged}
 use Rattle.dsr_facts.specs.Fault.{IsRead}
-use Rattle.dsr_lines.specs.Line.{begun_by, IsShownPost, IsReplicaPost, IsEventOf}
+use Rattle.dsr_lines.specs.Line.{begun_by, IsReplicaPost, IsEventOf}
 
 -- nothing refuses the event, and its step is this one
 pub record PassesAs (shape : Shape) (logs : Logs) (event : Event) (step : Step) : Type 0 where

@@ -1,13 +1,8 @@
 -- Where recorded steps stop being a run, and why (this project).
 use Rattle.std.specs.Prelude.{◌≡◌, ◌+◌, ◌++◌, ◌∷◌, ℕ, List, length}
 use Rattle.dsr_names.specs.Shape.{Shape}
-use Rattle.dsr_names.specs.declared.refusal.Refusal.{Refusal}
-use Rattle.dsr_names.specs.declared.refusal.Refusal.TheVariants.{NotARun}
 use Rattle.dsr_run.specs.Run.{IsRun}
 use Rattle.dsr_run.specs.Step.{Step, log_of}
-use Rattle.dsr_record.specs.Record.{Record}
-use Rattle.dsr_record.specs.RecordText.{Spells}
-use Rattle.dsr_check.specs.Check.{IsFirstBad}
 use Rattle.dsr_lines.specs.Line.{HoldsFault}
 use Rattle.dsr_lines.specs.declared.line_fault.LineFault.{LineFault}
 
@@ -20,20 +15,3 @@ pub record IsFaultAt (shape : Shape) (recorded before : List Step) (line : ℕ) 
   pub counted : line ≡ length before + 2
   pub run : IsRun shape before
   pub why : HoldsFault shape (log_of before) step fault
-
--- the text is a transcript of a run
-pub record IsRunText (text : List ℕ) : Type 0 where
-  pub recorded : Record
-  pub spells : Spells text recorded
-  pub run : IsRun recorded.shape recorded.run
-
--- the text is a transcript, and this line of it has the first step that may not follow those before it
-pub record IsStoppedText (text : List ℕ) (line : ℕ) : Type 0 where
-  pub recorded : Record
-  pub spells : Spells text recorded
-  pub first_bad : IsFirstBad recorded.shape recorded.run line
-
--- the refusal names the line at which the transcript's steps stop being a run
-abbrev pub IsStopRefusal : List ℕ → Refusal → Type 0
-IsStopRefusal text (NotARun line) = IsStoppedText text line
-IsStopRefusal text other = ⊥

@@ -1,7 +1,7 @@
 ghost use Rattle.std.specs.Prelude.{◌≡◌, ◌∷◌, Some, IfOk, IfSome, IfNone, OnOk, OnErr, OnSome, IsOkUnless};
 ghost use Rattle.dsr_run.specs.Run.{IsNextStep};
 ghost use Rattle.dsr_run.specs.Step.{Step, log_of};
-ghost use Rattle.dsr_world.specs.Event.{step_of};
+ghost use Rattle.dsr_world.specs.Event.{step_of, MayBeDone};
 ghost use Rattle.dsr_lines.specs.Line.{HoldsFault};
 
 use crate::judged::{Judged, judge};
@@ -30,6 +30,7 @@ pub fn follow(
     ensures shape { world.new.shape ≡ world.old.shape }
     ensures refusal { IsOkUnless result Refusal.NoMemory }
 {
+    // For the proof: the steps before this one are a run.
     let _entries = world.entries();
     let judged = judge(alloc, world, notary, step)?;
     match judged {
@@ -41,8 +42,9 @@ pub fn follow(
     }
 }
 
-/// Makes the event happen. `NoMemory` if memory runs out; no event is given that is refused otherwise.
+/// Makes the event happen. Requires that nothing refuses it. `NoMemory` if memory runs out.
 fn go_on(alloc: Global, world: &mut World, event: &Event) -> Result<(), Refusal>
+    requires { MayBeDone world.old.shape (log_of world.old.run) event.now }
     ensures run { OnOk result ((step : Step) → step_of world.old.shape (log_of world.old.run) event.now ≡ Some step
         → world.new.run ≡ step ∷ world.old.run) }
     ensures next { OnOk result ((step : Step) → step_of world.old.shape (log_of world.old.run) event.now ≡ Some step
@@ -52,9 +54,11 @@ fn go_on(alloc: Global, world: &mut World, event: &Event) -> Result<(), Refusal>
     ensures refusal { IsOkUnless result Refusal.NoMemory }
 {
     let done = world.step(alloc, event);
+    // For the proof: the steps are a run, with the event's own if it happened.
     let _entries = world.entries();
     match done {
         Ok(_) => Ok(()),
-        Err(_) => Err(Refusal::NoMemory),
+        Err(Refusal::NoMemory) => Err(Refusal::NoMemory),
+        Err(_) => unreachable!(),
     }
 }

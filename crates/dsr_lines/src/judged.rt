@@ -1,6 +1,6 @@
 //! What a recorded step is: an event that nothing refuses, or a fault.
 
-ghost use Rattle.std.specs.Prelude.{◌≡◌, ◌↔◌, None, Some, IfOk, IfSome, IfNone, IsTrue, IsOkUnless};
+ghost use Rattle.std.specs.Prelude.{◌≡◌, ◌↔◌, Some, IfOk, IfSome, IfNone, IsTrue, IsOkUnless};
 ghost use Rattle.dsr_names.specs.Shape.{Shape as AShape};
 ghost use Rattle.dsr_names.specs.declared.actor.Actor.{Actor as AnActor};
 ghost use Rattle.dsr_names.specs.declared.actor.Actor.TheVariants.{Client as ClientNumber};
@@ -8,7 +8,7 @@ ghost use Rattle.dsr_envelope.specs.declared.entry.Entry.TheVariants.{Post as Po
 ghost use Rattle.dsr_play.specs.declared.event.Event.TheVariants.{Post};
 ghost use Rattle.dsr_run.specs.Run.{IsTraitor};
 ghost use Rattle.dsr_run.specs.Step.{Logs, log_of};
-ghost use Rattle.dsr_world.specs.Event.{refusal_of, step_of};
+ghost use Rattle.dsr_world.specs.Event.{step_of, MayBeDone};
 ghost use Rattle.dsr_lines.specs.Line.{IsEventOf};
 ghost use Rattle.dsr_lines.specs.Support.Judged.{IsJudged, IsOther};
 
@@ -192,10 +192,10 @@ fn judge_tell(world: &World, from: ClientId, to: ClientId, found: Envelope) -> J
     }
 }
 
-/// Finds out whether the posted envelope is the wanted one, which the event posts.
+/// Finds out whether the posted envelope is the wanted one: the one that this event posts, which nothing refuses.
 #[tactic(auto, using(crate::proofs::JudgedLemmas::other_told, crate::proofs::JudgedLemmas::same_step))]
 fn judged_by(event: Event, wanted: Envelope, found: Envelope) -> Judged
-    ensures { (shape : AShape) (logs : Logs) (from to : AnActor) → refusal_of shape logs event ≡ None
+    ensures { (shape : AShape) (logs : Logs) (from to : AnActor) → MayBeDone shape logs event
         → step_of shape logs event ≡ Some (from, PostEntry to wanted) → IsEventOf shape logs (from, PostEntry to found) event
         → IsJudged shape logs (from, PostEntry to found) result }
 {

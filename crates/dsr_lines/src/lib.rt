@@ -4,7 +4,6 @@
 
 mod following;
 mod judged;
-mod keys;
 mod line_fault;
 mod notary;
 mod record_fault;

@@ -1,7 +1,7 @@
 ghost use Rattle.std.specs.Prelude.{◌≡◌, IfOk, IsOkUnless};
 ghost use Rattle.dsr_lines.specs.Support.Judged.{IsMade};
 
-use crate::keys::all_keys;
+use dsr_check::all_keys;
 use dsr_desk::Key;
 use dsr_envelope::Envelope;
 use dsr_names::{Refusal, Shape};
@@ -9,8 +9,8 @@ use dsr_script::{Draft, Forged, Known, build, forged_in};
 use std::alloc::Global;
 use std::marker::Model;
 
-/// A key for each actor of a shape. With them an envelope is made from data, so that it can be compared with what an actor posts; none of what
-/// is made is posted. Contracts see a notary as its shape.
+/// Holds a key of each actor of a shape. With these keys it makes, from data, the envelope that a recorded step posts, so that `follow` can
+/// compare it with what the actor's protocol posts. Nobody posts what a notary makes. Contracts see a notary as its shape.
 #[derive(Drop)]
 pub struct Notary {
     shape: Shape,
@@ -19,7 +19,7 @@ pub struct Notary {
 
 impl Model for Notary {
     ghost use Rattle.dsr_names.specs.Shape.{Shape};
-    ghost use Rattle.dsr_lines.specs.Support.Keys.{HasAllKeys};
+    ghost use Rattle.dsr_check.specs.Keys.{HasAllKeys};
 
     ghost Value = { Shape };
 
@@ -28,12 +28,12 @@ impl Model for Notary {
     ghost invariant = { λ n. HasAllKeys n.shape n.keys.items };
 }
 
-/// What comes of making an envelope from data.
+/// What a notary returns for a draft.
 #[derive(Drop)]
 pub(crate) enum Made {
-    /// The envelope.
+    /// The envelope that the draft describes.
     Whole(Envelope),
-    /// Nothing: this signature in it has a signer that is not an actor of the shape.
+    /// No envelope: the notary cannot make this signature, which the draft carries, since its signer is not an actor of the shape.
     Outside(Forged),
 }
 
@@ -62,7 +62,8 @@ impl Notary {
         }
         match build(alloc, draft, self.keys.as_slice(), &known) {
             Ok(envelope) => Ok(Made::Whole(envelope)),
-            Err(_) => Err(Refusal::NoMemory),
+            Err(Refusal::NoMemory) => Err(Refusal::NoMemory),
+            Err(_) => unreachable!(),
         }
     }
 }

@@ -53,6 +53,7 @@ pub fn follow_all(alloc: Global, recorded: &Record) -> Result<Followed, Refusal>
     let mut line = HEADER_LINE;
     for step in recorded.entries() {
         line += 1;
+        // For the proof: the steps before this one are a run.
         let _earlier = world.entries();
         let fault = follow(alloc, &mut world, &notary, step)?;
         if let Some(fault) = fault {
@@ -62,6 +63,7 @@ pub fn follow_all(alloc: Global, recorded: &Record) -> Result<Followed, Refusal>
             });
         }
     }
+    // For the proof: all the steps are a run.
     let _entries = world.entries();
     Ok(Followed { world, stop: None })
 }

@@ -66,7 +66,8 @@ fn wanted_round(
 {
     match loyal_of(world, from).envelope_for(alloc, to, *pick) {
         Ok(wanted) => Ok(wanted),
-        Err(_) => Err(Refusal::NoMemory),
+        Err(Refusal::NoMemory) => Err(Refusal::NoMemory),
+        Err(_) => unreachable!(),
     }
 }
 

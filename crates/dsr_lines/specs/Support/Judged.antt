@@ -5,7 +5,7 @@ use Rattle.dsr_desk.specs.Signature.{signed}
 use Rattle.dsr_envelope.specs.Envelope.{Carries}
 use Rattle.dsr_envelope.specs.declared.envelope.Envelope.{Envelope}
 use Rattle.dsr_run.specs.Step.{Step, Logs}
-use Rattle.dsr_world.specs.Event.{step_of}
+use Rattle.dsr_world.specs.Event.{step_of, MayBeDone}
 use Rattle.dsr_facts.specs.Difference.{IsDifference}
 use Rattle.dsr_lines.specs.Line.{HoldsFault}
 use Rattle.dsr_lines.specs.declared.judged.Judged.{Judged}
@@ -15,7 +15,8 @@ use Rattle.dsr_lines.specs.declared.line_fault.LineFault.TheVariants.{Refused, O
 use Rattle.dsr_lines.specs.declared.notary.Made.{Made}
 use Rattle.dsr_lines.specs.declared.notary.Made.TheVariants.{Whole, Outside}
 
--- the draft's envelope was made, or this signature in it has a signer that is not an actor of the shape
+-- the notary makes the envelope that the draft describes; or it cannot make this signature, which the draft carries, since its signer is
+-- not an actor of the shape
 abbrev pub IsMade : Shape → Envelope → Made → Type 0
 IsMade shape draft (Whole envelope) = envelope ≡ draft
 IsMade shape draft (Outside s) = Carries draft (signed s.signer s.statement) × (IsActor shape s.signer → ⊥)
@@ -27,7 +28,7 @@ IsOther wanted found OtherHeld = ⊥
 IsOther wanted found (OtherPosted ours theirs how) = (ours ≡ wanted) × (theirs ≡ found) × (ours ≢ theirs) × IsDifference ours theirs how
 IsOther wanted found (SignedOutside s) = ⊥
 
--- the step is that of this event, or this is why it may not follow
+-- the step is that of this event, which nothing refuses; or this is why the step may not follow
 abbrev pub IsJudged : Shape → Logs → Step → Judged → Type 0
-IsJudged shape logs step (May event) = step_of shape logs event ≡ Some step
+IsJudged shape logs step (May event) = (step_of shape logs event ≡ Some step) × MayBeDone shape logs event
 IsJudged shape logs step (Not fault) = HoldsFault shape logs step fault

@@ -13,4 +13,4 @@ returns-in-Not-clause-stops c next =
 pub returns-in-Ok-clause-none : goal.returns-in-Ok-clause-none
 returns-in-Ok-clause-none c =
     let w = c.args.world.now in
-    c.in-Ok.ensures.next c.args.step.now (subst (IsJudged w.shape (log_of w.run) c.args.step.now) c.in-May.is c.in_ok-judged.ensures.judged)
+    c.in-Ok.ensures.next c.args.step.now (subst (IsJudged w.shape (log_of w.run) c.args.step.now) c.in-May.is c.in_ok-judged.ensures.judged).0
