@@ -3,12 +3,14 @@
 examples/why/ anew, and with `pictures --write` the pictures of the attacks.
 
 explanations: what `dsr explain` tells. Of each play of examples/, and of random plays, the lines of data are those of tests/models/explain_model.py, but for
-the words in which a reason is put, and for what a replica keeps, holds, drops or does not propose, which the model does not tell. If an event is refused
-as forged, a signature is named. Of each attack there are lines that name what stopped it. Of each play of examples/why/, which is wrong in one line, the first
-refused event is of that line, and the explanation beside it is what the program writes. Of texts that are no play the line, the column, and what was
-expected there are named. Plays written by hand show what is told of requests that are not proposed, of posts that are refused, and at the end. What is
-told with options is told without them too; as data, each option leaves just what it is to leave. To tell what was refused takes at most three times the
-processor time of the play.
+what a replica keeps, holds, drops or does not propose, which the model does not tell; and so are, in words, all lines that say why an event is refused or why a
+reply is no vote. Each reason why an event is refused, but a counter at its limit, is that of a play by hand. Of each attack there are lines that name what
+stopped it. Of each play of examples/why/, which is wrong in one line, the first refused event is of that line, and the explanation beside it is what the
+program writes. Of texts that are no play the line, the column, and what was expected there are named; of 5,000 texts that are nearly plays the line and the
+column are those of tests/models/first_faults.py: the first byte with which no play goes on; and of 1,500 texts each that are nearly serve scripts, transcripts
+and request lines. Plays written by hand show what is told of requests that are not proposed, of posts that are refused, and at the end. What is told with
+options is told without them too; as data, each option leaves just what it is to leave. To tell what was refused takes at most three times the processor time of
+the play.
 
 pictures: of each attack what its explanation says was decided, acted and accepted is what the .out beside it says; the .svg beside it is what tools/picture
 makes of the explanation, is well formed, asks for nothing from elsewhere, and has less than 60,000 bytes. The page that tools/picture makes has all of its
@@ -32,21 +34,27 @@ import re
 import sys
 import xml.etree.ElementTree
 
-from kit import inputs
+from kit import inputs, wrong_texts
 from kit.inputs import lines_text
 from kit.program import TOP, bytes_of, command_of, least_time, name_of, program, run, shown, text_of, write_bytes
-from kit.report import main
+from kit.report import in_processes, main
 from kit.written import tables
-from models import explain_model, histories
+from models import explain_model, first_faults, histories
 
 
 # ---- explanations
 
 EXPLAINED_PLAYS = 200
+# How many texts that are nearly plays there are, and how many of them have nearly as many events as a play may have.
+NEARLY_PLAYS, FULL_PLAYS = 5_000, 100
+# How many texts that are nearly of another kind there are, of each kind.
+NEARLY_OTHERS = 1_500
 # How many times the processor time of a play it may take to tell what was refused.
 MOST_TIMES = 3
 # Lines that the model does not make.
 BESIDE = ("silence ", "kept ", "hold ", "drop ", "unproposed ")
+# How lines begin that have a reason in words.
+SENTENCES = ("    because ", "    no vote of ")
 TABLES = tables("explanations")
 # The wrong line of each play of examples/why/, or the line in which what it lacks is missed first.
 WRONG_LINES = {"forgotten-post": 6, "wrong-senders-choice": 5, "request-not-asked": 3, "signature-of-another-slot": None, "reply-too-early": 8}
@@ -58,16 +66,8 @@ NARROWING = [
 
 
 def shared(data):
-    """The lines of data that program and model share, without the words of reasons."""
-    lines = []
-    for line in data.decode().splitlines():
-        if line.startswith("why "):
-            line = "why"
-        elif line.startswith("no-vote "):
-            line = " ".join(line.split(" ")[:3])
-        if not line.startswith(BESIDE):
-            lines.append(line)
-    return lines
+    """The lines of data that program and model share."""
+    return [line for line in data.decode().splitlines() if not line.startswith(BESIDE)]
 
 
 def fault_of_lines(play):
@@ -75,15 +75,41 @@ def fault_of_lines(play):
     status, data, told = program("explain --data", play)
     if status != 0 or told:
         return f"status {status}, {told!r}"
-    lines = data.decode().splitlines()
-    for line, why in zip(lines, lines[1:]):
-        if line.startswith("event ") and line.split(" ")[6] == "E8" and not why.startswith("why the signature of "):
-            return f"no signature is named as forged after `{line[:80]}`"
-    found, wanted = shared(data), shared(explain_model.explained(play)[1])
+    return fault_of_same(shared(data), shared(explain_model.explained(play)[1]))
+
+
+def fault_of_same(found, wanted):
+    """In which line these lists are not the same, or None."""
     if found == wanted:
         return None
     at = next((at for at, (one, other) in enumerate(zip(found, wanted)) if one != other), min(len(found), len(wanted)))
     return f"line {at + 1} of those that are compared is {found[at:at + 1]}, and not {wanted[at:at + 1]}"
+
+
+def fault_of_sentences(play):
+    """What is wrong with the sentences that say why events of this play are refused, or replies are no votes; or None."""
+    status, text, told = program("explain", play)
+    if status != 0 or told:
+        return f"status {status}, {told!r}"
+    found = [line for line in text.decode().splitlines() if line.startswith(SENTENCES)]
+    return fault_of_same(found, list(explain_model.sentences(explain_model.explained(play)[1])))
+
+
+def fault_of_reason(lines, reason, sentence):
+    """What is wrong with the reason that is told of the last event of a play with these lines, or None."""
+    play = lines_text(["dsr-play 1 3 1 2 r2", *lines.split("\n")])
+    for words, begin, reason_told in (("explain --refused --data", "why ", reason), ("explain --refused", "    because ", sentence)):
+        status, text, told = program(words, play)
+        found = [line.removeprefix(begin) for line in text.decode().splitlines() if line.startswith(begin)]
+        if status != 0 or told or found[-1:] != [reason_told]:
+            return f"{words}: status {status}, {told!r}, {found[-1:]}"
+    return None
+
+
+def fault_of_reasons():
+    """Whether a row shows each reason, and none another word; or None."""
+    shown = {reason.split(" ")[0] for _, reason, _ in TABLES["reasons"]}
+    return None if shown == set(explain_model.REASONS) else f"{sorted(shown ^ set(explain_model.REASONS))}"
 
 
 def plays_of_examples():
@@ -125,9 +151,80 @@ def fault_of_no_play(text, line, column, expected):
     status, written, told = program("explain", text)
     if (status, told) != (1, program("play", text)[2]):
         return f"status {status}, {told!r}"
-    if not written.startswith(b"line %d, column %d: expected " % (line, column)) or expected not in written.split(b"\n")[0]:
-        return f"it says {written.splitlines()[:1]}"
+    first = written.split(b"\n")[0]
+    if not first.startswith(b"line %d, column %d: " % (line, column)) or expected not in first:
+        return f"it says {first}"
+    if first_faults.fault_of(text) != (line, column):
+        return f"tests/models/first_faults.py says {first_faults.fault_of(text)}"
     return None if written.split(b"\n")[2].index(b"^") == 4 + column - 1 else "the column is not marked"
+
+
+def nearly_a_play(number):
+    """The text with this number of those that are nearly plays."""
+    chance = random.Random(f"nearly a play {number}")
+    if number < FULL_PLAYS:
+        return wrong_texts.full(chance)
+    if number % 4 == 0:
+        return wrong_texts.changed(chance, bytes_of(chance.choice(inputs.found("**/*.play"))))
+    if number % 4 == 1:
+        return wrong_texts.changed(chance, inputs.random_play(chance).text())
+    return wrong_texts.drawn(chance) if number % 4 == 2 else wrong_texts.changed(chance, wrong_texts.drawn(chance))
+
+
+def fault_of_place(number):
+    """What is wrong with where this text is said to be wrong, or None. What a play of a million events comes to is not asked."""
+    text = nearly_a_play(number)
+    kind = other_kind_of(text)
+    if kind:
+        return fault_of_other(kind, text)
+    place = first_faults.fault_of(text)
+    if place is None and number < FULL_PLAYS:
+        return None
+    status, written, _ = program("explain --refused", text)
+    said = re.match(rb"line (\d+), column (\d+): (?:expected |empty lines |a play has at most )", written)
+    found = (int(said[1]), int(said[2])) if said and status == 1 else None if status == 0 else (status, written[:80])
+    return None if found == place else f"{text[-200:]!r} is wrong at {place}, and not at {found}"
+
+
+# The other kinds of texts: what begins the examples' names end with, what draws one, what says where one is wrong, and how it is to begin to be told of one.
+OTHER_KINDS = [
+    ("serve", wrong_texts.drawn_script, first_faults.fault_of_script, b"dsr-serve "),
+    ("check", wrong_texts.drawn_transcript, first_faults.fault_of_transcript, b"dsr-transcript "),
+    ("apply", wrong_texts.drawn_requests, first_faults.fault_of_requests, b"c"),
+]
+
+
+def begins_as(kind, text):
+    """Whether the text begins like one of this kind."""
+    ending, _, _, beginning = kind
+    return text.startswith(beginning) and (ending != "apply" or text[1:2].isdigit())
+
+
+def other_kind_of(text):
+    """The kind of texts, other than plays, like which this one begins, or None."""
+    return next((kind for kind in OTHER_KINDS if begins_as(kind, text)), None)
+
+
+def fault_of_other(kind, text):
+    """What is wrong with where `dsr explain` says that this text, which begins like one of the kind, is wrong, or None."""
+    place = kind[2](text)
+    status, written, told = program("explain", text)
+    said = re.match(rb"th[^\n]* not a play: [^\n]*, and finds a bad line\nline (\d+), column (\d+): (?:expected |empty lines )", written)
+    found = (int(said[1]), int(said[2])) if said else None
+    if status != 1 or told != program("play", text)[2] or (place is None and b"finds no bad line\n" not in written):
+        return f"of {text[-200:]!r} it says {written[:120]!r} and {told!r}"
+    return None if found == place else f"{text[-200:]!r} is wrong at {place}, and not at {found}"
+
+
+def fault_of_place_in_other(task):
+    """What is wrong with where `dsr explain` says that a text of another kind than plays is wrong, or None."""
+    kind, number = task
+    ending, draw, *_ = kind
+    chance = random.Random(f"nearly {ending} {number}")
+    text = bytes_of(chance.choice(inputs.found(f"**/*.{ending}"))) if number % 4 == 0 else draw(chance)
+    if number % 2:
+        text = wrong_texts.changed(chance, text)
+    return fault_of_other(kind, text) if begins_as(kind, text) else None
 
 
 def fault_of_sayings(lines, ends, nowhere):
@@ -176,7 +273,8 @@ def fault_of_options(play):
         for order in (words, ["--data", *words], [*words, "--data"]):
             status, some, told = program(["explain", *order], play)
             some = some.decode().splitlines()
-            if status != 0 or told or (some != narrowed(data, **options) if "--data" in order else not set(some) <= set(whole)):
+            is_part = set(some) <= set(whole) or (len(some) == 1 and some[0].startswith(("none of the ", "no event was refused")))
+            if status != 0 or told or (some != narrowed(data, **options) if "--data" in order else not is_part or not some):
                 return " ".join(order)
     return None
 
@@ -209,16 +307,28 @@ def explanations(report, is_written):
     drawn = ((f"random play {number}", inputs.random_play(chance).text()) for number in range(EXPLAINED_PLAYS))
     for name, play in itertools.chain(plays_of_examples(), drawn):
         report.judge(f"the data of {name}", fault_of_lines(play), None)
+        report.judge(f"the reasons in words of {name}", fault_of_sentences(play), None)
     for stem in inputs.plays("attacks/*.play"):
         name, play = os.path.basename(stem), bytes_of(f"{stem}.play")
         report.judge(f"what stops {name}", fault_of_stops(name, play), None)
         report.judge(f"the options on {name}", fault_of_options(play), None)
     for stem in inputs.plays("why/*.play"):
         report.judge(inputs.name_in_examples(stem), fault_of_why(os.path.basename(stem), is_written), None)
+    report.judge("a row for each reason", fault_of_reasons(), None)
+    for lines, *told in TABLES["reasons"]:
+        report.judge(f"why {lines!r} is refused", fault_of_reason(lines, *told), None)
     for lines, *told in TABLES["sayings"]:
         report.judge(f"what is told of {lines!r}", fault_of_sayings(lines, *told), None)
     for text, line, column, expected in TABLES["no plays"]:
         report.judge(f"no play: {text[:60]!r}", fault_of_no_play(text.encode(), int(line), int(column), expected.encode()), None)
+    faults = [fault for fault in in_processes(fault_of_place, range(NEARLY_PLAYS), 25) if fault]
+    report.gather("where texts that are nearly plays are wrong", NEARLY_PLAYS, faults)
+    for kind in OTHER_KINDS:
+        tasks = [(kind, number) for number in range(NEARLY_OTHERS)]
+        report.gather(f"where texts that `dsr {kind[0]}` nearly reads are wrong", NEARLY_OTHERS, [
+            fault for fault in in_processes(fault_of_place_in_other, tasks, 25) if fault
+        ])
+    report.judge_gathered("texts that are nearly of a kind")
     report.judge(*check_of_time())
 
 

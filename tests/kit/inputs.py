@@ -147,11 +147,11 @@ def by_envelope_everywhere(chance, text):
 
 def by_other_traitors(chance, text):
     """The header tells of other traitors, or of another number of actors."""
-    header, rest = text.split(b"\n", 1)
+    header, end, rest = text.partition(b"\n")
     words = header.split(b" ")
     at = chance.randrange(1, len(words)) if len(words) > 2 else 0
     words[at] = chance.choice([b"-", b"r0", b"r1", b"r2", b"r0+r1"] if at == 5 else [b"0", b"1", b"2", b"3", b"4", b"5"])
-    return b" ".join(words) + b"\n" + rest
+    return b" ".join(words) + end + rest
 
 
 CHANGES = [by_byte, by_bytes_left_out, by_line_moved, by_line_again, by_word_of_another_line, by_envelope_everywhere, by_other_traitors]

@@ -84,10 +84,10 @@ def replica_takes(world, a, b):
 
 def reason_for_no_vote(machine, replica, number):
     if machine.ask is None:
-        return "no request is outstanding"
+        return "nothing-outstanding"
     if number != str(machine.number):
-        return f"number {machine.number} is outstanding, and not {number}"
-    return f"{replica} has replied before" if replica in machine.votes else None
+        return f"other-number {machine.number}"
+    return "has-voted" if replica in machine.votes else None
 
 
 def client_takes(world, a, b):
@@ -98,7 +98,7 @@ def client_takes(world, a, b):
     reason = reason_for_no_vote(machine, b, words[1]) if is_reply else None
     world.take(a, b)
     if not is_reply:
-        return [f"no-vote {a} {b} it is no reply"] if b[0] == "r" else []
+        return [f"no-vote {a} {b} no-reply"] if b[0] == "r" else []
     if reason:
         return [f"no-vote {a} {b} {reason}"]
     votes = list(machine.votes.values()).count(envelope)
@@ -107,42 +107,101 @@ def client_takes(world, a, b):
 
 # ---- why an event was refused
 
+# The words of `why` and of `no-vote` lines, each with the sentence that says the same; what belongs to it follows the word, in this order.
+REASONS = {
+    "no-actor": "{} is no actor of this shape",
+    "traitor": "{} is a traitor: what it posts is planted",
+    "loyal": "{} is loyal: only traitors plant",
+    "both-clients": "clients post nothing to each other: they tell",
+    "from-itself": "a client takes nothing from itself",
+    "not-two-clients": "only a client tells, and only another client",
+    "due-post": "it must first post to {}",
+    "due-take": "it must first take from {}",
+    "chosen-before": "what it proposes is chosen at its post to r0",
+    "other-sender": "the slot that begins with this round, {}, has the sender {}",
+    "nothing-held": "it holds no ask of {}",
+    "begins-nothing": "a replica begins no request",
+    "nothing-acted": "no request of {} has acted there yet",
+    "no-choice": "a replica has no choice at a post to a client",
+    "proposes-nothing": "a client proposes nothing",
+    "outstanding": "its request {} is outstanding",
+    "nothing-outstanding": "no request of it is outstanding",
+    "box-full": "what was posted there before has not been taken",
+    "box-empty": "no envelope is waiting there",
+    "forged": "the signature of {0} on {1} is forged: {0} is no traitor, and has not posted it",
+}
+NO_VOTES = {
+    "no-reply": "it is no reply",
+    "nothing-outstanding": "no request is outstanding",
+    "other-number": "request {} is outstanding",
+    "has-voted": "it has voted, and only its first reply counts",
+}
+
 
 def why_not_due(world, word, a, b, pick):
     """Why it is not the turn of this loyal actor to do that."""
     machine = world.machines[a]
     if a[0] == "c":
-        return f"a request of {a} is outstanding" if machine.ask else f"no request of {a} is outstanding"
+        return why_not_asked(machine, pick)
     if b[0] == "c":
-        return f"{a} has no reply for {b}"
+        return "no-choice" if pick else f"nothing-acted {b}"
     due, other = machine.due()
     if (due, other) != (word, b):
-        return f"{a} is to {due} {'to' if due == 'post' else 'from'} {other} next"
-    if b != "r0" or pick[0] != "from":
-        return f"{a} chooses at its post to r0, among the requests that it holds"
-    if machine.round % world.shape.n != int(a[1:]):
-        return f"slot {machine.round} is not {a}'s"
-    return f"{a} holds no request of {next(client for client in pick[1] if client not in machine.asks)}"
+        return f"due-{due} {other}"
+    if pick[0] == "begin":
+        return "begins-nothing"
+    return "chosen-before" if b != "r0" else why_not_proposed(world, machine, pick[1])
 
 
-def why_forged(world, a, envelope):
-    for signer, statement in slow_play.signatures_in(envelope):
-        if signer not in world.traitors and (signer, statement) not in world.known:
-            return f"{signer} is loyal, and has not signed {statement}"
-    return "nothing is forged"
+def why_not_asked(machine, pick):
+    if pick is None:
+        return "nothing-outstanding"
+    return "proposes-nothing" if pick[0] == "from" else f"outstanding {machine.number}"
+
+
+def why_not_proposed(world, machine, clients):
+    sender = f"r{machine.round % world.shape.n}"
+    if sender != machine.me:
+        return f"other-sender {machine.round} {sender}"
+    return f"nothing-held {next(client for client in clients if client not in machine.asks)}"
+
+
+def why_wrong_role(world, word, a, b):
+    if word == "post":
+        return f"traitor {a}" if a in world.traitors else "both-clients"
+    return {"plant": f"loyal {a}", "take": "from-itself", "tell": "not-two-clients"}[word]
+
+
+def why_forged(world, envelope):
+    return next(
+        f"forged {signer} {statement}" for signer, statement in slow_play.signatures_in(envelope)
+        if signer not in world.traitors and (signer, statement) not in world.known
+    )
 
 
 def why_refused(world, event, code):
+    """The word of the reason, and what belongs to it."""
     word, a, b, *more = event
-    texts = {
+    reasons = {
         5: lambda: why_not_due(world, word, a, b, more[0] if more else None),
-        6: lambda: f"an envelope lies in the box from {a} to {b}",
-        7: lambda: f"no envelope lies in the box from {b} to {a}",
-        8: lambda: why_forged(world, a, more[0]),
-        15: lambda: f"there is no {next(actor for actor in (a, b) if actor not in world.replicas + world.clients)}",
-        16: lambda: f"it is not the part of {a} to {word} {'from' if word == 'take' else 'to'} {b}",
+        6: lambda: "box-full",
+        7: lambda: "box-empty",
+        8: lambda: why_forged(world, more[0]),
+        15: lambda: f"no-actor {next(actor for actor in (a, b) if actor not in world.replicas + world.clients)}",
+        16: lambda: why_wrong_role(world, word, a, b),
     }
-    return texts[code]()
+    return reasons[code]()
+
+
+def sentences(data):
+    """What `dsr explain` says in words where these data lines have a reason: the lines that say why."""
+    for line in data.decode().splitlines():
+        word, *parts = line.split(" ")
+        if word == "why":
+            yield f"    because {REASONS[parts[0]].format(*parts[1:])}"
+        elif word == "no-vote":
+            client, replica, reason, *more = parts
+            yield f"    no vote of {replica} at {client}: {NO_VOTES[reason].format(*more)}"
 
 
 # ---- the lines

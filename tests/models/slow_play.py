@@ -65,12 +65,13 @@ def signed_by(signed):
 
 
 def signatures_on(chain):
+    """First the replicas', then those beside the requests."""
     slot, value, signatures = parts_of(chain)
-    found, before = [signed_by(signed) for signed in value], []
+    found = []
     for text in signatures:
-        found.append(signature(text, f"{slot}/{content_of(value)}/{'+'.join(before) or '-'}"))
-        before.append(found[-1][0])
-    return found
+        before = "+".join(signer for signer, _ in found) or "-"
+        found.append(signature(text, f"{slot}/{content_of(value)}/{before}"))
+    return found + [signed_by(signed) for signed in value]
 
 
 @functools.lru_cache(maxsize=100_000)

@@ -8,7 +8,7 @@ use dsr_ledger::Reply;
 use dsr_names::{ClientId, Refusal, ReplicaId};
 use dsr_world::World;
 
-/// Notes whether the envelope is a vote, and whether the client accepted a reply by it.
+/// Notes whether the envelope is a vote, and whether the client thereby accepted a reply.
 pub(crate) fn tell_reply(
     world: &World,
     client: ClientId,

@@ -4,12 +4,12 @@ use crate::note::{ChainFate, Dropped, Note};
 use crate::pieces::put_number;
 use crate::standing::{accepted_last, content_of};
 use crate::texts::Told;
-use crate::words::{fault_word, write_content, write_no_vote, write_reason};
+use crate::words::{fault_word, write_content, write_no_vote};
 use dsr_chain::Chain;
 use dsr_desk::Content;
 use dsr_names::{ClientId, Refusal, ReplicaId};
 use dsr_slot::Fate;
-use dsr_world::{Event, World};
+use dsr_world::World;
 use std::fmt::Write;
 
 /// The beginnings of the line for a chain that a replica reads, by the replica's number.
@@ -32,17 +32,10 @@ static CHAIN_AT: [&str; 16] = [
     "chain r15 ",
 ];
 
-/// The rounds of a slot, by their numbers, as written after the slot.
-static IN_ROUNDS: [&str; 17] = [
-    " 0", " 1", " 2", " 3", " 4", " 5", " 6", " 7", " 8", " 9", " 10", " 11", " 12", " 13", " 14",
-    " 15", " 16",
-];
-
-/// Writes the note of this event as a line of data; `told` is the text about the event's envelope.
+/// Writes the note as a line of data; `told` has the texts about the event's envelope.
 pub(crate) fn write_data(
     out: &mut String,
     world: &World,
-    event: &Event,
     note: &Note,
     told: Option<&Told>,
 ) -> Result<(), Refusal> {
@@ -59,12 +52,12 @@ pub(crate) fn write_data(
             }
             write_fate(out, fate)
         }
-        _ => write_other(out, world, event, note),
+        _ => write_other(out, world, note),
     }
 }
 
 /// Writes a note about anything except a chain that was taken.
-fn write_other(out: &mut String, world: &World, event: &Event, note: &Note) -> Result<(), Refusal> {
+fn write_other(out: &mut String, world: &World, note: &Note) -> Result<(), Refusal> {
     match note {
         Note::Silence { .. } | Note::Kept { .. } => write_kept(out, note),
         Note::Closed { .. } | Note::Decided { .. } => write_end(out, world, note),
@@ -73,7 +66,7 @@ fn write_other(out: &mut String, world: &World, event: &Event, note: &Note) -> R
         | Note::Stale { .. }
         | Note::Held { .. }
         | Note::Dropped { .. } => write_request(out, note),
-        _ => write_client(out, world, event, note),
+        _ => write_client(out, world, note),
     }
 }
 
@@ -142,21 +135,10 @@ fn write_request(out: &mut String, note: &Note) -> Result<(), Refusal> {
     Ok(())
 }
 
-/// Writes a note about a client, or about a refusal.
-fn write_client(
-    out: &mut String,
-    world: &World,
-    event: &Event,
-    note: &Note,
-) -> Result<(), Refusal> {
+/// Writes a note about a client.
+fn write_client(out: &mut String, world: &World, note: &Note) -> Result<(), Refusal> {
     match note {
         Note::Accepted { client } => write_accepted(out, world, *client),
-        Note::Refused(why) => {
-            out.push_str("why ")?;
-            write_reason(out, world, event, why)?;
-            out.push_str("\n")?;
-            Ok(())
-        }
         _ => write_vote(out, note),
     }
 }
@@ -176,7 +158,7 @@ fn write_vote(out: &mut String, note: &Note) -> Result<(), Refusal> {
             why,
         } => {
             write!(out, "no-vote {client} {replica} ")?;
-            write_no_vote(out, why)?;
+            write_no_vote(out, true, why)?;
             out.push_str("\n")?;
         }
         _ => {}
@@ -193,7 +175,7 @@ fn write_accepted(out: &mut String, world: &World, client: ClientId) -> Result<(
     Ok(())
 }
 
-/// Writes the part of a chain's line that depends neither on what becomes of it nor on where it is read.
+/// Writes the part of a chain's line that depends neither on the chain's fate nor on its reader.
 pub(crate) fn write_chain(out: &mut String, chain: &Chain) -> Result<(), Refusal> {
     let signers = chain.signers();
     write!(out, " {signers} ")?;
@@ -202,7 +184,7 @@ pub(crate) fn write_chain(out: &mut String, chain: &Chain) -> Result<(), Refusal
     Ok(())
 }
 
-/// Writes the beginning of a chain's line: where it is read.
+/// Writes the beginning of a chain's line: the replica that reads it, its slot and the slot's round.
 fn write_read(
     out: &mut String,
     replica: ReplicaId,
@@ -215,13 +197,11 @@ fn write_read(
     };
     out.push_str(CHAIN_AT[replica.number() as usize])?;
     put_number(out, slot)?;
-    if let Some(round) = IN_ROUNDS.get(round as usize) {
-        out.push_str(*round)?;
-    }
-    Ok(())
+    out.push_str(" ")?;
+    put_number(out, round as u64)
 }
 
-/// Writes the end of a chain's line: what became of it.
+/// Writes the end of a chain's line: the chain's fate.
 fn write_fate(out: &mut String, fate: &ChainFate) -> Result<(), Refusal> {
     match fate {
         ChainFate::NotInFlight => out.push_str("not-in-flight\n")?,

@@ -1,4 +1,4 @@
-//! What actors do, as the lines of events describe it.
+//! Who does what to whom: the middle part of an event's line.
 
 use crate::pieces::name_of;
 use crate::wanted::{actor_of, other_of};
@@ -7,7 +7,7 @@ use dsr_world::Event;
 use std::alloc::Global;
 use std::fmt::Write;
 
-/// The verbs of the four kinds of events, in words and as data.
+/// The verbs of the four kinds of events: in words, and as data.
 static WORDS: [&str; 4] = [" posts to ", " plants for ", " takes from ", " tells "];
 
 static DATA: [&str; 4] = ["post ", "plant ", "take ", "tell "];
@@ -18,12 +18,12 @@ static DATA: [&str; 4] = ["post ", "plant ", "take ", "tell "];
 pub(crate) struct Doings {
     shape: Shape,
     as_data: bool,
-    /// The texts, by the kind of the event, the place of its actor, and that of the other actor. Empty if not made yet.
+    /// The texts, by the event's kind and the places of its two actors. Empty until first used.
     texts: Vec<String>,
 }
 
 impl Doings {
-    /// Creates the table without any text, as data or in words. `NoMemory` if memory runs out.
+    /// Creates the table without any text. `as_data` says which texts it will have. `NoMemory` if memory runs out.
     pub(crate) fn new(alloc: Global, shape: Shape, as_data: bool) -> Result<Doings, Refusal> {
         let count = shape.size().saturating_mul(shape.size()).saturating_mul(4);
         let mut texts = Vec::with_capacity(alloc, count)?;
@@ -37,7 +37,7 @@ impl Doings {
         })
     }
 
-    /// Writes what this event did. Its actors are in the shape.
+    /// Writes what this event did. Its actors must be in the shape.
     pub(crate) fn write_done(&mut self, out: &mut String, event: &Event) -> Result<(), Refusal> {
         let (place, as_data) = (self.place(event), self.as_data);
         if let Some(text) = self.texts.get_mut(place) {
@@ -79,7 +79,7 @@ pub(crate) fn write_refused(
     Ok(())
 }
 
-/// Writes who does what to whom by this event.
+/// Writes who does what to whom.
 fn write_doing(out: &mut String, as_data: bool, event: &Event) -> Result<(), Refusal> {
     let (kind, actor) = (kind_of(event), name_of(actor_of(event)));
     if as_data {

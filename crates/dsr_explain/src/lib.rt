@@ -1,19 +1,18 @@
-//! Explains the outcome of a play: each event with its line, what became of each chain that was read, what was decided and which of its
-//! requests acted, who voted for which reply, why an event was refused, and who waits for whom at the end.
+//! Explains the outcome of a play: each event with its line, the fate of each chain, what was decided and which of its requests acted, who voted
+//! for which reply, why an event was refused, and who waits for whom at the end.
 //!
-//! What is told about a chain, a slot, a vote or a box is what the crates that own them return, by their contracts. How it is put into
-//! words is tested, not proved.
+//! The line that says why an event was refused is proved to the letter (`write_why`). What the explanation says about a chain, a slot, a vote or
+//! a box is what the crates that own them return; their contracts say what that is. The wording is tested, not proved.
 #![tactic(auto)]
 
 mod before;
 mod client_notes;
-mod counts;
 mod data;
 mod doings;
 mod ending;
 mod note;
 mod notes;
-mod parts;
+mod nothing;
 mod pieces;
 mod reading;
 mod replica_notes;
@@ -21,10 +20,10 @@ mod standing;
 mod story;
 mod telling;
 mod texts;
-mod trouble;
 mod wanted;
 mod why;
 mod words;
 
 pub use telling::{Explained, explain};
 pub use wanted::Wanted;
+pub use why::write_why;

@@ -1,5 +1,5 @@
 use dsr_chain::Chain;
-use dsr_names::{Actor, ClientId, ReplicaId};
+use dsr_names::{ClientId, ReplicaId};
 use dsr_request::Request;
 use dsr_slot::Fate;
 
@@ -26,7 +26,7 @@ pub(crate) enum Note {
         /// The slot's round in which it was read.
         round: u8,
     },
-    /// A replica chose to propose nothing in its slot, though it holds this request, which has not acted there and is in no chain that it keeps.
+    /// A replica chose to propose nothing in its slot, though it holds this request, which neither acted there nor is in a chain that it keeps.
     Unproposed {
         replica: ReplicaId,
         slot: u64,
@@ -37,7 +37,7 @@ pub(crate) enum Note {
         replica: ReplicaId,
         round: u64,
     },
-    /// A loyal replica decided a slot, for which it had kept `kept` contents.
+    /// A loyal replica decided a slot; it kept `kept` contents for it.
     Decided {
         replica: ReplicaId,
         slot: u64,
@@ -83,8 +83,6 @@ pub(crate) enum Note {
     Accepted {
         client: ClientId,
     },
-    /// Why the event was refused.
-    Refused(Why),
 }
 
 /// What became of a chain.
@@ -101,7 +99,7 @@ pub(crate) enum ChainFate {
 pub(crate) enum Dropped {
     /// It is not an ask.
     NoAsk,
-    /// The request is not signed by this client as its own.
+    /// The client did not sign the request as its own.
     NotSigned,
     /// An ask with a greater number is held.
     Older,
@@ -120,55 +118,8 @@ pub(crate) enum NoVote {
     HasVoted,
 }
 
-/// Why an event was refused.
-#[derive(Clone, Copy)]
-pub(crate) enum Why {
-    /// The actor is not in the shape.
-    NoActor(Actor),
-    /// The actor is a traitor: it posts by `plant`.
-    Traitor(Actor),
-    /// The actor is loyal: it posts by `post`.
-    Loyal(Actor),
-    /// Clients do not post to each other; they tell.
-    BothClients,
-    /// Only clients tell, and only other clients.
-    NotTwoClients,
-    /// A client does not take from itself.
-    FromItself,
-    /// The replica must first post to this one.
-    PostsFirst { to: ReplicaId },
-    /// The replica must first take from this one.
-    TakesFirst { from: ReplicaId },
-    /// A choice is made only at the post to r0.
-    ChosenBefore,
-    /// The slot that begins with the round has another sender.
-    OtherSender { slot: u64, sender: ReplicaId },
-    /// The replica holds no ask of this client.
-    NothingHeld { client: ClientId },
-    /// A replica does not begin requests.
-    BeginsNothing,
-    /// No request of the client has acted at the replica.
-    NothingActed { client: ClientId },
-    /// A replica has no choice at a post to a client.
-    NoChoice,
-    /// A client does not propose.
-    ProposesNothing,
-    /// The client's request with this number is outstanding.
-    Outstanding(u64),
-    /// No request of the client is outstanding.
-    NothingOutstanding,
-    /// The box holds an envelope that was not taken yet.
-    NotTaken,
-    /// The box is empty.
-    NothingPosted,
-    /// A signature is neither a traitor's nor posted by its signer.
-    Forged,
-    /// A counter would pass its limit.
-    Exhausted,
-}
-
 impl Note {
-    /// Returns the slot that the note is about, if it is about one.
+    /// Returns the slot that the note is about; `None` if the note concerns no single slot.
     pub(crate) fn slot(&self) -> Option<u64> {
         match self {
             Note::Kept { chain, .. } => Some(chain.slot()),

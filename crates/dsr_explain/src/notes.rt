@@ -2,7 +2,7 @@ use crate::note::Note;
 use dsr_names::Refusal;
 use std::alloc::Global;
 
-/// The notes of an event, in the order in which they are told.
+/// The notes of an event, in the order in which the explanation gives them.
 #[derive(Drop)]
 pub(crate) struct Notes {
     items: Vec<Note>,

@@ -1,17 +1,16 @@
-//! Notes what becomes of the chains of an envelope, before it is taken. Two chains of one slot are read by copies of the states of the slots in flight.
+//! Notes the fate of an envelope's chains, before the envelope is taken. If two chains are of one slot, copies of the slots' states read them.
 
 use crate::note::{ChainFate, Note};
 use crate::notes::Notes;
 use dsr_chain::Chain;
 use dsr_envelope::Envelope;
 use dsr_names::{Actor, Refusal, ReplicaId};
-use dsr_replica::Replica;
 use dsr_slot::{Kept, SlotState};
 use dsr_world::World;
 use std::alloc::Global;
 
-/// Notes what becomes of the chains that the replica is to take from another one, and what it will have kept for the slot that closes with the
-/// round. Notes nothing if there is nothing to take.
+/// Notes the fate of the chains that the replica is about to take from another one, and what it will have kept for the slot that closes with the
+/// round. Notes nothing if no envelope is there.
 pub(crate) fn read_envelope(
     alloc: Global,
     world: &World,
@@ -29,13 +28,13 @@ pub(crate) fn read_envelope(
     let Some(letter) = world.in_box(&poster, &at) else {
         return Ok(());
     };
-    let round = round_of(loyal);
+    let round = loyal.round();
     let envelope = letter.envelope();
     if !counts_in(envelope, round) {
         notes.push(Note::Silence { replica, round })?;
     }
     let chains = chains_in(envelope, round);
-    // the states themselves tell what becomes of a chain, unless an earlier chain of the same slot would have changed them
+    // The states themselves give a chain's fate, unless an earlier chain of the same slot would have changed them.
     if has_slot_twice(chains) {
         let mut states = copies_of(alloc, loyal.in_flight())?;
         read_chains(chains, replica, &mut states, notes)?;
@@ -58,14 +57,6 @@ fn has_slot_twice(chains: &[Chain]) -> bool {
         }
     }
     false
-}
-
-/// Returns the round in progress, by the newest slot: one begins with each round.
-pub(crate) fn round_of(replica: &Replica) -> u64 {
-    match replica.in_flight().last() {
-        Some(newest) => newest.slot(),
-        None => 0,
-    }
 }
 
 /// Copies the states.
@@ -97,7 +88,7 @@ fn chains_in(envelope: &Envelope, round: u64) -> &[Chain] {
     }
 }
 
-/// Notes what becomes of each of the chains, which are of different slots.
+/// Notes the fate of each of the chains, which are of different slots.
 fn tell_chains(
     chains: &[Chain],
     replica: ReplicaId,
@@ -110,7 +101,7 @@ fn tell_chains(
     Ok(())
 }
 
-/// Reads the chains, and notes what becomes of each.
+/// Reads the chains, and notes the fate of each.
 fn read_chains(
     chains: &[Chain],
     replica: ReplicaId,
@@ -124,7 +115,7 @@ fn read_chains(
     Ok(())
 }
 
-/// Notes what becomes of the chain at this place of the envelope when it is read in its slot, or that its slot is not in flight.
+/// Notes the fate of the chain at this place of the envelope, or that its slot is not in flight.
 fn tell_chain(
     chain: &Chain,
     place: usize,
@@ -143,7 +134,7 @@ fn tell_chain(
     })
 }
 
-/// Returns the state of this slot, if it is in flight. Slots in flight are consecutive.
+/// Returns the state of this slot; `None` if the slot is not in flight. Slots in flight are consecutive.
 fn state_of(states: &[SlotState], slot: u64) -> Option<&SlotState> {
     let oldest = states.first()?.slot();
     let state = states.get(slot.saturating_sub(oldest) as usize)?;
@@ -154,7 +145,7 @@ fn state_of(states: &[SlotState], slot: u64) -> Option<&SlotState> {
     }
 }
 
-/// Notes what becomes of the chain when it is read in this slot.
+/// Notes the fate of the chain in this slot.
 fn tell_fate(
     state: &SlotState,
     chain: &Chain,
@@ -193,7 +184,7 @@ fn read_in(state: &mut SlotState, chain: &Chain) -> Result<(), Refusal> {
     Ok(())
 }
 
-/// Notes what is kept for the slot that is in its last round, if there is one, once these chains are read.
+/// Notes what is kept for the slot in its last round once these chains are read. Notes nothing if no slot is in its last round.
 fn tell_kept(
     states: &[SlotState],
     chains: &[Chain],
@@ -217,7 +208,7 @@ fn tell_kept(
     tell_one(second, replica, notes)
 }
 
-/// Notes that the chain is kept, if there is one.
+/// Notes that this chain is kept; notes nothing for `None`.
 fn tell_one(kept: Option<&Kept>, replica: ReplicaId, notes: &mut Notes) -> Result<(), Refusal> {
     if let Some(kept) = kept {
         notes.push(Note::Kept {

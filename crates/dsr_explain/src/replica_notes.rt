@@ -4,7 +4,6 @@
 use crate::before::Before;
 use crate::note::{Dropped, Note};
 use crate::notes::Notes;
-use crate::reading::round_of;
 use dsr_envelope::Envelope;
 use dsr_names::{Actor, ClientId, Refusal, ReplicaId};
 use dsr_replica::Replica;
@@ -28,7 +27,7 @@ pub(crate) fn tell_take(
     }
     notes.push(Note::Closed {
         replica,
-        round: round_of(loyal).saturating_sub(1),
+        round: loyal.round().saturating_sub(1),
     })?;
     if loyal.decided().len() > before.decided {
         tell_decision(loyal, replica, before, notes)?;
@@ -138,7 +137,7 @@ pub(crate) fn tell_ask(
     Ok(())
 }
 
-/// Notes which requests the replica, which chose to propose nothing, could have proposed, if the slot that begins is its own.
+/// Notes which requests the replica could have proposed, if the slot that begins is its own. It chose to propose nothing.
 pub(crate) fn tell_unproposed(
     world: &World,
     replica: ReplicaId,
@@ -147,7 +146,7 @@ pub(crate) fn tell_unproposed(
     let Ok(loyal) = world.replica(replica) else {
         return Ok(());
     };
-    let slot = round_of(loyal);
+    let slot = loyal.round();
     if world.shape().sender(slot) != replica {
         return Ok(());
     }
@@ -166,7 +165,7 @@ pub(crate) fn tell_unproposed(
     Ok(())
 }
 
-/// Returns the client's request that the replica holds, if it neither acted there nor is in a chain that the replica keeps.
+/// Returns the client's request that the replica holds. `None` if the request acted there or is in a chain that the replica keeps.
 fn waiting_of(loyal: &Replica, client: ClientId) -> Option<Request> {
     let request = loyal.held(client)?;
     if has_passed(loyal, client, &request) || is_kept(loyal, &request) {
@@ -195,7 +194,7 @@ fn is_kept(loyal: &Replica, request: &Request) -> bool {
     false
 }
 
-/// Tells whether the chain, if there is one, has the request.
+/// Tells whether there is a chain and it has the request.
 fn has_request(kept: Option<&Kept>, request: &Request) -> bool {
     let Some(kept) = kept else {
         return false;

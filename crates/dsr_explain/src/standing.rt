@@ -3,7 +3,7 @@
 use dsr_chain::Chain;
 use dsr_envelope::{Entry, Envelope};
 use dsr_ledger::Reply;
-use dsr_names::{ClientId, ReplicaId};
+use dsr_names::{Actor, ClientId, ReplicaId};
 use dsr_request::Requests;
 use dsr_world::World;
 
@@ -40,5 +40,16 @@ pub(crate) fn accepted_last(world: &World, client: ClientId) -> Option<Reply> {
     match world.accepted(client) {
         Ok(replies) => replies.last().copied(),
         Err(_) => None,
+    }
+}
+
+/// Returns the envelope in the box from one actor to another. `None` if the box is empty, or one of them is not in the shape.
+pub(crate) fn in_box(world: &World, from: Actor, to: Actor) -> Option<&Envelope> {
+    if !world.shape().has(from) || !world.shape().has(to) {
+        return None;
+    }
+    match world.in_box(&from, &to) {
+        Some(letter) => Some(letter.envelope()),
+        None => None,
     }
 }

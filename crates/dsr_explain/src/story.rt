@@ -1,4 +1,10 @@
-//! The story of a play, told event by event in a new world.
+//! Explains a play event by event, in a new world.
+
+ghost use Rattle.std.specs.Prelude.{◌≡◌, Option, IfOk, IfSome, IfNone, OnOk, string_bytes};
+ghost use Rattle.dsr_ledger.specs.declared.reply.Reply.{Reply as AReply};
+ghost use Rattle.dsr_run.specs.Step.{log_of};
+ghost use Rattle.dsr_world.specs.Event.{HasDone, IsRefusedBy, MayBeDone};
+ghost use Rattle.dsr_explain.specs.Reason.{EndsWithCause};
 
 use crate::before::Before;
 use crate::client_notes::tell_reply;
@@ -12,7 +18,7 @@ use crate::replica_notes::{tell_ask, tell_take, tell_unproposed};
 use crate::standing::last_envelope;
 use crate::texts::{Texts, Told, write_draft, write_none};
 use crate::wanted::Wanted;
-use crate::why::why_of;
+use crate::why::write_why;
 use crate::words::{write_choice, write_note};
 use dsr_envelope::Pick;
 use dsr_ledger::Reply;
@@ -23,13 +29,13 @@ use std::alloc::Global;
 use std::fmt::Write;
 use std::mem;
 
-/// The number of bytes that are reserved for each event of a long play.
+/// How many bytes `make_room` reserves for each event.
 const ROOM_OF_AN_EVENT: usize = 128;
 
-/// For each replica, by its number, how many contents it had kept for a slot when it decided the slot. `None` if it has not decided it.
+/// For each replica, by its number, how many contents it kept for a slot before it decided the slot; `None` if it has not decided it.
 pub(crate) type KeptBy = [Option<u8>; 16];
 
-/// The story of a play so far.
+/// The explanation of a play so far, and the world in which its events happen.
 #[derive(Drop)]
 pub(crate) struct Story {
     pub(crate) world: World,
@@ -40,7 +46,7 @@ pub(crate) struct Story {
     line: u64,
     head: String,
     /// The number of events so far.
-    events: u64,
+    pub(crate) events: u64,
     /// The number of refused events, and the line of the first.
     pub(crate) refused: u64,
     pub(crate) first_refused: u64,
@@ -75,36 +81,46 @@ impl Story {
         })
     }
 
-    /// Makes room for the text about `events` events, if all of it is wanted. If that is refused, the text grows as needed.
+    /// Reserves room for the text about `events` events, if all of it is wanted.
     pub(crate) fn make_room(&mut self, events: usize) {
         if self.wanted.is_of_all() && !self.wanted.refused {
-            // Without this room the text grows as needed.
+            // If memory is refused here, the text still grows as needed.
             let _ = self.out.reserve(events.saturating_mul(ROOM_OF_AN_EVENT));
         }
     }
 
-    /// Makes the event of this line happen, and tells about it. `NoMemory` if memory runs out; the story is of no use then.
+    /// Makes the event of this line happen, and explains it. `NoMemory` if memory runs out; the story must not be used then.
     pub(crate) fn tell(&mut self, alloc: Global, line: u64, event: &Event) -> Result<(), Refusal> {
         let mut notes = mem::replace(&mut self.notes, Notes::new(alloc));
         notes.clear();
-        let refusal = self.step(alloc, event, &mut notes)?;
-        if refusal.is_some() {
-            self.note_refused(line);
+        match self.step(alloc, event, &mut notes)? {
+            Some(refusal) => {
+                self.tell_refusal(line, event, &refusal)?;
+                self.note_refused(line);
+            }
+            None => {
+                self.note_kept(notes.as_slice())?;
+                self.tell_notes(alloc, line, event, notes.as_slice())?;
+            }
         }
-        self.note_kept(notes.as_slice())?;
-        self.write(alloc, line, event, refusal, notes.as_slice())?;
         self.notes = notes;
         self.events = self.events.saturating_add(1);
         Ok(())
     }
 
-    /// Makes the event happen, and notes what is to be told about it. Returns the refusal, if it was refused.
+    /// Makes the event happen, and adds its notes. Returns its refusal; `None` if the event was done. `NoMemory` if memory runs out.
     fn step(
         &mut self,
         alloc: Global,
         event: &Event,
         notes: &mut Notes,
-    ) -> Result<Option<Refusal>, Refusal> {
+    ) -> Result<Option<Refusal>, Refusal>
+        ensures done { IfOk result (λ refusal. IfNone refusal
+            ((reply : Option AReply) × HasDone self.old.world.shape self.new.world.run self.old.world.run event.now reply)) }
+        ensures refused { IfOk result (λ refusal. IfSome refusal (IsRefusedBy self.old.world.shape (log_of self.old.world.run) event.now)) }
+        ensures unchanged { IfOk result (λ refusal. IfSome refusal (λ _. self.new.world ≡ self.old.world)) }
+        ensures stopped { IfOk result (λ refusal. IfSome refusal (λ _. ¬ MayBeDone self.new.world.shape (log_of self.new.world.run) event.now)) }
+    {
         let before = Before::of(&self.world, event);
         if let Event::Take {
             at: Actor::Replica(replica),
@@ -119,12 +135,26 @@ impl Story {
                 Ok(None)
             }
             Err(Refusal::NoMemory) => Err(Refusal::NoMemory),
-            Err(refusal) => {
-                notes.clear();
-                notes.push(Note::Refused(why_of(&self.world, event, &refusal)))?;
-                Ok(Some(refusal))
-            }
+            Err(refusal) => Ok(Some(refusal)),
         }
+    }
+
+    /// Writes the event that was refused, and why, if the filter wants it.
+    fn tell_refusal(&mut self, line: u64, event: &Event, refusal: &Refusal) -> Result<(), Refusal>
+        requires { ¬ MayBeDone self.old.world.shape (log_of self.old.world.run) event.now }
+        ensures told { OnOk result (EndsWithCause self.old.world.shape (log_of self.old.world.run) event.now self.old.wanted.data
+            (string_bytes self.old.out) (string_bytes self.new.out)) }
+    {
+        if !self.wanted.has(event, true, &[]) {
+            return Ok(());
+        }
+        let as_data = self.wanted.data;
+        set_line(&mut self.line, &mut self.head, as_data, line)?;
+        write_head(&mut self.out, as_data, self.head.as_str(), self.events)?;
+        write_refused(&mut self.out, as_data, event, refusal)?;
+        write_end(&mut self.out, as_data, event, None)?;
+        write_why(&mut self.out, as_data, &self.world, event)?;
+        Ok(())
     }
 
     /// Counts an event of this line that was refused.
@@ -135,7 +165,7 @@ impl Story {
         self.refused = self.refused.saturating_add(1);
     }
 
-    /// Stores, if the notes say that a slot was decided, how many contents were kept for it.
+    /// Stores how many contents were kept for a slot that was decided, if the notes have one.
     fn note_kept(&mut self, notes: &[Note]) -> Result<(), Refusal> {
         for note in notes {
             if let Note::Decided {
@@ -157,59 +187,47 @@ impl Story {
         Ok(())
     }
 
-    /// Writes the event and its notes, if they are wanted.
-    fn write(
+    /// Writes the event, which was done, and its notes, if the filter wants them.
+    fn tell_notes(
         &mut self,
         alloc: Global,
         line: u64,
         event: &Event,
-        refusal: Option<Refusal>,
         notes: &[Note],
     ) -> Result<(), Refusal> {
-        if !self.wanted.has(event, refusal.is_some(), notes) {
-            if refusal.is_none() {
-                self.texts.forget(event);
-            }
+        if !self.wanted.has(event, false, notes) {
+            self.texts.forget(event);
             return Ok(());
         }
-        if refusal.is_none() {
-            if let Some(envelope) = last_envelope(&self.world) {
-                self.texts.note_done(alloc, event, envelope)?;
-            }
+        if let Some(envelope) = last_envelope(&self.world) {
+            self.texts.note_done(alloc, event, envelope)?;
         }
-        self.set_line(line)?;
-        let told = self.texts.told(event, refusal.is_none());
-        write_head(
-            &mut self.out,
-            self.wanted.data,
-            self.head.as_str(),
-            self.events,
-        )?;
-        match refusal {
-            Some(refusal) => write_refused(&mut self.out, self.wanted.data, event, &refusal)?,
-            None => self.doings.write_done(&mut self.out, event)?,
-        }
-        write_end(&mut self.out, self.wanted.data, event, told)?;
-        write_notes(&mut self.out, &self.world, &self.wanted, event, notes, told)
-    }
-
-    /// Sets how the texts of events name this line of the play.
-    fn set_line(&mut self, line: u64) -> Result<(), Refusal> {
-        if self.line == line {
-            return Ok(());
-        }
-        self.line = line;
-        self.head.clear();
-        if self.wanted.data {
-            write!(self.head, " {line} ")?;
-        } else {
-            write!(self.head, "line {line}, event ")?;
-        }
-        Ok(())
+        let as_data = self.wanted.data;
+        set_line(&mut self.line, &mut self.head, as_data, line)?;
+        write_head(&mut self.out, as_data, self.head.as_str(), self.events)?;
+        self.doings.write_done(&mut self.out, event)?;
+        let told = self.texts.told(event, true);
+        write_end(&mut self.out, as_data, event, told)?;
+        write_notes(&mut self.out, &self.world, &self.wanted, notes, told)
     }
 }
 
-/// Returns the text before any event: as data, its version and the shape.
+/// Sets how the texts of events name this line of the play.
+fn set_line(current: &mut u64, head: &mut String, as_data: bool, line: u64) -> Result<(), Refusal> {
+    if *current == line {
+        return Ok(());
+    }
+    *current = line;
+    head.clear();
+    if as_data {
+        write!(head, " {line} ")?;
+    } else {
+        write!(head, "line {line}, event ")?;
+    }
+    Ok(())
+}
+
+/// Returns the text before any event: empty in words, the version and the shape as data.
 fn first_line(alloc: Global, shape: Shape, as_data: bool) -> Result<String, Refusal> {
     let mut out = String::new(alloc);
     if as_data {
@@ -218,7 +236,7 @@ fn first_line(alloc: Global, shape: Shape, as_data: bool) -> Result<String, Refu
     Ok(out)
 }
 
-/// Writes the end of the event's line: its envelope, or, if it was refused, what was to be posted.
+/// Writes the end of the event's line: the envelope of an event that was done, or what a refused event was to post.
 fn write_end(
     out: &mut String,
     as_data: bool,
@@ -241,7 +259,6 @@ fn write_notes(
     out: &mut String,
     world: &World,
     wanted: &Wanted,
-    event: &Event,
     notes: &[Note],
     told: Option<&Told>,
 ) -> Result<(), Refusal> {
@@ -250,9 +267,9 @@ fn write_notes(
             continue;
         }
         if wanted.data {
-            write_data(out, world, event, note, told)?;
+            write_data(out, world, note, told)?;
         } else {
-            write_note(out, world, event, note, told)?;
+            write_note(out, world, note, told)?;
         }
     }
     Ok(())

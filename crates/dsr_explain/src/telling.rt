@@ -1,17 +1,16 @@
 ghost use Rattle.std.specs.Prelude.{◌≡◌, None, IfOk, IfErr, IfSome, IsOkUnless};
 ghost use Rattle.dsr_play.specs.Play.{IsPlayRefusal};
 
-use crate::counts::Counts;
 use crate::story::Story;
-use crate::trouble::trouble_of;
 use crate::wanted::Wanted;
 use dsr_base::split_once;
 use dsr_names::Refusal;
+use dsr_trouble::{Counts, trouble_of};
 use dsr_world::{Event, Play};
 use std::alloc::Global;
 use std::mem;
 
-/// The explanation of a play, and the refusal of its text, if it is not a play.
+/// The explanation of a text, and the refusal of a text that is not a play.
 #[derive(Drop)]
 pub struct Explained {
     /// The explanation: why the play came out as it did, or what is wrong with its text.
@@ -21,16 +20,16 @@ pub struct Explained {
     spent: Option<Spent>,
 }
 
-/// A play that was explained, with its world. It is kept for a caller who ends soon and can skip freeing it: to free a long play takes a while.
+/// An explained play, with its world. The caller who ends soon can skip freeing it, which takes a while for a long play.
 #[derive(Drop)]
 struct Spent {
     play: Play,
     story: Story,
 }
 
-/// Plays the play that the text encodes, in a new world, and tells what is wanted about it: the events, each with its line, what came of it and
-/// why; then the outcome of each slot, and who waits for whom. If the text is not a play, it tells the line, the column and what was expected
-/// there. `NoMemory` if memory runs out.
+/// Runs the play that the text encodes in a new world, and explains what is wanted about it: the events, each with its line, what came of it and
+/// why; then the outcome of each slot, and who waits for whom. If the text is not a play, the explanation names the line, the column and what was
+/// expected there. `NoMemory` if memory runs out.
 pub fn explain(alloc: Global, text: &[u8], wanted: &Wanted) -> Result<Explained, Refusal>
     ensures told { IfOk result (λ explained. IfSome explained.refusal (IsPlayRefusal text.now)) }
     ensures refused { IfErr result (IsPlayRefusal text.now) }
@@ -53,7 +52,7 @@ pub fn explain(alloc: Global, text: &[u8], wanted: &Wanted) -> Result<Explained,
     }
 }
 
-/// Tells about each event of the play, line by line.
+/// Explains the play.
 fn tell_all(alloc: Global, text: &[u8], play: Play, wanted: &Wanted) -> Result<Explained, Refusal>
     ensures { IfOk result (λ explained. explained.refusal ≡ None) }
 {
@@ -67,7 +66,7 @@ fn tell_all(alloc: Global, text: &[u8], play: Play, wanted: &Wanted) -> Result<E
     })
 }
 
-/// Tells about the events of the play's text, and about the end.
+/// Explains the events of the play's text, and the end.
 fn tell_story(
     alloc: Global,
     text: &[u8],
@@ -78,10 +77,10 @@ fn tell_story(
     if let Some((header, lines)) = split_once(text, b'\n') {
         tell_lines(alloc, header, lines, events, story)?;
     }
-    story.end()
+    story.end(alloc)
 }
 
-/// Tells about the events, which are those of these lines.
+/// Explains the events of these lines, line by line.
 fn tell_lines(
     alloc: Global,
     header: &[u8],
@@ -93,7 +92,7 @@ fn tell_lines(
     let mut told: usize = 0;
     let mut rest = lines;
     let mut number: u64 = 1;
-    // there are no more lines than bytes
+    // A text has no more lines than bytes.
     for _ in 0..lines.len() {
         let Some((line, after)) = split_once(rest, b'\n') else {
             return Ok(());
@@ -107,7 +106,7 @@ fn tell_lines(
     Ok(())
 }
 
-/// Tells about the line's events: those from the place `first` to before the place `end`.
+/// Explains the line's events: those from the place `first` to before the place `end`.
 fn tell_line(
     alloc: Global,
     number: u64,

@@ -20,12 +20,12 @@ const ROOM: usize = 120;
 pub(crate) struct Told {
     /// The end of the line of an event that posts or takes it: its text.
     end: String,
-    /// The text about each of its chains, which does not depend on what becomes of the chain.
+    /// The text about each of its chains, which does not depend on the chain's fate.
     chains: Vec<String>,
 }
 
 impl Told {
-    /// Makes the texts about the envelope, as data or in words. `NoMemory` if memory runs out.
+    /// Writes the texts about the envelope, either data or words. `NoMemory` if memory runs out.
     fn of(alloc: Global, envelope: &Envelope, as_data: bool) -> Result<Told, Refusal> {
         let mut end = String::with_capacity(alloc, ROOM)?;
         if envelope.fits() {
@@ -43,7 +43,7 @@ impl Told {
         self.end.as_str()
     }
 
-    /// Returns the text about the chain at this place of the envelope, which does not depend on what becomes of the chain.
+    /// Returns the text about the chain at this place of the envelope, which does not depend on the chain's fate.
     pub(crate) fn chain(&self, place: usize) -> &str {
         match self.chains.get(place) {
             Some(chain) => chain.as_str(),
@@ -65,7 +65,7 @@ pub(crate) fn write_none(out: &mut String, as_data: bool) -> Result<(), Refusal>
     Ok(())
 }
 
-/// Makes the text about each chain of the envelope.
+/// Writes the text about each chain of the envelope.
 fn tell_chains(alloc: Global, envelope: &Envelope, as_data: bool) -> Result<Vec<String>, Refusal> {
     let mut told = Vec::new(alloc);
     if let Envelope::Round { chains, .. } = envelope {
@@ -76,7 +76,7 @@ fn tell_chains(alloc: Global, envelope: &Envelope, as_data: bool) -> Result<Vec<
     Ok(told)
 }
 
-/// Makes the text about the chain.
+/// Writes the text about the chain.
 fn tell_chain(alloc: Global, chain: &Chain, as_data: bool) -> Result<String, Refusal> {
     let mut text = String::with_capacity(alloc, ROOM)?;
     if as_data {
@@ -88,7 +88,7 @@ fn tell_chain(alloc: Global, chain: &Chain, as_data: bool) -> Result<String, Ref
 }
 
 /// The texts about the envelopes that a loyal actor posts to replicas: the last one, which it may post again, and the one before, which
-/// may not be taken yet.
+/// some replica may not have taken yet.
 #[derive(Drop)]
 struct Posted {
     /// The number of envelopes so far.
@@ -107,7 +107,7 @@ impl Posted {
         }
     }
 
-    /// Adds an envelope: its texts, or `None` if they are not made.
+    /// Adds an envelope: its texts, or `None` if they were not written.
     fn put(&mut self, told: Option<Told>) {
         self.before = mem::replace(&mut self.last, told);
         self.count = self.count.saturating_add(1);
@@ -128,11 +128,11 @@ impl Posted {
 /// The texts about the contents of a box.
 #[derive(Drop)]
 enum Lying {
-    /// The box is empty, or its texts are not made.
+    /// The box is empty, or its texts were not written.
     Nothing,
-    /// Those about the envelope with this number among those that its poster posted to replicas.
+    /// The texts about the envelope with this number among those that its poster posted to replicas.
     Posted(u64),
-    /// These, about an envelope that was posted only to this box.
+    /// These texts, about an envelope that was posted only to this box.
     Alone(Told),
 }
 
@@ -147,7 +147,7 @@ pub(crate) struct Texts {
 }
 
 impl Texts {
-    /// Creates the table without any text, as data or in words. `NoMemory` if memory runs out.
+    /// Creates the table without any text. `as_data` says which texts it will have. `NoMemory` if memory runs out.
     pub(crate) fn new(alloc: Global, as_data: bool) -> Result<Texts, Refusal> {
         Ok(Texts {
             as_data,
@@ -156,7 +156,7 @@ impl Texts {
         })
     }
 
-    /// Makes the texts about the envelope that this event, which was done, posted or took. `NoMemory` if memory runs out.
+    /// Writes the texts about the envelope that this event, which was done, posted or took. `NoMemory` if memory runs out.
     pub(crate) fn note_done(
         &mut self,
         alloc: Global,
@@ -167,7 +167,7 @@ impl Texts {
             return self.note_posted(alloc, event, envelope);
         }
         if let Event::Take { .. } = event {
-            // The box may still hold an ask from before the client's last two requests; its texts are made anew.
+            // The box may still hold an ask from before the client's last two requests; its texts have to be written anew.
             if self.told(event, true).is_some() {
                 return Ok(());
             }
@@ -177,7 +177,7 @@ impl Texts {
         Ok(())
     }
 
-    /// Makes the texts about the envelope that a loyal actor posted to a replica.
+    /// Writes the texts about the envelope that a loyal actor posted to a replica.
     fn note_posted(
         &mut self,
         alloc: Global,
@@ -198,7 +198,7 @@ impl Texts {
         Ok(())
     }
 
-    /// Returns the texts about the envelope that this event posted or took, if it was done.
+    /// Returns the texts about the envelope that this event posted or took; `None` if it was refused, or they were not written.
     pub(crate) fn told(&self, event: &Event, was_done: bool) -> Option<&Told> {
         if !was_done {
             return None;
@@ -210,7 +210,7 @@ impl Texts {
         }
     }
 
-    /// Forgets the texts that are out of date after this event, which was done and is not to be told.
+    /// Forgets the texts that are out of date after this event, which was done but is not wanted.
     pub(crate) fn forget(&mut self, event: &Event) {
         if let Event::Take { .. } = event {
             return;
@@ -246,8 +246,8 @@ fn is_to_replica(event: &Event) -> bool {
     }
 }
 
-/// Tells whether the event posts again what a loyal actor posted to a replica before: a replica posts to another than replica 0 in a round, or a
-/// client asks again.
+/// Tells whether a loyal actor posts again what it posted to another replica before: a replica after its post to replica 0 in a round, a client
+/// that begins no new request.
 fn is_again(event: &Event) -> bool {
     match event {
         Event::Post {

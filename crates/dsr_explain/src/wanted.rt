@@ -1,8 +1,11 @@
+ghost use Rattle.std.specs.Prelude.{◌≡◌};
+ghost use Rattle.dsr_explain.specs.Reason.{actor_of, other_of};
+
 use crate::note::Note;
 use dsr_names::Actor;
 use dsr_world::Event;
 
-/// Which events of a play to tell, and how.
+/// Which events of a play to explain, and how.
 #[derive(Clone, Copy, Debug)]
 pub struct Wanted {
     /// If `Some`: only those that read a chain of this slot or decided it.
@@ -16,12 +19,12 @@ pub struct Wanted {
 }
 
 impl Wanted {
-    /// Tells whether the event, which has these notes, is to be told.
+    /// Tells whether the event, which has these notes, is wanted.
     pub(crate) fn has(&self, event: &Event, was_refused: bool, notes: &[Note]) -> bool {
         (was_refused || !self.refused) && self.has_actor(event) && self.has_slot(notes)
     }
 
-    /// Tells whether the note is to be told; a note that is not about a slot always is.
+    /// Tells whether the note of a wanted event is wanted. A note that concerns no single slot always is.
     pub(crate) fn has_note(&self, note: &Note) -> bool {
         match (self.slot, note.slot()) {
             (Some(wanted), Some(slot)) => slot == wanted,
@@ -29,17 +32,17 @@ impl Wanted {
         }
     }
 
-    /// Tells whether the events of all slots and actors are to be told.
+    /// Tells whether the events of all slots and actors are wanted.
     pub(crate) fn is_of_all(&self) -> bool {
         self.slot.is_none() && self.actor.is_none()
     }
 
-    /// Tells whether the outcome of this slot is to be told.
+    /// Tells whether the outcome of this slot is wanted.
     pub(crate) fn has_end_of(&self, slot: u64) -> bool {
         !self.refused && self.actor.is_none() && (self.slot.is_none() || self.slot == Some(slot))
     }
 
-    /// Tells whether to tell whom this actor waits for.
+    /// Tells whether it is wanted for whom this actor waits.
     pub(crate) fn has_wait_of(&self, actor: Actor) -> bool {
         match self.actor {
             Some(wanted) => wanted == actor,
@@ -47,7 +50,7 @@ impl Wanted {
         }
     }
 
-    /// Tells whether the event is by the wanted actor, or no particular actor is wanted.
+    /// Tells whether the event is by the wanted actor, or any actor is wanted.
     fn has_actor(&self, event: &Event) -> bool {
         match self.actor {
             Some(wanted) => actor_of(event) == wanted,
@@ -55,7 +58,7 @@ impl Wanted {
         }
     }
 
-    /// Tells whether a note is about the wanted slot, or no particular slot is wanted.
+    /// Tells whether a note is about the wanted slot, or any slot is wanted.
     fn has_slot(&self, notes: &[Note]) -> bool {
         if self.slot.is_none() {
             return true;
@@ -70,7 +73,9 @@ impl Wanted {
 }
 
 /// Returns the actor that posts, takes or tells.
-pub(crate) fn actor_of(event: &Event) -> Actor {
+pub(crate) fn actor_of(event: &Event) -> Actor
+    ensures { result ≡ actor_of event.now }
+{
     match event {
         Event::Post { from, .. } => *from,
         Event::Plant { from, .. } => *from,
@@ -80,7 +85,9 @@ pub(crate) fn actor_of(event: &Event) -> Actor {
 }
 
 /// Returns the actor to whom it posts or tells, or from whom it takes.
-pub(crate) fn other_of(event: &Event) -> Actor {
+pub(crate) fn other_of(event: &Event) -> Actor
+    ensures { result ≡ other_of event.now }
+{
     match event {
         Event::Post { to, .. } => *to,
         Event::Plant { to, .. } => *to,

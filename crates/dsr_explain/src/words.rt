@@ -1,43 +1,22 @@
 //! Notes in words.
 
-use crate::note::{ChainFate, Dropped, NoVote, Note, Why};
+use crate::note::{ChainFate, Dropped, NoVote, Note};
 use crate::pieces::{name_of, put_number, replica_name};
 use crate::standing::{accepted_last, content_of, last_chain};
 use crate::texts::Told;
+use crate::why::put;
 use dsr_chain::{Chain, ChainFault};
 use dsr_desk::{Content, MOST_SIGNERS, Signature, Signers, Statement};
 use dsr_envelope::Pick;
 use dsr_names::{Actor, ClientId, Refusal, ReplicaId, Shape};
 use dsr_slot::Fate;
-use dsr_world::{Event, World};
+use dsr_world::World;
 use std::fmt::Write;
 
-/// The rounds of a slot, by their numbers.
-static IN_ROUNDS: [&str; 17] = [
-    ": ",
-    ", in its round 1: ",
-    ", in its round 2: ",
-    ", in its round 3: ",
-    ", in its round 4: ",
-    ", in its round 5: ",
-    ", in its round 6: ",
-    ", in its round 7: ",
-    ", in its round 8: ",
-    ", in its round 9: ",
-    ", in its round 10: ",
-    ", in its round 11: ",
-    ", in its round 12: ",
-    ", in its round 13: ",
-    ", in its round 14: ",
-    ", in its round 15: ",
-    ", in its round 16: ",
-];
-
-/// Writes the note of this event as an indented line; `told` is the text about the event's envelope.
+/// Writes the note as an indented line; `told` has the texts about the event's envelope.
 pub(crate) fn write_note(
     out: &mut String,
     world: &World,
-    event: &Event,
     note: &Note,
     told: Option<&Told>,
 ) -> Result<(), Refusal> {
@@ -48,12 +27,12 @@ pub(crate) fn write_note(
             }
             write_chain_fate(out, world, *place, fate)
         }
-        _ => write_other(out, world, event, note),
+        _ => write_other(out, world, note),
     }
 }
 
 /// Writes a note about anything except a chain that was taken.
-fn write_other(out: &mut String, world: &World, event: &Event, note: &Note) -> Result<(), Refusal> {
+fn write_other(out: &mut String, world: &World, note: &Note) -> Result<(), Refusal> {
     match note {
         Note::Silence { replica, round } => writeln!(
             out,
@@ -85,20 +64,19 @@ fn write_other(out: &mut String, world: &World, event: &Event, note: &Note) -> R
         Note::Vote { .. } | Note::NoVote { .. } | Note::Accepted { .. } => {
             write_vote(out, world, note)?;
         }
-        Note::Refused(why) => write_why(out, world, event, why)?,
     }
     Ok(())
 }
 
-/// Writes the text about a chain that does not depend on what becomes of it.
+/// Writes the text about a chain that does not depend on the chain's fate.
 pub(crate) fn write_chain(out: &mut String, chain: &Chain) -> Result<(), Refusal> {
     let (slot, signers) = (chain.slot(), chain.signers());
     write!(out, "    chain of slot {slot}, signed by {signers}")?;
     Ok(())
 }
 
-/// Writes what became of the chain at this place of the envelope, after the text about it. If it is dropped because its slot is over, or
-/// because its content is kept already, only the envelope's text shows its content.
+/// Writes the fate of the chain at this place of the envelope, after the text about it. If its slot is over, or its content is already kept, only
+/// the envelope's text shows its content.
 fn write_chain_fate(
     out: &mut String,
     world: &World,
@@ -114,7 +92,9 @@ fn write_chain_fate(
                     write_content(out, chain)?;
                 }
             }
-            out.push_str(in_round(*round))?;
+            out.push_str(", in its round ")?;
+            put_number(out, *round as u64)?;
+            out.push_str(": ")?;
             write_fate(out, world, place, fate)?;
         }
     }
@@ -143,14 +123,6 @@ pub(crate) fn write_content(out: &mut String, chain: &Chain) -> Result<(), Refus
         write!(out, "{request}")?;
     }
     Ok(())
-}
-
-/// Returns the words for the round of its slot, at most 16, in which a chain is read.
-fn in_round(round: u8) -> &'static str {
-    match IN_ROUNDS.get(round as usize) {
-        Some(words) => *words,
-        None => ": ",
-    }
 }
 
 /// Writes the effect of reading the chain at this place of the envelope.
@@ -185,6 +157,10 @@ fn write_fault(
         ChainFault::WrongSender => {
             let sender = shape.sender(chain.slot());
             write!(out, ", which is {sender}")?;
+        }
+        ChainFault::WrongCount => {
+            let count = chain.signature_count();
+            write!(out, ", but {count}")?;
         }
         ChainFault::Misfit => write_misfit(out, chain)?,
         _ => {}
@@ -304,7 +280,7 @@ fn write_decided(out: &mut String, world: &World, note: &Note) -> Result<(), Ref
         } => {
             writeln!(
                 out,
-                "    {request} does not act at {replica}: its number is not above those of its client that acted"
+                "    {request} does not act at {replica}: a request of its client with this number or a greater one has acted already"
             )?;
         }
         _ => {}
@@ -339,7 +315,7 @@ fn write_vote(out: &mut String, world: &World, note: &Note) -> Result<(), Refusa
         } => {
             writeln!(
                 out,
-                "    a vote of {replica} at {client}: {count} of {needed} that are needed"
+                "    a vote of {replica} at {client}: {count} of {needed} needed"
             )?;
         }
         Note::NoVote {
@@ -348,7 +324,7 @@ fn write_vote(out: &mut String, world: &World, note: &Note) -> Result<(), Refusa
             why,
         } => {
             write!(out, "    no vote of {replica} at {client}: ")?;
-            write_no_vote(out, why)?;
+            write_no_vote(out, false, why)?;
             writeln!(out)?;
         }
         Note::Accepted { client } => {
@@ -365,18 +341,31 @@ fn write_vote(out: &mut String, world: &World, note: &Note) -> Result<(), Refusa
     Ok(())
 }
 
-/// Writes why something is not a vote.
-pub(crate) fn write_no_vote(out: &mut String, why: &NoVote) -> Result<(), Refusal> {
+/// Writes why something is not a vote: data if `as_data`, otherwise words.
+pub(crate) fn write_no_vote(out: &mut String, as_data: bool, why: &NoVote) -> Result<(), Refusal> {
     match why {
-        NoVote::NoReply => write!(out, "it is no reply")?,
-        NoVote::NothingOutstanding => write!(out, "no request is outstanding")?,
-        NoVote::OtherNumber { outstanding } => write!(out, "request {outstanding} is outstanding")?,
-        NoVote::HasVoted => write!(out, "it has voted, and only its first reply counts")?,
+        NoVote::NoReply => put(out, as_data, "no-reply", "it is no reply"),
+        NoVote::NothingOutstanding => put(
+            out,
+            as_data,
+            "nothing-outstanding",
+            "no request is outstanding",
+        ),
+        NoVote::OtherNumber { outstanding } => {
+            put(out, as_data, "other-number ", "request ")?;
+            put_number(out, *outstanding)?;
+            put(out, as_data, "", " is outstanding")
+        }
+        NoVote::HasVoted => put(
+            out,
+            as_data,
+            "has-voted",
+            "it has voted, and only its first reply counts",
+        ),
     }
-    Ok(())
 }
 
-/// Writes the choice of a post that was refused, as the end of its line.
+/// Writes the end of the line of a post that was refused: the post's choice.
 pub(crate) fn write_choice(out: &mut String, pick: &Pick) -> Result<(), Refusal> {
     match pick {
         Pick::Plain => {}
@@ -387,7 +376,7 @@ pub(crate) fn write_choice(out: &mut String, pick: &Pick) -> Result<(), Refusal>
     Ok(())
 }
 
-/// Writes that the asks of these clients were to be proposed.
+/// Writes that the replica was to propose the asks of these clients.
 fn write_asks(out: &mut String, clients: &[ClientId]) -> Result<(), Refusal> {
     out.push_str(", to propose what it holds of ")?;
     for place in 0..clients.len() {
@@ -397,81 +386,4 @@ fn write_asks(out: &mut String, clients: &[ClientId]) -> Result<(), Refusal> {
         out.push_str(name_of(Actor::Client(clients[place])))?;
     }
     Ok(())
-}
-
-/// Writes why an event was refused, as an indented line.
-fn write_why(out: &mut String, world: &World, event: &Event, why: &Why) -> Result<(), Refusal> {
-    write!(out, "    because ")?;
-    write_reason(out, world, event, why)?;
-    writeln!(out)?;
-    Ok(())
-}
-
-/// Writes why an event was refused.
-pub(crate) fn write_reason(
-    out: &mut String,
-    world: &World,
-    event: &Event,
-    why: &Why,
-) -> Result<(), Refusal> {
-    match why {
-        Why::NoActor(actor) => write!(out, "{actor} is no actor of this shape")?,
-        Why::Traitor(actor) => write!(out, "{actor} is a traitor: what it posts is planted")?,
-        Why::Loyal(actor) => write!(out, "{actor} is loyal: only traitors plant")?,
-        Why::Forged => write_forged(out, world, event)?,
-        _ => write_undue(out, why)?,
-    }
-    Ok(())
-}
-
-/// Writes which signature is forged.
-fn write_forged(out: &mut String, world: &World, event: &Event) -> Result<(), Refusal> {
-    if let Event::Plant { draft, .. } = event {
-        if let Some(forged) = world.forged_in(draft) {
-            let (signer, statement) = (forged.signer, forged.statement);
-            write!(
-                out,
-                "the signature of {signer} on {statement} is forged: {signer} is no traitor, and has not posted it"
-            )?;
-        }
-    }
-    Ok(())
-}
-
-/// Writes why an actor's protocol, or a box, does not allow the step.
-fn write_undue(out: &mut String, why: &Why) -> Result<(), Refusal> {
-    match why {
-        Why::PostsFirst { to } => write!(out, "its next step with replicas is the post to {to}")?,
-        Why::TakesFirst { from } => write!(
-            out,
-            "its next step with replicas is the take from {from}"
-        )?,
-        Why::OtherSender { slot, sender } => write!(
-            out,
-            "the slot that begins with this round, {slot}, has the sender {sender}"
-        )?,
-        Why::NothingHeld { client } => write!(out, "it holds no ask of {client}")?,
-        Why::NothingActed { client } => write!(out, "no request of {client} has acted there yet")?,
-        Why::Outstanding(number) => write!(out, "its request {number} is outstanding")?,
-        _ => out.push_str(reason_of(why))?,
-    }
-    Ok(())
-}
-
-/// Returns why an event was refused, for reasons whose text is always the same.
-fn reason_of(why: &Why) -> &'static str {
-    match why {
-        Why::BothClients => "clients post nothing to each other: they tell",
-        Why::NotTwoClients => "only a client tells, and only another client",
-        Why::FromItself => "a client takes nothing from itself",
-        Why::NotTaken => "what was posted there before has not been taken",
-        Why::NothingPosted => "nothing was posted there that has not been taken",
-        Why::Exhausted => "a counter would pass its limit",
-        Why::ChosenBefore => "what it proposes is chosen at its post to r0",
-        Why::BeginsNothing => "a replica begins no request",
-        Why::NoChoice => "a replica has no choice at a post to a client",
-        Why::ProposesNothing => "a client proposes nothing",
-        Why::NothingOutstanding => "no request of it is outstanding",
-        _ => "",
-    }
 }

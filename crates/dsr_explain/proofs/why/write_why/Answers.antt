@@ -1,0 +1,16 @@
+use Rattle.std.proofs.Common.{◌≡◌, ◌++◌, subst}
+use Rattle.std.specs.Prelude.{string_bytes}
+use Rattle.dsr_explain.specs.Reason.{other_of, reason_line}
+use Rattle.dsr_explain.proofs.why.write_why.Goals as goal
+
+pub returns-clause-told : goal.returns-clause-told
+returns-clause-told c =
+    let cause = c.in-Some.cause in
+    let out = string_bytes c.args.out.now in
+    let new = string_bytes c.write_line.new.out in
+    record {
+      cause = cause;
+      holds = c.in-Some.ensures.some;
+      told = subst (λ a. new ≡ out ++ reason_line c.args.as_data a (other_of c.args.event.now) cause) c.actor_of.ensures
+          (subst (λ b. new ≡ out ++ reason_line c.args.as_data c.actor_of.result b cause) c.other_of.ensures c.in_ok-write_line.ensures.text);
+    }

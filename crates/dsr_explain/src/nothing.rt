@@ -1,0 +1,89 @@
+//! What an explanation says if no event is what was wanted.
+
+use crate::story::Story;
+use crate::wanted::Wanted;
+use dsr_names::{Refusal, ReplicaId, Shape};
+use dsr_world::World;
+use std::fmt::Write;
+
+impl Story {
+    /// If the text is empty, writes that no event is what was wanted, and which events, actors and slots there are. `NoMemory` if memory runs out.
+    pub(crate) fn tell_nothing(&mut self) -> Result<(), Refusal> {
+        if !self.out.is_empty() {
+            return Ok(());
+        }
+        let (events, refused) = (self.events, self.refused);
+        if events == 0 {
+            self.out.push_str("the play has no events\n")?;
+            return Ok(());
+        }
+        if self.wanted.refused && refused == 0 {
+            writeln!(self.out, "no event was refused: all {events} were done")?;
+            return Ok(());
+        }
+        if self.wanted.refused {
+            write!(self.out, "none of the {refused} refused events is")?;
+        } else {
+            write!(self.out, "none of the {events} events is")?;
+        }
+        write_wanted(&mut self.out, &self.wanted)?;
+        write_existing(&mut self.out, &self.world, &self.wanted)?;
+        self.out.push_str("\n")?;
+        Ok(())
+    }
+}
+
+/// Writes which actor and which slot were wanted.
+fn write_wanted(out: &mut String, wanted: &Wanted) -> Result<(), Refusal> {
+    if let Some(actor) = wanted.actor {
+        write!(out, " by {actor}")?;
+    }
+    if let Some(slot) = wanted.slot {
+        write!(out, " of slot {slot}")?;
+    }
+    Ok(())
+}
+
+/// Writes which actors there are, if the wanted one is not in the shape, and which slots, if a slot was wanted.
+fn write_existing(out: &mut String, world: &World, wanted: &Wanted) -> Result<(), Refusal> {
+    if is_outside(world.shape(), wanted) {
+        write_actors(out, world.shape())?;
+    }
+    if wanted.slot.is_some() {
+        let last = last_slot(world);
+        write!(out, "; the slots that have begun are 0 to {last}")?;
+    }
+    Ok(())
+}
+
+/// Tells whether an actor was wanted that is not in the shape.
+fn is_outside(shape: &Shape, wanted: &Wanted) -> bool {
+    match wanted.actor {
+        Some(actor) => !shape.has(actor),
+        None => false,
+    }
+}
+
+/// Writes which actors are in the shape.
+fn write_actors(out: &mut String, shape: &Shape) -> Result<(), Refusal> {
+    let replicas = shape.n().saturating_sub(1);
+    let clients = shape.m().saturating_sub(1);
+    write!(
+        out,
+        "; the replicas are r0 to r{replicas}, and the clients c0 to c{clients}"
+    )?;
+    Ok(())
+}
+
+/// Returns the newest slot that has begun at a loyal replica: one begins with each round.
+fn last_slot(world: &World) -> u64 {
+    let mut last: u64 = 0;
+    for number in 0..world.shape().n() {
+        if let Ok(replica) = ReplicaId::new(number) {
+            if let Ok(loyal) = world.replica(replica) {
+                last = last.max(loyal.round());
+            }
+        }
+    }
+    last
+}
