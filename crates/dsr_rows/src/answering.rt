@@ -1,12 +1,9 @@
 //! Answers rows, one line after the other.
 
-use crate::desk::Desk;
 use crate::groups::{OPENINGS, Opened, Opening, PLAIN, call_at, call_plain, open};
-use crate::names;
-use crate::said::{Answered, Failure, Said};
-use crate::words::{Words, find};
 use dsr_base::split_once;
 use dsr_names::{Refusal, Sink, Source, read_input, write_output};
+use dsr_row_calls::{Answered, Desk, Failure, Said, Words, find, names};
 use std::alloc::Global;
 use std::fmt::Write;
 

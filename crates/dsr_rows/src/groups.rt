@@ -1,23 +1,15 @@
 //! Maps each verb to its call.
 
-use crate::clients::Customer;
-use crate::desk::Desk;
-use crate::drafts::Forger;
 use crate::histories::History;
-use crate::ledgers::Replies;
-use crate::logged::Logged;
-use crate::machines::Works;
-use crate::said::{Answered, Failure};
-use crate::tallies::Votes;
-use crate::words::Words;
-use crate::{
-    calendars, chains, directories, envelopes, keys, plays, records, replicas, same, scripts,
-    slots, tokens,
-};
+use crate::{plays, records};
 use dsr_desk::Keys;
 use dsr_play::Play;
 use dsr_record::Record;
 use dsr_register::Directory;
+use dsr_row_calls::{
+    Answered, Customer, Desk, Failure, Forger, Logged, Replies, Votes, Words, Works, calendars,
+    chains, directories, envelopes, keys, replicas, same, scripts, slots, tokens,
+};
 use dsr_script::Script;
 use dsr_slot::SlotState;
 use std::alloc::Global;

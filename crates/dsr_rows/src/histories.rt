@@ -3,14 +3,13 @@
 ghost use Rattle.std.specs.Prelude.{◌↔◌, IsTrue};
 ghost use Rattle.dsr_check.specs.Judged.{IsJudgedRight};
 
-use crate::directories::range;
-use crate::said::{Answered, Failure, Said};
-use crate::words::{Words, find};
 use dsr_base::split_once;
 use dsr_check::judge;
 use dsr_ledger::Reply;
-use dsr_names::ClientId;
+use dsr_names::{ClientId, Refusal};
 use dsr_request::{Name, Op, Request, Requests};
+use dsr_row_calls::directories::{names, range};
+use dsr_row_calls::{Answered, Failure, Said, Words, find};
 use std::alloc::Global;
 
 /// A history to judge replies by.
@@ -76,17 +75,28 @@ impl History {
         let client = words.client()?;
         let (first, end) = range(words)?;
         let value = words.number()?;
-        let mut writes = Vec::new(alloc);
-        let mut number = 0u64;
-        for register in first..end {
-            number = number.saturating_add(1);
-            let text = format!(in alloc; "k{register}")?;
-            let name = Name::read(text.as_bytes())?;
-            writes.push(Request::new(client, number, Op::Write { name, value })?)?;
-        }
+        let names = names(alloc, first, end)?;
+        let writes = writes(alloc, client, names.as_slice(), value)?;
         self.requests.extend_from_slice(writes.as_slice())?;
         Ok(Said::Number(self.requests.len() as u64))
     }
+}
+
+/// Returns the client's requests to write the value to each of these registers, numbered from 1 on.
+fn writes(
+    alloc: Global,
+    client: ClientId,
+    names: &[Name],
+    value: u64,
+) -> Result<Vec<Request>, Refusal> {
+    let mut writes = Vec::new(alloc);
+    let mut number = 0u64;
+    for name in names {
+        number = number.saturating_add(1);
+        let op = Op::Write { name: *name, value };
+        writes.push(Request::new(client, number, op)?)?;
+    }
+    Ok(writes)
 }
 
 /// Reads replies, each after its client, with a spaced bar between them; a dash means no replies.

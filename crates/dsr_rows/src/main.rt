@@ -2,31 +2,10 @@
 #![tactic(auto)]
 
 mod answering;
-mod calendars;
-mod chains;
-mod clients;
-mod desk;
-mod directories;
-mod drafts;
-mod envelopes;
 mod groups;
 mod histories;
-mod keys;
-mod ledgers;
-mod logged;
-mod machines;
-mod names;
 mod plays;
 mod records;
-mod replicas;
-mod said;
-mod same;
-mod scripts;
-mod slots;
-mod tallies;
-mod texts;
-mod tokens;
-mod words;
 
 use crate::answering::answer_rows;
 use dsr_names::{Outside, tell_refusal};

@@ -1,10 +1,8 @@
 //! The calls of plays.
 
-use crate::said::{Answered, Failure, Said};
-use crate::texts::text_of;
-use crate::words::{Words, find};
 use dsr_envelope::{Clients, Pick};
 use dsr_play::{Event, Play};
+use dsr_row_calls::{Answered, Failure, Said, Words, find, text_of};
 use std::alloc::{AllocError, Global};
 use std::fmt::Write;
 

@@ -1,11 +1,9 @@
 //! The calls of transcripts.
 
-use crate::said::{Answered, Failure, Said};
-use crate::texts::{text_of, words_of};
-use crate::words::{Words, find};
 use dsr_check::{Verdict, check};
 use dsr_names::Outside;
 use dsr_record::{NotedEntry, NotedStep, Record, Version, write};
+use dsr_row_calls::{Answered, Failure, Said, Words, find, text_of, words_of};
 use std::alloc::{AllocError, Global};
 use std::fmt::Write;
 

@@ -9,7 +9,7 @@ use dsr_names::{Actor, ReplicaId};
 use std::alloc::Global;
 
 /// Answers `plain ENVELOPE`: whether the envelope has no list and no removal.
-pub(crate) fn plain(alloc: Global, words: &Words) -> Answered {
+pub fn plain(alloc: Global, words: &Words) -> Answered {
     Ok(Said::Whether(draft_of(alloc, words.rest())?.is_plain()))
 }
 
@@ -32,7 +32,7 @@ const KINDS: [(&str, Kind); 3] = [
 ];
 
 /// Answers `fits KIND PARTS`: whether the envelope is within the limits.
-pub(crate) fn fits(desk: &Desk, words: &mut Words) -> Answered {
+pub fn fits(desk: &Desk, words: &mut Words) -> Answered {
     let envelope = match find(&KINDS, words.next())? {
         Kind::Round => round(desk, words)?,
         Kind::Reply => Envelope::Reply(words.reply()?),

@@ -14,7 +14,7 @@ use dsr_names::Shape;
 use std::alloc::Global;
 
 /// Answers `check SHAPE SLOT ROUND CHAIN`: whether the chain is proper for this round of the slot.
-pub(crate) fn check(desk: &Desk, words: &mut Words) -> Answered {
+pub fn check(desk: &Desk, words: &mut Words) -> Answered {
     let shape = words.shape()?;
     let slot = words.number()?;
     let round = words.small_number()?;
@@ -38,14 +38,14 @@ fn found(chain: &Chain, shape: &Shape, slot: u64, round: u8) -> Option<Result<()
 }
 
 /// Answers `asked SHAPE SIGNED-REQUEST`: whether the request has the signature of its client, a client of the shape.
-pub(crate) fn asked(desk: &Desk, words: &mut Words) -> Answered {
+pub fn asked(desk: &Desk, words: &mut Words) -> Answered {
     let shape = words.shape()?;
     let signed = desk.signed(words.rest())?;
     Ok(Said::Whether(signed.is_asked(&shape)))
 }
 
 /// Answers `parts CHAIN`: its slot, its value, its content, how many signed requests it has, its signers and their number.
-pub(crate) fn parts(desk: &Desk, words: &Words) -> Answered {
+pub fn parts(desk: &Desk, words: &Words) -> Answered {
     let chain = desk.chain(words.rest())?;
     parts_of(desk.alloc(), &chain)
 }
@@ -62,7 +62,7 @@ fn parts_of(alloc: Global, chain: &Chain) -> Answered {
 }
 
 /// Answers `signature PLACE CHAIN`: the signature at this place of the chain.
-pub(crate) fn signature(desk: &Desk, words: &mut Words) -> Answered {
+pub fn signature(desk: &Desk, words: &mut Words) -> Answered {
     let place = words.small_number()? as usize;
     let chain = desk.chain(words.rest())?;
     if place >= chain.signature_count() {
@@ -73,20 +73,20 @@ pub(crate) fn signature(desk: &Desk, words: &mut Words) -> Answered {
 }
 
 /// Answers `has-signer ACTOR CHAIN`: whether a signature of the chain is the actor's.
-pub(crate) fn has_signer(desk: &Desk, words: &mut Words) -> Answered {
+pub fn has_signer(desk: &Desk, words: &mut Words) -> Answered {
     let actor = words.actor()?;
     let chain = desk.chain(words.rest())?;
     Ok(Said::Whether(chain.has_signer(actor)))
 }
 
 /// Answers `has-misfit CHAIN`: whether a signature of the chain does not fit its place.
-pub(crate) fn has_misfit(desk: &Desk, words: &Words) -> Answered {
+pub fn has_misfit(desk: &Desk, words: &Words) -> Answered {
     let chain = desk.chain(words.rest())?;
     Ok(Said::Whether(chain.has_misfit()))
 }
 
 /// Answers `start ACTOR SLOT VALUE`: the parts of the chain with only the actor's signature.
-pub(crate) fn start(desk: &Desk, words: &mut Words) -> Answered {
+pub fn start(desk: &Desk, words: &mut Words) -> Answered {
     let key = desk.key(words.actor()?)?;
     let slot = words.number()?;
     let value = desk.value(words.rest())?;
@@ -96,7 +96,7 @@ pub(crate) fn start(desk: &Desk, words: &mut Words) -> Answered {
 
 /// Answers `extend ACTOR CHAIN`: the envelope of round 0 with the chain, longer by the actor's signature. If memory is refused, the chain that
 /// is given back is extended once more.
-pub(crate) fn extend(desk: &Desk, words: &mut Words) -> Answered {
+pub fn extend(desk: &Desk, words: &mut Words) -> Answered {
     let key = desk.key(words.actor()?)?;
     let chain = desk.chain(words.rest())?;
     if chain.signature_count() >= 16 {
@@ -134,7 +134,7 @@ const FAULTS: [ChainFault; 7] = [
 ];
 
 /// Answers `fault FAULT`: what the fault says.
-pub(crate) fn fault(alloc: Global, words: &Words) -> Answered {
+pub fn fault(alloc: Global, words: &Words) -> Answered {
     for fault in FAULTS {
         if word_of(fault).as_bytes() == words.rest() {
             return Ok(Said::Text(fault.to_string(alloc)?));

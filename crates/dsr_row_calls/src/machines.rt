@@ -13,7 +13,7 @@ use std::marker::Model;
 
 /// A machine, and the number of its clients.
 #[derive(Drop)]
-pub(crate) struct Works {
+pub struct Works {
     machine: Machine,
     clients: u8,
 }
@@ -63,7 +63,7 @@ const MANY: usize = 1_000_000;
 
 impl Works {
     /// Opens `machine CLIENTS`: a machine for CLIENTS clients that has accepted nothing.
-    pub(crate) fn open(alloc: Global, words: &mut Words) -> Result<Works, Failure> {
+    pub fn open(alloc: Global, words: &mut Words) -> Result<Works, Failure> {
         let clients = words.small_number()?;
         let shape = Shape::new(1, 0, clients, 0)?;
         let machine = Machine::new(alloc, &shape)?;
@@ -71,7 +71,7 @@ impl Works {
     }
 
     /// Makes the call of this verb.
-    pub(crate) fn answer(&mut self, alloc: Global, verb: &[u8], words: &mut Words) -> Answered {
+    pub fn answer(&mut self, alloc: Global, verb: &[u8], words: &mut Words) -> Answered {
         match find(&CALLS, verb)? {
             Call::Accept => self.accept(words),
             Call::Kept => Ok(Said::of_reply(self.machine.kept(words.client()?))),

@@ -1,8 +1,8 @@
 use Rattle.std.proofs.Common.{◌∙◌, ◌<◌, sym, ap, subst, arith}
 use Rattle.dsr_names.specs.Shape.{Shape}
-use Rattle.dsr_rows.specs.LoyalLogs.{HasLog}
-use Rattle.dsr_rows.proofs.LoyalLogLemmas.{one_reply}
-use Rattle.dsr_rows.proofs.logged.Logged.reply.Goals as goal
+use Rattle.dsr_row_calls.specs.LoyalLogs.{HasLog}
+use Rattle.dsr_row_calls.proofs.LoyalLogLemmas.{one_reply}
+use Rattle.dsr_row_calls.proofs.logged.Logged.reply.Goals as goal
 
 pub invariant_of-self : goal.invariant_of-self
 invariant_of-self c =

@@ -5,7 +5,7 @@ use std::alloc::{AllocError, Global};
 use std::fmt::{Display, Write};
 
 /// Returns the text that the words encode: each ` | `, and a ` |` at the end, represents a line feed.
-pub(crate) fn text_of(alloc: Global, words: &[u8]) -> Result<Vec<u8>, Failure> {
+pub fn text_of(alloc: Global, words: &[u8]) -> Result<Vec<u8>, Failure> {
     let mut text = Vec::new(alloc);
     let mut rest = words;
     for _ in 0..words.len() {
@@ -29,7 +29,7 @@ pub(crate) fn text_of(alloc: Global, words: &[u8]) -> Result<Vec<u8>, Failure> {
 }
 
 /// Returns the words that encode the text.
-pub(crate) fn words_of(alloc: Global, text: &[u8]) -> Result<String, AllocError> {
+pub fn words_of(alloc: Global, text: &[u8]) -> Result<String, AllocError> {
     let mut words = String::new(alloc);
     let mut is_ended = false;
     for byte in text {

@@ -1,7 +1,7 @@
 use Rattle.std.proofs.Common.{refl, sym, subst}
-use Rattle.dsr_rows.specs.LoyalLogs.{HasLog}
-use Rattle.dsr_rows.proofs.LoyalLogLemmas.{one_post}
-use Rattle.dsr_rows.proofs.logged.Logged.post.Goals as goal
+use Rattle.dsr_row_calls.specs.LoyalLogs.{HasLog}
+use Rattle.dsr_row_calls.proofs.LoyalLogLemmas.{one_post}
+use Rattle.dsr_row_calls.proofs.logged.Logged.post.Goals as goal
 
 pub invariant_of-self : goal.invariant_of-self
 invariant_of-self c =

@@ -11,14 +11,14 @@ use std::alloc::Global;
 
 /// The keys of all possible actors.
 #[derive(Drop)]
-pub(crate) struct Desk {
+pub struct Desk {
     alloc: Global,
     keys: Vec<Key>,
 }
 
 impl Desk {
     /// Makes all keys.
-    pub(crate) fn open(alloc: Global) -> Result<Desk, Refusal> {
+    pub fn open(alloc: Global) -> Result<Desk, Refusal> {
         let mut keys = Keys::new(alloc, Shape::new(16, 7, 32, 0)?)?;
         let mut all = Vec::new(alloc);
         for number in 0..16u8 {
@@ -35,7 +35,7 @@ impl Desk {
     }
 
     /// Returns the allocator.
-    pub(crate) fn alloc(&self) -> Global {
+    pub fn alloc(&self) -> Global {
         self.alloc
     }
 

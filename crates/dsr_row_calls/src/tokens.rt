@@ -1,7 +1,7 @@
 //! Checks whether a text is a token.
 
 ghost use Rattle.std.specs.Prelude.{◌≡◌, Ok, IsNone, IfSome, false};
-ghost use Rattle.dsr_rows.specs.declared.said.Said.TheVariants.{Done, Whether};
+ghost use Rattle.dsr_row_calls.specs.declared.said.Said.TheVariants.{Done, Whether};
 
 use crate::said::{Answered, Failure, Said};
 use crate::words::{Words, find};
@@ -83,7 +83,7 @@ const KINDS: [(&str, Kind); 20] = [
 ];
 
 /// Answers `token KIND BYTES`: whether the bytes are a token of this kind, and its value is written as the same bytes.
-pub(crate) fn token(alloc: Global, words: &mut Words) -> Answered {
+pub fn token(alloc: Global, words: &mut Words) -> Answered {
     let kind = find(&KINDS, words.next())?;
     let bytes = words.rest();
     match kind {

@@ -37,12 +37,12 @@ const CALLS: [(&str, Call); 7] = [
 ];
 
 /// Opens `directory`: an empty directory.
-pub(crate) fn open(alloc: Global) -> Result<Directory, Failure> {
+pub fn open(alloc: Global) -> Result<Directory, Failure> {
     Ok(Directory::new(alloc)?)
 }
 
 /// Makes the call of this verb at the directory.
-pub(crate) fn answer(
+pub fn answer(
     alloc: Global,
     directory: &mut Directory,
     verb: &[u8],
@@ -63,7 +63,7 @@ pub(crate) fn answer(
 }
 
 /// Takes a range of numbers of registers.
-pub(crate) fn range(words: &mut Words) -> Result<(u16, u16), Failure> {
+pub fn range(words: &mut Words) -> Result<(u16, u16), Failure> {
     match (
         u16::try_from(words.number()?),
         u16::try_from(words.number()?),
@@ -74,13 +74,18 @@ pub(crate) fn range(words: &mut Words) -> Result<(u16, u16), Failure> {
 }
 
 /// Returns the name `k` followed by the number, for each number in the range.
-fn names(alloc: Global, first: u16, end: u16) -> Result<Vec<Name>, Failure> {
+pub fn names(alloc: Global, first: u16, end: u16) -> Result<Vec<Name>, Failure> {
     let mut names = Vec::new(alloc);
     for number in first..end {
-        let text = format!(in alloc; "k{number}")?;
-        names.push(Name::read(text.as_bytes())?)?;
+        names.push(name_of(alloc, number)?)?;
     }
     Ok(names)
+}
+
+/// Returns the name `k` followed by the number.
+fn name_of(alloc: Global, number: u16) -> Result<Name, Failure> {
+    let text = format!(in alloc; "k{number}")?;
+    Ok(Name::read(text.as_bytes())?)
 }
 
 /// Answers `write-each FIRST END VALUE`.

@@ -29,12 +29,12 @@ const CALLS: [(&str, Call); 3] = [
 ];
 
 /// Opens `keys-of SHAPE`: all keys of the shape.
-pub(crate) fn open(alloc: Global, words: &mut Words) -> Result<Keys, Failure> {
+pub fn open(alloc: Global, words: &mut Words) -> Result<Keys, Failure> {
     Ok(Keys::new(alloc, words.shape()?)?)
 }
 
 /// Makes the call of this verb at the keys.
-pub(crate) fn answer(keys: &mut Keys, verb: &[u8], words: &mut Words) -> Answered {
+pub fn answer(keys: &mut Keys, verb: &[u8], words: &mut Words) -> Answered {
     match find(&CALLS, verb)? {
         Call::Take => match keys.take(words.actor()?) {
             Some(key) => Ok(Said::Actor(key.signer())),
@@ -57,7 +57,7 @@ impl fmt::Display for Signed {
 }
 
 /// Answers `sign ACTOR STATEMENT`: the actor's signature on the statement.
-pub(crate) fn sign(desk: &Desk, words: &mut Words) -> Answered {
+pub fn sign(desk: &Desk, words: &mut Words) -> Answered {
     let key = desk.key(words.actor()?)?;
     let statement = Statement::read(words.rest()).ok_or(Failure::BadRow)?;
     let signed = Signed(key.sign(statement));
@@ -65,7 +65,7 @@ pub(crate) fn sign(desk: &Desk, words: &mut Words) -> Answered {
 }
 
 /// Answers `link-fits SLOT CONTENT SIGNERS`: whether the statement has a text.
-pub(crate) fn link_fits(words: &mut Words) -> Answered {
+pub fn link_fits(words: &mut Words) -> Answered {
     let slot = words.number()?;
     let value = content(words)?;
     let before = signers(words)?;
@@ -88,7 +88,7 @@ fn signers(words: &mut Words) -> Result<Signers, Failure> {
 }
 
 /// Answers `links SLOT CONTENT SIGNERS`: the signatures that these signers make in turn on the content of the slot.
-pub(crate) fn links(desk: &Desk, words: &mut Words) -> Answered {
+pub fn links(desk: &Desk, words: &mut Words) -> Answered {
     let slot = words.number()?;
     let content = content(words)?;
     let signers = signers(words)?;
@@ -120,7 +120,7 @@ fn said_links(alloc: Global, links: &Links) -> Answered {
 }
 
 /// Answers `are-links SLOT CONTENT SIGNATURE ..`: who signed, if the signatures were made in turn on the content of the slot.
-pub(crate) fn are_links(desk: &Desk, words: &mut Words) -> Answered {
+pub fn are_links(desk: &Desk, words: &mut Words) -> Answered {
     let slot = words.number()?;
     let content = content(words)?;
     let signatures = signatures(desk, words)?;

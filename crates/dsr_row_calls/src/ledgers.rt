@@ -8,7 +8,7 @@ use std::marker::Model;
 
 /// A ledger, and the number of its clients.
 #[derive(Drop)]
-pub(crate) struct Replies {
+pub struct Replies {
     ledger: Ledger,
     clients: u8,
 }
@@ -43,14 +43,14 @@ const CALLS: [(&str, Call); 3] = [
 
 impl Replies {
     /// Opens `ledger CLIENTS`: a ledger for CLIENTS clients, without replies.
-    pub(crate) fn open(alloc: Global, words: &mut Words) -> Result<Replies, Failure> {
+    pub fn open(alloc: Global, words: &mut Words) -> Result<Replies, Failure> {
         let clients = words.small_number()?;
         let ledger = Ledger::new(alloc, clients)?;
         Ok(Replies { ledger, clients })
     }
 
     /// Makes the call of this verb.
-    pub(crate) fn answer(&mut self, verb: &[u8], words: &mut Words) -> Answered {
+    pub fn answer(&mut self, verb: &[u8], words: &mut Words) -> Answered {
         match find(&CALLS, verb)? {
             Call::Acts => self.acts(words),
             Call::Note => self.note(words),

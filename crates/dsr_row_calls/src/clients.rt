@@ -13,7 +13,7 @@ use std::marker::Model;
 
 /// A client, its shape, and its identity in the shape.
 #[derive(Drop)]
-pub(crate) struct Customer {
+pub struct Customer {
     client: Client,
     shape: Shape,
     me: ClientId,
@@ -64,7 +64,7 @@ const CALLS: [(&str, Call); 8] = [
 
 impl Customer {
     /// Opens `client SHAPE CLIENT`: the client of the shape before its first request.
-    pub(crate) fn open(alloc: Global, words: &mut Words) -> Result<Customer, Failure> {
+    pub fn open(alloc: Global, words: &mut Words) -> Result<Customer, Failure> {
         let shape = words.shape()?;
         let me = words.client()?;
         if me.number() >= shape.m() {
@@ -77,7 +77,7 @@ impl Customer {
     }
 
     /// Makes the call of this verb.
-    pub(crate) fn answer(&mut self, desk: &Desk, verb: &[u8], words: &mut Words) -> Answered {
+    pub fn answer(&mut self, desk: &Desk, verb: &[u8], words: &mut Words) -> Answered {
         match find(&CALLS, verb)? {
             Call::Begin => Ok(Said::Number(self.client.begin(words.op()?)?)),
             Call::FirstAsk => said_ask(desk.alloc(), self.client.first_ask(words.op()?)),

@@ -8,18 +8,18 @@ use dsr_request::{Answer, Name, Op};
 
 /// The rest of a line, whose words are separated by single spaces.
 #[derive(Clone, Copy)]
-pub(crate) struct Words<'a> {
+pub struct Words<'a> {
     rest: &'a [u8],
 }
 
 impl<'a> Words<'a> {
     /// Returns the words of this line.
-    pub(crate) fn of(line: &'a [u8]) -> Words<'a> {
+    pub fn of(line: &'a [u8]) -> Words<'a> {
         Words { rest: line }
     }
 
     /// Takes the next word: the part before the next space, or all of the rest without one.
-    pub(crate) fn next(&mut self) -> &'a [u8] {
+    pub fn next(&mut self) -> &'a [u8] {
         let (word, rest) = match split_once(self.rest, b' ') {
             Some((word, rest)) => (word, rest),
             None => (self.rest, b"".as_slice()),
@@ -29,7 +29,7 @@ impl<'a> Words<'a> {
     }
 
     /// Returns the rest.
-    pub(crate) fn rest(&self) -> &'a [u8] {
+    pub fn rest(&self) -> &'a [u8] {
         self.rest
     }
 
@@ -47,7 +47,7 @@ impl<'a> Words<'a> {
     }
 
     /// Takes a number below 2^64.
-    pub(crate) fn number(&mut self) -> Result<u64, Failure> {
+    pub fn number(&mut self) -> Result<u64, Failure> {
         read_decimal(self.next()).ok_or(Failure::BadRow)
     }
 
@@ -70,7 +70,7 @@ impl<'a> Words<'a> {
     }
 
     /// Takes a client.
-    pub(crate) fn client(&mut self) -> Result<ClientId, Failure> {
+    pub fn client(&mut self) -> Result<ClientId, Failure> {
         ClientId::read(self.next()).ok_or(Failure::BadRow)
     }
 
@@ -105,7 +105,7 @@ impl<'a> Words<'a> {
     }
 
     /// Returns the reply that the rest is: its number, its place and its answer.
-    pub(crate) fn reply(&mut self) -> Result<Reply, Failure> {
+    pub fn reply(&mut self) -> Result<Reply, Failure> {
         let number = self.number()?;
         let place = self.number()?;
         let answer = Answer::read(self.rest).ok_or(Failure::BadRow)?;
@@ -118,7 +118,7 @@ impl<'a> Words<'a> {
 }
 
 /// Returns the value of the word in the table. `Skip` if the word is not there.
-pub(crate) fn find<T: Copy>(table: &[(&str, T)], word: &[u8]) -> Result<T, Failure> {
+pub fn find<T: Copy>(table: &[(&str, T)], word: &[u8]) -> Result<T, Failure> {
     for (entry, value) in table {
         if entry.as_bytes() == word {
             return Ok(*value);

@@ -13,7 +13,7 @@ use std::fmt;
 
 /// The answer of a call.
 #[derive(Drop)]
-pub(crate) enum Said {
+pub enum Said {
     /// The call succeeded and returns no value.
     Done,
     /// No such value exists.
@@ -48,7 +48,7 @@ pub(crate) enum Said {
 
 /// The reason why a call has no answer of its own.
 #[derive(Clone, Copy, Debug, PartialEq, Eq)]
-pub(crate) enum Failure {
+pub enum Failure {
     /// The verb does not take the words after it.
     BadRow,
     /// The call's contract forbids it here, so it was not made.
@@ -60,7 +60,7 @@ pub(crate) enum Failure {
 }
 
 /// The answer of a call, or the reason why it has none.
-pub(crate) type Answered = Result<Said, Failure>;
+pub type Answered = Result<Said, Failure>;
 
 impl From<Refusal> for Failure {
     fn from(refusal: Refusal) -> Failure {

@@ -64,7 +64,7 @@ const CALLS: [(&str, Call); 14] = [
 ];
 
 /// Opens `replica SHAPE REPLICA`: the replica of the shape, with an empty log.
-pub(crate) fn open(alloc: Global, words: &mut Words) -> Result<Logged, Failure> {
+pub fn open(alloc: Global, words: &mut Words) -> Result<Logged, Failure> {
     let shape = words.shape()?;
     let actor = Actor::Replica(words.replica()?);
     let mut keys = Keys::new(alloc, shape)?;
@@ -73,7 +73,7 @@ pub(crate) fn open(alloc: Global, words: &mut Words) -> Result<Logged, Failure> 
 }
 
 /// Makes the call of this verb at the replica.
-pub(crate) fn answer(desk: &Desk, logged: &mut Logged, verb: &[u8], words: &mut Words) -> Answered {
+pub fn answer(desk: &Desk, logged: &mut Logged, verb: &[u8], words: &mut Words) -> Answered {
     let alloc = desk.alloc();
     match find(&CALLS, verb)? {
         Call::Due => Ok(Said::Due(logged.replica().due())),

@@ -38,7 +38,7 @@ fn plan_of(shape: &Shape, round: u64) -> Plan
 }
 
 /// Answers `calendar SHAPE ROUND`: the slots in flight in this global round, the one that closes with it, and the sender of the one that begins.
-pub(crate) fn calendar(alloc: Global, words: &mut Words) -> Answered {
+pub fn calendar(alloc: Global, words: &mut Words) -> Answered {
     let shape = words.shape()?;
     let plan = plan_of(&shape, words.number()?);
     let (first, last, sender) = (plan.slots.first, plan.slots.last, plan.sender);
@@ -47,7 +47,7 @@ pub(crate) fn calendar(alloc: Global, words: &mut Words) -> Answered {
 }
 
 /// Answers `round-of SHAPE SLOT ROUND`: the round of the slot, counted from 1, that this global round is.
-pub(crate) fn round_of(words: &mut Words) -> Answered {
+pub fn round_of(words: &mut Words) -> Answered {
     let calendar = Calendar::new(&words.shape()?);
     let slot = words.number()?;
     match calendar.round_of(slot, words.number()?) {

@@ -9,7 +9,7 @@ use std::alloc::Global;
 
 /// A call of shapes, refusals or requests.
 #[derive(Clone, Copy)]
-pub(crate) enum Call {
+pub enum Call {
     /// `shape-of N F M BITS`: the shape with N replicas, at most F traitors, and M clients, whose traitors are these bits.
     ShapeOf,
     /// `shape-parts SHAPE`: the number of replicas, the maximum number of traitors, the number of clients, and the traitors as bits.
@@ -43,7 +43,7 @@ pub(crate) enum Call {
 }
 
 /// The calls by their verbs.
-pub(crate) const CALLS: [(&str, Call); 15] = [
+pub const CALLS: [(&str, Call); 15] = [
     ("shape-of", Call::ShapeOf),
     ("shape-parts", Call::ShapeParts),
     ("replica-of", Call::ReplicaOf),
@@ -62,7 +62,7 @@ pub(crate) const CALLS: [(&str, Call); 15] = [
 ];
 
 /// Makes the call.
-pub(crate) fn answer(alloc: Global, call: Call, words: &mut Words) -> Answered {
+pub fn answer(alloc: Global, call: Call, words: &mut Words) -> Answered {
     match call {
         Call::ShapeOf => shape_of(words),
         Call::ShapeParts => shape_parts(alloc, words),

@@ -7,7 +7,7 @@ use std::marker::Model;
 
 /// A tally, and the number of its replicas.
 #[derive(Drop)]
-pub(crate) struct Votes {
+pub struct Votes {
     tally: Tally,
     n: u8,
 }
@@ -48,7 +48,7 @@ const CALLS: [(&str, Call); 5] = [
 
 impl Votes {
     /// Opens `tally F N`: an empty tally for N replicas, at most F of them liars.
-    pub(crate) fn open(words: &mut Words) -> Result<Votes, Failure> {
+    pub fn open(words: &mut Words) -> Result<Votes, Failure> {
         let f = words.small_number()?;
         let n = words.small_number()?;
         if n > 16 {
@@ -61,7 +61,7 @@ impl Votes {
     }
 
     /// Makes the call of this verb.
-    pub(crate) fn answer(&mut self, verb: &[u8], words: &mut Words) -> Answered {
+    pub fn answer(&mut self, verb: &[u8], words: &mut Words) -> Answered {
         match find(&CALLS, verb)? {
             Call::Note => self.note(words),
             Call::Winner => Ok(Said::of_reply(self.tally.winner())),

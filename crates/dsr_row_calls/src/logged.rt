@@ -12,14 +12,14 @@ use std::marker::Model;
 /// A replica, and the number of entries of its log. It is an invariant that the replica represents a loyal log with
 /// `entries` entries; each step is proved to keep it.
 #[derive(Drop)]
-pub(crate) struct Logged {
+pub struct Logged {
     replica: Replica,
     entries: u64,
 }
 
 impl Model for Logged {
     ghost use Rattle.std.specs.Prelude.{ℕ};
-    ghost use Rattle.dsr_rows.specs.LoyalLogs.{HasLog};
+    ghost use Rattle.dsr_row_calls.specs.LoyalLogs.{HasLog};
 
     ghost Value = { ℕ };
 

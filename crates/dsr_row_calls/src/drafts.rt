@@ -10,7 +10,7 @@ use std::alloc::Global;
 
 /// The keys that someone holds, and the signatures that they know.
 #[derive(Drop)]
-pub(crate) struct Forger {
+pub struct Forger {
     keys: Vec<Key>,
     known: Known,
 }
@@ -38,7 +38,7 @@ const CALLS: [(&str, Call); 4] = [
 
 impl Forger {
     /// Opens `keys ACTORS`: someone who holds the keys of these actors, and knows no signature.
-    pub(crate) fn open(alloc: Global, words: &mut Words) -> Result<Forger, Failure> {
+    pub fn open(alloc: Global, words: &mut Words) -> Result<Forger, Failure> {
         let holders = Signers::read(words.rest()).ok_or(Failure::BadRow)?;
         let mut all = Keys::new(alloc, Shape::new(16, 7, 32, 0)?)?;
         let mut keys = Vec::new(alloc);
@@ -50,7 +50,7 @@ impl Forger {
     }
 
     /// Makes the call of this verb.
-    pub(crate) fn answer(&mut self, desk: &Desk, verb: &[u8], words: &mut Words) -> Answered {
+    pub fn answer(&mut self, desk: &Desk, verb: &[u8], words: &mut Words) -> Answered {
         match find(&CALLS, verb)? {
             Call::Build => self.build(desk.alloc(), words),
             Call::Learn => {

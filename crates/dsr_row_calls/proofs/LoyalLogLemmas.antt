@@ -8,7 +8,7 @@ use Rattle.dsr_envelope.specs.declared.pick.Pick.{Pick}
 use Rattle.dsr_replica.specs.Conduct.{IsLoyalLog, IsNext, envelope_to, reply_to}
 use Rattle.dsr_envelope.specs.Pick.{IsPick}
 use Rattle.dsr_replica.specs.Replica.{Replica, StandsFor}
-use Rattle.dsr_rows.specs.LoyalLogs.{HasLog}
+use Rattle.dsr_row_calls.specs.LoyalLogs.{HasLog}
 
 one_entry : (r after : Replica) (count : ℕ) (h : HasLog r count) (entry : Entry) → IsNext r.shape r.me h.log entry
     → StandsFor after (entry ∷ h.log) → after.me ≡ r.me → after.shape ≡ r.shape → HasLog after (suc count)

@@ -53,18 +53,13 @@ const CALLS: [(&str, Call); 11] = [
 ];
 
 /// Opens `slot SHAPE SLOT`: the slot before any of its rounds is closed.
-pub(crate) fn open(words: &mut Words) -> Result<SlotState, Failure> {
+pub fn open(words: &mut Words) -> Result<SlotState, Failure> {
     let shape = words.shape()?;
     Ok(SlotState::new(&shape, words.number()?))
 }
 
 /// Makes the call of this verb at the slot.
-pub(crate) fn answer(
-    desk: &Desk,
-    state: &mut SlotState,
-    verb: &[u8],
-    words: &mut Words,
-) -> Answered {
+pub fn answer(desk: &Desk, state: &mut SlotState, verb: &[u8], words: &mut Words) -> Answered {
     match find(&CALLS, verb)? {
         Call::Read => read(state, desk.chain(words.rest())?),
         Call::WouldKeep => would_keep(state, &desk.chain(words.rest())?),

@@ -26,13 +26,13 @@ const CALLS: [(&str, Call); 3] = [
 ];
 
 /// Opens `script TEXT`: the script that the text encodes.
-pub(crate) fn open(alloc: Global, words: &Words) -> Result<Script, Failure> {
+pub fn open(alloc: Global, words: &Words) -> Result<Script, Failure> {
     let text = text_of(alloc, words.rest())?;
     Ok(Script::read(alloc, text.as_slice())?)
 }
 
 /// Makes the call of this verb at the script.
-pub(crate) fn answer(alloc: Global, script: &Script, verb: &[u8], words: &mut Words) -> Answered {
+pub fn answer(alloc: Global, script: &Script, verb: &[u8], words: &mut Words) -> Answered {
     match find(&CALLS, verb)? {
         Call::Shape => Ok(Said::Shape(script.shape())),
         Call::Ops => Ok(listed(alloc, script.ops(words.client()?), " | ")?),
@@ -51,7 +51,7 @@ fn draft(script: &Script, words: &mut Words) -> Answered {
 }
 
 /// Answers `header TITLE | TEXT`: the shape of the header with this title at the beginning of the text.
-pub(crate) fn header(alloc: Global, words: &Words) -> Answered {
+pub fn header(alloc: Global, words: &Words) -> Answered {
     let (title, text) = words.pair()?;
     let text = text_of(alloc, text)?;
     shape_of_header(title, text.as_slice())
