@@ -71,10 +71,9 @@ WHOLE = {("apply", "first-lines.apply"), ("apply", "swaps.apply"), ("apply", "re
          (AGAIN, "three-loyal.play")}
 # Of the others so many first ones are, and then steps grow by one for so many; and where all later ones are refused too.
 SOME, FEW = (24, 16), (8, 4)
-# The crates of tests that end with an error where memory was refused. Those of dsr_hosts_tests run threads: tests/threads.py refuses allocations of services.
-CRATES = ["dsr_envelope_tests", "dsr_mail_tests", "dsr_mail_record_tests", "dsr_record_tests", "dsr_rounds_tests"]
-# Tests of these crates that are left out: those of dsr_mail_tests and dsr_mail_record_tests that run threads, of which one waits for ever if the other one
-# ended for want of memory. What they call is called by other tests too.
+# The crates of tests that end with an error where memory was refused.
+CRATES = ["dsr_hosts_tests"]
+# Tests that are left out: those that run threads. tests/threads.py refuses allocations of services.
 IN_THREADS = "threads::"
 WANT_OF_MEMORY = re.compile(rb"^(?:[Ee]rror:|  left:) .*(NoMemory|AllocError|AllocFailed|WriteFailed)", re.M)
 # Within which a run with a refused allocation must end.

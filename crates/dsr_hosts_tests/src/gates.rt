@@ -11,14 +11,18 @@ use std::thread;
 /// The maximum number of times that one replica looks for the other.
 const MEETING_LOOKS: u64 = 1_000_000;
 
-/// The maximum number of times that a client looks for the last turn of a replica.
-const HOLDING_LOOKS: u64 = 100_000_000;
-
 /// The number of turns that replicas and traitors have together, without a pause, after each turn of a client.
 const HASTY_TURNS: u64 = 3_000;
 
 /// The maximum number of times that others may run first in each turn after those.
 const YIELDS: u64 = 10_000;
+
+/// The number of turns that r0 has before it first sleeps until r1 posts to it, if there is one client: it looks once for mail of the client, posts to r0,
+/// r1 and r2, takes from r0, and tries to take from r1.
+pub(crate) const TURNS_BEFORE_SLEEP: u64 = 6;
+
+/// The number of times that others may run while r0 sleeps.
+const YIELDS_IN_SLEEP: u64 = 1_000;
 
 /// Lets everybody go on.
 #[derive(Drop)]
@@ -32,38 +36,11 @@ impl Gate for Open {
     }
 }
 
-/// Lets nobody go on.
-#[derive(Drop)]
-pub(crate) struct Shut;
-
-impl Gate for Shut {
-    ghost may_refuse = { λ _ _. Unit {0} };
-
-    fn pass(&self, _actor: Actor, _turn: u64) -> bool {
-        false
-    }
-}
-
-/// Lets replicas and traitors go on, but no client.
-#[derive(Drop)]
-pub(crate) struct ClientsShut;
-
-impl Gate for ClientsShut {
-    ghost may_refuse = { λ _ _. Unit {0} };
-
-    fn pass(&self, actor: Actor, _turn: u64) -> bool {
-        match actor {
-            Actor::Replica(_) => true,
-            Actor::Client(_) => false,
-        }
-    }
-}
-
-/// Lets one replica make `turns` turns, and all others any number.
+/// Lets one actor make `turns` turns, and all others any number.
 #[derive(Drop)]
 pub(crate) struct Until {
-    /// The replica.
-    pub(crate) replica: ReplicaId,
+    /// The actor.
+    pub(crate) actor: Actor,
     /// The number of the first turn that it refuses.
     pub(crate) turns: u64,
 }
@@ -72,25 +49,69 @@ impl Gate for Until {
     ghost may_refuse = { λ _ _. Unit {0} };
 
     fn pass(&self, actor: Actor, turn: u64) -> bool {
-        match actor {
-            Actor::Replica(replica) => {
-                replica.number() != self.replica.number() || turn < self.turns
-            }
-            Actor::Client(_) => true,
+        actor != self.actor || turn < self.turns
+    }
+}
+
+/// Refuses r1 already its first turn, but only a while after r0 had its last turn before it sleeps until r1 posts to it; lets all others go on.
+#[derive(Drop)]
+pub(crate) struct Sleeping {
+    /// The number of turns of r0.
+    turns: AtomicU64,
+}
+
+impl Sleeping {
+    /// Creates a gate that was not asked yet.
+    pub(crate) fn new() -> Sleeping {
+        Sleeping {
+            turns: AtomicU64::new(0),
         }
+    }
+
+    /// Returns how many turns r0 took.
+    pub(crate) fn turns(&self) -> u64 {
+        self.turns.load(SeqCst)
+    }
+
+    /// Lets others run first until r0 sleeps, and for a while after that.
+    fn give_time(&self) {
+        for _ in 0..MEETING_LOOKS {
+            if self.turns() >= TURNS_BEFORE_SLEEP {
+                break;
+            }
+            thread::yield_now();
+        }
+        for _ in 0..YIELDS_IN_SLEEP {
+            thread::yield_now();
+        }
+    }
+}
+
+impl Gate for Sleeping {
+    ghost may_refuse = { λ _ _. Unit {0} };
+
+    fn pass(&self, actor: Actor, _turn: u64) -> bool {
+        if actor == Actor::Replica(ReplicaId::of(1)) {
+            self.give_time();
+            return false;
+        }
+        if actor == Actor::Replica(ReplicaId::FIRST) {
+            self.turns.fetch_add(1, SeqCst);
+        }
+        true
     }
 }
 
 /// Lets everybody go on, but gives a slow client time before replicas and traitors have used up their rounds.
 #[derive(Drop)]
-pub(crate) struct Patient {
+struct Patient {
     /// The turns of replicas and traitors since the last one of a client.
     turns: AtomicU64,
 }
 
 impl Patient {
     /// Creates a gate that was not asked yet.
-    pub(crate) fn new() -> Patient {
+    fn new() -> Patient {
         Patient {
             turns: AtomicU64::new(0),
         }
@@ -209,10 +230,11 @@ impl Party {
     }
 }
 
-/// Lets everybody go on, and is patient; but in their first turns r0 and r1 look for each other.
+/// Counts like `Counting`; and in their first turns r0 and r1 look for each other.
 #[derive(Drop)]
 pub(crate) struct Meeting {
-    patient: Patient,
+    /// What counts the turns.
+    pub(crate) counting: Counting,
     first: Party,
     second: Party,
 }
@@ -221,7 +243,7 @@ impl Meeting {
     /// Creates a gate that was not asked yet.
     pub(crate) fn new() -> Meeting {
         Meeting {
-            patient: Patient::new(),
+            counting: Counting::new(),
             first: Party::new(),
             second: Party::new(),
         }
@@ -249,57 +271,6 @@ impl Gate for Meeting {
         if let (Actor::Replica(replica), 0) = (&actor, turn) {
             self.meet(replica);
         }
-        self.patient.pass(actor, turn)
-    }
-}
-
-/// Lets everybody go on, but holds clients until a replica has its last turn.
-#[derive(Drop)]
-pub(crate) struct Late {
-    last_turn: u64,
-    came: AtomicBool,
-}
-
-impl Late {
-    /// Creates a gate that was not asked yet, for a replica whose last turn has this number.
-    pub(crate) fn until(last_turn: u64) -> Late {
-        Late {
-            last_turn,
-            came: AtomicBool::new(false),
-        }
-    }
-
-    /// Returns whether a replica took its last turn.
-    pub(crate) fn came(&self) -> bool {
-        self.came.load(SeqCst)
-    }
-
-    /// Notes that a replica takes this turn.
-    fn note(&self, turn: u64) {
-        if turn == self.last_turn {
-            self.came.store(true, SeqCst);
-        }
-    }
-
-    /// Waits until a replica has its last turn.
-    fn hold(&self) {
-        for _ in 0..HOLDING_LOOKS {
-            if self.came() {
-                return;
-            }
-            thread::yield_now();
-        }
-    }
-}
-
-impl Gate for Late {
-    ghost may_refuse = { λ _ _. ⊥ };
-
-    fn pass(&self, actor: Actor, turn: u64) -> bool {
-        match actor {
-            Actor::Replica(_) => self.note(turn),
-            Actor::Client(_) => self.hold(),
-        }
-        true
+        self.counting.pass(actor, turn)
     }
 }

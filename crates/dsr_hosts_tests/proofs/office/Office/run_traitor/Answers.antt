@@ -1,0 +1,15 @@
+use Rattle.std.proofs.Common.{◌<◌, length, subst}
+use Rattle.dsr_mail.specs.Seats.{is_traitor_replica}
+use Rattle.dsr_hosts_tests.proofs.SeatLemmas.{seats_stay}
+use Rattle.dsr_hosts_tests.proofs.office.Office.run_traitor.Goals as goal
+
+pub invariant_of-self-2 : goal.invariant_of-self-2
+invariant_of-self-2 g c =
+    let old = c.args.self.now in
+    record {
+      replicas = old.replicas;
+      traitors =
+          seats_stay old.mail is_traitor_replica old.seats.traitors.items c.in-Some.place c.index_mut.result.now c.traitor_runs.new.seat old.traitors
+          (subst (λ xs. c.in-Some.place < length xs) c.as_slice.ensures.value c.in-Some.ensures) c.index_mut.ensures.value c.traitor_runs.ensures;
+      clients = old.clients;
+    }
