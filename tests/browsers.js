@@ -149,7 +149,7 @@ class Firefox {
   // In the picture, which is a page of another origin.
   async frameValue(expression) {
     const [{ children }] = (await this.send("browsingContext.getTree", { root: this.context })).result.contexts;
-    return this.value(expression, children[0].context);
+    return this.value(expression, children.find(({ url }) => url.startsWith("blob:")).context);
   }
 
   async value(expression, context = this.context) {
@@ -325,7 +325,7 @@ async function asAReader(page) {
   await check(said("a bad line is marked, with its column and what was expected"), async () => {
     await page.open();
     await page.type(`samples[0].text.replace("asks c0 begin", "asks c0 begn")`);
-    assert.match(await browser.value(`document.getElementById("why").textContent`), /^line 2: bad text, column 9: expected from, begin/);
+    assert.match(await browser.value(`document.getElementById("why").textContent`), /^line 2: bad text, column 12: expected begin: a client proposes nothing/);
     assert.ok(await browser.value(`document.querySelector("#rows .bad .column") !== null`));
   });
   await check(said("a refused event is marked, with why"), async () => {
@@ -367,8 +367,44 @@ async function asAReader(page) {
   });
 }
 
-// A play of 2,700 events, of which a picture has not all.
-const LONG_PLAY = `"dsr-play 1 3 1 2 -\\n" + "posts *\\ntakes *\\n".repeat(150)`;
+// A play of 2,700 events, of which a picture has not all, and whose explanation is not all shown.
+const LONG_TEXT = `dsr-play 1 3 1 2 -\n${"posts *\ntakes *\n".repeat(150)}`, LONG_PLAY = JSON.stringify(LONG_TEXT);
+
+// What the page's module writes for this task, in node.
+function written(task, content) {
+  const { run } = require(`${TOP}/page/parts/host.js`), [, packed] = fs.readFileSync(`${TOP}/page/dsr.html`, "utf8").match(/const packed = "([A-Za-z0-9+/=]*)"/);
+  return Buffer.from(run(new WebAssembly.Module(zlib.gunzipSync(Buffer.from(packed, "base64"))), task, Buffer.from(content)).output).toString();
+}
+
+// Of a long output the beginning is shown, which can be copied, and the whole is saved.
+async function inParts(page) {
+  const { browser } = page, said = what => `${browser.name}: ${what}`;
+  await check(said("of a long explanation it is told how much is shown, and all of it is saved"), async () => {
+    const whole = written("explain", LONG_TEXT), number = told => Number(told.replace(/,/g, ""));
+    await page.open();
+    await page.type(LONG_PLAY);
+    const [shown, all] = (await browser.value(`document.querySelector("#result [data-save]").parentNode.textContent`)).match(/[\d,]+/g).map(number);
+    assert.strictEqual(all, whole.length);
+    assert.strictEqual(await page.explained(), whole.slice(0, shown));
+    await browser.value(`(window.saved = null, HTMLAnchorElement.prototype.click = async function () { window.saved = [this.download, await (await fetch(this.href)).text()]; }, 0)`);
+    await browser.value(`(document.querySelector("#result [data-save]").click(), 0)`);
+    await page.until(`window.saved !== null`);
+    assert.deepStrictEqual(await browser.value(`window.saved`), ["dsr-explain.txt", whole]);
+  });
+  await check(said("of a long explanation every event is shown, and again only those that change something"), async () => {
+    for (const left of [0, 1]) {
+      await browser.value(`(document.getElementById("every").click(), 0)`);
+      await page.until(`[...document.querySelectorAll("#events .part")].every(part => part.classList.contains("brief") === ${left === 1})`);
+    }
+  });
+  await check(said("a long transcript can be copied"), async () => {
+    await page.tab("check");
+    const [, transcript] = await page.pres();
+    assert.strictEqual(transcript, written("play --transcript", LONG_TEXT));
+    const copied = await browser.value(`(getSelection().selectAllChildren(document.querySelectorAll("#result pre")[1]), String(getSelection()))`);
+    assert.strictEqual(copied.trimEnd(), transcript.trimEnd());
+  });
+}
 
 // The picture of a longer run has a part of it, and goes to others.
 async function inStretches(page) {
@@ -461,12 +497,9 @@ const MOST_EVENTS = 1_000_000, MOST_BYTES = 16_777_216;
 
 // A play of as many events as there may be, which takes little text; and the longest transcript of such a play that may be checked, played by the page's module in node.
 function longTexts() {
-  const { run } = require(`${TOP}/page/parts/host.js`), playOf = events => `dsr-play 1 1 0 1 -\n${"posts r0\ntakes r0\n".repeat(events / 2)}`;
-  const [, packed] = fs.readFileSync(`${TOP}/page/dsr.html`, "utf8").match(/const packed = "([A-Za-z0-9+/=]*)"/);
-  const compiled = new WebAssembly.Module(zlib.gunzipSync(Buffer.from(packed, "base64")));
+  const playOf = events => `dsr-play 1 1 0 1 -\n${"posts r0\ntakes r0\n".repeat(events / 2)}`;
   let transcript = "";
-  for (let events = 300_000; transcript === "" || transcript.length > MOST_BYTES; events -= 20_000)
-    transcript = Buffer.from(run(compiled, "play --transcript", Buffer.from(playOf(events))).output).toString();
+  for (let events = 300_000; transcript === "" || transcript.length > MOST_BYTES; events -= 20_000) transcript = written("play --transcript", playOf(events));
   return { play: playOf(MOST_EVENTS), transcript };
 }
 
@@ -514,9 +547,11 @@ async function longOnes(page) {
   for (const [name, content] of Object.entries(texts)) {
     await browser.value(`(window.made = [], 0)`);
     for (let at = 0; at < content.length; at += 1 << 20) await browser.value(`(window.made.push(${JSON.stringify(content.slice(at, at + (1 << 20)))}), 0)`);
+    // A file's bytes are not the page's to encode.
+    await browser.value(`(window.made = new Blob(window.made), 0)`);
     for (const task of name === "play" ? ["play", "explain", "check", "picture"] : ["check"]) {
       await answering(page, `a ${name} of ${content.length} bytes, ${task}`, async () => {
-        await page.after(name !== page.held ? `openBlob(new Blob(window.made), "a long text")` : `document.getElementById("tab-${task}").click()`);
+        await page.after(name !== page.held ? `openBlob(window.made, "a long text")` : `document.getElementById("tab-${task}").click()`);
         page.held = name;
         if (task === "picture") await page.untilInPicture(drawnAre("0", "1,999"));
       });
@@ -524,6 +559,10 @@ async function longOnes(page) {
     }
     if (name === "play") await throughStretches(page);
   }
+  await browser.value(`(async () => { window.dropped = new DataTransfer(); window.dropped.setData("text/plain", await window.made.text()); return 0; })()`);
+  // A paste would do the same, but Firefox lets no script make one that has data.
+  await answering(page, "the transcript, dropped as text", () =>
+    page.after(`document.getElementById("text").dispatchEvent(new DragEvent("drop", { dataTransfer: window.dropped, bubbles: true, cancelable: true }))`));
   await check(`${browser.name}: Stop`, async () => {
     await browser.value(`(document.getElementById("tab-check").click(), 0)`);
     await page.until(`!document.getElementById("busy").hidden`);
@@ -563,6 +602,7 @@ async function main([folder, ...words]) {
       await eachPlay(page);
       await asAReader(page);
       await inStretches(page);
+      await inParts(page);
       await byKeys(page);
       await shots(page, folder, "light");
     });

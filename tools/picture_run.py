@@ -12,6 +12,9 @@ REFUSALS = {"E1": "BadShape", "E4": "Busy", "E5": "NotDue", "E6": "BoxFull", "E7
             "E15": "NoActor", "E16": "WrongRole"}
 KEPT, UNKEPT = ("first", "second"), ("not-new", "one-too-many")
 FAULTS = ("wrong-count", "wrong-sender", "no-replica", "signed-twice", "misfit", "bad-request", "other-slot", "not-in-flight")
+# Why an envelope is no vote, in words, by the word of its line; what belongs to it follows the word.
+NO_VOTES = {"no-reply": "it is no reply", "nothing-outstanding": "no request is outstanding", "other-number": "request {} is outstanding",
+            "has-voted": "it has voted, and only its first reply counts"}
 # Notes that are not drawn, and how many parts each has.
 UNDRAWN = {"silence": 2, "kept": 5, "hold": 2, "drop": 2, "unproposed": 3}
 MOST_LETTERS = 26
@@ -164,6 +167,9 @@ class Run:
         found = rest.split(" ", fields - 1)
         if len(found) != fields:
             raise ValueError
+        if word == "no-vote":
+            reason, *more = found[2].split(" ")
+            found[2] = NO_VOTES[reason].format(*more)
         return found
 
     def pair(self):

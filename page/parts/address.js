@@ -8,7 +8,7 @@ async function through(bytes, stream, most = Infinity) {
   const reader = new Blob([bytes]).stream().pipeThrough(stream).getReader(), found = [];
   for (let size = 0; ;) {
     const { done, value } = await reader.read();
-    if (done) return new Uint8Array(await new Blob(found).arrayBuffer());
+    if (done) return new Blob(found);
     if ((size += value.length) > most) throw new Error("the text in this address is too long");
     found.push(value);
   }
@@ -16,11 +16,18 @@ async function through(bytes, stream, most = Infinity) {
 
 const letters = bytes => Array.from({ length: Math.ceil(bytes.length / 8192) }, (_, at) => String.fromCharCode(...bytes.subarray(8192 * at, 8192 * (at + 1)))).join("");
 
+// The bytes that stand in base64.
+function bytesOf(packed) {
+  const letters = atob(packed), bytes = new Uint8Array(letters.length);
+  for (let at = 0; at < letters.length; at++) bytes[at] = letters.charCodeAt(at);
+  return bytes;
+}
+
 // A text as it stands in an address.
 async function spelled(content) {
   if (typeof CompressionStream === "undefined") return `t:${encodeURIComponent(content)}`;
   const packed = await through(new TextEncoder().encode(content), new CompressionStream("deflate-raw"));
-  return `z:${btoa(letters(packed)).replace(/\+/g, "-").replace(/\//g, "_").replace(/=+$/, "")}`;
+  return `z:${btoa(letters(new Uint8Array(await packed.arrayBuffer()))).replace(/\+/g, "-").replace(/\//g, "_").replace(/=+$/, "")}`;
 }
 
 // What stands behind `#`: { name } or { content }, with a task and an event; null if it is no address of a text.
@@ -28,11 +35,10 @@ async function read(hash) {
   const found = hash.match(/^#(z:[\w-]*|t:[^/]*|[\w-]+)(?:\/(play|explain|check|picture))?(?:\/event-(\d+))?$/);
   if (!found) return null;
   const [, told, task, event] = found, more = { task, event: event === undefined ? null : Number(event) };
-  if (told.startsWith("t:")) return { content: decodeURIComponent(told.slice(2)), ...more };
+  if (told.startsWith("t:")) return { content: new Blob([decodeURIComponent(told.slice(2))]), ...more };
   if (!told.startsWith("z:")) return { name: told, ...more };
-  const packed = Uint8Array.from(atob(told.slice(2).replace(/-/g, "+").replace(/_/g, "/")), letter => letter.charCodeAt(0));
-  const bytes = await through(packed, new DecompressionStream("deflate-raw"), MOST_BYTES_OF_A_LINK);
-  return { content: new TextDecoder().decode(bytes), ...more };
+  const packed = bytesOf(told.slice(2).replace(/-/g, "+").replace(/_/g, "/"));
+  return { content: await through(packed, new DecompressionStream("deflate-raw"), MOST_BYTES_OF_A_LINK), ...more };
 }
 
 // The address of what is shown now.

@@ -1,12 +1,16 @@
 "use strict";
 // The page: what the reader does, and what is done for it in the worker.
 
-// The worker, and those who wait for what it answers.
-let worker, waiting = new Map(), isReady, serial = 0;
+// The worker, which is told things and is ended, and those who wait for what it answers.
+let worker = null, waiting = new Map(), isReady, serial = 0;
 // What is done with the text, how many times something was, and whether it has been done to the end.
 let task = "explain", round = 0, hasRun = false, showsAll = false;
 let sample = null, transcript = "", soon = 0;
+// The text of which the result is shown.
+let performed = "";
 const LATE = 300, PAUSE = 250;
+// For how long a file that is to be saved is kept, and for how long at most parts are shown before the page does what waits, in milliseconds.
+const SAVED = 60_000, TURN = 8;
 // Whether the text and what comes of it are side by side.
 const isWide = matchMedia("(min-width: 861px)");
 // Lines to change in the first attack that is shown, each with what to look for.
@@ -24,31 +28,58 @@ const isSample = () => sample !== null && !long && by("text").value === sample.t
 
 // ---- the worker
 
-function begin() {
-  if (worker) worker.terminate();
-  for (const { refuse } of waiting.values()) refuse(new Error("stopped"));
-  waiting = new Map();
-  const started = new Promise((resolve, refuse) => {
-    worker = new Worker(URL.createObjectURL(new Blob([by("worker").textContent], { type: "text/javascript" })));
-    worker.onmessage = ({ data }) => {
+// Starts a worker in this page, which hears what it answers.
+function startHere(hear) {
+  const it = new Worker(URL.createObjectURL(new Blob([by("worker").textContent], { type: "text/javascript" })));
+  it.onmessage = ({ data }) => hear(data);
+  it.onerror = ({ message }) => hear({ fault: message || "the worker cannot be started" });
+  return { tell: data => it.postMessage(data), end: () => it.terminate() };
+}
+
+// Starts it in a page of another origin (page.html), which hands on what the two tell each other. Chromium gives such a page a process of its own. A long task
+// has a gigabyte of memory, and while a browser frees that, no thread of the same process gets any, so that this page would not answer.
+function startApart(hear) {
+  const frame = document.createElement("iframe"), { port1: port, port2: its } = new MessageChannel();
+  frame.className = "apart";
+  frame.sandbox = "allow-scripts";
+  frame.tabIndex = -1;
+  frame.setAttribute("aria-hidden", "true");
+  frame.srcdoc = `<script>${by("apart").textContent}<\/script>`;
+  frame.onload = () => frame.contentWindow.postMessage(by("worker").textContent, "*", [its]);
+  port.onmessage = ({ data }) => hear(data);
+  document.body.append(frame);
+  return { tell: data => port.postMessage(data), end: () => frame.remove() };
+}
+
+// Starts the worker in one of these ways, and waits until it has the module.
+function started(start) {
+  return new Promise((resolve, refuse) => {
+    worker = start(data => {
       if (data.ready) return resolve();
       const asked = waiting.get(data.id);
       waiting.delete(data.id);
       if (data.fault) (asked ? asked.refuse : refuse)(new Error(data.fault)); else asked.resolve(data);
-    };
-    worker.onerror = event => refuse(new Error(event.message || "the worker cannot be started"));
-    worker.postMessage({ module: Uint8Array.from(atob(packed), letter => letter.charCodeAt(0)), template });
+    });
+    worker.tell({ module: bytesOf(packed), template });
   });
-  isReady = started.catch(fault => { throw new Error(`this browser does not run the module, which has a ${made} (${fault.message})`); });
+}
+
+function begin() {
+  if (worker) worker.end();
+  for (const { refuse } of waiting.values()) refuse(new Error("stopped"));
+  waiting = new Map();
+  isReady = started(startApart).catch(() => { worker.end(); return started(startHere); }).catch(fault => {
+    throw new Error(`this browser does not run the module, which has a ${made} (${fault.message})`);
+  });
   isReady.catch(() => {});
 }
 
-async function ask(task, content) {
+async function ask(task, content, more = {}) {
   await isReady;
   return new Promise((resolve, refuse) => {
     const id = ++serial;
     waiting.set(id, { resolve, refuse });
-    worker.postMessage({ id, task, text: content, title: isSample() ? sample.name : "A play of your own", spot });
+    worker.tell({ id, task, text: content, title: isSample() ? sample.name : "A play of your own", spot, ...more });
   });
 }
 
@@ -90,6 +121,36 @@ function beginBusy(doing) {
   }, 100);
 }
 
+// Does this with each of these parts, whose layout it changes, as long as that is wanted. After a while it lets the page do what waits, such as a click.
+async function inTurns(parts, change, isWanted) {
+  let begun = performance.now();
+  for (const part of parts) {
+    if (!isWanted()) return;
+    change(part);
+    // This has the browser lay the part out now, and not all parts at once later.
+    if (by("result").scrollHeight && performance.now() - begun < TURN) continue;
+    await nextTurn();
+    begun = performance.now();
+  }
+}
+
+// Shows a result: first all but its parts, then these.
+async function fill(result, isWanted) {
+  const made = document.createElement("template");
+  made.innerHTML = result;
+  const parts = [...made.content.querySelectorAll(".part")].map(part => ({ part, into: part.parentNode }));
+  for (const { part } of parts) part.remove();
+  by("result").replaceChildren(made.content);
+  by("result").scrollTop = 0;
+  await inTurns(parts, ({ part, into }) => into.append(part), isWanted);
+}
+
+// Shows all events of the explanation, or only those that change something.
+function filterEvents(all) {
+  showsAll = all;
+  return inTurns(document.querySelectorAll("#events .part"), part => part.classList.toggle("brief", !showsAll), () => showsAll === all);
+}
+
 // Does the task with the text, and shows what comes of it.
 async function perform() {
   const mine = ++round, what = kind(), doing = asked(what), begun = performance.now(), busy = beginBusy(doing);
@@ -97,12 +158,13 @@ async function perform() {
   drawTabs(what);
   by("as-it-was")?.toggleAttribute("hidden", isSample());
   try {
-    const ended = await ask(doing, text());
+    const content = text(), ended = await ask(doing, content);
     if (mine !== round) return;
+    performed = content;
     if (ended.transcript) transcript = ended.transcript.output;
     by("result").className = ended.page ? "drawing" : "";
-    by("result").innerHTML = shownOf(doing, ended);
-    by("result").scrollTop = 0;
+    await fill(shownOf(doing, ended), () => mine === round);
+    if (mine !== round) return;
     marks = await findMarks(ended, what);
     if (mine !== round) return;
     hasRun = !ended.errors;
@@ -120,6 +182,21 @@ async function perform() {
   if (document.activeElement !== by("text")) for (const [line] of [...marks].slice(0, 1)) show(line);
   drawRows();
   say();
+}
+
+// Does the task once more with the text of which the beginning of the result is shown, and saves all that it writes.
+async function save(task) {
+  const mine = round, busy = beginBusy(`the whole output of ${task}`);
+  try {
+    const { whole } = await ask("whole", performed, { of: task }), saved = URL.createObjectURL(whole);
+    Object.assign(document.createElement("a"), { href: saved, download: `dsr-${task.replace(/\W+/g, "-")}.txt` }).click();
+    setTimeout(() => URL.revokeObjectURL(saved), SAVED);
+  } catch (thrown) {
+    if (thrown.message !== "stopped") by("status").textContent = `This cannot be saved: ${thrown.message}`;
+  } finally {
+    clearInterval(busy);
+    if (mine === round) by("busy").hidden = true;
+  }
 }
 
 function tellStatus(doing, ended, begun) {
@@ -168,7 +245,7 @@ function stepThroughRows(event) {
   const row = event.target.closest(".event[data-line]"), steps = { ArrowDown: 1, ArrowUp: -1 };
   if (!row) return;
   if (steps[event.key]) {
-    const rows = [...document.querySelectorAll("#events .event[data-line]")].filter(other => other.offsetParent !== null);
+    const rows = [...document.querySelectorAll("#events .event[data-line]")].filter(other => !other.matches(".brief .dull:not(.here)"));
     const next = rows[rows.indexOf(row) + steps[event.key]];
     event.preventDefault();
     if (next) goToRow(next);
@@ -250,7 +327,7 @@ function own(told) {
 
 async function openBlob(blob, name) {
   own(name);
-  await putLong(blob);
+  await putLong(await blob);
   // an explanation of a million events takes long
   if (long && task === "explain") task = "play";
   perform();
@@ -261,7 +338,7 @@ function takePasted(event) {
   const given = event.clipboardData || event.dataTransfer, pasted = given.getData("text/plain"), file = given.files[0];
   if (!file && pasted.length <= MOST_EDITED) return;
   event.preventDefault();
-  openBlob(file || new Blob([pasted]), file ? file.name : "What was pasted");
+  openBlob(file || blobOf(pasted), file ? file.name : "What was pasted");
 }
 
 function fillSamples() {
@@ -290,7 +367,7 @@ function editTranscript() {
 function onClick(event) {
   const { target } = event, picture = target.closest("[data-picture]"), line = target.closest("a[data-line]"), row = target.closest(".event[data-line]");
   const explained = target.closest("[data-explain]");
-  const aTry = target.closest("[data-try]"), edit = target.closest("#edit");
+  const aTry = target.closest("[data-try]"), edit = target.closest("#edit"), saved = target.closest("[data-save]");
   if (picture || line || explained) event.preventDefault();
   if (explained) explain(Number(explained.dataset.explain));
   if (picture) {
@@ -304,6 +381,7 @@ function onClick(event) {
   }
   if (aTry) tryIt(TRIES[sample.name][Number(aTry.dataset.try)]);
   if (edit) editTranscript();
+  if (saved) save(saved.dataset.save);
   if (target.closest("#reset")) {
     put(sample.text);
     perform();
@@ -342,9 +420,7 @@ function listen() {
   document.querySelector("[role=tablist]").addEventListener("keydown", onTab);
   by("result").addEventListener("keydown", stepThroughRows);
   by("result").addEventListener("change", event => {
-    if (event.target.id !== "every") return;
-    showsAll = event.target.checked;
-    by("events").classList.toggle("brief", !showsAll);
+    if (event.target.id === "every") filterEvents(event.target.checked);
   });
   by("stop").addEventListener("click", () => { round++; begin(); by("busy").hidden = true; by("status").textContent = "Stopped."; });
   by("copy").addEventListener("click", copyAddress);
@@ -366,7 +442,7 @@ async function openAddress() {
   const index = told && told.name ? samples.findIndex(({ name }) => name === told.name) : 0;
   if (told && told.content !== undefined) {
     own("A text from the address of the page.");
-    await putLong(new Blob([told.content]));
+    await putLong(told.content);
   } else {
     chooseSample(Math.max(0, index));
   }

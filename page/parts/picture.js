@@ -18,6 +18,38 @@ const picture = (() => {
     ["other-slot", () => "it is of another slot"],
     ["not-in-flight", (run, c) => `slot ${c.slot} is not in flight`],
   ]);
+  // Why an event is refused, and why an envelope is no vote, in words, by the word of its line; what belongs to it follows the word.
+  const REASONS = new Map(Object.entries({
+    "no-actor": actor => `${actor} is no actor of this shape`,
+    traitor: actor => `${actor} is a traitor: what it posts is planted`,
+    loyal: actor => `${actor} is loyal: only traitors plant`,
+    "both-clients": () => "clients post nothing to each other: they tell",
+    "from-itself": () => "a client takes nothing from itself",
+    "not-two-clients": () => "only a client tells, and only another client",
+    "due-post": replica => `it must first post to ${replica}`,
+    "due-take": replica => `it must first take from ${replica}`,
+    "chosen-before": () => "what it proposes is chosen at its post to r0",
+    "other-sender": (slot, sender) => `the slot that begins with this round, ${slot}, has the sender ${sender}`,
+    "nothing-held": client => `it holds no ask of ${client}`,
+    "begins-nothing": () => "a replica begins no request",
+    "nothing-acted": client => `no request of ${client} has acted there yet`,
+    "no-choice": () => "a replica has no choice at a post to a client",
+    "proposes-nothing": () => "a client proposes nothing",
+    outstanding: number => `its request ${number} is outstanding`,
+    "nothing-outstanding": () => "no request of it is outstanding",
+    "exhausted-rounds": () => "it has closed 2^36 rounds, and closes no more",
+    "exhausted-numbers": () => "its last request had the number 2^40-1, and there is no greater one",
+    "exhausted-posts": () => "2^40-1 envelopes were posted there, and no more may be",
+    "box-full": () => "what was posted there before has not been taken",
+    "box-empty": () => "no envelope is waiting there",
+    forged: (signer, statement) => `the signature of ${signer} on ${statement} is forged: ${signer} is no traitor, and has not posted it`,
+  }));
+  const NO_VOTES = new Map(Object.entries({
+    "no-reply": () => "it is no reply",
+    "nothing-outstanding": () => "no request is outstanding",
+    "other-number": number => `request ${number} is outstanding`,
+    "has-voted": () => "it has voted, and only its first reply counts",
+  }));
   // Notes that are not drawn, and how many parts each has; and how many those have that are.
   const UNDRAWN = new Map(Object.entries({ silence: 2, kept: 5, hold: 2, drop: 2, unproposed: 3 }));
   const FIELDS = new Map(Object.entries({ close: 2, decide: 4, act: 3, stale: 2, vote: 4, "no-vote": 3, accept: 4 }));
@@ -35,6 +67,15 @@ const picture = (() => {
   const isLower = text => text === text.toLowerCase() && text !== text.toUpperCase();
   // The value of this key, which is made where there is none.
   const at = (map, key, make) => { if (!map.has(key)) map.set(key, make()); return map.get(key); };
+
+  // The sentence of a reason, by its word and what follows it.
+  function sentenceOf(reasons, text) {
+    const [word, ...more] = text.split(" ");
+    if (!reasons.has(word)) throw new BadData(text);
+    return reasons.get(word)(...more);
+  }
+
+  const reasonOf = text => sentenceOf(REASONS, text);
 
   // At most so many parts, of which the last has the rest.
   function parts(text, most) {
@@ -217,11 +258,12 @@ const picture = (() => {
     }
 
     note(word, rest) {
-      if (word === "why") return rest;
+      if (word === "why") return reasonOf(rest);
       if (word === "chain") return chainOf(rest.split(" "));
       if (!FIELDS.has(word)) throw new BadData();
       const found = parts(rest, FIELDS.get(word));
       if (found.length !== FIELDS.get(word)) throw new BadData();
+      if (word === "no-vote") found[2] = sentenceOf(NO_VOTES, found[2]);
       return found;
     }
 
@@ -495,7 +537,7 @@ const picture = (() => {
         return [content === "idle" ? "idle" : "decided", `${replica} decides slot ${slot}: ${this.contentName(content)}. It kept ${told}.`];
       }
       if (word === "act") return ["acts", `${this.contentName(note[2])} acts at ${note[0]}, at place ${note[1]} of its history.`];
-      if (word === "stale") return ["stale", `${this.contentName(note[1])} does not act at ${note[0]}: its number is not above those that acted.`];
+      if (word === "stale") return ["stale", `${this.contentName(note[1])} does not act at ${note[0]}: a request of its client with this number or a greater one has acted already.`];
       if (word === "vote") return ["vote", `The reply of ${note[1]} is a vote at ${note[0]}: ${note[2]} of the ${note[3]} that are needed.`];
       if (word === "no-vote") return ["no-vote", `The reply of ${note[1]} is no vote at ${note[0]}: ${note[2]}.`];
       return ["accepted", `${note[0]} accepts: number ${note[1]} stands at place ${note[2]}, and the answer is ${note[3]}.`];
@@ -635,10 +677,11 @@ const picture = (() => {
   // The page of a picture, of a run or a stretch: the text of tools/picture_page.html with what is drawn put into it.
   function pageOf(template, text, title, before, total) {
     const escaped = title.replace(/&/g, "&amp;").replace(/</g, "&lt;").replace(/>/g, "&gt;").replace(/"/g, "&quot;").replace(/'/g, "&#x27;");
-    const data = JSON.stringify(dataOf(text, title, before, total)).replaceAll("</", "<\\/").replaceAll("<" + "!--", "<\\!--");
-    return template.replace("TITLE", () => escaped).replace('"DATA"', () => data);
+    // A browser reads a text of JSON in much less time than it reads the same values in a script.
+    const data = JSON.stringify(JSON.stringify(dataOf(text, title, before, total))).replaceAll("</", "<\\/").replaceAll("<" + "!--", "<\\!--");
+    return template.replace("TITLE", () => escaped).replace('"DATA"', () => `JSON.parse(${data})`);
   }
 
-  return { BadData, Before, MOST_LETTERS, addRequests, dataOf, pageOf };
+  return { BadData, Before, MOST_LETTERS, addRequests, dataOf, pageOf, reasonOf };
 })();
 if (typeof module !== "undefined") module.exports = picture;

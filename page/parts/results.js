@@ -5,15 +5,36 @@ const code = words => `<code>${escaped(words)}</code>`;
 const plural = (count, word) => `${count.toLocaleString("en")} ${word}${count === 1 ? "" : "s"}`;
 const listed = items => items.length < 2 ? items.join("") : `${items.slice(0, -1).join(", ")} and ${items[items.length - 1]}`;
 const MOST_LISTED = 6;
+// What is long stands in parts, which are shown one after another: how many letters of a text, and how many events of an explanation, a part has.
+const PART_OF_TEXT = 4000, PART_OF_EVENTS = 25;
 
-function pre(output, more, name = "") {
-  return `<pre class="${name}">${escaped(output)}</pre>` + (more ? `<p class="soft">And ${more.toLocaleString("en")} bytes more, which are not shown.</p>` : "");
+const part = (inside, name = "") => `<div class="part ${name}" role="presentation">${inside}</div>`;
+
+// A text in parts that end with lines; a short one stands alone.
+function parted(output) {
+  const parts = [];
+  for (let at = 0, end; at < output.length; at = end) {
+    end = output.indexOf("\n", at + PART_OF_TEXT) + 1 || output.length;
+    parts.push(output.slice(at, end));
+  }
+  return parts.length < 2 ? escaped(output) : parts.map(lines => part(escaped(lines))).join("");
 }
 
-const fault = ended => ended.errors ? pre(ended.errors, 0, "wrong") : "";
+// Says of an output how much of it is shown, if that is not all, and offers to save all that this task writes.
+function rest(shown, more, task) {
+  if (!more) return "";
+  const bytes = new TextEncoder().encode(shown).length, told = `These are the first ${bytes.toLocaleString("en")} of ${(bytes + more).toLocaleString("en")} bytes.`;
+  return `<p class="soft">${told} <button data-save="${task}" title="Saves the whole output in a file, in which one can search">Save all of it</button></p>`;
+}
 
-function some(items) {
-  return items.length > MOST_LISTED ? [...items.slice(0, MOST_LISTED), `… and ${items.length - MOST_LISTED} more`] : items;
+// What a task wrote: the beginning of it, if there is more.
+const pre = (output, more, task) => `<pre>${parted(output)}</pre>${rest(output, more, task)}`;
+
+const fault = ended => ended.errors ? `<pre class="wrong">${escaped(ended.errors)}</pre>` : "";
+
+// The first of these items, and how many there are besides.
+function some(items, total = items.length) {
+  return total > MOST_LISTED ? [...items.slice(0, MOST_LISTED), `… and ${total - MOST_LISTED} more`] : items;
 }
 
 // What a play came to in a few sentences, by its report, and by its explanation if there is one.
@@ -37,11 +58,11 @@ function unanswered(explained) {
 function decisions(decided) {
   const longest = decided.reduce((most, row) => row.length > most.length ? row : most, []).slice(1);
   if (!longest.length) return ["No slot was decided."];
-  const slots = longest.map((content, slot) => {
+  const slots = longest.slice(0, MOST_LISTED).map((content, slot) => {
     const by = decided.filter(row => row.length > slot + 1).map(row => row[0]);
     return `${listed(by)} decided slot ${slot}: ${content === "idle" ? "idle, so nothing of it is done" : code(content)}.`;
   });
-  return some(slots);
+  return some(slots, longest.length);
 }
 
 // ---- explanations
@@ -79,14 +100,21 @@ function eventRow({ line, event, told, notes }, isDull, isFirst) {
     ` <a href="#" class="to-picture" data-picture="${event}" tabindex="-1" aria-label="event ${event} in the picture">picture</a>${below}</div>`;
 }
 
+// The rows of events, in parts.
+function rowsOf(events) {
+  const dull = events.map(isDull), first = events.findIndex(({ event }, at) => event !== null && !dull[at]), parts = [];
+  for (let from = 0; from < events.length; from += PART_OF_EVENTS) {
+    const rows = events.slice(from, from + PART_OF_EVENTS).map((event, at) => eventRow(event, dull[from + at], from + at === first));
+    parts.push(part(rows.join(""), showsAll ? "" : "brief"));
+  }
+  return parts.join("");
+}
+
 function explanation({ output, more, report }) {
-  const events = eventsOf(output), first = events.findIndex(event => event.event !== null && !isDull(event));
-  const rows = events.map((event, at) => eventRow(event, isDull(event), at === first)).join("");
   return `<h2>What came of it</h2>${inShort(report, output)}<h2>Why <label><input type="checkbox" id="every" ${showsAll ? "checked" : ""}> every event, also those that change little</label></h2>` +
     `<p class="soft">A line leads to its line of the play, and to its place in the picture. <code>0/c0#1:write:a:1~c0/r0+r1</code> is a chain of slot 0. It proposes ` +
     `c0's request 1, which c0 signed (<code>~c0</code>). The chain is signed by r0, then by r1.</p>` +
-    `<div id="events" role="list" class="${showsAll ? "" : "brief"}" aria-label="Events: the arrow keys go from one to the next">${rows}</div>` +
-    (more ? `<p class="soft">And ${more.toLocaleString("en")} bytes more, which are not shown.</p>` : "");
+    `<div id="events" role="list" aria-label="Events: the arrow keys go from one to the next">${rowsOf(eventsOf(output))}</div>${rest(output, more, "explain")}`;
 }
 
 // ---- pictures
@@ -111,10 +139,10 @@ function isDrawn(line, event) {
 
 function checkOfPlay(ended) {
   if (!ended.transcript) return fault(ended);
-  const verdict = ended.status ? fault(ended) : `<h2 class="good">The transcript of this play is a run</h2>${pre(ended.output, ended.more)}`;
+  const verdict = ended.status ? fault(ended) : `<h2 class="good">The transcript of this play is a run</h2>${pre(ended.output, ended.more, "check a play")}`;
   const canEdit = !ended.transcript.more;
   return `${verdict}<h2>The transcript${canEdit ? ' <button id="edit" title="Puts the transcript into the editor">Edit it</button>' : ""}</h2>` +
-    `<p class="soft">One step a line, as a service may record them. Edit it, leave out a step or lie about one, and it is no run from that line on.</p>${pre(ended.transcript.output, ended.transcript.more)}`;
+    `<p class="soft">One step a line, as a service may record them. Edit it, leave out a step or lie about one, and it is no run from that line on.</p>${pre(ended.transcript.output, ended.transcript.more, "play --transcript")}`;
 }
 
 function shownOf(doing, ended) {
@@ -122,5 +150,5 @@ function shownOf(doing, ended) {
   if (doing === "check a play") return checkOfPlay(ended);
   if (doing === "explain" && !ended.status) return explanation(ended);
   const verdict = doing === "check" && !ended.status ? '<h2 class="good">This transcript is a run</h2>' : doing === "play" && !ended.status ? `<h2>What came of it</h2>${inShort(ended.output)}<h2>As ${code("dsr play")} writes it</h2>` : "";
-  return fault(ended) + verdict + pre(ended.output, ended.more);
+  return fault(ended) + verdict + pre(ended.output, ended.more, doing);
 }

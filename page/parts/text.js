@@ -3,8 +3,8 @@
 const by = id => document.getElementById(id);
 const escaped = text => text.replace(/&/g, "&amp;").replace(/</g, "&lt;").replace(/"/g, "&quot;");
 const ROW = 20, ABOVE = 6, BESIDE = 60;
-// Up to how many letters a text is run as it is edited, and up to how many it can be edited; and how many are shown of a longer one.
-const MOST_LIVE = 200_000, MOST_EDITED = 300_000, MOST_BEGUN = 20_000;
+// Up to how many letters a text is run as it is edited, and up to how many it can be edited; how many are shown of a longer one, and encoded at once.
+const MOST_LIVE = 200_000, MOST_EDITED = 300_000, MOST_BEGUN = 20_000, MOST_ENCODED = 1 << 20;
 
 // A text that is too long for the editor, which shows the beginning of it: a file, or what was pasted.
 let long = null;
@@ -14,6 +14,23 @@ let marks = new Map();
 let spot = { line: 0, event: null };
 
 const text = () => long || by("text").value;
+
+// What is left to do after what waits already, such as a click.
+const turns = new MessageChannel(), left = [];
+turns.port1.onmessage = () => left.shift()();
+const nextTurn = () => new Promise(resolve => { left.push(resolve); turns.port2.postMessage(null); });
+
+// The bytes of a text. A long one is encoded slice by slice, none of which ends between the two halves of a letter.
+async function blobOf(content) {
+  const slices = [];
+  for (let at = 0, end; at < content.length; at = end) {
+    end = at + MOST_ENCODED;
+    if (/[\ud800-\udbff]/.test(content[end - 1])) end++;
+    slices.push(new Blob([content.slice(at, end)]));
+    await nextTurn();
+  }
+  return new Blob(slices);
+}
 const lineAtCaret = () => by("text").value.slice(0, by("text").selectionStart).split("\n").length;
 
 // What the text is: by its header, or by its first line.

@@ -54,7 +54,7 @@ function explained(text) {
 function marked(text) {
   const ended = perform("explain --data", text);
   if (ended.status) {
-    const found = decoded(perform("explain", text).output).match(/^line (\d+), column (\d+): expected (.*)/);
+    const found = decoded(perform("explain", text).output).match(/^line (\d+), column (\d+): (?:empty lines are not allowed; )?expected (.*)/);
     return { expected: found ? [Number(found[1]), Number(found[2]), found[3]] : null, refused: [] };
   }
   const refused = [];
@@ -65,13 +65,23 @@ function marked(text) {
       last = words[6] === "done" ? null : { line: Number(words[2]), event: Number(words[1]), ends: words.slice(4, 6), outcome: words[6], why: [] };
       if (last && refused.length < MOST_MARKS) refused.push(last);
     } else if (words[0] === "why" && last) {
-      last.why.push(line.slice(4));
+      last.why.push(picture.reasonOf(line.slice(4)));
     }
   }
   return { expected: null, refused };
 }
 
-const DO = { picture: drawn, explain: explained, marks: marked, "check a play": checked };
+// All that a task writes, to be saved.
+function whole(text, task) {
+  const { output, errors } = task === "check a play" ? perform("check", perform("play --transcript", text).output) : perform(task, text);
+  if (!output.length) throw new Error(decoded(errors));
+  return { whole: new Blob([output], { type: "text/plain" }) };
+}
+
+const DO = {
+  picture: (text, { title, spot }) => drawn(text, title, spot), explain: explained, marks: marked, "check a play": checked,
+  whole: (text, { of }) => whole(text, of),
+};
 
 onmessage = async ({ data }) => {
   try {
@@ -84,7 +94,7 @@ onmessage = async ({ data }) => {
     const text = typeof data.text === "string" ? new TextEncoder().encode(data.text) : new Uint8Array(await data.text.arrayBuffer());
     const begun = performance.now();
     if (!KEEPS_DRAWN.includes(data.task)) held = null;
-    const answer = DO[data.task] ? DO[data.task](text, data.title, data.spot) : tell(data.task, text);
+    const answer = DO[data.task] ? DO[data.task](text, data) : tell(data.task, text);
     postMessage({ id: data.id, milliseconds: performance.now() - begun, ...answer });
   } catch (fault) {
     postMessage({ id: data.id, fault: String(fault && fault.message || fault) });
