@@ -31,6 +31,8 @@ import run as conformance  # noqa: E402
 
 ROWS = f"{TOP}/conformance/rows"
 CRATE = "crates/dsr_rows"
+# The library whose calls it makes.
+CALLS = "crates/dsr_row_calls"
 DRIVER = [f"{TOP}/{CRATE}/out/dsr_rows"]
 SECONDS = 60
 
@@ -72,7 +74,7 @@ def answers_in(written):
 
 def fault_of_verbs(found):
     """A verb or a kind of the driver that no row makes, or None."""
-    sources = "".join(text_of(f"{CRATE}/src/{name}") for name in sorted(os.listdir(f"{TOP}/{CRATE}/src")))
+    sources = "".join(text_of(f"{crate}/src/{name}") for crate in (CALLS, CRATE) for name in sorted(os.listdir(f"{TOP}/{crate}/src")))
     known = set(re.findall(r'^    \("([a-z0-9-]+)", \w+::\w+\),$', sources, re.M))
     made = {word for file in found for row in file.rows for call, answer in row.calls if answer != "no-call" for word in call.split(" ")[:2]}
     left = sorted(known - made)

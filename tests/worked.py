@@ -59,7 +59,7 @@ def fault_of_events(text, wanted, signers):
     """What is wrong with how the events of this play are refused, or with whose signatures are said to be forged, or None."""
     status, output, errors = ran("explain --data", text)
     lines = [line.split(" ") for line in output.splitlines()]
-    found = [line[6] for line in lines if line[0] == "event"], [line[4] for line in lines if line[:4] == ["why", "the", "signature", "of"]]
+    found = [line[6] for line in lines if line[0] == "event"], [line[2] for line in lines if line[:2] == ["why", "forged"]]
     return None if (status, errors, found) == (0, "", (wanted, signers)) else f"status {status}, {found}, {errors!r}, and not {(wanted, signers)}"
 
 
