@@ -4,7 +4,7 @@ ghost use Rattle.std.specs.Prelude.{◌≡◌, Option, IfOk, IfSome, IfNone, OnO
 ghost use Rattle.dsr_ledger.specs.declared.reply.Reply.{Reply as AReply};
 ghost use Rattle.dsr_run.specs.Step.{log_of};
 ghost use Rattle.dsr_world.specs.Event.{HasDone, IsRefusedBy, MayBeDone};
-ghost use Rattle.dsr_explain.specs.Reason.{EndsWithCause};
+ghost use Rattle.dsr_explain.specs.Reason.{EndsWithCause, WantsRefused};
 
 use crate::before::Before;
 use crate::client_notes::tell_reply;
@@ -142,10 +142,11 @@ impl Story {
     /// Writes the event that was refused, and why, if the filter wants it.
     fn tell_refusal(&mut self, line: u64, event: &Event, refusal: &Refusal) -> Result<(), Refusal>
         requires { ¬ MayBeDone self.old.world.shape (log_of self.old.world.run) event.now }
-        ensures told { OnOk result (EndsWithCause self.old.world.shape (log_of self.old.world.run) event.now self.old.wanted.data
-            (string_bytes self.old.out) (string_bytes self.new.out)) }
+        ensures told { WantsRefused self.old.wanted event.now
+            → OnOk result (EndsWithCause self.old.world.shape (log_of self.old.world.run) event.now self.old.wanted.data (string_bytes self.new.out)) }
+        ensures other { ¬ WantsRefused self.old.wanted event.now → string_bytes self.new.out ≡ string_bytes self.old.out }
     {
-        if !self.wanted.has(event, true, &[]) {
+        if !self.wanted.has_refused(event) {
             return Ok(());
         }
         let as_data = self.wanted.data;
@@ -195,7 +196,7 @@ impl Story {
         event: &Event,
         notes: &[Note],
     ) -> Result<(), Refusal> {
-        if !self.wanted.has(event, false, notes) {
+        if !self.wanted.has_done(event, notes) {
             self.texts.forget(event);
             return Ok(());
         }

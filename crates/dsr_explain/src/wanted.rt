@@ -1,7 +1,8 @@
-ghost use Rattle.std.specs.Prelude.{◌≡◌};
-ghost use Rattle.dsr_explain.specs.Reason.{actor_of, other_of};
+ghost use Rattle.std.specs.Prelude.{◌≡◌, ◌↔◌, IsTrue, IfSome};
+ghost use Rattle.dsr_explain.specs.Reason.{actor_of, other_of, WantsRefused};
 
 use crate::note::Note;
+use dsr_base::Exact;
 use dsr_names::Actor;
 use dsr_world::Event;
 
@@ -19,9 +20,16 @@ pub struct Wanted {
 }
 
 impl Wanted {
-    /// Tells whether the event, which has these notes, is wanted.
-    pub(crate) fn has(&self, event: &Event, was_refused: bool, notes: &[Note]) -> bool {
-        (was_refused || !self.refused) && self.has_actor(event) && self.has_slot(notes)
+    /// Tells whether the event, which was done and has these notes, is wanted.
+    pub(crate) fn has_done(&self, event: &Event, notes: &[Note]) -> bool {
+        !self.refused && self.has_actor(event) && self.has_slot(notes)
+    }
+
+    /// Tells whether the event, which was refused, is wanted. It has a part in no slot.
+    pub(crate) fn has_refused(&self, event: &Event) -> bool
+        ensures { IsTrue result ↔ WantsRefused self.now event.now }
+    {
+        self.slot.is_none() && self.has_actor(event)
     }
 
     /// Tells whether the note of a wanted event is wanted. A note that concerns no single slot always is.
@@ -51,9 +59,11 @@ impl Wanted {
     }
 
     /// Tells whether the event is by the wanted actor, or any actor is wanted.
-    fn has_actor(&self, event: &Event) -> bool {
+    fn has_actor(&self, event: &Event) -> bool
+        ensures { IsTrue result ↔ IfSome self.now.actor (λ actor. actor ≡ actor_of event.now) }
+    {
         match self.actor {
-            Some(wanted) => actor_of(event) == wanted,
+            Some(wanted) => wanted.same(&actor_of(event)),
             None => true,
         }
     }

@@ -329,8 +329,8 @@ fn has_no_number(client: &Client, pick: &Pick) -> bool
     }
 }
 
-/// Returns the loyal replica with this number.
-pub(crate) fn loyal_of(world: &World, number: ReplicaId) -> &Replica
+/// Returns the loyal replica with this number. Requires that the shape has it, and that it is no traitor.
+pub fn loyal_of(world: &World, number: ReplicaId) -> &Replica
     requires { IsLoyal world.now.shape (ReplicaNumber number) }
     ensures { PlaysReplica world.now.shape number (log_of world.now.run (ReplicaNumber number)) result.now }
 {
@@ -340,8 +340,8 @@ pub(crate) fn loyal_of(world: &World, number: ReplicaId) -> &Replica
     }
 }
 
-/// Returns the client with this number.
-fn client_of(world: &World, number: ClientId) -> &Client
+/// Returns the client with this number. Requires that the shape has it.
+pub fn client_of(world: &World, number: ClientId) -> &Client
     requires { number < world.now.shape.m }
     ensures stands { StandsForClient result.now (log_of world.now.run (ClientNumber number)) }
     ensures me { result.now.me ≡ number }

@@ -10,7 +10,7 @@ mod shown;
 mod takes;
 mod undue;
 
-pub use cause::{Cause, Limit, Part, causes_refuse, why_refused};
+pub use cause::{Cause, Limit, Part, causes_refuse, client_of, loyal_of, why_refused};
 pub use difference::{Difference, Parting, how_differs};
 pub use fault::{Fault, round_fault, round_faults_stop};
 pub use posts::{post_fault, post_faults_stop};

@@ -1,8 +1,7 @@
 //! What a loyal actor posts, and by which choice.
 
-ghost use Rattle.std.specs.Prelude.{◌≡◌, ◌<◌, ℕ, List, None, Some, true, false, IfOk, IfSome, IfNone, IsOkUnless};
+ghost use Rattle.std.specs.Prelude.{◌≡◌, ℕ, List, None, Some, true, false, IfOk, IfSome, IfNone, IsOkUnless};
 ghost use Rattle.std.specs.Option.{is_none};
-ghost use Rattle.dsr_names.specs.Shape.{IsLoyal};
 ghost use Rattle.dsr_names.specs.declared.actor.Actor.TheVariants.{Replica as ReplicaNumber, Client as ClientNumber};
 ghost use Rattle.dsr_envelope.specs.declared.entry.Entry.{Entry};
 ghost use Rattle.dsr_envelope.specs.declared.envelope.Envelope.TheVariants.{Ask};
@@ -11,7 +10,6 @@ ghost use Rattle.dsr_client.specs.Conduct.{ask_to};
 ghost use Rattle.dsr_client.specs.State.{outstanding};
 ghost use Rattle.dsr_replica.specs.Replica.{StandsFor};
 ghost use Rattle.dsr_node.specs.Conduct.{post_of, is_exhausted};
-ghost use Rattle.dsr_node.specs.Node.{PlaysReplica};
 ghost use Rattle.dsr_play.specs.declared.event.Event.TheVariants.{Post};
 ghost use Rattle.dsr_run.specs.Step.{log_of};
 ghost use Rattle.dsr_world.specs.Event.{refusal_of};
@@ -20,6 +18,7 @@ ghost use Rattle.dsr_lines.specs.Line.{begun_by};
 use dsr_chain::SignedRequest;
 use dsr_client::{Client, asks_tell_choices};
 use dsr_envelope::{Envelope, Pick};
+use dsr_facts::{client_of, loyal_of};
 use dsr_names::{Actor, ClientId, Refusal, ReplicaId};
 use dsr_replica::Replica;
 use dsr_world::World;
@@ -151,29 +150,5 @@ fn pick_beside(client: &Client, found: &Envelope) -> Pick
         Envelope::Empty | Envelope::Round { .. } | Envelope::Reply(_) | Envelope::Seen(_) => {
             Pick::Plain
         }
-    }
-}
-
-/// Returns the loyal replica with this number.
-fn loyal_of(world: &World, number: ReplicaId) -> &Replica
-    requires { IsLoyal world.now.shape (ReplicaNumber number) }
-    ensures { PlaysReplica world.now.shape number (log_of world.now.run (ReplicaNumber number)) result.now }
-{
-    match world.replica(number) {
-        Ok(loyal) => loyal,
-        Err(_) => unreachable!(),
-    }
-}
-
-/// Returns the client with this number.
-fn client_of(world: &World, number: ClientId) -> &Client
-    requires { number < world.now.shape.m }
-    ensures stands { StandsForClient result.now (log_of world.now.run (ClientNumber number)) }
-    ensures me { result.now.me ≡ number }
-    ensures shape { result.now.shape ≡ world.now.shape }
-{
-    match world.client(number) {
-        Ok(client) => client,
-        Err(_) => unreachable!(),
     }
 }

@@ -67,7 +67,7 @@ fn ask(alloc: Global, mail: &Mail, seat: &mut ClientSeat, operation: Op) -> Resu
     Ok(seat.moment(mail))
 }
 
-/// Waits for the replica's reply.
+/// Waits for the replica's reply. `take_ask` is the same for the other kind of seat: the two kinds share no trait.
 fn hear(mail: &Mail, seat: &mut ClientSeat) -> Result<(), Refusal>
     requires { IsPassOf mail.now seat.old }
     ensures { IsSameSeat seat.old seat.new }
