@@ -3,7 +3,7 @@
 A function is proved from its own body and from what others promise: the contracts of what it calls, types, definitions and lemmas. So where
 one edit changes the body of one function and another edit that of another, the goals of each function are those that it has with its own edit
 alone. One check of a bundle of such edits shows of each whether its function is refused: it tells of a goal that is not proved at a place
-in that function, or in the folder of its proof. With the edit alone it would tell of the same place, and so the edit is refused.
+in that function, or in the folder of its proof. The check is of these functions, and of those that they call, alone. With the edit alone it would tell of the same place, and so the edit is refused.
 
 What is not seen in this way says nothing: a function that calls another one of the bundle may not be tried at all. So an edit that is not
 refused in its first bundle gets one more, and then it is tried alone. Alone is tried too what changes anything but the body of one
@@ -27,6 +27,8 @@ IMPL = re.compile(r"impl(?:<.*?>)? (?:.* for )?(\w+)")
 TOLD = re.compile(r"(?:note: )?(?:\./)?((?:src|proofs)/\S+?):(\d+):\d+: (.*)")
 # A proof file that names what an edit took away, which says nothing of a contract.
 NAMES = re.compile(r"has no field|is not in scope|has no `|was not admitted")
+# How a check of a crate ends that is refused, and one of some functions.
+ENDED_SO = {False: r"^logic=not-proved", True: r"^only=\d+ proved=\d+$"}
 # What rt prints of an edit goes so far, and the record goes by that.
 LONGEST_LINE = 160
 
@@ -131,12 +133,17 @@ def places_told(crate, said):
     return found
 
 
-def checked(crate):
-    """Whether the crate is proved, refused, or neither, and what the check said."""
-    one_job = {**os.environ, "RT_JOBS": "1"}
-    run = subprocess.run(["rt", "check", "--jobs", "1"], cwd=crate.folder, env=one_job, stdin=subprocess.DEVNULL, stdout=subprocess.PIPE,
+def path_of(function):
+    """What a check calls the function: the end of its path, which fits no other."""
+    return function.name if function.owner in ("lib", "main") else f"{function.owner}::{function.name}"
+
+
+def checked(crate, functions=()):
+    """Whether the crate, or these functions with those that they call, are proved, refused, or neither, and what the check said."""
+    only, one_job = [f"--only={path_of(it)}" for it in functions], {**os.environ, "RT_JOBS": "1"}
+    run = subprocess.run(["rt", "check", "--jobs", "1", *only], cwd=crate.folder, env=one_job, stdin=subprocess.DEVNULL, stdout=subprocess.PIPE,
                          stderr=subprocess.STDOUT, encoding="utf-8", errors="replace")
-    is_refused = run.returncode == 1 and re.search(r"^logic=not-proved", run.stdout, re.M) and "error[" not in run.stdout
+    is_refused = run.returncode == 1 and re.search(ENDED_SO[bool(only)], run.stdout, re.M) and "error[" not in run.stdout
     return "proved" if run.returncode == 0 else "refused" if is_refused else None, run.stdout
 
 
@@ -152,18 +159,18 @@ def bundles_of(functions, edits):
     return bundles
 
 
-def refused_in_bundles(folder, edits, record):
-    """What came of those edits of the crate in this folder that are refused in a bundle. The crate is left as it was."""
+def refused_in_bundles(folder, edits, record, is_proved):
+    """What came of those edits of the crate in this folder that are refused in a bundle. The crate is left as it was. If it is not known to be proved, it is checked
+    first: otherwise each edit would be refused."""
     crate = Crate(folder)
     changes = {edit: changed_lines(edit, folder) for edit in edits}
     functions = {edit: its and crate.function_of(its) for edit, its in changes.items()}
     left, found = [edit for edit in edits if functions[edit]], {}
-    if len(left) < 2 or checked(crate)[0] != "proved":
+    if not left or not is_proved and checked(crate)[0] != "proved":
         return found
     for _ in range(2):
         for bundle in bundles_of(functions, left):
-            if len(bundle) > 1:
-                found.update(tried_as_one(crate, bundle, changes, functions, record))
+            found.update(tried_as_one(crate, bundle, changes, functions, record))
         left = [edit for edit in left if edit not in found]
     return found
 
@@ -174,7 +181,10 @@ def tried_as_one(crate, bundle, changes, functions, record):
     together = {at: text for edit in bundle for at, text in changes[edit].items()}
     crate.write(together)
     try:
-        verdict, said = checked(crate)
+        verdict, said = checked(crate, [functions[edit] for edit in bundle])
+        if verdict is None:
+            # As where a path fits two functions.
+            verdict, said = checked(crate)
     finally:
         crate.restore(together)
     told = places_told(crate, said) if verdict == "refused" else {}

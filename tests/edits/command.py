@@ -97,7 +97,7 @@ def tried(room, number, batch, repository, report):
     top = room.copy_for(number, batch, repository)
     folder, found = f"{top}/crates/{batch.crate}", {}
     if report.asked.bundles:
-        found = refused_in_bundles(folder, batch.edits, report.record)
+        found = refused_in_bundles(folder, batch.edits, report.record, batch.crate in room.proved)
     for edit in found:
         os.remove(f"{folder}/{FOLDER_OF_RT}/{edit.name}")
     left = [edit for edit in batch.edits if edit not in found]

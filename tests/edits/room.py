@@ -37,7 +37,7 @@ class Room:
     the built libraries, and then with a copy of both for each batch."""
 
     def __init__(self, folder):
-        self.folder, self.top = folder, f"{folder}/taken"
+        self.folder, self.top, self.proved = folder, f"{folder}/taken", set()
         shutil.copytree(f"{TOP}/crates", f"{self.top}/crates", ignore=shutil.ignore_patterns("out"))
         for name in ("crates.txt", "HANDLES"):
             if os.path.exists(f"{TOP}/{name}"):
@@ -76,7 +76,8 @@ class Room:
             if stamps:
                 with open(f"{to}/stamp", "w", encoding="utf-8") as file:
                     file.write(stamps[crate])
-        return [crate for crate in crates if not os.path.exists(f"{self.top}/crates/{crate}/out/rlib/stamp")]
+        self.proved = {crate for crate in crates if os.path.exists(f"{self.top}/crates/{crate}/out/rlib/stamp")}
+        return [crate for crate in crates if crate not in self.proved]
 
     def copy_for(self, number, batch, repository):
         """A repository of the batch's crate, those below it, and the batch's edits."""

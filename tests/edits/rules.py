@@ -420,6 +420,9 @@ class Bundles(unittest.TestCase):
         self.assertEqual([(it.owner, it.name) for it in self.crate.functions],
                          [("Row", "first"), ("Row", "both"), ("Row", "fmt"), ("lib", "first")])
 
+    def test_functions_are_called_by_their_paths(self):
+        self.assertEqual([bundles.path_of(it) for it in self.crate.functions], ["Row::first", "Row::both", "Row::fmt", "first"])
+
     def test_a_change_in_one_body(self):
         self.assertEqual(self.function_of(("self.first + self.second", "self.first")), ("Row", "both"))
         self.assertEqual(self.function_of(("    row.first", "    0")), ("lib", "first"))
@@ -469,7 +472,7 @@ class Bundles(unittest.TestCase):
         changes = {edit: bundles.changed_lines(edit, self.top)}
         functions = {edit: self.crate.function_of(changes[edit])}
         said = "note: src/lib.rt:15:9: it is not proved (`a`)\nnote: src/lib.rt:15:9: it is not proved (`b`)\n"
-        bundles_checked, bundles.checked = bundles.checked, lambda crate: ("refused", said)
+        bundles_checked, bundles.checked = bundles.checked, lambda crate, functions: ("refused", said)
         self.addCleanup(setattr, bundles, "checked", bundles_checked)
         for recorded, place in ((None, "(`a`)"), ("src/lib.rt:15:9: it is not proved (`b`)", "(`b`)"), ("src/lib.rt:9:9: elsewhere", "(`a`)")):
             record = {key_of(edit): Record("sum", recorded)} if recorded else {}
@@ -483,7 +486,7 @@ class Bundles(unittest.TestCase):
         bundles_checked = bundles.checked
         self.addCleanup(setattr, bundles, "checked", bundles_checked)
         for verdict in ("proved", None):
-            bundles.checked = lambda crate, verdict=verdict: (verdict, "note: src/lib.rt:15:9: it is not proved (`a`)\n")
+            bundles.checked = lambda crate, functions=(), verdict=verdict: (verdict, "note: src/lib.rt:15:9: it is not proved (`a`)\n")
             self.assertEqual(bundles.tried_as_one(self.crate, [edit], changes, functions, {}), {})
 
 
