@@ -68,15 +68,19 @@ class Report:
         return 1 if self.failed else 0
 
 
+# How many processors this run may use.
+PROCESSORS = len(os.sched_getaffinity(0))
+
+
 def in_processes(function, tasks, chunk=1):
     """What the function gives for each task, in their order, in as many processes at once as there are processors."""
-    with multiprocessing.Pool(os.cpu_count()) as pool:
+    with multiprocessing.Pool(PROCESSORS) as pool:
         yield from pool.imap(function, tasks, chunk)
 
 
 def in_threads(function, tasks):
     """The same in threads, for functions that mostly wait for programs."""
-    with ThreadPoolExecutor(os.cpu_count()) as pool:
+    with ThreadPoolExecutor(PROCESSORS) as pool:
         yield from pool.map(function, tasks)
 
 
