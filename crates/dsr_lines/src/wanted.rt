@@ -1,6 +1,6 @@
 //! What a loyal actor posts, and by which choice.
 
-ghost use Rattle.std.specs.Prelude.{◌≡◌, ℕ, List, None, Some, true, false, IfOk, IfSome, IfNone, IsOkUnless};
+ghost use Rattle.std.specs.Prelude.{◌≡◌, ◌<◌, ℕ, List, None, Some, true, false, IfOk, IfSome, IfNone, IsOkUnless};
 ghost use Rattle.std.specs.Option.{is_none};
 ghost use Rattle.dsr_names.specs.declared.actor.Actor.TheVariants.{Replica as ReplicaNumber, Client as ClientNumber};
 ghost use Rattle.dsr_envelope.specs.declared.entry.Entry.{Entry};
