@@ -14,8 +14,9 @@ proved every edit would be refused. With --proved-since SECONDS, what `rt ci` pr
 source has changed since.
 
 The edits are tried in copies of the repository in a temporary folder, as many at a time as there are processors. Within a copy
-they are tried one after another, over one check of the whole crate. So a crate's edits go to one copy; but where that copy would
-alone take longer than all processors need for all edits, they are split over two, or three (`batches_of`).
+bundles come first, each by a check of the changed functions and what they call. What no bundle refuses is tried one after another, over
+one check of the whole crate. So a crate's edits go to one copy; but if that copy alone would take longer than all processors need for
+all edits, they are split over two, or three (`batches_of`).
 
 A line is printed for each crate as it ends, and one for each edit that fails.
 """

@@ -423,6 +423,11 @@ class Bundles(unittest.TestCase):
     def test_functions_are_called_by_their_paths(self):
         self.assertEqual([bundles.path_of(it) for it in self.crate.functions], ["Row::first", "Row::both", "Row::fmt", "first"])
 
+    def test_how_a_check_ends_that_is_refused(self):
+        self.assertRegex("only=14 proved=13", bundles.ENDED_SO[True])
+        self.assertNotRegex("only=14 holes=1", bundles.ENDED_SO[True])
+        self.assertRegex("logic=not-proved functions=3", bundles.ENDED_SO[False])
+
     def test_a_change_in_one_body(self):
         self.assertEqual(self.function_of(("self.first + self.second", "self.first")), ("Row", "both"))
         self.assertEqual(self.function_of(("    row.first", "    0")), ("lib", "first"))
