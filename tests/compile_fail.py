@@ -3,10 +3,10 @@
 
 Its first line names the crates that it uses, as `// uses: dsr_desk dsr_names`. Each line that must be
 refused ends with the name of its error, as `//~ borrow-e0382`, or with two, as `//~ private-item or unknown-method`, where
-it depends on what is built of the crates below which one is found. The file is made the crate
-`refused_case` in a temporary copy of the crates of its own, and `rt check --only=` looks at it there. That
-compiles it and proves nothing. It must find exactly the errors that are marked. As many are looked at at once as
-there are processors.
+it depends on what is built of the crates below which one is found. The files are made the modules of a crate
+`refused_cases` in a temporary copy of the crates, and `rt check --only=` looks at it there. That
+compiles it and proves nothing. It must find exactly the errors that are marked. The compiler looks for some errors only where it found no others,
+so those in which it finds none are looked at once more, without the rest.
 """
 
 import glob
@@ -18,12 +18,15 @@ import sys
 import tempfile
 
 from kit.program import TOP, name_of, text_of
-from kit.report import in_threads, main
+from kit.report import main
 
 CASES = f"{TOP}/tests/compile-fail"
-USES = re.compile(r"// uses:(.*)\n")
+CRATE = "refused_cases"
+USES = re.compile(r"// uses: (.*)\n")
+# A crate's root has this line, and a module of it may not.
+OF_A_ROOT = "#![tactic(auto)]\n"
 MARK = re.compile(r"//~ ([\w-]+)(?: or ([\w-]+))?$")
-ERROR = re.compile(r"^src/lib\.rt:(\d+):\d+: error\[([\w-]+)\]", re.M)
+ERROR = re.compile(r"^src/(\w+)\.rt:(\d+):\d+: error\[([\w-]+)\]", re.M)
 
 
 def listed(errors):
@@ -41,41 +44,61 @@ def are_wanted(found, marks):
     return len(found) == len(marks) and {line for line, _ in found} == marks.keys() and all(name in marks[line] for line, name in found)
 
 
-def make_room(room, text, uses):
-    """Copies the crates into the room, with the case as one more."""
+def make_room(room):
+    """Copies the crates into the room. Returns the folder of one more, which has no file yet."""
     shutil.copytree(f"{TOP}/crates", f"{room}/crates", ignore=shutil.ignore_patterns("out", "wrong-bodies"))
     if os.path.exists(f"{TOP}/HANDLES"):
         shutil.copy(f"{TOP}/HANDLES", room)
-    os.makedirs(f"{room}/crates/refused_case/src")
+    os.makedirs(f"{room}/crates/{CRATE}/src")
+    return f"{room}/crates/{CRATE}"
+
+
+def write_crate(room, texts):
+    """Makes each text a module of the crate, and nothing else."""
+    uses = sorted({name for text in texts.values() for name in USES.match(text)[1].split()})
     with open(f"{room}/crates.txt", "w") as file:
-        file.write(f"{text_of('crates.txt')}\nrefused_case:{uses}\n")
-    with open(f"{room}/crates/refused_case/src/lib.rt", "w") as file:
-        file.write(text)
+        file.write(f"{text_of('crates.txt')}\n{CRATE}: {' '.join(uses)}\n")
+    sources = f"{room}/crates/{CRATE}/src"
+    shutil.rmtree(sources)
+    os.makedirs(sources)
+    for name, text in {"lib": OF_A_ROOT + "".join(f"mod {name};\n" for name in texts), **texts}.items():
+        with open(f"{sources}/{name}.rt", "w") as file:
+            file.write(text if name == "lib" else text.replace(OF_A_ROOT, "\n"))
 
 
-def fault_of(path):
-    """Why the case fails, or None where it is refused as it must be."""
-    text = text_of(path)
-    uses = USES.match(text)
-    if not uses:
-        return "its first line is not '// uses: CRATES'"
-    marks = marks_of(text)
-    if not marks:
-        return "no line of it is marked with the error that is wanted"
+def errors_of(room, texts):
+    """The errors that the compiler finds in the modules: of each that has some, their lines and names. And what it wrote, with its exit status."""
+    write_crate(room, texts)
+    run = subprocess.run(["rt", "check", "--only="], cwd=f"{room}/crates/{CRATE}", stdin=subprocess.DEVNULL, stdout=subprocess.PIPE,
+                         stderr=subprocess.STDOUT, text=True, errors="replace")
+    found = {}
+    for module, at, name in ERROR.findall(run.stdout):
+        found.setdefault(module, set()).add((int(at), name))
+    return found, f"the check ended with status {run.returncode}:\n{run.stdout}"
+
+
+def faults_of(texts):
+    """Why each case fails, or None where it is refused as it must be."""
+    faults, left = {}, dict(texts)
     with tempfile.TemporaryDirectory(prefix="compile-fail-") as room:
-        make_room(room, text, uses[1])
-        run = subprocess.run(["rt", "check", "--only="], cwd=f"{room}/crates/refused_case", stdin=subprocess.DEVNULL,
-                             stdout=subprocess.PIPE, stderr=subprocess.STDOUT, text=True, errors="replace")
-    found = {(int(at), name) for at, name in ERROR.findall(run.stdout)}
-    if run.returncode == 1 and are_wanted(found, marks):
-        return None
-    wanted = {(line, " or ".join(sorted(names))) for line, names in marks.items()}
-    return f"wanted: {listed(wanted)}; found: {listed(found)}; the check ended with status {run.returncode}:\n{run.stdout}"
+        make_room(room)
+        while left:
+            found, said = errors_of(room, left)
+            # Where no more errors are found, none of those that are left is refused.
+            for module in [module for module in left if module in found] or list(left):
+                marks, errors = marks_of(left.pop(module)), found.get(module, set())
+                wanted = {(line, " or ".join(sorted(names))) for line, names in marks.items()}
+                is_refused = marks and are_wanted(errors, marks)
+                faults[module] = None if is_refused else f"wanted: {listed(wanted)}; found: {listed(errors)}; {said}"
+    return faults
 
 
 def cases(report, _):
-    paths = sorted(glob.glob(f"{CASES}/*.rs"))
-    report.judge_some("programs that must not compile", ((name_of(path), fault, ", refused") for path, fault in zip(paths, in_threads(fault_of, paths))))
+    paths = {os.path.basename(path).removesuffix(".rs").replace("-", "_"): path for path in sorted(glob.glob(f"{CASES}/*.rs"))}
+    texts = {name: text_of(path) for name, path in paths.items()}
+    faults = {name: "its first line is not '// uses: CRATES'" for name, text in texts.items() if not USES.match(text)}
+    faults |= faults_of({name: text for name, text in texts.items() if name not in faults})
+    report.judge_some("programs that must not compile", ((name_of(path), faults[name], ", refused") for name, path in paths.items()))
 
 
 if __name__ == "__main__":
