@@ -171,12 +171,12 @@ def answers_of(command, rows, seconds, errors=None):
     """Returns the answers of one start of the adapter on these rows, what is wrong with how it ended, or None, and the first line that is neither an answer
     nor copied, or None."""
     adapter = start(command, rows, errors)
-    try:
-        with adapter.stdout as pipe:
+    with adapter.stdout as pipe:
+        try:
             written, fault = read_to_end(pipe, seconds)
-        fault = fault or ended(adapter, seconds)
-    finally:
-        stop(adapter)
+            fault = fault or ended(adapter, seconds)
+        finally:
+            stop(adapter)
     *lines, rest = written.decode("latin-1").split("\n")
     strange = next((f"`{line[:MOST_SHOWN]}`" for line in lines if line and not line.startswith(("< ", *COPIED))), None)
     if strange is None and rest:
