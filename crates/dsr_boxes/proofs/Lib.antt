@@ -1,6 +1,5 @@
 pub mod BoxSteps
 pub mod Dealing
-pub mod FewPosts
 pub mod FirstRound
 pub mod Looking
 pub mod Moves

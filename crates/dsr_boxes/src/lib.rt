@@ -13,8 +13,6 @@ mod returned;
 mod rule;
 mod shared_boxes;
 mod steps;
-#[cfg(test)]
-mod tests;
 mod view;
 
 pub use box_state::BoxState;

@@ -83,6 +83,27 @@ impl Pass {
         Some(parcel)
     }
 
+    /// Claims the own box to `to` and stops there, as a post that its thread never ends. Returns whether the box was empty, and so is claimed: then
+    /// nobody can use it any more. For tests of what others can still do.
+    pub fn claim_and_stop(self, boxes: &SharedBoxes, to: &Actor) -> bool
+        requires boxes { IsPassOf boxes.now self }
+        requires to { IsActor self.shape to.now }
+    {
+        let Pass { mut token, actor } = self;
+        boxes.claim(&mut token, &actor, to)
+    }
+
+    /// Fetches the box from `from` and stops there, as a take that its thread never ends. Returns whether the box was full, and so is fetched: then
+    /// nobody can use it any more. Requires that the own log allows the take. For tests of what others can still do.
+    pub fn fetch_and_stop(self, boxes: &SharedBoxes, from: &Actor) -> bool
+        requires boxes { IsPassOf boxes.now self }
+        requires from { IsActor self.shape from.now }
+        requires conduct { MayTake self.shape self.actor self.log from.now }
+    {
+        let Pass { mut token, actor } = self;
+        boxes.fetch(&mut token, &actor, from)
+    }
+
     /// Returns whether the own box to `to` looks empty. A look changes nothing, and costs less than a post that is refused; only a post shows whether
     /// the box is empty.
     pub fn looks_empty(&self, boxes: &SharedBoxes, to: &Actor) -> bool

@@ -34,7 +34,9 @@ const TWO: &str = "post r0 ask c0#1:write:a:7~c0\npost r1 ask c0#1:write:a:7~c0\
 #[derive(Clone, Copy, PartialEq, Eq)]
 struct Seen {
     outstanding: Option<u64>,
-    asked: [bool; 3],
+    asked_r0: bool,
+    asked_r1: bool,
+    asked_r2: bool,
     accepted: usize,
     front: u64,
 }
@@ -43,11 +45,9 @@ fn look(office: &Office) -> Option<Seen> {
     let seat = office.client()?;
     Some(Seen {
         outstanding: seat.outstanding(),
-        asked: [
-            seat.asked(ReplicaId::of(0)),
-            seat.asked(ReplicaId::of(1)),
-            seat.asked(ReplicaId::of(2)),
-        ],
+        asked_r0: seat.asked(ReplicaId::of(0)),
+        asked_r1: seat.asked(ReplicaId::of(1)),
+        asked_r2: seat.asked(ReplicaId::of(2)),
         accepted: seat.accepted().len(),
         front: seat.seen(),
     })

@@ -18,11 +18,7 @@ ghost use Rattle.dsr_run.specs.Step.{log_of};
 ghost use Rattle.dsr_boxes.specs.Moment.{IsMomentOf};
 ghost use Rattle.dsr_boxes.specs.Pass.{IsPassOf, MayTake, new_pass, with_entry};
 
-use crate::box_state::BoxState;
-use crate::moment::Moment;
-use crate::parcel::Parcel;
-use crate::pass::Pass;
-use crate::shared_boxes::SharedBoxes;
+use dsr_boxes::{BoxState, Moment, Parcel, Pass, SharedBoxes};
 use dsr_envelope::Envelope;
 use dsr_names::{Actor, ClientId, Refusal, ReplicaId, Shape};
 use std::alloc::Global;
@@ -267,15 +263,6 @@ fn tell(alloc: Global, boxes: &SharedBoxes, teller: &mut Pass, to: &Actor) -> Re
     Ok(())
 }
 
-/// Has an actor claim its box to another, and tells whether it could. It does nothing more.
-fn claims(boxes: &SharedBoxes, poster: Pass, to: &Actor) -> bool
-    requires boxes { IsPassOf boxes.now poster }
-    requires to { IsActor poster.shape to.now }
-{
-    let Pass { mut token, actor } = poster;
-    boxes.claim(&mut token, &actor, to)
-}
-
 /// Has the traitor stop after the claim of its box to the second client, and the others claim theirs to this actor.
 fn claim_beside_a_poster<R: Abort>(rt: &R, alloc: Global, to: &Actor) -> Result<(), Fail>
     requires to { IsActor (shape_of 3 1 2 1) to.now }
@@ -288,11 +275,11 @@ fn claim_beside_a_poster<R: Abort>(rt: &R, alloc: Global, to: &Actor) -> Result<
         first,
         second,
     } = open_small(alloc)?;
-    assert!(rt; claims(&boxes, traitor, &client(1)));
-    assert!(rt; claims(&boxes, one, to));
-    assert!(rt; claims(&boxes, two, to));
-    assert!(rt; claims(&boxes, first, to));
-    assert!(rt; claims(&boxes, second, to));
+    assert!(rt; traitor.claim_and_stop(&boxes, &client(1)));
+    assert!(rt; one.claim_and_stop(&boxes, to));
+    assert!(rt; two.claim_and_stop(&boxes, to));
+    assert!(rt; first.claim_and_stop(&boxes, to));
+    assert!(rt; second.claim_and_stop(&boxes, to));
     Ok(())
 }
 
@@ -310,12 +297,11 @@ fn claim_beside_a_taker<R: Abort>(rt: &R, alloc: Global, to: &Actor) -> Result<(
         second,
     } = open_small(alloc)?;
     plant(alloc, &boxes, &mut traitor, &client(0))?;
-    let Pass { mut token, actor } = first;
-    assert!(rt; boxes.fetch(&mut token, &actor, &replica(0)));
-    assert_eq!(rt; claims(&boxes, traitor, to), *to != client(0));
-    assert!(rt; claims(&boxes, one, to));
-    assert!(rt; claims(&boxes, two, to));
-    assert!(rt; claims(&boxes, second, to));
+    assert!(rt; first.fetch_and_stop(&boxes, &replica(0)));
+    assert_eq!(rt; traitor.claim_and_stop(&boxes, to), *to != client(0));
+    assert!(rt; one.claim_and_stop(&boxes, to));
+    assert!(rt; two.claim_and_stop(&boxes, to));
+    assert!(rt; second.claim_and_stop(&boxes, to));
     Ok(())
 }
 
@@ -387,8 +373,7 @@ fn a_poster_stopped_after_its_claim_stops_one_box(rt: HostRuntime) -> Result<(),
         mut second,
     } = open_small(rt.alloc())?;
     plant_for_later(rt.alloc(), &boxes, &mut traitor)?;
-    let Pass { mut token, actor } = traitor;
-    assert!(rt; boxes.claim(&mut token, &actor, &client(1)));
+    assert!(rt; traitor.claim_and_stop(&boxes, &client(1)));
     // What the traitor posted before it stopped is taken after that.
     work_beside_a_poster(
         rt.alloc(),
@@ -441,8 +426,7 @@ fn a_taker_stopped_after_its_fetch_stops_one_box(rt: HostRuntime) -> Result<(), 
     } = open_small(rt.alloc())?;
     plant(rt.alloc(), &boxes, &mut traitor, &client(0))?;
     tell(rt.alloc(), &boxes, &mut first, &client(1))?;
-    let Pass { mut token, actor } = first;
-    assert!(rt; boxes.fetch(&mut token, &actor, &replica(0)));
+    assert!(rt; first.fetch_and_stop(&boxes, &replica(0)));
     // What the client posted before it stopped is taken after that.
     work_beside_a_taker(
         rt.alloc(),

@@ -1,4 +1,4 @@
--- A short log has few posts. For the tests.
+-- A short log has few posts.
 use Rattle.std.proofs.Common.{ℕ, suc, ◌<◌, ◌≤◌, Bool, true, false, List, [], ◌∷◌, ◌++◌, length, length-append, if◌then◌else◌, arith}
 use Rattle.dsr_names.specs.declared.actor.Actor.{Actor}
 use Rattle.dsr_names.specs.Support.ActorEquality.{actor_eq}
