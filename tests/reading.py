@@ -39,7 +39,7 @@ DSR_FUNCTION = re.compile(r"\bfn (dsr_[a-z_]+)")
 TOP_PATH = re.compile(r"(?<![\w./-])(?:tests|crates|tools|conformance|examples|docs|page|bench)/[\w./*-]*[\w*]")
 LINK = re.compile(r"\]\(([^)#\s]*)(?:#([^)\s]+))?\)")
 CAPITALS = re.compile(r"\b[A-Z][A-Z-]*\b")
-BESIDE_THE_CODE = ("dsr_mail_tries", "dsr_own_service", "dsr_two_clients", "dsr_row_calls", "dsr_rows")
+BESIDE_THE_CODE = ("dsr_mail_tries", "dsr_own_service", "dsr_row_calls", "dsr_rows")
 
 
 class Source:

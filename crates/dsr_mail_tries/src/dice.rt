@@ -5,7 +5,7 @@ ghost use Rattle.dsr_names.specs.Shape.{IsActor};
 
 use dsr_names::{Actor, ClientId, ReplicaId, Shape};
 
-/// Pseudo-random numbers: the same seed and stream give the same numbers (xorshift, Marsaglia 2003).
+/// Pseudo-random numbers: the same seed and stream give the same numbers (a linear congruential generator with Knuth's constants for MMIX).
 #[derive(Drop)]
 pub(crate) struct Dice {
     state: u64,
@@ -14,10 +14,10 @@ pub(crate) struct Dice {
 impl Dice {
     /// Creates the numbers of this seed and stream.
     pub(crate) fn new(seed: u64, stream: u64) -> Dice {
-        // Bits of the golden ratio separate neighbouring streams, and the last bit keeps the state from 0, which no roll would change.
+        // Bits of the golden ratio separate neighbouring streams.
         let apart = stream.wrapping_add(1).wrapping_mul(0x9e37_79b9_7f4a_7c15);
         let mut dice = Dice {
-            state: (seed ^ apart) | 1,
+            state: seed.wrapping_add(apart),
         };
         for _ in 0..8 {
             dice.roll();
@@ -27,12 +27,12 @@ impl Dice {
 
     /// Returns the next number.
     fn roll(&mut self) -> u64 {
-        let mut state = self.state;
-        state ^= state << 13;
-        state ^= state >> 7;
-        state ^= state << 17;
-        self.state = state;
-        state >> 11
+        self.state = self
+            .state
+            .wrapping_mul(6_364_136_223_846_793_005)
+            .wrapping_add(1_442_695_040_888_963_407);
+        // The low bits repeat early.
+        self.state / 0x1_0000_0000
     }
 
     /// Returns a number below `end`.

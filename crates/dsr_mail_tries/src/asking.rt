@@ -4,7 +4,7 @@ ghost use Rattle.std.specs.Prelude.{◌≡◌, IfOk};
 ghost use Rattle.dsr_run.specs.Step.{log_of};
 ghost use Rattle.dsr_boxes.specs.Moment.{IsMomentOf};
 ghost use Rattle.dsr_boxes.specs.Pass.{IsPassOf};
-ghost use Rattle.dsr_two_clients.specs.Same.{IsSameSeat};
+ghost use Rattle.dsr_mail_tries.specs.Same.{IsSameSeat};
 
 use dsr_boxes::Moment;
 use dsr_envelope::{Clients, Pick};

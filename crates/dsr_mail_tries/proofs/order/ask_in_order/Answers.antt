@@ -1,7 +1,7 @@
 use Rattle.std.proofs.Common.{◌++◌}
 use Rattle.dsr_base.proofs.MemberLemmas.{In-append_right}
-use Rattle.dsr_two_clients.proofs.OrderLemmas.{in_order}
-use Rattle.dsr_two_clients.proofs.order.ask_in_order.Goals as goal
+use Rattle.dsr_mail_tries.proofs.OrderLemmas.{in_order}
+use Rattle.dsr_mail_tries.proofs.order.ask_in_order.Goals as goal
 
 pub returns-in-Ok : goal.returns-in-Ok
 returns-in-Ok g c =

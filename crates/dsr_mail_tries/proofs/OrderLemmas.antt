@@ -19,8 +19,8 @@ use Rattle.dsr_boxes.specs.Pass.{SharedBoxes, Pass, IsPassOf, new_pass}
 use Rattle.dsr_mail.specs.Logs.{Logs, logs_of}
 use Rattle.dsr_mail.specs.Responses.{HasInvoked}
 use Rattle.dsr_mail.specs.Seats.{is_loyal_replica, is_client, AreSeatsOf}
-use Rattle.dsr_two_clients.specs.Order.{IsBetween, IsInOrder}
-use Rattle.dsr_two_clients.specs.Same.{IsSameSeat}
+use Rattle.dsr_mail_tries.specs.Order.{IsBetween, IsInOrder}
+use Rattle.dsr_mail_tries.specs.Same.{IsSameSeat}
 
 -- the last of one seat
 pub last_of_one : (all : List Pass) (a x : Pass) (xs : List Pass) → all ≡ a ∷ [] → all ≡ xs ++ x ∷ [] → (xs ≡ []) × (x ≡ a)

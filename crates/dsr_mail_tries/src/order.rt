@@ -8,8 +8,8 @@ ghost use Rattle.dsr_run.specs.Step.{log_of};
 ghost use Rattle.dsr_boxes.specs.Moment.{IsMomentOf};
 ghost use Rattle.dsr_boxes.specs.Pass.{IsPassOf, new_pass};
 ghost use Rattle.dsr_mail.specs.Seats.{is_loyal_replica, is_traitor_replica, is_client, AreSeatsOf};
-ghost use Rattle.dsr_two_clients.specs.Order.{IsBetween, IsInOrder};
-ghost use Rattle.dsr_two_clients.specs.Same.{IsSameSeat};
+ghost use Rattle.dsr_mail_tries.specs.Order.{IsBetween, IsInOrder};
+ghost use Rattle.dsr_mail_tries.specs.Same.{IsSameSeat};
 
 use crate::asking::ask_in_threads;
 use dsr_boxes::Moment;

@@ -1,8 +1,8 @@
 use Rattle.std.proofs.Common.{◌≡◌, ap, ◌∙◌}
 use Rattle.dsr_names.specs.declared.actor.Actor.TheVariants.{Replica, Client}
 use Rattle.dsr_boxes.specs.Pass.{Pass, new_pass}
-use Rattle.dsr_two_clients.proofs.OrderLemmas.{last_of_one, last_of_two, both_back, replica_back, clients_back, is_between}
-use Rattle.dsr_two_clients.proofs.order.ask_from_seats.Goals as goal
+use Rattle.dsr_mail_tries.proofs.OrderLemmas.{last_of_one, last_of_two, both_back, replica_back, clients_back, is_between}
+use Rattle.dsr_mail_tries.proofs.order.ask_from_seats.Goals as goal
 
 pub returns-clause-replicas : goal.returns-clause-replicas
 returns-clause-replicas g c =

@@ -1,5 +1,0 @@
-use Rattle.dsr_two_clients.specs.Same.{IsSameSeat}
-use Rattle.dsr_two_clients.proofs.asking.hear.Given as goal
-
-abbrev pub invariant-loop : goal.invariant-loop
-invariant-loop l = IsSameSeat l.initial.seat l.seat
