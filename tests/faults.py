@@ -44,6 +44,7 @@ import time
 import zlib
 
 from kit import inputs
+from kit.archives import archive_of, linked_with
 from kit.long_plays import one_replica
 from kit.program import PROGRAM, TOP, bytes_of, command_of, difference, program, run, shown, with_memory
 from kit.refusals import MOST_RUNS, failing, numbers, refusing
@@ -52,10 +53,6 @@ from kit.written import tables
 from models import histories, slow_texts, starved
 from models.transcript_text import refused
 from models.words import MODELS
-
-sys.path.insert(0, f"{TOP}/tools")
-
-import libraries
 
 MIB = 1 << 20
 
@@ -717,14 +714,12 @@ def library_rows():
 
 def fault_of_building(room):
     """What is wrong with the library or the programs that use it, which are built in this folder, or None."""
-    archive = f"{room}/lib{LIBRARY}.a"
-    said = libraries.build_archive(TOP, LIBRARY, archive)
-    if said is not None:
-        return f"{said}the library for programs in C is not built"
+    archive, fault = archive_of(LIBRARY)
+    if fault:
+        return fault
     words = ["cc", "-Wall", "-Wextra", "-Werror", "-std=c11", f"-I{TOP}/include"]
-    linked = [archive, f"{libraries.toolchain().KIT}/c/liblibc_c.a"]
     for source, made in [("examples/record/check.c", "check"), ("tests/c_library.c", "again")]:
-        if subprocess.run([*words, f"{TOP}/{source}", *linked, "-o", made], cwd=room).returncode != 0:
+        if subprocess.run([*words, f"{TOP}/{source}", *linked_with(archive), "-o", made], cwd=room).returncode != 0:
             return f"{source} is not built"
     return None
 

@@ -29,12 +29,12 @@ import sys
 import tempfile
 
 from kit import inputs
+from kit.archives import archive_of, linked_with
 from kit.program import TOP, bytes_of, program, run, shown, text_of
 from kit.report import in_threads, main, say
 
 sys.path.insert(0, f"{TOP}/tools")
 
-import libraries
 import page_sources
 from picture_run import BadData, Run
 
@@ -105,12 +105,11 @@ def cases():
 # ---- the library in a program of C
 
 def fault_of_library(room):
-    """What is wrong with the library or the program that calls it, which are built in this folder, or None."""
-    archive = f"{room}/libdsr_page.a"
-    said = libraries.build_archive(TOP, page_sources.NAME, archive)
-    if said is not None:
-        return f"{said}the library is not built"
-    words = ["cc", "-std=c11", "-Wall", "-Wextra", "-Werror", f"-I{TOP}/include", f"{TOP}/tests/page.c", archive, f"{libraries.toolchain().KIT}/c/liblibc_c.a"]
+    """What is wrong with the library or the program that calls it, which is built in this folder, or None."""
+    archive, fault = archive_of(page_sources.NAME)
+    if fault:
+        return fault
+    words = ["cc", "-std=c11", "-Wall", "-Wextra", "-Werror", f"-I{TOP}/include", f"{TOP}/tests/page.c", *linked_with(archive)]
     return None if subprocess.run([*words, "-o", f"{room}/page"]).returncode == 0 else "tests/page.c is not built"
 
 

@@ -11,6 +11,7 @@ import subprocess
 import sys
 import tempfile
 
+from kit.archives import archive_of, linked_with
 from kit.program import TOP, bytes_of, difference, run
 from kit.report import in_threads, main, say
 
@@ -36,10 +37,12 @@ ROWS = [
 
 def fault_of_library(room):
     """What is wrong with building the library and its shared object in this folder, or None."""
-    said = libraries.build_archive(TOP, LIBRARY, f"{room}/lib{LIBRARY}.a")
-    if said is not None:
-        return f"{said}the library for programs in C is not built"
-    words = ["cc", "-shared", "-o", f"{room}/libdsr_check.so", "-Wl,-u,dsr_check_text", f"{room}/lib{LIBRARY}.a", f"{libraries.toolchain().KIT}/c/liblibc_c.a"]
+    archive, fault = archive_of(LIBRARY)
+    if fault:
+        return fault
+    # Programs in Rust and in Go look for it here.
+    shutil.copy(archive, room)
+    words = ["cc", "-shared", "-o", f"{room}/libdsr_check.so", "-Wl,-u,dsr_check_text", *linked_with(archive)]
     made = subprocess.run(words, capture_output=True, text=True)
     return None if made.returncode == 0 else f"the shared object is not built: {made.stderr}"
 
