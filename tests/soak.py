@@ -8,6 +8,7 @@ Runs one after the other, each on all processors, and each with all of what it l
 - streams of tests/faults.py: each read and each write that fails, in each way;
 - services of tests/threads.py: a thousand services in threads, with traitors, gates that stop them, and threads and allocations that are refused;
 - load of tests/cost.py: memory of 20,000 rounds, and services of 16 replicas and 32 clients of 100 operations;
+- transcripts of tests/texts.py: each transcript of the examples with twice as many changes;
 - large_transcripts, which is transcripts of tests/cost.py, and plays of tests/texts.py: texts at the limits of sizes, which ./test runs as they are.
 
 An hour of random tries of the mail is another command, tests/threads.py mail soak. Everything that runs is shown, and after each part how long it took, and
@@ -24,7 +25,7 @@ import threads
 from kit.report import main, say
 
 PARTS = {"allocations": faults.allocations, "malicious": texts.malicious, "streams": faults.streams, "services": threads.services, "load": cost.load,
-         "large_transcripts": cost.transcripts, "plays": texts.plays}
+         "large_transcripts": cost.transcripts, "plays": texts.plays, "transcripts": texts.transcripts}
 
 
 def timed(name, part):

@@ -93,24 +93,25 @@ def fault_of_transcript(stem):
     return fault_of("check", transcript, (0, checked_report(bytes_of(f"{stem}.out")), b""))
 
 
-def small_changes(_, text, is_row):
-    """All that is tried on a transcript: of a short one much, of an attack's or a service's a part."""
+def small_changes(_, text, is_row, is_soak):
+    """All that is tried on a transcript: of a short one much, of an attack's or a service's a part, and without `soak` half as much."""
     yield from inputs.exchanged(text)
     yield from inputs.without_a_line(text)
     yield from inputs.cut_after_a_line(text)
+    part = 1 if is_soak else 2
     if len(text) <= SHORT_TRANSCRIPT:
-        yield from with_a_byte_changed(text, 6)
+        yield from with_a_byte_changed(text, 6 // part)
     else:
-        yield from with_a_byte_changed(text, 1, 1 if is_row else max(2, len(text) // 1_500))
+        yield from with_a_byte_changed(text, 1, part if is_row else part * max(2, len(text) // 1_500))
     if len(text) <= 2 * SHORT_TRANSCRIPT:
         yield from cut_at_bytes(text)
 
 
-def parts_of_transcripts():
+def parts_of_transcripts(is_soak):
     for stem in [*inputs.plays(), f"{TOP}/examples/record/honest"]:
         text, is_row = bytes_of(f"{stem}.transcript"), os.path.basename(os.path.dirname(stem)) == "examples"
         if text:
-            yield from parts_of(f"{name_of(stem)}.transcript, changed", small_changes, "check", text, is_row)
+            yield from parts_of(f"{name_of(stem)}.transcript, changed", small_changes, "check", text, is_row, is_soak)
 
 
 def faults_of_random_play(seed):
@@ -144,11 +145,11 @@ def faults_of_play(stem):
     return f"{name_of(stem)}.play", 1, [fault] if fault else []
 
 
-def transcripts(report, _):
+def transcripts(report, is_soak):
     for function, tasks, chunk in [
         (faults_of_row, transcript_rows.rows(), 8),
         (faults_of_play, inputs.plays(), 8),
-        (faults_of_part, parts_of_transcripts(), 1),
+        (faults_of_part, parts_of_transcripts(is_soak), 1),
         (faults_of_random_play, range(RANDOM_PLAYS), 8),
         (faults_of_row, transcript_rows.large_rows(), 1),
     ]:

@@ -6,8 +6,8 @@ explanations: what `dsr explain` tells. Of each play of examples/, and of random
 what a replica keeps, holds, drops or does not propose, which the model does not tell; and so are, in words, all lines that say why an event is refused or why a
 reply is no vote. Each reason why an event is refused, but a counter at its limit, is that of a play by hand. Of each attack there are lines that name what
 stopped it. Of each play of examples/why/, which is wrong in one line, the first refused event is of that line, and the explanation beside it is what the
-program writes. Of texts that are no play the line, the column, and what was expected there are named; of 5,000 texts that are nearly plays the line and the
-column are those of tests/models/first_faults.py: the first byte with which no play goes on; and of 1,500 texts each that are nearly serve scripts, transcripts
+program writes. Of texts that are no play the line, the column, and what was expected there are named; of 2,000 texts that are nearly plays the line and the
+column are those of tests/models/first_faults.py: the first byte with which no play goes on; and of 600 texts each that are nearly serve scripts, transcripts
 and request lines. Plays written by hand show what is told of requests that are not proposed, of posts that are refused, and at the end. What is told with
 options is told without them too; as data, each option leaves just what it is to leave. To tell what was refused takes at most three times the processor time of
 the play.
@@ -46,9 +46,9 @@ from models import explain_model, first_faults, histories
 
 EXPLAINED_PLAYS = 200
 # How many texts that are nearly plays there are, and how many of them have nearly as many events as a play may have.
-NEARLY_PLAYS, FULL_PLAYS = 5_000, 100
+NEARLY_PLAYS, FULL_PLAYS = 2_000, 100
 # How many texts that are nearly of another kind there are, of each kind.
-NEARLY_OTHERS = 1_500
+NEARLY_OTHERS = 600
 # How many times the processor time of a play it may take to tell what was refused.
 MOST_TIMES = 3
 # Lines that the model does not make.
@@ -335,7 +335,7 @@ def explanations(report, is_written):
 # ---- pictures
 
 MOST_BYTES_OF_A_PICTURE = 60_000
-PICTURED_PLAYS = 60
+PICTURED_PLAYS = 30
 # Where a picture could ask for something.
 ELSEWHERE = re.compile(r"""(?:src|href)\s*=|url\((?!["']?#)|@import|https?://(?!www\.w3\.org/2000/svg")""")
 
