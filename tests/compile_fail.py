@@ -45,21 +45,19 @@ def are_wanted(found, marks):
 
 
 def make_room(room):
-    """Copies the crates into the room. Returns the folder of one more, which has no file yet."""
+    """Copies the crates into the room."""
     shutil.copytree(f"{TOP}/crates", f"{room}/crates", ignore=shutil.ignore_patterns("out", "wrong-bodies"))
     if os.path.exists(f"{TOP}/HANDLES"):
         shutil.copy(f"{TOP}/HANDLES", room)
-    os.makedirs(f"{room}/crates/{CRATE}/src")
-    return f"{room}/crates/{CRATE}"
 
 
 def write_crate(room, texts):
-    """Makes each text a module of the crate, and nothing else."""
+    """Makes each text a module of one more crate there, and nothing else."""
     uses = sorted({name for text in texts.values() for name in USES.match(text)[1].split()})
     with open(f"{room}/crates.txt", "w") as file:
         file.write(f"{text_of('crates.txt')}\n{CRATE}: {' '.join(uses)}\n")
     sources = f"{room}/crates/{CRATE}/src"
-    shutil.rmtree(sources)
+    shutil.rmtree(sources, ignore_errors=True)
     os.makedirs(sources)
     for name, text in {"lib": OF_A_ROOT + "".join(f"mod {name};\n" for name in texts), **texts}.items():
         with open(f"{sources}/{name}.rt", "w") as file:
@@ -67,14 +65,15 @@ def write_crate(room, texts):
 
 
 def errors_of(room, texts):
-    """The errors that the compiler finds in the modules: of each that has some, their lines and names. And what it wrote, with its exit status."""
+    """The errors that the compiler finds in the modules: of each that has some, their lines and names. And whether it ended as it does where it finds errors, all
+    of them in modules; and what it wrote, with its exit status."""
     write_crate(room, texts)
     run = subprocess.run(["rt", "check", "--only="], cwd=f"{room}/crates/{CRATE}", stdin=subprocess.DEVNULL, stdout=subprocess.PIPE,
                          stderr=subprocess.STDOUT, text=True, errors="replace")
     found = {}
     for module, at, name in ERROR.findall(run.stdout):
         found.setdefault(module, set()).add((int(at), name))
-    return found, f"the check ended with status {run.returncode}:\n{run.stdout}"
+    return found, run.returncode == 1 and found.keys() <= texts.keys(), f"the check ended with status {run.returncode}:\n{run.stdout}"
 
 
 def faults_of(texts):
@@ -83,12 +82,12 @@ def faults_of(texts):
     with tempfile.TemporaryDirectory(prefix="compile-fail-") as room:
         make_room(room)
         while left:
-            found, said = errors_of(room, left)
+            found, is_well, said = errors_of(room, left)
             # Where no more errors are found, none of those that are left is refused.
             for module in [module for module in left if module in found] or list(left):
                 marks, errors = marks_of(left.pop(module)), found.get(module, set())
                 wanted = {(line, " or ".join(sorted(names))) for line, names in marks.items()}
-                is_refused = marks and are_wanted(errors, marks)
+                is_refused = is_well and marks and are_wanted(errors, marks)
                 faults[module] = None if is_refused else f"wanted: {listed(wanted)}; found: {listed(errors)}; {said}"
     return faults
 
