@@ -3,6 +3,7 @@
 import fcntl
 import os
 import sys
+import time
 
 from kit.program import TOP, sources
 
@@ -27,9 +28,11 @@ def archive_of(name):
         fcntl.flock(held, fcntl.LOCK_EX)
         if is_current(path):
             return path, None
-        made = f"{FOLDER}/made.lib{name}.a"
+        made, begun = f"{FOLDER}/made.lib{name}.a", time.time()
         said = libraries.build_archive(TOP, name, made)
         if said is None:
+            # A source that changed meanwhile is newer.
+            os.utime(made, (begun, begun))
             os.replace(made, path)
         return path, None if said is None else f"{said}the library {name} is not built"
 
