@@ -233,6 +233,6 @@ def build_archive(top, name, to, toolchain_in=None):
                 compilers = toolchain_in or f"{module.KIT}/toolchain"
                 words = [*crate.words(["--jobs", str(jobs)], keeps=False), "--toolchain", compilers, "--backend", "llvm"]
                 return crate.call(module.RATTLE, "build", *words, "-o", to)
-            # With more jobs it takes a half more of the processors' time, and as long.
+            # More jobs take no less time, and nearly half as much processor time again.
             status, said = made(make, crate, 1)
             return said if status else None

@@ -3,7 +3,8 @@
 //!
 //! The tests use 13 of the 25 boxes between three replicas and two clients, among them the stopped one. They only claim the other 12 (at a claim, a
 //! box that is not empty stops its poster) and post nothing there. Two of these are from a client to itself, which never posts there. Six are from
-//! clients to replicas, and four from loyal replicas to clients: asks are signed and replies need a decision, so the tests of seats post those.
+//! clients to replicas, and four from loyal replicas to clients: asks are signed and replies need a decision, so the tests of seats, in
+//! `dsr_hosts_tests`, post those.
 
 ghost use Rattle.std.specs.Prelude.{◌≡◌, ◌⊎◌, ◌<◌, IfOk, OnOk, OnErr, [], ◌∷◌, length};
 ghost use Rattle.dsr_names.specs.Shape.{shape_of, IsActor};
@@ -361,15 +362,18 @@ fn plant_for_later(alloc: Global, boxes: &SharedBoxes, traitor: &mut Pass) -> Re
     Ok(())
 }
 
-/// Fails unless the box from the traitor to this actor looks claimed by its poster.
-fn looks_claimed(boxes: &SharedBoxes, to: &Actor) -> Result<(), Fail>
+/// Fails unless the box from the traitor to this actor looks like this.
+fn looks_so(boxes: &SharedBoxes, to: &Actor, wanted: &BoxState) -> Result<(), Fail>
     requires shape { boxes.now.shape ≡ shape_of 3 1 2 1 }
     requires to { IsActor (shape_of 3 1 2 1) to.now }
 {
     let (state, _moment) = boxes.look_at(&replica(0), to);
-    match state {
-        BoxState::BeingFilled => Ok(()),
-        _ => Err("a box that its poster has not claimed")?,
+    match (&state, wanted) {
+        (BoxState::Empty, BoxState::Empty)
+        | (BoxState::BeingFilled, BoxState::BeingFilled)
+        | (BoxState::Full, BoxState::Full)
+        | (BoxState::BeingEmptied, BoxState::BeingEmptied) => Ok(()),
+        _ => Err("a box that looks otherwise")?,
     }
 }
 
@@ -385,7 +389,7 @@ fn a_poster_stopped_after_its_claim_stops_one_box(rt: HostRuntime) -> Result<(),
     } = open_small(rt.alloc())?;
     plant_for_later(rt.alloc(), &boxes, &mut traitor)?;
     assert!(rt; traitor.claim_and_stop(&boxes, &client(1)));
-    looks_claimed(&boxes, &client(1))?;
+    looks_so(&boxes, &client(1), &BoxState::BeingFilled)?;
     // What the traitor posted before it stopped is taken after that.
     work_beside_a_poster(
         rt.alloc(),
@@ -426,18 +430,6 @@ fn work_beside_a_taker(
     plant_nothing(alloc, boxes, traitor, &client(0))
 }
 
-/// Fails unless the box from the traitor to this actor looks fetched by its taker.
-fn looks_fetched(boxes: &SharedBoxes, to: &Actor) -> Result<(), Fail>
-    requires shape { boxes.now.shape ≡ shape_of 3 1 2 1 }
-    requires to { IsActor (shape_of 3 1 2 1) to.now }
-{
-    let (state, _moment) = boxes.look_at(&replica(0), to);
-    match state {
-        BoxState::BeingEmptied => Ok(()),
-        _ => Err("a box that its taker has not fetched")?,
-    }
-}
-
 #[test]
 fn a_taker_stopped_after_its_fetch_stops_one_box(rt: HostRuntime) -> Result<(), Fail> {
     let Small {
@@ -451,7 +443,7 @@ fn a_taker_stopped_after_its_fetch_stops_one_box(rt: HostRuntime) -> Result<(), 
     plant(rt.alloc(), &boxes, &mut traitor, &client(0))?;
     tell(rt.alloc(), &boxes, &mut first, &client(1))?;
     assert!(rt; first.fetch_and_stop(&boxes, &replica(0)));
-    looks_fetched(&boxes, &client(0))?;
+    looks_so(&boxes, &client(0), &BoxState::BeingEmptied)?;
     // What the client posted before it stopped is taken after that.
     work_beside_a_taker(
         rt.alloc(),
@@ -527,18 +519,6 @@ fn tell_in_order(
     Ok(moment)
 }
 
-/// Fails unless the box from the traitor to the first client looks full if `full` is true, and empty if it is false.
-fn looks_so(boxes: &SharedBoxes, full: bool) -> Result<(), Fail>
-    requires shape { boxes.now.shape ≡ shape_of 3 1 2 1 }
-{
-    let (state, _moment) = boxes.look_at(&replica(0), &client(0));
-    match state {
-        BoxState::Empty if !full => Ok(()),
-        BoxState::Full if full => Ok(()),
-        _ => Err("a box that looks otherwise")?,
-    }
-}
-
 /// Has the traitor post to the first client. Fails unless the box looks empty before and full after that.
 fn plant_into_an_empty_box(
     alloc: Global,
@@ -551,9 +531,9 @@ fn plant_into_an_empty_box(
     requires few { length traitor.old.log < 1000 }
     ensures posted { OnOk result (traitor.new ≡ with_entry traitor.old (Post (Client 0) Empty)) }
 {
-    looks_so(boxes, false)?;
+    looks_so(boxes, &client(0), &BoxState::Empty)?;
     plant(alloc, boxes, traitor, &client(0))?;
-    looks_so(boxes, true)
+    looks_so(boxes, &client(0), &BoxState::Full)
 }
 
 #[test]
