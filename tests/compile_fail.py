@@ -6,13 +6,14 @@ refused ends with the name of its error, as `//~ borrow-e0382`, or with two, as 
 it depends on what is built of the crates below which one is found. The files are made the modules of a crate
 `refused_cases` in a temporary copy of the crates, and `rt check --only=` looks at it there. That
 compiles it and proves nothing. It must find exactly the errors that are marked. The compiler looks for some errors only where it found no others,
-so those in which it finds none are looked at once more, without the rest.
+so those in which it finds none are looked at once more, without the rest. If these compile, the check is stopped: it would go on to prove all crates below.
 """
 
 import glob
 import os
 import re
 import shutil
+import signal
 import subprocess
 import sys
 import tempfile
@@ -27,6 +28,8 @@ USES = re.compile(r"// uses: (.*)\n")
 OF_A_ROOT = "#![tactic(auto)]\n"
 MARK = re.compile(r"//~ ([\w-]+)(?: or ([\w-]+))?$")
 ERROR = re.compile(r"^src/(\w+)\.rt:(\d+):\d+: error\[([\w-]+)\]", re.M)
+# How the line begins with which the check's first pass says that the crate compiles.
+COMPILES = "only="
 
 
 def listed(errors):
@@ -64,16 +67,27 @@ def write_crate(room, texts):
             file.write(text if name == "lib" else text.replace(OF_A_ROOT, "\n"))
 
 
+def check(crate):
+    """The exit status of a check of this crate, and what it wrote. It is stopped where it says that the crate compiles."""
+    run = subprocess.Popen(["rt", "check", "--only="], cwd=crate, stdin=subprocess.DEVNULL, stdout=subprocess.PIPE, stderr=subprocess.STDOUT, text=True,
+                           errors="replace", start_new_session=True)
+    said = []
+    for line in run.stdout:
+        said.append(line)
+        if line.startswith(COMPILES):
+            os.killpg(run.pid, signal.SIGKILL)
+    return run.wait(), "".join(said)
+
+
 def errors_of(room, texts):
     """The errors that the compiler finds in the modules: of each that has some, their lines and names. And whether it ended as it does where it finds errors, all
     of them in modules; and what it wrote, with its exit status."""
     write_crate(room, texts)
-    run = subprocess.run(["rt", "check", "--only="], cwd=f"{room}/crates/{CRATE}", stdin=subprocess.DEVNULL, stdout=subprocess.PIPE,
-                         stderr=subprocess.STDOUT, text=True, errors="replace")
+    status, said = check(f"{room}/crates/{CRATE}")
     found = {}
-    for module, at, name in ERROR.findall(run.stdout):
+    for module, at, name in ERROR.findall(said):
         found.setdefault(module, set()).add((int(at), name))
-    return found, run.returncode == 1 and found.keys() <= texts.keys(), f"the check ended with status {run.returncode}:\n{run.stdout}"
+    return found, status == 1 and found.keys() <= texts.keys(), f"the check ended with status {status}:\n{said}"
 
 
 def faults_of(texts):
