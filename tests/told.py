@@ -12,6 +12,11 @@ and request lines. Plays written by hand show what is told of requests that are 
 options is told without them too; as data, each option leaves just what it is to leave. To tell what was refused takes at most three times the processor time of
 the play.
 
+transcripts: what `dsr explain` tells of transcripts. Those of tests/written/stops.txt stop being runs at the line that is there, for the reason that is there,
+as data and in words, and each line after it is the one there; the others there are runs. Of each transcript of examples/ that is not one of a run the explanation
+is the one beside it, which was written by hand. The transcripts of examples/, and 600 that were changed by chance, are runs or stop at the line that `dsr check`
+names, and end with its status and what it tells. If the model of plays refuses the event that the line would be, it has the same reason.
+
 pictures: of each attack what its explanation says was decided, acted and accepted is what the .out beside it says; the .svg beside it is what tools/picture
 makes of the explanation, is well formed, asks for nothing from elsewhere, and has less than 60,000 bytes. The page that tools/picture makes has all of its
 events, and asks for nothing from elsewhere. Both are made of random plays too, and of a long one of 16 replicas. Of texts that are no explanation
@@ -39,7 +44,8 @@ from kit.inputs import lines_text
 from kit.program import TOP, bytes_of, command_of, least_time, name_of, program, run, shown, text_of, write_bytes
 from kit.report import in_processes, main
 from kit.written import tables
-from models import explain_model, first_faults, histories
+from models import explain_model, first_faults, histories, slow_check, slow_play
+from random_plays import event_of
 
 
 # ---- explanations
@@ -207,11 +213,14 @@ def other_kind_of(text):
 
 def fault_of_other(kind, text):
     """What is wrong with where `dsr explain` says that this text, which begins like one of the kind, is wrong, or None."""
-    place = kind[2](text)
+    place, is_transcript = kind[2](text), kind[0] == "check"
+    if is_transcript and place is None:
+        return fault_of_account(text)
     status, written, told = program("explain", text)
     said = re.match(rb"th[^\n]* not a play: [^\n]*, and finds a bad line\nline (\d+), column (\d+): (?:expected |empty lines )", written)
     found = (int(said[1]), int(said[2])) if said else None
-    if status != 1 or told != program("play", text)[2] or (place is None and b"finds no bad line\n" not in written):
+    wanted = program("check" if is_transcript else "play", text)[2]
+    if status != 1 or told != wanted or (place is None and b"finds no bad line\n" not in written):
         return f"of {text[-200:]!r} it says {written[:120]!r} and {told!r}"
     return None if found == place else f"{text[-200:]!r} is wrong at {place}, and not at {found}"
 
@@ -330,6 +339,106 @@ def explanations(report, is_written):
         ])
     report.judge_gathered("texts that are nearly of a kind")
     report.judge(*check_of_time())
+
+
+# ---- transcripts
+
+CHANGED_TRANSCRIPTS = 600
+STOPS = tables("stops")
+# What lines of data say in words, by their beginnings and whose line it is; a line that ends with a dash says something of its own.
+WORDS = {
+    "wanted": "    it posts there: {0}", "box": "    in the box from {0} to {1}: {2}", "box -": "    in the box from {0} to {1}: nothing",
+    "due r post": "    due at {0}: the post to {2}", "due r take": "    due at {0}: the take from {2}",
+    "due r -": "    due at {0}: nothing, since it is a traitor", "due c -": "    outstanding at {0}: nothing", "due c": "    outstanding at {0}: request {1}",
+}
+
+
+def in_words(line):
+    """What this line of data, which follows that of the reason, says in words."""
+    word, rest = line.split(" ", 1)
+    if word == "wanted":
+        return WORDS[word].format(rest)
+    parts = rest.split(" ", 2)
+    if word == "box":
+        return WORDS["box -" if parts[2] == "-" else "box"].format(*parts)
+    whose = parts[0][0]
+    return WORDS[f"due {whose}" if whose == "c" and parts[1] != "-" else f"due {whose} {parts[1]}"].format(*parts)
+
+
+def modelled_reason(transcript):
+    """The reason by the model of plays, if it refuses the event that is the first line which may not follow; else None. The model reads a replica that is not
+    the sender and proposes something as one that proposes nothing, and knows nobody who is not of the shape."""
+    header, *lines = transcript.decode("latin-1").split("\n")[:-1]
+    world = slow_play.World(slow_check.header_of(header.encode())[1])
+    for line in lines:
+        event = event_of(world, line)
+        try:
+            world.step(event)
+        except slow_play.Refused as refusal:
+            why = f"why {explain_model.why_refused(world, event, refusal.args[0])}"
+            return None if why.startswith("why other-sender ") else why
+        if world.lines[-1] != line:
+            return None
+    return None
+
+
+def fault_of_account(transcript):
+    """What is told otherwise of this transcript than `dsr check` judges it, and than the model of plays says, or None."""
+    status, report, error = program("check", transcript)
+    ended, data, told = program("explain --data", transcript)
+    if (ended, told) != (status, error):
+        return f"it ends with {ended}, {told!r}, and not with {status}, {error!r}: {transcript[-200:]!r}"
+    lines, given = data.decode().split("\n"), transcript.decode("latin-1").split("\n")
+    if status == 0:
+        wanted = f"run {report.split(maxsplit=2)[1].decode()}"
+    elif b"not a run" in error:
+        line = int(error.split()[-1])
+        wanted = f"stop {line} {given[line - 1]}"
+    else:
+        return None
+    shape = f"dsr-explain 1 {given[0].split(' ', 2)[2]}"
+    if lines[:2] != [shape, wanted]:
+        return f"it says {lines[:2]}, and not {[shape, wanted]}"
+    why = modelled_reason(transcript) if status else None
+    return None if why in (None, lines[2]) or lines[2].startswith("why signed-outside ") else f"it says {lines[2]}, and not {why}"
+
+
+def fault_of_lines_told(transcript, data, words):
+    """What is told otherwise of this transcript than these lines of data, after the shape, and these in words; or None."""
+    found = [program(task, transcript)[1].decode().splitlines() for task in ("explain --data", "explain")]
+    return fault_of_account(transcript) or fault_of_same(found[0][1:], data) or fault_of_same(found[1], words)
+
+
+def fault_of_stop(lines, line, data, reason):
+    """What is told otherwise of these lines than was written by hand, or None."""
+    transcript, told = f"dsr-transcript 2 {lines}", data.split("\n")
+    step = transcript.split("\n")[int(line) - 1]
+    words = [f"line {line} may not follow those before it: {step}", f"    because {reason}", *map(in_words, told[1:])]
+    return fault_of_lines_told(transcript.encode(), [f"stop {line} {step}", *told], words)
+
+
+def fault_of_run(lines, count):
+    """What is told otherwise than that these lines are a run of so many steps, or None."""
+    words = f"this is a run: each step may follow those before it; number of steps: {count}"
+    return fault_of_lines_told(f"dsr-transcript 2 {lines}".encode(), [f"run {count}"], [words])
+
+
+def transcripts(report, _):
+    for row in STOPS["stops"]:
+        report.judge(f"where it stops: {row[0][-80:]!r}", fault_of_stop(*row), None)
+    for row in STOPS["runs"]:
+        report.judge(f"a run: {row[0][-80:]!r}", fault_of_run(*row), None)
+    given = inputs.found("**/*.check", "**/*.transcript")
+    for path in given:
+        transcript, (stem, _) = bytes_of(path), os.path.splitext(path)
+        report.judge(f"what is told of {inputs.name_in_examples(path)}", fault_of_account(transcript), None)
+        if b"not a run" in program("check", transcript)[2]:
+            told = program("explain", transcript)[1]
+            report.judge(f"why {inputs.name_in_examples(path)} is not a run", None if told == bytes_of(f"{stem}.explained") else f"it says {told!r}", None)
+    chance = random.Random(12)
+    texts = [inputs.by_chance(chance, bytes_of(path)) for path in itertools.islice(itertools.cycle(given), CHANGED_TRANSCRIPTS)]
+    report.gather("transcripts that were changed", len(texts), [fault for fault in in_processes(fault_of_account, texts, 25) if fault])
+    report.judge_gathered("transcripts that were changed by chance")
 
 
 # ---- pictures
@@ -589,4 +698,4 @@ def texts(report, _):
 
 
 if __name__ == "__main__":
-    sys.exit(main(__doc__, {"explanations": explanations, "pictures": pictures, "samples": samples, "texts": texts}, "--write"))
+    sys.exit(main(__doc__, {"explanations": explanations, "transcripts": transcripts, "pictures": pictures, "samples": samples, "texts": texts}, "--write"))

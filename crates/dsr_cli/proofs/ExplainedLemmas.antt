@@ -1,43 +1,57 @@
 -- What is left after an explanation that was written, or could not be.
-use Rattle.std.proofs.Common.{◌≡◌, ◌≤◌, ℕ, List, length, inl, inr, subst, sym}
-use Rattle.std.specs.Prelude.{Option, None, Some, Result, Ok, Err, IfErr, IfSome, OnOk}
+use Rattle.std.proofs.Common.{◌≡◌, ◌≤◌, ℕ, Bool, List, length, inl, inr, subst, sym}
+use Rattle.std.specs.Prelude.{Option, None, Some, Result, Ok, Err, IfErr, OnOk}
 use Rattle.dsr_names.specs.Limits.{most_bytes}
 use Rattle.dsr_names.specs.Streams.{Streams, SentAll}
 use Rattle.dsr_names.specs.declared.refusal.Refusal.{Refusal}
 use Rattle.dsr_names.specs.declared.refusal.Refusal.TheVariants.{BadShape, BadName, BadNumber, Busy, NotDue, BoxFull, BoxEmpty, Forged, Exhausted, Stopped, Unanswered, NoMemory, BadText, NotARun, NoActor, WrongRole, ReadFailed, WriteFailed, NoThread}
 use Rattle.dsr_history.specs.Applied.{IsTextOf}
 use Rattle.dsr_play.specs.Play.{IsPlayRefusal}
-use Rattle.dsr_cli.specs.Explained.{ExplainedAll, ExplainedTo, LeftAfterExplain}
+use Rattle.dsr_record.specs.Record.{Record}
+use Rattle.dsr_record.specs.RecordText.{IsRecordRefusal}
+use Rattle.dsr_transcripts.specs.Account.{TellsRecord}
+use Rattle.dsr_cli.specs.Explained.{ExplainedAll, ExplainedTo, IsExplained, LeftAfterExplain}
 use Rattle.dsr_cli.specs.Served.{IsAfterTelling}
 use Rattle.dsr_cli.proofs.PlayedLemmas.{kept}
 
+-- no text has a fault for which neither plays nor transcripts are refused, and which tells nothing about a record
+module _ (fault : Refusal) (play : (text : List ℕ) → IsPlayRefusal text fault → ⊥) (transcript : (text : List ℕ) → IsRecordRefusal text fault → ⊥)
+    (steps : (is_data : Bool) (recorded : Record) (told : List ℕ) → TellsRecord is_data recorded (Some fault) told → ⊥) where
+  untold : (text : List ℕ) (is_data : Bool) (told : List ℕ) → IsExplained text is_data (Some fault) told → ⊥
+  untold text is_data told (inl (is, inl t)) = steps is_data t.recorded told t.tells
+  untold text is_data told (inl (is, inr u)) = transcript text u
+  untold text is_data told (inr (is, p)) = play text p
+
+  impossible : (s : Streams) → ExplainedTo (Some fault) s → LeftAfterExplain fault s
+  impossible s h = absurd (untold h.text h.is_data h.told h.explained)
+
 -- an explanation of a text with this fault is what the refusal with that name leaves; other faults are impossible
 fault_left : (s : Streams) (fault : Refusal) → ExplainedTo (Some fault) s → LeftAfterExplain fault s
-fault_left s BadShape h = inr h
-fault_left s (BadText line) h = inr h
+fault_left s BadShape h = h
+fault_left s (BadText line) h = h
+fault_left s (NotARun line) h = h
 fault_left s NoMemory h = inr h
-fault_left s Exhausted h = absurd h.refused
-fault_left s Unanswered h = absurd h.refused
-fault_left s NoThread h = absurd h.refused
-fault_left s Stopped h = absurd h.refused
-fault_left s BadName h = absurd h.refused
-fault_left s BadNumber h = absurd h.refused
-fault_left s Busy h = absurd h.refused
-fault_left s NotDue h = absurd h.refused
-fault_left s BoxFull h = absurd h.refused
-fault_left s BoxEmpty h = absurd h.refused
-fault_left s Forged h = absurd h.refused
-fault_left s (NotARun line) h = absurd h.refused
-fault_left s NoActor h = absurd h.refused
-fault_left s WrongRole h = absurd h.refused
-fault_left s ReadFailed h = absurd h.refused
-fault_left s WriteFailed h = absurd h.refused
+fault_left s Exhausted h = impossible Exhausted (λ text x. x) (λ text x. x) (λ d r told x. x) s h
+fault_left s Unanswered h = impossible Unanswered (λ text x. x) (λ text x. x) (λ d r told x. x) s h
+fault_left s NoThread h = impossible NoThread (λ text x. x) (λ text x. x) (λ d r told x. x) s h
+fault_left s Stopped h = impossible Stopped (λ text x. x) (λ text x. x) (λ d r told x. x) s h
+fault_left s BadName h = impossible BadName (λ text x. x) (λ text x. x) (λ d r told x. x) s h
+fault_left s BadNumber h = impossible BadNumber (λ text x. x) (λ text x. x) (λ d r told x. x) s h
+fault_left s Busy h = impossible Busy (λ text x. x) (λ text x. x) (λ d r told x. x) s h
+fault_left s NotDue h = impossible NotDue (λ text x. x) (λ text x. x) (λ d r told x. x) s h
+fault_left s BoxFull h = impossible BoxFull (λ text x. x) (λ text x. x) (λ d r told x. x) s h
+fault_left s BoxEmpty h = impossible BoxEmpty (λ text x. x) (λ text x. x) (λ d r told x. x) s h
+fault_left s Forged h = impossible Forged (λ text x. x) (λ text x. x) (λ d r told x. x) s h
+fault_left s NoActor h = impossible NoActor (λ text x. x) (λ text x. x) (λ d r told x. x) s h
+fault_left s WrongRole h = impossible WrongRole (λ text x. x) (λ text x. x) (λ d r told x. x) s h
+fault_left s ReadFailed h = impossible ReadFailed (λ text x. x) (λ text x. x) (λ d r told x. x) s h
+fault_left s WriteFailed h = impossible WriteFailed (λ text x. x) (λ text x. x) (λ d r told x. x) s h
 
-module _ (s : Streams) (text : List ℕ) (fault : Option Refusal) (told : List ℕ) (short : length text ≤ most_bytes)
-    (given : IsTextOf s.input.left text) (refused : IfSome fault (IsPlayRefusal text)) where
+module _ (s : Streams) (text : List ℕ) (is_data : Bool) (fault : Option Refusal) (told : List ℕ) (short : length text ≤ most_bytes)
+    (given : IsTextOf s.input.left text) (explained : IsExplained text is_data fault told) where
   -- all of it went out
   all_told : SentAll told s.output s.written → ExplainedTo fault s
-  all_told out = record { text = text; short = short; given = given; refused = refused; told = told; went_out = out }
+  all_told out = record { text = text; short = short; given = given; is_data = is_data; told = told; explained = explained; went_out = out }
 
   -- all of it went out, without a fault
   pub all_explained : (r : Result (Unit {0}) Refusal) → OnOk r ((fault ≡ None) × SentAll told s.output s.written) → OnOk r (ExplainedAll s)

@@ -1,22 +1,34 @@
--- What `explain` leaves, by what it returns (this project). Nothing is claimed about what an explanation says.
-use Rattle.std.specs.Prelude.{◌⊎◌, ◌≤◌, List, ℕ, Option, None, Some, IfSome, length}
+-- What `explain` leaves, by what it returns (this project). Of a play nothing is claimed about what its explanation says.
+use Rattle.std.specs.Prelude.{◌≡◌, ◌⊎◌, ◌≤◌, ◌==◌, Bool, true, false, List, ℕ, Option, None, Some, IfSome, codes, length}
 use Rattle.std.specs.Io.KnownBytes.{Keeps}
+use Rattle.std.specs.List.{starts_with}
 use Rattle.dsr_names.specs.Limits.{most_bytes}
 use Rattle.dsr_names.specs.Streams.{Streams, CanFailToGive, CanFailToTake, SentAll, SentPrefix}
 use Rattle.dsr_names.specs.declared.refusal.Refusal.{Refusal}
-use Rattle.dsr_names.specs.declared.refusal.Refusal.TheVariants.{BadShape, BadText, NoMemory, ReadFailed, WriteFailed}
+use Rattle.dsr_names.specs.declared.refusal.Refusal.TheVariants.{BadShape, BadText, NoMemory, NotARun, ReadFailed, WriteFailed}
 use Rattle.dsr_history.specs.Applied.{IsTextOf}
 use Rattle.dsr_play.specs.Play.{IsPlayRefusal}
-use Rattle.dsr_cli.specs.Played.{RefusedText}
+use Rattle.dsr_transcripts.specs.Account.{TellsTranscript}
 
--- all of an explanation of the text that the source gave went out; any fault is a reason to refuse the text as a play, or a lack of
--- memory
+-- whether the text begins with the title of a transcript, of any version
+abbrev pub is_transcript : List ℕ → Bool
+is_transcript text = starts_with (◌==◌) text (codes "dsr-transcript ")
+
+-- what `told` says about a text that has this fault: of a transcript that its steps are a run, or where and why they stop being one; of any other
+-- text a fault, if there is one, is a reason to refuse it as a play, or a lack of memory
+abbrev pub IsExplained : List ℕ → Bool → Option Refusal → List ℕ → Type 0
+IsExplained text is_data fault told =
+    ((is_transcript text ≡ true) × TellsTranscript text is_data fault told)
+    ⊎ ((is_transcript text ≡ false) × IfSome fault (IsPlayRefusal text))
+
+-- all of an explanation of the text that the source gave went out, as data or in words
 pub record ExplainedTo (fault : Option Refusal) (s : Streams) : Type 0 where
   pub text : List ℕ
   pub short : length text ≤ most_bytes
   pub given : IsTextOf s.input.left text
-  pub refused : IfSome fault (IsPlayRefusal text)
+  pub is_data : Bool
   pub told : List ℕ
+  pub explained : IsExplained text is_data fault told
   pub went_out : SentAll told s.output s.written
 
 -- a prefix of an explanation of the text went out; the sink was one that may not take all of it
@@ -32,12 +44,13 @@ pub record ExplainedPart (s : Streams) : Type 0 where
 abbrev pub ExplainedAll : Streams → Type 0
 ExplainedAll s = ExplainedTo None s
 
--- what each refusal leaves: a text that is not a play is refused by what is wrong with it, and an explanation was written, or nothing; likewise
--- if memory ran out; if reading failed, which a steady source does only for too many bytes, nothing was written; if writing
--- failed, a prefix was; no other refusal occurs
+-- what each refusal leaves: a text that is neither a play nor a transcript is refused by what is wrong with it, and a transcript whose steps are not a
+-- run by the line at which they stop being one: an explanation was written; if memory ran out, so it was, or nothing was; if reading failed, which a
+-- steady source does only for too many bytes, nothing was written; if writing failed, a prefix was; no other refusal occurs
 abbrev pub LeftAfterExplain : Refusal → Streams → Type 0
-LeftAfterExplain BadShape s = RefusedText BadShape s ⊎ ExplainedTo (Some BadShape) s
-LeftAfterExplain (BadText line) s = RefusedText (BadText line) s ⊎ ExplainedTo (Some (BadText line)) s
+LeftAfterExplain BadShape s = ExplainedTo (Some BadShape) s
+LeftAfterExplain (BadText line) s = ExplainedTo (Some (BadText line)) s
+LeftAfterExplain (NotARun line) s = ExplainedTo (Some (NotARun line)) s
 LeftAfterExplain NoMemory s = Keeps s.output.contents s.written.contents ⊎ ExplainedTo (Some NoMemory) s
 LeftAfterExplain ReadFailed s = CanFailToGive s.input × Keeps s.output.contents s.written.contents
 LeftAfterExplain WriteFailed s = ExplainedPart s

@@ -57,7 +57,7 @@ IsAlone other = Unit {0}
 
 -- a task was done: all lines were answered; the whole report of a play, or the transcript of its run, went out, and no event of the play
 -- was refused because memory ran out, nor any event of a strict play for another reason; all clients of a script were served, and the whole
--- report of the service, or its transcript, went out; the whole report on a transcript's run went out; or all of an explanation of a play did
+-- report of the service, or its transcript, went out; the whole report on a transcript's run went out; or all of an explanation of a play or of a transcript did
 abbrev pub IsDone : Task → Streams → Type 0
 IsDone Apply s = AppliedAll s
 IsDone (Play false transcript) s = (refused : ℕ) × PlayedAll (form_of transcript) refused s

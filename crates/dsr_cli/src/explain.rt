@@ -1,24 +1,35 @@
-//! Reads a play and explains its outcome.
+//! Reads a play or a transcript, and explains it.
 
-ghost use Rattle.std.specs.Prelude.{◌≡◌, ◌+◌, ◌≤◌, None, IfErr, OnOk, string_bytes};
+ghost use Rattle.std.specs.Prelude.{◌≡◌, ◌+◌, ◌≤◌, None, IfErr, IfOk, IfSome, OnOk, IsOkUnless, string_bytes};
 ghost use Rattle.dsr_names.specs.Limits.{most_calls};
 ghost use Rattle.dsr_names.specs.Streams.{SentAll, streams};
-ghost use Rattle.dsr_cli.specs.Explained.{ExplainedAll, LeftAfterExplain};
+ghost use Rattle.dsr_play.specs.Play.{IsPlayRefusal};
+ghost use Rattle.dsr_transcripts.specs.Account.{TellsTranscript};
+ghost use Rattle.dsr_cli.specs.Explained.{ExplainedAll, IsExplained, LeftAfterExplain, is_transcript};
 ghost use Rattle.dsr_cli.specs.Served.{IsAfterTelling};
 
 use crate::serve::ended_by;
 use dsr_command::Narrowing;
-use dsr_explain::{Explained, Wanted, explain};
+use dsr_explain::{Wanted, explain};
 use dsr_names::{Refusal, Sink, Source, read_input, write_output};
+use dsr_transcripts::explain_transcript;
 use std::alloc::Global;
-use std::mem::forget;
+use std::mem::{forget, replace};
 
-/// Reads a play, and explains its outcome in the parts that `narrowing` names. Writes nothing before the end of the text.
+/// An explanation of a text, and the refusal of the text, if it is refused.
+#[derive(Drop)]
+struct Explanation {
+    text: String,
+    refusal: Option<Refusal>,
+}
+
+/// Reads a play or a transcript, and explains it: of a play the outcome, in the parts that `narrowing` names; of a transcript whether it is one of a run, and
+/// why not. Writes nothing before the end of the text.
 ///
-/// `BadShape` and `BadText` say what is wrong with the text; an explanation of the fault was written before, or nothing was. After
-/// `ReadFailed` nothing was written, and after `WriteFailed` a prefix of the explanation. `NoMemory` if memory ran out: all of an
-/// explanation was written, or nothing. What was read is gone. `run_apply` says when `ReadFailed` and `WriteFailed` come, and how often the
-/// source and the sink are called at most.
+/// `BadShape` and `BadText` say what is wrong with the text, and `NotARun` names the line at which the steps of a transcript stop being a run; an
+/// explanation of the fault was written before. After `ReadFailed` nothing was written, and after `WriteFailed` a prefix of the explanation. `NoMemory`
+/// if memory ran out: all of an explanation was written, or nothing. What was read is gone. `run_apply` says when `ReadFailed` and `WriteFailed` come,
+/// and how often the source and the sink are called at most.
 pub(crate) fn run_explain<S: Source, K: Sink>(
     alloc: Global,
     narrowing: &Narrowing,
@@ -31,31 +42,81 @@ pub(crate) fn run_explain<S: Source, K: Sink>(
     ensures writes { (K.output sink.new).calls ≤ (K.output sink.old).calls + most_calls }
 {
     let text = read_input(alloc, source)?;
+    let explanation = match explanation_of(alloc, narrowing, text.as_slice()) {
+        Ok(explanation) => explanation,
+        Err(refusal) => return Err(refusal),
+    };
+    give_out(sink, &explanation)
+}
+
+/// Explains the text: as a transcript if it begins like one, and otherwise as a play. `NoMemory` if memory runs out.
+fn explanation_of(alloc: Global, narrowing: &Narrowing, text: &[u8]) -> Result<Explanation, Refusal>
+    ensures told { IfOk result (λ explanation.
+        IsExplained text.now narrowing.now.as_data explanation.refusal (string_bytes explanation.text)) }
+    ensures refusal { IsOkUnless result Refusal.NoMemory }
+{
+    if is_transcript(text) {
+        explain_steps(alloc, narrowing.as_data, text)
+    } else {
+        explain_events(alloc, narrowing, text)
+    }
+}
+
+/// Tells whether the text begins with the title of a transcript, of any version.
+fn is_transcript(text: &[u8]) -> bool
+    ensures { result ≡ is_transcript text.now }
+{
+    text.starts_with(b"dsr-transcript ".as_slice())
+}
+
+/// Explains a transcript. `NoMemory` if memory runs out.
+fn explain_steps(alloc: Global, as_data: bool, text: &[u8]) -> Result<Explanation, Refusal>
+    ensures told { IfOk result (λ explanation. TellsTranscript text.now as_data explanation.refusal (string_bytes explanation.text)) }
+    ensures refusal { IsOkUnless result Refusal.NoMemory }
+{
+    match explain_transcript(alloc, text, as_data) {
+        Ok(account) => Ok(Explanation {
+            text: account.text,
+            refusal: account.refusal,
+        }),
+        Err(refusal) => Err(refusal),
+    }
+}
+
+/// Explains the outcome of a play. `NoMemory` if memory runs out.
+fn explain_events(alloc: Global, narrowing: &Narrowing, text: &[u8]) -> Result<Explanation, Refusal>
+    ensures told { IfOk result (λ explanation. IfSome explanation.refusal (IsPlayRefusal text.now)) }
+    ensures refusal { IsOkUnless result Refusal.NoMemory }
+{
     let wanted = Wanted {
         slot: narrowing.slot,
         actor: narrowing.actor,
         refused: narrowing.refused,
         data: narrowing.as_data,
     };
-    let explained = match explain(alloc, text.as_slice(), &wanted) {
+    let mut explained = match explain(alloc, text, &wanted) {
         Ok(explained) => explained,
         Err(refusal) => return Err(refusal),
     };
-    let done = give_out(sink, &explained);
+    let told = replace(&mut explained.text, String::new(alloc));
+    let refusal = explained.refusal;
     // The program ends soon, and to free the world of a long play takes a while.
     forget(explained);
-    done
+    Ok(Explanation {
+        text: told,
+        refusal,
+    })
 }
 
-/// Writes the explanation, and then returns what is wrong with the play, if anything is.
-fn give_out<K: Sink>(sink: &mut K, explained: &Explained) -> Result<(), Refusal>
-    ensures done { OnOk result ((explained.now.refusal ≡ None)
-        × SentAll (string_bytes explained.now.text) (K.output sink.old) (K.output sink.new)) }
-    ensures refused { IfErr result (IsAfterTelling (string_bytes explained.now.text) explained.now.refusal (K.output sink.old) (K.output sink.new)) }
+/// Writes the explanation, and then returns what is wrong with the text, if anything is.
+fn give_out<K: Sink>(sink: &mut K, explanation: &Explanation) -> Result<(), Refusal>
+    ensures done { OnOk result ((explanation.now.refusal ≡ None)
+        × SentAll (string_bytes explanation.now.text) (K.output sink.old) (K.output sink.new)) }
+    ensures refused { IfErr result (IsAfterTelling (string_bytes explanation.now.text) explanation.now.refusal (K.output sink.old) (K.output sink.new)) }
     ensures writes { (K.output sink.new).calls ≤ (K.output sink.old).calls + most_calls }
 {
-    match write_output(sink, explained.text.as_bytes()) {
-        Ok(()) => ended_by(&explained.refusal),
+    match write_output(sink, explanation.text.as_bytes()) {
+        Ok(()) => ended_by(&explanation.refusal),
         Err(refusal) => Err(refusal),
     }
 }

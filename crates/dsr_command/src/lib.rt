@@ -32,8 +32,8 @@ const ABOUT: &str =
     "Clients send it numbered requests: read, write, swap (compare-and-set), remove. It answers each of them.\n\
 `dsr apply` keeps one directory. `dsr play` has replicas keep one together, step by step, though some of them may\n\
 be traitors; `dsr serve` runs such replicas in threads; `dsr check` checks whether a recorded play or service is a\n\
-run, that is, whether each step may follow those before it; and `dsr explain` explains a play's outcome. Without a\n\
-command `dsr` does what `dsr apply` does.";
+run, that is, whether each step may follow those before it; and `dsr explain` explains a play's outcome, or why a\n\
+recorded step may not follow. Without a command `dsr` does what `dsr apply` does.";
 
 const EXAMPLES: &str = "Example:\n  \
 $ printf 'c0 1 write a 5\\nc1 1 swap a 5 6\\nc0 2 read a\\n' | dsr apply\n  \
@@ -199,11 +199,14 @@ on standard output, and the exit status is 1. The same happens if line L is bad,
 N, F, M or TRAITORS are outside their limits, with `dsr: the shape is not allowed`. The input may have at most\n\
 16,777,216 bytes.";
 
-const EXPLAIN_ABOUT: &str = "Read a play from standard input, and explain its outcome";
+const EXPLAIN_ABOUT: &str = "Read a play or a transcript from standard input, and explain it";
 
 const EXPLAIN_EXAMPLE: &str =
     "The play is written and played as `dsr play --help` says. In place of the report, the output explains the outcome: why\n\
-events were refused, why loyal replicas decided what they did, and why clients accepted their answers.\n\n  \
+events were refused, why loyal replicas decided what they did, and why clients accepted their answers.\n\n\
+A transcript is written as `dsr check --help` says. The output names the first step that may not follow those before\n\
+it, and says why it may not, what its actor would do there, and what the box holds. If each step may follow, the\n\
+output says so. Only --data matters then.\n\n  \
 NUM    a slot: 0 to 1099511627775, without leading zeros\n  \
 ACTOR  a replica, r0 to r15, or a client, c0 to c31\n\n\
 Each option may be given at most once, in any order. Without --slot, --actor and --refused everything is explained;\n\
@@ -213,7 +216,8 @@ $ dsr explain --slot 0 --actor r1 < FILE\n\n\
 Nothing is played before the end of the input, which may have at most 16,777,216 bytes and represent at most\n\
 1,000,000 events. For a bad line L the output gives the column of the fault and what was expected there. Then\n\
 `dsr: bad text in line L` is printed on standard error, and the exit status is 1; if N, F, M or TRAITORS are outside\n\
-their limits, it is `dsr: the shape is not allowed`. Refused events are not a fault.";
+their limits, it is `dsr: the shape is not allowed`. If the step in line L may not follow, it is\n\
+`dsr: not a run at line L`. Refused events are not a fault.";
 
 /// The help's text about the options of `explain`.
 const SLOT_HELP: &str = "Explain only this slot";

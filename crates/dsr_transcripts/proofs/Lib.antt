@@ -1,0 +1,4 @@
+mod DifferenceLemmas
+mod StandingLemmas
+mod StepLemmas
+mod TextLemmas

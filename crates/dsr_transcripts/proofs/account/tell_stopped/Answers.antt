@@ -1,0 +1,40 @@
+use Rattle.std.proofs.Common.{◌++◌, ◌∙◌, ap, sym, subst}
+use Rattle.std.specs.Prelude.{string_bytes}
+use Rattle.dsr_run.specs.Step.{log_of}
+use Rattle.dsr_lines.specs.Line.{HoldsFault}
+use Rattle.dsr_transcripts.specs.Account.{TellsStep, first_line}
+use Rattle.dsr_transcripts.proofs.TextLemmas.{whole}
+use Rattle.dsr_transcripts.proofs.account.tell_stopped.Goals as goal
+
+pub tell_stop-requires : goal.tell_stop-requires
+tell_stop-requires c =
+    let w = c.args.world.now in
+    let fault = c.args.stop.now.fault in
+    let at = c.requires.fault in
+    let found = c.step_at-step.ensures w.run at.later at.step at.parts at.counted in
+    subst (λ s. HoldsFault s (log_of w.run) c.step_at-step.result.now fault) (sym c.requires.shape)
+    (subst (λ step. HoldsFault c.args.recorded.now.shape (log_of w.run) step fault) (sym found) at.why)
+
+pub returns-clause-told : goal.returns-clause-told
+returns-clause-told c =
+    let w = c.args.world.now in
+    let r = c.args.recorded.now in
+    let d = c.args.as_data in
+    let line = c.args.stop.now.line in
+    let fault = c.args.stop.now.fault in
+    let at = c.requires.fault in
+    let rest = string_bytes c.in_ok-rest.rest in
+    let found = c.step_at-step.ensures w.run at.later at.step at.parts at.counted in
+    let first = whole (string_bytes c.new-out.result) (string_bytes c.write_first.new.out) (first_line d c.shape.result) c.new-out.ensures.bytes
+    c.in_ok-write_first.ensures.text in
+    record {
+      first_bad = c.requires.line;
+      before = w.run;
+      fault = fault;
+      at = at;
+      rest = rest;
+      tells = subst (λ step. TellsStep d r.shape (log_of w.run) line step fault rest) found
+          (subst (λ s. TellsStep d s (log_of w.run) line c.step_at-step.result.now fault rest) c.requires.shape c.in_ok-rest.ensures.told);
+      told = c.in_ok-push_str.ensures.bytes ∙ (ap (λ l. l ++ c.as_str.result.now) (first ∙ ap (first_line d) c.shape.ensures)
+          ∙ ap (λ l. first_line d r.shape ++ l) c.as_str.ensures.value);
+    }

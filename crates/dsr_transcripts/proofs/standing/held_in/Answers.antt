@@ -1,0 +1,10 @@
+use Rattle.std.proofs.Common.{sym, subst}
+use Rattle.dsr_envelope.specs.Limits.{IsEnvelope}
+use Rattle.dsr_transcripts.proofs.StandingLemmas.{in_box_within}
+use Rattle.dsr_transcripts.proofs.standing.held_in.Goals as goal
+
+pub of-requires : goal.of-requires
+of-requires c =
+    let w = c.args.world.now in
+    subst IsEnvelope (sym c.envelope.ensures)
+    (in_box_within w.shape w.run c.entries-entries.ensures.run c.args.from.now c.args.to.now c.in-Some.letter.now (sym c.in-Some.ensures))

@@ -1,0 +1,3 @@
+pub mod Account
+pub mod Standing
+pub mod Why

@@ -1,0 +1,172 @@
+ghost use Rattle.std.specs.Prelude.{◌≡◌, ◌+◌, ◌++◌, ◌∷◌, List, Some, IfNone, IfOk, IfSome, OnOk, IsOkUnless, length, string_bytes};
+ghost use Rattle.dsr_run.specs.Run.{IsRun};
+ghost use Rattle.dsr_run.specs.Step.{Step};
+ghost use Rattle.dsr_check.specs.Check.{IsFirstBad};
+ghost use Rattle.dsr_lines.specs.Record.{IsFaultAt};
+ghost use Rattle.dsr_transcripts.specs.Account.{TellsRecord, TellsTranscript, first_line, run_line};
+
+use crate::stop::tell_stop;
+use crate::words::put;
+use dsr_lines::{Followed, Stop, follow_all};
+use dsr_names::{Refusal, Shape};
+use dsr_record::{NotedStep, Record};
+use dsr_trouble::trouble_of;
+use dsr_world::World;
+use std::alloc::Global;
+use std::fmt::Write;
+
+/// The explanation of a text, and the refusal of a text that is not a transcript of a run.
+#[derive(Drop)]
+pub struct Account {
+    /// The explanation: that the steps are a run, where and why they stop being one, or what is wrong with the text.
+    pub text: String,
+    /// `NotARun` if the steps are not a run; `BadShape` or `BadText` if the text is not a transcript.
+    pub refusal: Option<Refusal>,
+}
+
+/// Reads a transcript, and tells, as data or in words, whether its steps are a run; if not, which is the first that may not follow those before it, and
+/// why. If the text is not a transcript, tells where it goes wrong. `NoMemory` if memory runs out.
+pub fn explain_transcript(alloc: Global, text: &[u8], as_data: bool) -> Result<Account, Refusal>
+    ensures told { IfOk result (λ account. TellsTranscript text.now as_data account.refusal (string_bytes account.text)) }
+    ensures refusal { IsOkUnless result Refusal.NoMemory }
+{
+    match Record::of_text(alloc, text) {
+        Ok(recorded) => tell_record(alloc, &recorded, as_data),
+        Err(Refusal::NoMemory) => Err(Refusal::NoMemory),
+        Err(refusal) => tell_unread(alloc, text, refusal),
+    }
+}
+
+/// Tells where a text goes wrong that is refused as a transcript.
+fn tell_unread(alloc: Global, text: &[u8], refusal: Refusal) -> Result<Account, Refusal>
+    ensures same { IfOk result (λ account. account.refusal ≡ Some refusal) }
+    ensures refusal { IsOkUnless result Refusal.NoMemory }
+{
+    match trouble_of(alloc, text, &refusal) {
+        Ok(told) => Ok(Account {
+            text: told,
+            refusal: Some(refusal),
+        }),
+        Err(_) => Err(Refusal::NoMemory),
+    }
+}
+
+/// Tells whether the recorded steps are a run; if not, which may not follow, and why.
+fn tell_record(alloc: Global, recorded: &Record, as_data: bool) -> Result<Account, Refusal>
+    ensures told { IfOk result (λ account. TellsRecord as_data recorded.now account.refusal (string_bytes account.text)) }
+    ensures refusal { IsOkUnless result Refusal.NoMemory }
+{
+    let followed = follow_all(alloc, recorded)?;
+    tell_followed(alloc, recorded, &followed, as_data)
+}
+
+/// The same, by where a world stopped that was led through the steps.
+fn tell_followed(
+    alloc: Global,
+    recorded: &Record,
+    followed: &Followed,
+    as_data: bool,
+) -> Result<Account, Refusal>
+    requires shape { followed.now.world.shape ≡ recorded.now.shape }
+    requires none { IfNone followed.now.stop (IsRun recorded.now.shape recorded.now.run) }
+    requires line { IfSome followed.now.stop (λ stop. IsFirstBad recorded.now.shape recorded.now.run stop.line) }
+    requires fault { IfSome followed.now.stop (λ stop.
+        IsFaultAt recorded.now.shape recorded.now.run followed.now.world.run stop.line stop.fault) }
+    ensures told { IfOk result (λ account. TellsRecord as_data recorded.now account.refusal (string_bytes account.text)) }
+    ensures refusal { IsOkUnless result Refusal.NoMemory }
+{
+    match &followed.stop {
+        Some(stop) => tell_stopped(alloc, recorded, &followed.world, stop, as_data),
+        None => tell_run(alloc, recorded, as_data),
+    }
+}
+
+/// Tells that the recorded steps are a run. Requires that they are.
+fn tell_run(alloc: Global, recorded: &Record, as_data: bool) -> Result<Account, Refusal>
+    requires { IsRun recorded.now.shape recorded.now.run }
+    ensures told { IfOk result (λ account. TellsRecord as_data recorded.now account.refusal (string_bytes account.text)) }
+    ensures refusal { IsOkUnless result Refusal.NoMemory }
+{
+    let mut out = String::new(alloc);
+    write_run(&mut out, as_data, recorded)?;
+    Ok(Account {
+        text: out,
+        refusal: None,
+    })
+}
+
+/// Tells that the recorded steps stop being a run there, and why. Requires that they do.
+fn tell_stopped(
+    alloc: Global,
+    recorded: &Record,
+    world: &World,
+    stop: &Stop,
+    as_data: bool,
+) -> Result<Account, Refusal>
+    requires shape { world.now.shape ≡ recorded.now.shape }
+    requires line { IsFirstBad recorded.now.shape recorded.now.run stop.now.line }
+    requires fault { IsFaultAt recorded.now.shape recorded.now.run world.now.run stop.now.line stop.now.fault }
+    ensures told { IfOk result (λ account. TellsRecord as_data recorded.now account.refusal (string_bytes account.text)) }
+    ensures refusal { IsOkUnless result Refusal.NoMemory }
+{
+    let step = step_at(recorded, stop.line);
+    let rest = tell_stop(alloc, as_data, world, step, stop.line, &stop.fault)?;
+    let mut out = String::new(alloc);
+    write_first(&mut out, as_data, recorded.shape())?;
+    out.push_str(rest.as_str())?;
+    Ok(Account {
+        text: out,
+        refusal: Some(Refusal::NotARun { line: stop.line }),
+    })
+}
+
+/// Returns the step in this line. Requires that the line is that of a step which may not follow.
+fn step_at(recorded: &Record, line: u64) -> &NotedStep
+    requires { IsFirstBad recorded.now.shape recorded.now.run line }
+    ensures { (before later : List Step) (step : Step) → recorded.now.run ≡ later ++ step ∷ before → line ≡ length before + 2 → result.now ≡ step }
+{
+    &recorded.entries()[(line - 2) as usize]
+}
+
+/// Writes the first line: of data the version and the shape.
+fn write_first(out: &mut String, as_data: bool, shape: Shape) -> Result<(), Refusal>
+    ensures text { OnOk result (string_bytes out.new ≡ string_bytes out.old ++ first_line as_data shape) }
+    ensures refusal { IsOkUnless result Refusal.NoMemory }
+{
+    if as_data {
+        writeln!(out, "dsr-explain 1 {shape}")?;
+    }
+    Ok(())
+}
+
+/// Writes the text about a run: the first line, that the steps are a run, and how many they are.
+fn write_run(out: &mut String, as_data: bool, recorded: &Record) -> Result<(), Refusal>
+    ensures text { OnOk result (string_bytes out.new ≡ string_bytes out.old
+        ++ (first_line as_data recorded.now.shape ++ run_line as_data (length recorded.now.run))) }
+    ensures refusal { IsOkUnless result Refusal.NoMemory }
+{
+    write_first(out, as_data, recorded.shape())?;
+    write_count(out, as_data, count_of(recorded))
+}
+
+/// Returns the number of recorded steps.
+fn count_of(recorded: &Record) -> usize
+    ensures { result ≡ length recorded.now.run }
+{
+    recorded.entries().len()
+}
+
+/// Writes that so many steps are a run.
+fn write_count(out: &mut String, as_data: bool, count: usize) -> Result<(), Refusal>
+    ensures text { OnOk result (string_bytes out.new ≡ string_bytes out.old ++ run_line as_data count) }
+    ensures refusal { IsOkUnless result Refusal.NoMemory }
+{
+    put(
+        out,
+        as_data,
+        "run ",
+        "this is a run: each step may follow those before it; number of steps: ",
+    )?;
+    writeln!(out, "{count}")?;
+    Ok(())
+}

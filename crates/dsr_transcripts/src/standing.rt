@@ -1,0 +1,242 @@
+//! What an actor's own log has due, and what a box holds.
+
+ghost use Rattle.std.specs.Prelude.{◌≡◌, ◌<◌, ◌++◌, false, codes, IfOk, OnOk, IsOkUnless, IsTrue, string_bytes};
+ghost use Rattle.dsr_names.specs.Actor.{replica_text};
+ghost use Rattle.dsr_names.specs.Shape.{IsActor, is_traitor};
+ghost use Rattle.dsr_names.specs.declared.actor.Actor.TheVariants.{Replica as ReplicaNumber, Client as ClientNumber};
+ghost use Rattle.dsr_envelope.specs.Log.{due};
+ghost use Rattle.dsr_node.specs.Conduct.{is_actor};
+ghost use Rattle.dsr_run.specs.Step.{log_of};
+ghost use Rattle.dsr_world.specs.Event.{in_box};
+ghost use Rattle.dsr_explain.specs.Reason.{one_of};
+ghost use Rattle.dsr_transcripts.specs.Standing.{box_line, current_number, due_line, entry_box_line, held_text, next_text, number_text, own_number, standing_line};
+
+use crate::words::{put, put_actor};
+use dsr_envelope::Due;
+use dsr_facts::{client_of, loyal_of};
+use dsr_names::{Actor, ClientId, Refusal, ReplicaId, Shape};
+use dsr_record::{NotedEntry, NotedStep};
+use dsr_script::Draft;
+use dsr_world::World;
+use std::alloc::Global;
+use std::fmt::Write;
+
+/// Writes what the actor's own log has due; nothing if it is not an actor of the shape.
+pub(crate) fn write_standing(
+    out: &mut String,
+    as_data: bool,
+    world: &World,
+    actor: &Actor,
+) -> Result<(), Refusal>
+    ensures text { OnOk result (string_bytes out.new ≡ string_bytes out.old ++ standing_line as_data world.now.shape (log_of world.now.run) actor.now) }
+    ensures refusal { IsOkUnless result Refusal.NoMemory }
+{
+    if !is_inside(world.shape(), actor) {
+        return Ok(());
+    }
+    match actor {
+        Actor::Replica(replica) => write_due(out, as_data, world, *replica),
+        Actor::Client(client) => write_outstanding(out, as_data, world, *client),
+    }
+}
+
+/// Tells whether this is an actor of the shape.
+fn is_inside(shape: &Shape, actor: &Actor) -> bool
+    ensures same { result ≡ is_actor shape.now actor.now }
+    ensures inside { IsTrue result → IsActor shape.now actor.now }
+{
+    shape.has(*actor)
+}
+
+/// Writes what the log of a replica of the shape has due; nothing is due for a traitor.
+fn write_due(
+    out: &mut String,
+    as_data: bool,
+    world: &World,
+    replica: ReplicaId,
+) -> Result<(), Refusal>
+    requires { replica < world.now.shape.n }
+    ensures text { OnOk result (string_bytes out.new ≡ string_bytes out.old
+        ++ due_line as_data world.now.shape (log_of world.now.run) (ReplicaNumber replica)) }
+    ensures refusal { IsOkUnless result Refusal.NoMemory }
+{
+    put_actor(out, as_data, "due ", "    due at ", Actor::Replica(replica))?;
+    if is_traitor(world.shape(), replica) {
+        return put(out, as_data, " -\n", ": nothing, since it is a traitor\n");
+    }
+    write_next(out, as_data, due_of(world, replica))
+}
+
+/// Tells whether a replica of the shape is a traitor.
+fn is_traitor(shape: &Shape, replica: ReplicaId) -> bool
+    requires { replica < shape.now.n }
+    ensures { result ≡ is_traitor shape.now replica }
+{
+    !shape.is_loyal(Actor::Replica(replica))
+}
+
+/// Returns what a loyal replica does next with the replicas.
+fn due_of(world: &World, replica: ReplicaId) -> Due
+    requires inside { replica < world.now.shape.n }
+    requires loyal { is_traitor world.now.shape replica ≡ false }
+    ensures { result ≡ due world.now.shape (log_of world.now.run (ReplicaNumber replica)) }
+{
+    loyal_of(world, replica).due()
+}
+
+/// Writes what a loyal replica does next with the replicas.
+fn write_next(out: &mut String, as_data: bool, next: Due) -> Result<(), Refusal>
+    ensures text { OnOk result (string_bytes out.new ≡ string_bytes out.old ++ next_text as_data next) }
+    ensures refusal { IsOkUnless result Refusal.NoMemory }
+{
+    match next {
+        Due::Post(to) => put_replica(out, as_data, " post ", ": the post to ", to),
+        Due::Take(from) => put_replica(out, as_data, " take ", ": the take from ", from),
+    }
+}
+
+/// Writes the end of a line: the word or the end of a sentence, and the replica's name.
+fn put_replica(
+    out: &mut String,
+    as_data: bool,
+    word: &str,
+    before: &str,
+    replica: ReplicaId,
+) -> Result<(), Refusal>
+    ensures text { OnOk result (string_bytes out.new ≡ string_bytes out.old
+        ++ (one_of as_data word.now before.now ++ (replica_text replica ++ codes "\n"))) }
+    ensures refusal { IsOkUnless result Refusal.NoMemory }
+{
+    put_actor(out, as_data, word, before, Actor::Replica(replica))?;
+    out.push_str("\n")?;
+    Ok(())
+}
+
+/// Writes which request of a client of the shape is outstanding.
+fn write_outstanding(
+    out: &mut String,
+    as_data: bool,
+    world: &World,
+    client: ClientId,
+) -> Result<(), Refusal>
+    requires { client < world.now.shape.m }
+    ensures text { OnOk result (string_bytes out.new ≡ string_bytes out.old
+        ++ due_line as_data world.now.shape (log_of world.now.run) (ClientNumber client)) }
+    ensures refusal { IsOkUnless result Refusal.NoMemory }
+{
+    put_actor(
+        out,
+        as_data,
+        "due ",
+        "    outstanding at ",
+        Actor::Client(client),
+    )?;
+    write_number(out, as_data, outstanding_of(world, client))
+}
+
+/// Returns the number of the outstanding request of a client of the shape.
+fn outstanding_of(world: &World, client: ClientId) -> Option<u64>
+    requires { client < world.now.shape.m }
+    ensures { result ≡ own_number world.now.shape (log_of world.now.run) (ClientNumber client) }
+{
+    client_of(world, client).outstanding()
+}
+
+/// Returns the number of the actor's outstanding request; `None` for a replica, and for an actor that is not of the shape.
+pub(crate) fn current_of(world: &World, actor: &Actor) -> Option<u64>
+    ensures { result ≡ current_number world.now.shape (log_of world.now.run) actor.now }
+{
+    if !is_inside(world.shape(), actor) {
+        return None;
+    }
+    match actor {
+        Actor::Replica(_) => None,
+        Actor::Client(client) => outstanding_of(world, *client),
+    }
+}
+
+/// Writes the number of an outstanding request, or that there is none.
+fn write_number(out: &mut String, as_data: bool, current: Option<u64>) -> Result<(), Refusal>
+    ensures text { OnOk result (string_bytes out.new ≡ string_bytes out.old ++ number_text as_data current) }
+    ensures refusal { IsOkUnless result Refusal.NoMemory }
+{
+    let Some(number) = current else {
+        return put(out, as_data, " -\n", ": nothing\n");
+    };
+    put(out, as_data, " ", ": request ")?;
+    writeln!(out, "{number}")?;
+    Ok(())
+}
+
+/// Writes what the box holds into which the step posts, or from which it takes; nothing if one of its ends is not an actor of the shape.
+pub(crate) fn write_box(
+    alloc: Global,
+    out: &mut String,
+    as_data: bool,
+    world: &World,
+    step: &NotedStep,
+) -> Result<(), Refusal>
+    ensures text { OnOk result (string_bytes out.new ≡ string_bytes out.old
+        ++ entry_box_line as_data world.now.shape (log_of world.now.run) step.now.0 step.now.1) }
+    ensures refusal { IsOkUnless result Refusal.NoMemory }
+{
+    let actor = step.actor();
+    match step.entry() {
+        NotedEntry::Post { to, .. } => write_between(alloc, out, as_data, world, &actor, to),
+        NotedEntry::Take { from, .. } => write_between(alloc, out, as_data, world, from, &actor),
+    }
+}
+
+/// Writes what the box from one actor to another holds; nothing if one of them is not an actor of the shape.
+fn write_between(
+    alloc: Global,
+    out: &mut String,
+    as_data: bool,
+    world: &World,
+    from: &Actor,
+    to: &Actor,
+) -> Result<(), Refusal>
+    ensures text { OnOk result (string_bytes out.new ≡ string_bytes out.old
+        ++ box_line as_data world.now.shape (log_of world.now.run) from.now to.now) }
+    ensures refusal { IsOkUnless result Refusal.NoMemory }
+{
+    if !is_inside(world.shape(), from) {
+        return Ok(());
+    }
+    if !is_inside(world.shape(), to) {
+        return Ok(());
+    }
+    let held = held_in(alloc, world, from, to)?;
+    put_actor(out, as_data, "box ", "    in the box from ", *from)?;
+    put_actor(out, as_data, " ", " to ", *to)?;
+    write_held(out, as_data, &held)
+}
+
+/// Returns a draft of the envelope in the box from one actor of the shape to another; `None` if the box is empty.
+fn held_in(alloc: Global, world: &World, from: &Actor, to: &Actor) -> Result<Option<Draft>, Refusal>
+    requires from { IsActor world.now.shape from.now }
+    requires to { IsActor world.now.shape to.now }
+    ensures same { IfOk result (λ held. held ≡ in_box (log_of world.now.run) from.now to.now) }
+    ensures refusal { IsOkUnless result Refusal.NoMemory }
+{
+    // For the proof: the logs are those of a run.
+    let _entries = world.entries();
+    let Some(letter) = world.in_box(from, to) else {
+        return Ok(None);
+    };
+    let held = Draft::of(alloc, letter.envelope())?;
+    Ok(Some(held))
+}
+
+/// Writes that a box is empty, or holds this envelope.
+fn write_held(out: &mut String, as_data: bool, held: &Option<Draft>) -> Result<(), Refusal>
+    ensures text { OnOk result (string_bytes out.new ≡ string_bytes out.old ++ held_text as_data held.now) }
+    ensures refusal { IsOkUnless result Refusal.NoMemory }
+{
+    let Some(held) = held else {
+        return put(out, as_data, " -\n", ": nothing\n");
+    };
+    put(out, as_data, " ", ": ")?;
+    writeln!(out, "{held}")?;
+    Ok(())
+}

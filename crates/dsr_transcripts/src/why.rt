@@ -1,0 +1,162 @@
+//! Why a step may not follow.
+
+ghost use Rattle.std.specs.Prelude.{◌≡◌, ◌++◌, [], codes, IfOk, OnOk, IsOkUnless, string_bytes};
+ghost use Rattle.dsr_run.specs.Step.{log_of};
+ghost use Rattle.dsr_explain.specs.Reason.{TellsCause, one_of};
+ghost use Rattle.dsr_facts.specs.Cause.{HoldsCause};
+ghost use Rattle.dsr_facts.specs.Difference.{IsDifference};
+ghost use Rattle.dsr_lines.specs.Line.{HoldsFault};
+ghost use Rattle.dsr_transcripts.specs.Why.{IsWhy, TellsDifference, difference_text, other_held_text, outside_text, why_line};
+
+use crate::differing::write_difference;
+use crate::standing::current_of;
+use crate::words::{put, put_actor, shown_of};
+use dsr_envelope::Envelope;
+use dsr_explain::write_why;
+use dsr_facts::{Cause, Difference};
+use dsr_lines::LineFault;
+use dsr_names::Refusal;
+use dsr_record::NotedStep;
+use dsr_script::Forged;
+use dsr_world::{Event, World};
+use std::alloc::Global;
+use std::fmt::Write;
+
+/// Returns the text that says why the step may not follow in this world. Requires that this is wrong with it.
+pub(crate) fn why_of(
+    alloc: Global,
+    as_data: bool,
+    world: &World,
+    step: &NotedStep,
+    fault: &LineFault,
+) -> Result<String, Refusal>
+    requires { HoldsFault world.now.shape (log_of world.now.run) step.now fault.now }
+    ensures says { IfOk result (λ why. IsWhy as_data world.now.shape (log_of world.now.run) step.now.0 fault.now (string_bytes why)) }
+    ensures refusal { IsOkUnless result Refusal.NoMemory }
+{
+    match fault {
+        LineFault::Refused { event, cause } => why_refused(alloc, as_data, world, event, cause),
+        LineFault::OtherHeld => why_held(alloc, as_data),
+        LineFault::OtherPosted {
+            wanted,
+            posted,
+            how,
+        } => {
+            let current = current_of(world, &step.actor());
+            why_posted(alloc, as_data, current, wanted, posted, how)
+        }
+        LineFault::SignedOutside(forged) => why_signed(alloc, as_data, forged),
+    }
+}
+
+/// Returns why the event is refused that the step would be. Requires that this cause holds of it.
+fn why_refused(
+    alloc: Global,
+    as_data: bool,
+    world: &World,
+    event: &Event,
+    cause: &Cause,
+) -> Result<String, Refusal>
+    requires { HoldsCause world.now.shape (log_of world.now.run) event.now cause.now }
+    ensures says { IfOk result (λ why. TellsCause world.now.shape (log_of world.now.run) event.now as_data [] (string_bytes why)) }
+    ensures refusal { IsOkUnless result Refusal.NoMemory }
+{
+    let mut out = String::new(alloc);
+    write_why(&mut out, as_data, world, event)?;
+    Ok(out)
+}
+
+/// Returns that the box holds another envelope than the one that the step takes.
+fn why_held(alloc: Global, as_data: bool) -> Result<String, Refusal>
+    ensures says { IfOk result (λ why. string_bytes why ≡ why_line as_data (other_held_text as_data)) }
+    ensures refusal { IsOkUnless result Refusal.NoMemory }
+{
+    let mut out = String::new(alloc);
+    put(&mut out, as_data, "why ", "    because ")?;
+    put(
+        &mut out,
+        as_data,
+        "other-held",
+        "the box holds another envelope",
+    )?;
+    out.push_str("\n")?;
+    Ok(out)
+}
+
+/// Returns how the posted envelope differs from the wanted one, and then the wanted one. Requires that it differs like this. `current` is the number of
+/// the actor's outstanding request.
+fn why_posted(
+    alloc: Global,
+    as_data: bool,
+    current: Option<u64>,
+    wanted: &Envelope,
+    posted: &Envelope,
+    how: &Difference,
+) -> Result<String, Refusal>
+    requires { IsDifference wanted.now posted.now how.now }
+    ensures says { IfOk result (λ why. TellsDifference as_data current wanted.now posted.now how.now (string_bytes why)) }
+    ensures refusal { IsOkUnless result Refusal.NoMemory }
+{
+    let shown = shown_of(alloc, wanted)?;
+    let mut out = String::new(alloc);
+    write_posted(
+        &mut out,
+        as_data,
+        current,
+        wanted,
+        posted,
+        how,
+        shown.as_str(),
+    )?;
+    Ok(out)
+}
+
+/// Writes how the posted envelope differs from the wanted one, and then `shown`, the text of the wanted one.
+fn write_posted(
+    out: &mut String,
+    as_data: bool,
+    current: Option<u64>,
+    wanted: &Envelope,
+    posted: &Envelope,
+    how: &Difference,
+    shown: &str,
+) -> Result<(), Refusal>
+    requires { IsDifference wanted.now posted.now how.now }
+    ensures text { OnOk result (string_bytes out.new ≡ string_bytes out.old
+        ++ (why_line as_data (difference_text as_data current wanted.now posted.now how.now)
+        ++ (one_of as_data (codes "wanted ") (codes "    it posts there: ") ++ (shown.now ++ codes "\n")))) }
+    ensures refusal { IsOkUnless result Refusal.NoMemory }
+{
+    put(out, as_data, "why ", "    because ")?;
+    write_difference(out, as_data, current, wanted, posted, how)?;
+    out.push_str("\n")?;
+    put(out, as_data, "wanted ", "    it posts there: ")?;
+    out.push_str(shown)?;
+    out.push_str("\n")?;
+    Ok(())
+}
+
+/// Returns which signature has a signer that is not an actor of the shape.
+fn why_signed(alloc: Global, as_data: bool, forged: &Forged) -> Result<String, Refusal>
+    ensures says { IfOk result (λ why. string_bytes why ≡ why_line as_data (outside_text as_data forged.now.signer forged.now.statement)) }
+    ensures refusal { IsOkUnless result Refusal.NoMemory }
+{
+    let (signer, statement) = (forged.signer, forged.statement);
+    let mut out = String::new(alloc);
+    put(&mut out, as_data, "why ", "    because ")?;
+    put_actor(
+        &mut out,
+        as_data,
+        "signed-outside ",
+        "it carries a signature of ",
+        signer,
+    )?;
+    put(
+        &mut out,
+        as_data,
+        " ",
+        ", who is no actor of this shape, on ",
+    )?;
+    writeln!(out, "{statement}")?;
+    Ok(out)
+}
