@@ -14,7 +14,7 @@ the play.
 
 transcripts: what `dsr explain` tells of transcripts. Those of tests/written/stops.txt stop being runs at the line that is there, for the reason that is there,
 as data and in words, and each line after it is the one there; the others there are runs. Of each transcript of examples/ that is not one of a run the explanation
-is the one beside it, which was written by hand. The transcripts of examples/, and 600 that were changed by chance, are runs or stop at the line that `dsr check`
+is the one beside it, which was written or checked by hand. The transcripts of examples/, and 600 that were changed by chance, are runs or stop at the line that `dsr check`
 names, and end with its status and what it tells. If the model of plays refuses the event that the line would be, it has the same reason.
 
 pictures: of each attack what its explanation says was decided, acted and accepted is what the .out beside it says; the .svg beside it is what tools/picture
