@@ -42,7 +42,7 @@ const picture = (() => {
     "exhausted-posts": () => "2^40-1 envelopes were posted there, and no more may be",
     "box-full": () => "what was posted there before has not been taken",
     "box-empty": () => "no envelope is waiting there",
-    forged: (signer, statement) => `the signature of ${signer} on ${statement} is forged: ${signer} is no traitor, and has not posted it`,
+    forged: (signer, statement) => `the signature of ${signer} on ${statement} is forged: ${signer} is no traitor of this shape, and has not posted it`,
   }));
   const NO_VOTES = new Map(Object.entries({
     "no-reply": () => "it is no reply",

@@ -128,7 +128,7 @@ REASONS = {
     "nothing-outstanding": "no request of it is outstanding",
     "box-full": "what was posted there before has not been taken",
     "box-empty": "no envelope is waiting there",
-    "forged": "the signature of {0} on {1} is forged: {0} is no traitor, and has not posted it",
+    "forged": "the signature of {0} on {1} is forged: {0} is no traitor of this shape, and has not posted it",
 }
 NO_VOTES = {
     "no-reply": "it is no reply",

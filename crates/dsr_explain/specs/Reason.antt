@@ -98,7 +98,7 @@ abbrev pub forged_text : Bool → Actor → Statement → List ℕ
 forged_text is_data signer statement =
     one_of is_data (codes "forged " ++ (actor_text signer ++ (codes " " ++ statement_text statement)))
     (codes "the signature of " ++ (actor_text signer ++ (codes " on " ++ (statement_text statement
-    ++ (codes " is forged: " ++ (actor_text signer ++ codes " is no traitor, and has not posted it"))))))
+    ++ (codes " is forged: " ++ (actor_text signer ++ codes " is no traitor of this shape, and has not posted it"))))))
 
 -- why an event of this actor with this other one is refused
 abbrev pub reason_text : Bool → Actor → Actor → Cause → List ℕ

@@ -26,4 +26,4 @@ mod words;
 
 pub use telling::{Explained, explain};
 pub use wanted::Wanted;
-pub use why::write_why;
+pub use why::{put, write_why};

@@ -284,18 +284,13 @@ fn write_forged(out: &mut String, as_data: bool, forged: &Forged) -> Result<(), 
     }
     write!(
         out,
-        "the signature of {signer} on {statement} is forged: {signer} is no traitor, and has not posted it"
+        "the signature of {signer} on {statement} is forged: {signer} is no traitor of this shape, and has not posted it"
     )?;
     Ok(())
 }
 
-/// Writes the word if `as_data`, otherwise the sentence.
-pub(crate) fn put(
-    out: &mut String,
-    as_data: bool,
-    word: &str,
-    sentence: &str,
-) -> Result<(), Refusal>
+/// Writes the word if `as_data`, otherwise the sentence. `NoMemory` if memory runs out.
+pub fn put(out: &mut String, as_data: bool, word: &str, sentence: &str) -> Result<(), Refusal>
     ensures text { OnOk result (string_bytes out.new ≡ string_bytes out.old ++ one_of as_data word.now sentence.now) }
     ensures refusal { IsOkUnless result Refusal.NoMemory }
 {

@@ -58,7 +58,7 @@ side wanted posted place Missing h = h
 side wanted posted place Misplaced h = h
 side wanted posted place OtherContent h = h
 
--- so the envelope that is told has a chain at the place
+-- so the envelope that the explanation is about has a chain at this place
 pub parted_within : (wanted posted : Envelope) (place : ℕ) (how : Parting) → IsDifference wanted posted (Chains place how)
     → place < length (chains_in (parted_of how wanted posted))
 parted_within wanted posted place how h =

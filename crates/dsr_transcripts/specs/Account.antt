@@ -9,7 +9,7 @@ use Rattle.dsr_run.specs.Run.{IsRun}
 use Rattle.dsr_run.specs.Step.{Step, Logs, log_of}
 use Rattle.dsr_record.specs.Record.{Record}
 use Rattle.dsr_record.specs.RecordText.{Spells, IsRecordRefusal, step_text}
-use Rattle.dsr_check.specs.Check.{IsFirstBad}
+use Rattle.dsr_record.specs.FirstBad.{IsFirstBad}
 use Rattle.dsr_explain.specs.Reason.{one_of}
 use Rattle.dsr_lines.specs.Record.{IsFaultAt}
 use Rattle.dsr_lines.specs.declared.line_fault.LineFault.{LineFault}

@@ -1,12 +1,12 @@
 ghost use Rattle.std.specs.Prelude.{◌≡◌, ◌+◌, ◌++◌, ◌∷◌, List, Some, IfNone, IfOk, IfSome, OnOk, IsOkUnless, length, string_bytes};
 ghost use Rattle.dsr_run.specs.Run.{IsRun};
 ghost use Rattle.dsr_run.specs.Step.{Step};
-ghost use Rattle.dsr_check.specs.Check.{IsFirstBad};
+ghost use Rattle.dsr_record.specs.FirstBad.{IsFirstBad};
 ghost use Rattle.dsr_lines.specs.Record.{IsFaultAt};
 ghost use Rattle.dsr_transcripts.specs.Account.{TellsRecord, TellsTranscript, first_line, run_line};
 
 use crate::stop::tell_stop;
-use crate::words::put;
+use dsr_explain::put;
 use dsr_lines::{Followed, Stop, follow_all};
 use dsr_names::{Refusal, Shape};
 use dsr_record::{NotedStep, Record};
@@ -37,7 +37,7 @@ pub fn explain_transcript(alloc: Global, text: &[u8], as_data: bool) -> Result<A
     }
 }
 
-/// Tells where a text goes wrong that is refused as a transcript.
+/// Tells the first place at which a text is wrong that is not a transcript.
 fn tell_unread(alloc: Global, text: &[u8], refusal: Refusal) -> Result<Account, Refusal>
     ensures same { IfOk result (λ account. account.refusal ≡ Some refusal) }
     ensures refusal { IsOkUnless result Refusal.NoMemory }
@@ -60,7 +60,7 @@ fn tell_record(alloc: Global, recorded: &Record, as_data: bool) -> Result<Accoun
     tell_followed(alloc, recorded, &followed, as_data)
 }
 
-/// The same, by where a world stopped that was led through the steps.
+/// Tells this by how far `follow_all` led a world through the recorded steps.
 fn tell_followed(
     alloc: Global,
     recorded: &Record,
@@ -156,7 +156,7 @@ fn count_of(recorded: &Record) -> usize
     recorded.entries().len()
 }
 
-/// Writes that so many steps are a run.
+/// Writes that `count` steps are a run.
 fn write_count(out: &mut String, as_data: bool, count: usize) -> Result<(), Refusal>
     ensures text { OnOk result (string_bytes out.new ≡ string_bytes out.old ++ run_line as_data count) }
     ensures refusal { IsOkUnless result Refusal.NoMemory }

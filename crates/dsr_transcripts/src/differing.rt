@@ -5,9 +5,10 @@ ghost use Rattle.dsr_facts.specs.Difference.{IsDifference};
 ghost use Rattle.dsr_facts.specs.declared.difference.Difference.TheVariants.{OtherRound, Chains, OtherAsk};
 ghost use Rattle.dsr_transcripts.specs.Why.{ask_text, chain_text, chains_in, difference_text, new_ask_text, number_in, parted_of, parted_text, parting_end, parting_word, round_in, rounds_text};
 
-use crate::words::{put, put_numbers};
+use crate::words::put_numbers;
 use dsr_chain::Chain;
 use dsr_envelope::Envelope;
+use dsr_explain::put;
 use dsr_facts::{Difference, Parting};
 use dsr_names::Refusal;
 use std::fmt::Write;

@@ -10,9 +10,9 @@ ghost use Rattle.dsr_transcripts.specs.Why.{IsWhy, TellsDifference, difference_t
 
 use crate::differing::write_difference;
 use crate::standing::current_of;
-use crate::words::{put, put_actor, shown_of};
+use crate::words::{put_actor, shown_of};
 use dsr_envelope::Envelope;
-use dsr_explain::write_why;
+use dsr_explain::{put, write_why};
 use dsr_facts::{Cause, Difference};
 use dsr_lines::LineFault;
 use dsr_names::Refusal;

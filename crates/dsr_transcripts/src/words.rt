@@ -6,28 +6,11 @@ ghost use Rattle.dsr_explain.specs.Reason.{one_of};
 ghost use Rattle.dsr_transcripts.specs.Why.{IsShown, numbers_text};
 
 use dsr_envelope::Envelope;
+use dsr_explain::put;
 use dsr_names::{Actor, Refusal};
 use dsr_script::Draft;
 use std::alloc::Global;
 use std::fmt::Write;
-
-/// Writes the word if `as_data`, otherwise the sentence.
-pub(crate) fn put(
-    out: &mut String,
-    as_data: bool,
-    word: &str,
-    sentence: &str,
-) -> Result<(), Refusal>
-    ensures text { OnOk result (string_bytes out.new ≡ string_bytes out.old ++ one_of as_data word.now sentence.now) }
-    ensures refusal { IsOkUnless result Refusal.NoMemory }
-{
-    if as_data {
-        out.push_str(word)?;
-        return Ok(());
-    }
-    out.push_str(sentence)?;
-    Ok(())
-}
 
 /// Writes the word or the beginning of a sentence, and the actor's name.
 pub(crate) fn put_actor(
