@@ -4,10 +4,10 @@
 sums: the page names the sums of what it is made from, and these are the sums of the sources that are here (tools/page makes it anew if they are not). It loads
 nothing from elsewhere, and what it suggests to change in a play is there.
 
-native: each task is done with each text by the static library dsr_page in a program of C, and must be what the built program writes. It needs the libraries
-that `rt ci` leaves, and a C compiler, `cc`.
+module: each task is done with each text by the module that the page has in it, in node, and must be what the built program writes.
 
-module: the same by the module that the page has in it, in node.
+native: the same by the static library dsr_page in a program of C. It needs the libraries that `rt ci` leaves, and a C compiler, `cc`, and takes minutes. Where node
+can run the module, which is made of the same sources, this part runs only if it is named.
 
 pictures: what page/parts/picture.js makes of data lines, in node, must be what tools/picture_run.py makes of them for SVGs, as far as those show it; and what it says of
 some events is written here. A long run is drawn in stretches (page/parts/stretch.js): each must have what the picture of the whole has there.
@@ -17,6 +17,7 @@ pictures are skipped, and counted.
 """
 
 import base64
+import contextlib
 import functools
 import gzip
 import json
@@ -136,7 +137,6 @@ def module_of_page():
     return gzip.decompress(base64.b64decode(packed))
 
 
-@functools.cache
 def node(path):
     """The words that run node with this module, or None."""
     valid = "process.exit(WebAssembly.validate(require('fs').readFileSync(process.argv[1])) ? 0 : 1)"
@@ -146,12 +146,25 @@ def node(path):
     return None
 
 
-def judge_in_node(report, what, lines):
-    """Has tests/page_cases.js do these cases, and counts each."""
+@contextlib.contextmanager
+def module_file():
+    """The path of a file that has the module, for as long as it is used."""
     with tempfile.TemporaryDirectory(prefix="dsr-page-") as room:
         path = f"{room}/page.wasm"
         with open(path, "wb") as file:
             file.write(module_of_page())
+        yield path
+
+
+def has_node():
+    """Whether there is a node that knows the module's memory."""
+    with module_file() as path:
+        return node(path) is not None
+
+
+def judge_in_node(report, what, lines):
+    """Has tests/page_cases.js do these cases, and counts each."""
+    with module_file() as path:
         words = node(path)
         if not words:
             say(f"{what}: skipped, as there is no node that knows the module's memory")
@@ -258,4 +271,5 @@ def pictures(report, _):
 
 
 if __name__ == "__main__":
-    sys.exit(main(__doc__, {"sums": sums, "native": native, "module": module, "pictures": pictures}, without_program=["sums"]))
+    sys.exit(main(__doc__, {"sums": sums, "module": module, "native": native, "pictures": pictures}, without_program=["sums"],
+                  only_named=["native"] if has_node() else []))

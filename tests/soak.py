@@ -9,6 +9,7 @@ Runs one after the other, each on all processors, and each with all of what it l
 - services of tests/threads.py: a thousand services in threads, with traitors, gates that stop them, and threads and allocations that are refused;
 - load of tests/cost.py: memory of 20,000 rounds, and services of 16 replicas and 32 clients of 100 operations;
 - transcripts of tests/texts.py: each transcript of the examples with twice as many changes;
+- native of tests/page.py: the tasks of the page by its static library in a program of C;
 - large_transcripts, which is transcripts of tests/cost.py, and plays of tests/texts.py: texts at the limits of sizes, which ./test runs as they are.
 
 An hour of random tries of the mail is another command, tests/threads.py mail soak. Everything that runs is shown, and after each part how long it took, and
@@ -20,11 +21,12 @@ import time
 
 import cost
 import faults
+import page
 import texts
 import threads
 from kit.report import main, say
 
-PARTS = {"allocations": faults.allocations, "malicious": texts.malicious, "streams": faults.streams, "services": threads.services, "load": cost.load,
+PARTS = {"allocations": faults.allocations, "malicious": texts.malicious, "streams": faults.streams, "services": threads.services, "load": cost.load, "native": page.native,
          "large_transcripts": cost.transcripts, "plays": texts.plays, "transcripts": texts.transcripts}
 
 

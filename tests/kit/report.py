@@ -84,19 +84,19 @@ def in_threads(function, tasks):
         yield from pool.map(function, tasks)
 
 
-def main(usage, parts, flag=None, without_program=()):
-    """Runs the parts that the words of the command name, or all, and gives the exit status. A part is a function of a report and of whether the flag was
-    given, and `parts` has each by its name. The program must be built, unless all of the parts are among those that do without."""
+def main(usage, parts, flag=None, without_program=(), only_named=()):
+    """Runs the parts that the words of the command name, or else all but those of `only_named`, and gives the exit status. A part is a function of a report and of
+    whether the flag was given, and `parts` has each by its name. The program must be built, unless all of the parts are among those that do without."""
     words = sys.argv[1:]
-    names = [word for word in words if word != flag]
+    names = [word for word in words if word != flag] or [name for name in parts if name not in only_named]
     if not set(names) <= set(parts):
         print(f"{usage}\nThe parts are {', '.join(parts)}{f'; {flag} may be given too' if flag else ''}.", file=sys.stderr)
         return 2
     report = Report()
-    fault = None if set(names or parts) <= set(without_program) else fault_of_building()
+    fault = None if set(names) <= set(without_program) else fault_of_building()
     if fault:
         report.judge("the program", fault)
     else:
-        for name in names or parts:
+        for name in names:
             parts[name](report, flag in words)
     return report.ended()
