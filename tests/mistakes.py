@@ -36,7 +36,7 @@ ABOUT_RULES = {
     "dsr_node": ["node"], "dsr_run": ["Answered", "Eager", "History", "Linearizable", "OwnStep", "Run"], "dsr_play": ["play", "play_events", "play_line"],
     "dsr_world": ["world"],
     "dsr_mail": ["loyal"], "dsr_rounds": ["ring", "replica"], "dsr_record": ["mailboxes", "record", "transcript", "version"],
-    "dsr_check": ["Check", "Verdict", "audit", "checking", "customer", "judging", "party", "shown", "table", "telling", "verdict"],
+    "dsr_check": ["Verdict", "audit", "checking", "customer", "judging", "party", "shown", "table", "telling", "verdict"],
 }
 HEAD = """# Which row notices which mistake
 

@@ -7,7 +7,7 @@ use Rattle.dsr_names.specs.Shape.{Shape}
 use Rattle.dsr_run.specs.Run.{IsNextStep, IsRun}
 use Rattle.dsr_run.specs.Step.{Step, log_of}
 use Rattle.dsr_run.proofs.Lemmas.{run_before}
-use Rattle.dsr_check.specs.Check.{IsFirstBad}
+use Rattle.dsr_record.specs.FirstBad.{IsFirstBad}
 
 -- of two ends of one list the longer one ends with the shorter one
 ends_with : (us a vs b : List Step) → us ++ a ≡ vs ++ b → length a ≤ length b → (more : List Step) × (b ≡ more ++ a)

@@ -3,7 +3,6 @@ mod Asking
 mod Auditing
 mod FirstBad
 mod HeadLemmas
-mod KeyLemmas
 mod Legality
 mod Opening
 mod Playing

@@ -15,12 +15,12 @@ use Rattle.dsr_run.specs.Run.{IsTraitor}
 use Rattle.dsr_base.specs.Boxes.{AreSquare, empty_box, box_at}
 use Rattle.dsr_check.specs.Support.Party.{Plays}
 use Rattle.dsr_names.specs.Places.{place_of}
-use Rattle.dsr_check.specs.Keys.{HasAllKeys}
+use Rattle.dsr_record.specs.Keys.{HasAllKeys}
 use Rattle.dsr_check.specs.Support.Audit.{held_in, AreParts, AreCast, IsTraitorBelow, AreKeysBelow}
 use Rattle.dsr_base.specs.declared.boxes.MailBox.{MailBox}
 use Rattle.dsr_check.specs.declared.party.Party.{Party}
 use Rattle.dsr_check.specs.declared.held.Held.{Held}
-use Rattle.dsr_check.proofs.KeyLemmas.{any_left, any_last}
+use Rattle.dsr_record.proofs.KeyLemmas.{any_left, any_last}
 use Rattle.dsr_check.proofs.Repeating.{no_firsts}
 use Rattle.dsr_names.proofs.PlaceLemmas.{same_place, place_below}
 

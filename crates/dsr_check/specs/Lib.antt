@@ -1,5 +1,3 @@
-pub mod Check
 pub mod Judged
-pub mod Keys
 pub mod Support
 pub mod Verdict

@@ -18,13 +18,12 @@ ghost use Rattle.dsr_check.specs.Support.Audit.{ForgesNone, Holds, IsFirstOf, Is
 
 use crate::casting::all_parties;
 use crate::held::Held;
-use crate::keys::all_keys;
 use crate::party::Party;
 use dsr_base::Boxes;
 use dsr_desk::Key;
 use dsr_envelope::Envelope;
 use dsr_names::{Actor, NUMBER_END, Refusal, ReplicaId, Shape};
-use dsr_record::{NotedEntry, NotedStep};
+use dsr_record::{NotedEntry, NotedStep, all_keys};
 use dsr_script::{Draft, Known, build};
 use std::alloc::Global;
 

@@ -8,11 +8,11 @@ ghost use Rattle.dsr_check.specs.Support.Audit.{AreCast, AreKeysBelow};
 ghost use Rattle.dsr_check.specs.Support.Party.{Plays};
 
 use crate::customer::Customer;
-use crate::keys::{client_key, replica_key};
 use crate::party::Party;
 use dsr_client::Client;
 use dsr_desk::{Key, Keys};
 use dsr_names::{Refusal, Shape};
+use dsr_record::{client_key, replica_key};
 use dsr_replica::Replica;
 use std::alloc::Global;
 

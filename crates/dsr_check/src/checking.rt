@@ -1,5 +1,5 @@
 ghost use Rattle.std.specs.Prelude.{◌≡◌, ◌⊎◌, ℕ, [], length, reverse, Err, IfErr, IfOk, IsOkUnless, OnOk};
-ghost use Rattle.dsr_check.specs.Check.{IsFirstBad};
+ghost use Rattle.dsr_record.specs.FirstBad.{IsFirstBad};
 ghost use Rattle.dsr_check.specs.Support.Audit.{StandsFor};
 ghost use Rattle.dsr_check.specs.Verdict.{IsVerdict};
 ghost use Rattle.dsr_run.specs.Agreement.{HasAgreement};

@@ -7,7 +7,6 @@ mod checking;
 mod customer;
 mod held;
 mod judging;
-mod keys;
 mod party;
 mod shown;
 mod table;
@@ -16,5 +15,4 @@ mod verdict;
 
 pub use checking::check;
 pub use judging::{judge, verdicts_are_judged_right};
-pub use keys::all_keys;
 pub use verdict::Verdict;

@@ -8,7 +8,7 @@ use Rattle.dsr_record.specs.RecordText.{Spells, IsRecordRefusal}
 use Rattle.dsr_run.specs.Agreement.{HasAgreement}
 use Rattle.dsr_run.specs.Right.{IsRight}
 use Rattle.dsr_run.specs.Run.{IsRun}
-use Rattle.dsr_check.specs.Check.{IsFirstBad}
+use Rattle.dsr_record.specs.FirstBad.{IsFirstBad}
 use Rattle.dsr_check.specs.Verdict.{Verdict, IsVerdict}
 use Rattle.dsr_check_c.specs.declared.report.Report.{Report}
 

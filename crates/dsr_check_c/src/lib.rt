@@ -2,7 +2,7 @@
 #![tactic(auto)]
 
 ghost use Rattle.std.specs.Prelude.{◌≡◌, ◌≢◌, ◌⊎◌, ℕ};
-ghost use Rattle.dsr_check.specs.Check.{IsFirstBad};
+ghost use Rattle.dsr_record.specs.FirstBad.{IsFirstBad};
 ghost use Rattle.dsr_record.specs.Record.{Record};
 ghost use Rattle.dsr_record.specs.RecordText.{Spells};
 ghost use Rattle.dsr_run.specs.Run.{IsRun};

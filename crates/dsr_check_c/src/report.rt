@@ -1,5 +1,5 @@
 ghost use Rattle.std.specs.Prelude.{◌≡◌, ◌≢◌, ◌⊎◌, ℕ, Err, IfErr, IfOk, IsOkUnless, length};
-ghost use Rattle.dsr_check.specs.Check.{IsFirstBad};
+ghost use Rattle.dsr_record.specs.FirstBad.{IsFirstBad};
 ghost use Rattle.dsr_names.specs.Refusal.{code_of};
 ghost use Rattle.dsr_record.specs.Record.{Record as ARecord};
 ghost use Rattle.dsr_record.specs.RecordText.{Spells};

@@ -1,7 +1,5 @@
 mod ExplainedLemmas
 mod MergeLemmas
-mod PlayedLemmas
 mod ServedLemmas
 mod ServiceLemmas
 mod StatusLemmas
-mod VerdictLemmas

@@ -7,7 +7,7 @@ use Rattle.dsr_names.specs.declared.refusal.Refusal.{Refusal}
 use Rattle.dsr_names.specs.declared.refusal.Refusal.TheVariants.{BadShape, BadName, BadNumber, Busy, NotDue, BoxFull, BoxEmpty, Forged, Exhausted, Stopped, Unanswered, NoMemory, BadText, NotARun, NoActor, WrongRole, ReadFailed, WriteFailed, NoThread}
 use Rattle.dsr_history.specs.Applied.{IsTextOf}
 use Rattle.dsr_cli.specs.Served.{HasServed, IsAfterTelling, LeftAfterService, ServedAll, ServiceForm, ToldService}
-use Rattle.dsr_cli.proofs.PlayedLemmas.{kept}
+use Rattle.dsr_reports.proofs.PlayedLemmas.{kept}
 
 -- the output of a service that this cause ended is what the refusal with that name leaves; other causes are impossible
 ended_left : (Tells : ServiceForm) (s : Streams) (cause : Refusal) → ToldService Tells (Some cause) s → LeftAfterService Tells cause s

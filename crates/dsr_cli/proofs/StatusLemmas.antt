@@ -13,7 +13,7 @@ use Rattle.dsr_names.specs.Refusal.{refusal_line}
 use Rattle.dsr_names.specs.Streams.{Streams, CanFailToTake, SentAll, SentPrefix}
 use Rattle.dsr_names.specs.declared.refusal.Refusal.{Refusal}
 use Rattle.dsr_names.specs.declared.refusal.Refusal.TheVariants.{WriteFailed}
-use Rattle.dsr_cli.specs.Played.{PlayedAll, form_of}
+use Rattle.dsr_reports.specs.Played.{PlayedAll, form_of}
 use Rattle.dsr_cli.specs.Status.{Run, HasEndedAs, IsDone, LeftAfter, RanOut, StatusFor, Told, IsQuiet, IsUnwritten, WhatShowingLeft, WhatTaskLeft, ending_of, status_after, status_of}
 use Rattle.dsr_cli.specs.declared.Ending.{Ending}
 use Rattle.dsr_cli.specs.declared.Ending.TheVariants.{Done, Unmet}

@@ -26,7 +26,7 @@ use Rattle.dsr_record.specs.Record.{Record}
 use Rattle.dsr_record.specs.RecordText.{IsStepOf, record_text}
 use Rattle.dsr_record.specs.RecordText.{Spells as SpellsRecord}
 use Rattle.dsr_record.specs.declared.version.Version.TheVariants.{One}
-use Rattle.dsr_cli.specs.Report.{accepted_text, history_text}
+use Rattle.dsr_reports.specs.Report.{accepted_text, history_text}
 
 -- ---- what is written
 

@@ -36,16 +36,13 @@ pub(crate) fn run_explain<S: Source, K: Sink>(
     source: &mut S,
     sink: &mut K,
 ) -> Result<(), Refusal>
-    ensures done { OnOk result (ExplainedAll (streams (S.input source.old) (K.output sink.old) (K.output sink.new))) }
-    ensures refused { IfErr result (λ e. LeftAfterExplain e (streams (S.input source.old) (K.output sink.old) (K.output sink.new))) }
+    ensures done { OnOk result (ExplainedAll narrowing.now.as_data (streams (S.input source.old) (K.output sink.old) (K.output sink.new))) }
+    ensures refused { IfErr result (λ e. LeftAfterExplain narrowing.now.as_data e (streams (S.input source.old) (K.output sink.old) (K.output sink.new))) }
     ensures reads { (S.input source.new).calls ≤ (S.input source.old).calls + most_calls }
     ensures writes { (K.output sink.new).calls ≤ (K.output sink.old).calls + most_calls }
 {
     let text = read_input(alloc, source)?;
-    let explanation = match explanation_of(alloc, narrowing, text.as_slice()) {
-        Ok(explanation) => explanation,
-        Err(refusal) => return Err(refusal),
-    };
+    let explanation = explanation_of(alloc, narrowing, text.as_slice())?;
     give_out(sink, &explanation)
 }
 
@@ -74,13 +71,11 @@ fn explain_steps(alloc: Global, as_data: bool, text: &[u8]) -> Result<Explanatio
     ensures told { IfOk result (λ explanation. TellsTranscript text.now as_data explanation.refusal (string_bytes explanation.text)) }
     ensures refusal { IsOkUnless result Refusal.NoMemory }
 {
-    match explain_transcript(alloc, text, as_data) {
-        Ok(account) => Ok(Explanation {
-            text: account.text,
-            refusal: account.refusal,
-        }),
-        Err(refusal) => Err(refusal),
-    }
+    let account = explain_transcript(alloc, text, as_data)?;
+    Ok(Explanation {
+        text: account.text,
+        refusal: account.refusal,
+    })
 }
 
 /// Explains the outcome of a play. `NoMemory` if memory runs out.
@@ -94,10 +89,7 @@ fn explain_events(alloc: Global, narrowing: &Narrowing, text: &[u8]) -> Result<E
         refused: narrowing.refused,
         data: narrowing.as_data,
     };
-    let mut explained = match explain(alloc, text, &wanted) {
-        Ok(explained) => explained,
-        Err(refusal) => return Err(refusal),
-    };
+    let mut explained = explain(alloc, text, &wanted)?;
     let told = replace(&mut explained.text, String::new(alloc));
     let refusal = explained.refusal;
     // The program ends soon, and to free the world of a long play takes a while.

@@ -1,13 +1,9 @@
 //! The program `dsr`, for any words, reader and writers.
 #![tactic(auto)]
 
-mod check;
 mod explain;
-mod play;
-mod report;
 mod serve;
 mod serve_report;
-mod transcribe;
 mod transcribe_service;
 
 ghost use Rattle.std.specs.Prelude.{◌≡◌, ◌+◌, ◌<◌, ◌≤◌, Err, IfErr, IfOk, Ok, OnOk, length, map};
@@ -18,18 +14,16 @@ ghost use Rattle.dsr_names.specs.Streams.{CanFailToTake, Sent, SentAll, SentPref
 ghost use Rattle.dsr_command.specs.Asked.{asked_of};
 ghost use Rattle.dsr_command.specs.declared.Task.TheVariants.{Play};
 ghost use Rattle.dsr_command.specs.Readings.{IfDo, IfHelp, IfUsage, IfVersion, OnNoMemory, OnNoTask};
-ghost use Rattle.dsr_cli.specs.Played.{LeftAfterPlay, PlayedAll, form_of};
+ghost use Rattle.dsr_reports.specs.Played.{LeftAfterPlay, PlayedAll, form_of};
 ghost use Rattle.dsr_cli.specs.Status.{StatusFor, RanOut, HasEndedAs, IsAlone, LeftAfter, WhatShowingLeft, WhatTaskLeft, IfNoTask, ending_of, run_of, status_after, status_of};
 
-use crate::check::run_check;
 use crate::explain::run_explain;
-use crate::play::run_play;
 use crate::serve::run_serve;
-use crate::transcribe::transcribe_play;
 use crate::transcribe_service::transcribe_service;
 use dsr_command::{Reading, Task, read_words};
 use dsr_history::run_apply;
 use dsr_names::{Refusal, Sink, Source, tell, tell_refusal, write_output};
+use dsr_reports::{run_check, run_play, transcribe_play};
 use std::alloc::Global;
 use std::convert::AsStr;
 use std::sync::Wait;

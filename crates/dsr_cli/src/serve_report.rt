@@ -3,12 +3,12 @@
 ghost use Rattle.std.specs.Prelude.{◌≡◌, ◌<◌, ◌++◌, IfOk, OnOk, IsOkUnless, string_bytes};
 ghost use Rattle.dsr_run.specs.History.{accepted_by};
 ghost use Rattle.dsr_mail.specs.Logs.{logs_of};
-ghost use Rattle.dsr_cli.specs.Report.{accepted_text, replies_text};
+ghost use Rattle.dsr_reports.specs.Report.{accepted_text, replies_text};
 ghost use Rattle.dsr_cli.specs.Served.{served_text};
 
-use crate::report::{write_history, write_replies};
 use dsr_mail::Logs;
 use dsr_names::{ClientId, Refusal};
+use dsr_reports::{write_history, write_replies};
 use std::alloc::Global;
 
 /// Returns the report of a service with these logs: what each client accepted, and the history. `NoMemory` if memory runs out.

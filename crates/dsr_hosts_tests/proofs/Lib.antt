@@ -1,1 +1,2 @@
+mod FewPosts
 mod SeatLemmas

@@ -6,7 +6,7 @@ use Rattle.std.proofs.lemmas.List.{length-reverse, length-take-le, reverse-appen
 use Rattle.dsr_names.specs.Shape.{Shape}
 use Rattle.dsr_run.specs.Run.{IsRun}
 use Rattle.dsr_run.specs.Step.{Step, log_of}
-use Rattle.dsr_check.specs.Check.{IsFirstBad}
+use Rattle.dsr_record.specs.FirstBad.{IsFirstBad}
 use Rattle.dsr_lines.specs.Line.{HoldsFault}
 use Rattle.dsr_lines.specs.Record.{IsFaultAt}
 use Rattle.dsr_lines.specs.declared.line_fault.LineFault.{LineFault}

@@ -1,10 +1,10 @@
 ghost use Rattle.std.specs.Prelude.{◌≡◌, IfOk, IsOkUnless};
 ghost use Rattle.dsr_lines.specs.Support.Judged.{IsMade};
 
-use dsr_check::all_keys;
 use dsr_desk::Key;
 use dsr_envelope::Envelope;
 use dsr_names::{Refusal, Shape};
+use dsr_record::all_keys;
 use dsr_script::{Draft, Forged, Known, build, forged_in};
 use std::alloc::Global;
 use std::marker::Model;
@@ -19,7 +19,7 @@ pub struct Notary {
 
 impl Model for Notary {
     ghost use Rattle.dsr_names.specs.Shape.{Shape};
-    ghost use Rattle.dsr_check.specs.Keys.{HasAllKeys};
+    ghost use Rattle.dsr_record.specs.Keys.{HasAllKeys};
 
     ghost Value = { Shape };
 

@@ -1,5 +1,5 @@
 ghost use Rattle.std.specs.Prelude.{◌≡◌, IfOk, IfSome, IfNone, IsOkUnless};
-ghost use Rattle.dsr_check.specs.Check.{IsFirstBad};
+ghost use Rattle.dsr_record.specs.FirstBad.{IsFirstBad};
 ghost use Rattle.dsr_run.specs.Run.{IsRun};
 ghost use Rattle.dsr_run.specs.Step.{log_of};
 ghost use Rattle.dsr_lines.specs.Line.{HoldsItsCause};

@@ -1,4 +1,5 @@
 mod FitLemmas
+pub mod KeyLemmas
 mod LineLemmas
 mod MergeBoxes
 mod MergeLemmas

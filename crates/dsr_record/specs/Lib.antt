@@ -1,3 +1,5 @@
+pub mod FirstBad
+pub mod Keys
 pub mod Merge
 pub mod Record
 pub mod RecordFile

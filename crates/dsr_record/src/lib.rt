@@ -2,6 +2,7 @@
 #![tactic(auto)]
 
 mod files;
+mod keys;
 mod last_reads;
 mod laws;
 mod mailboxes;
@@ -13,6 +14,7 @@ mod transcript;
 mod version;
 
 pub use files::{read, write};
+pub use keys::{all_keys, client_key, replica_key};
 pub use laws::{each_step_has_a_line, transcripts_spell_their_records};
 pub use noted::{NotedEntry, NotedStep};
 pub use record::Record;

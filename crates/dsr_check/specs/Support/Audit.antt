@@ -13,7 +13,7 @@ use Rattle.dsr_envelope.specs.Log.{posted_to, taken_from}
 use Rattle.dsr_run.specs.Known.{AreKeys, KnowsAll}
 use Rattle.dsr_run.specs.Run.{IsMadeOrPosted, IsRun, IsTraitor}
 use Rattle.dsr_run.specs.Step.{Step, Logs, log_of}
-use Rattle.dsr_check.specs.Keys.{HasAllKeys}
+use Rattle.dsr_record.specs.Keys.{HasAllKeys}
 use Rattle.dsr_check.specs.Support.Party.{Plays}
 use Rattle.dsr_check.specs.declared.audit.Audit.{Audit}
 use Rattle.dsr_check.specs.declared.held.Held.{Held}
@@ -106,7 +106,3 @@ IsTraitorBelow shape k (Client c) = ⊥
 -- the keys are those of the traitors among the first `k` replicas
 abbrev pub AreKeysBelow : Shape → ℕ → List Actor → Type 0
 AreKeysBelow shape k keys = (a : Actor) → Any (λ holder. holder ≡ a) keys ↔ IsTraitorBelow shape k a
-
--- each actor at one of the first `k` places has a key among these
-abbrev pub HasKeysBelow : Shape → ℕ → List Actor → Type 0
-HasKeysBelow shape k keys = (a : Actor) → IsActor shape a → place_of shape a < k → Any (λ holder. holder ≡ a) keys

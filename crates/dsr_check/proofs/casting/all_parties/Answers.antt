@@ -1,7 +1,7 @@
 use Rattle.std.proofs.Common.{◌≡◌, ◌+◌, ◌<◌, ◌∙◌, suc, refl, sym, subst, arith}
 use Rattle.dsr_names.specs.declared.actor.Actor.TheVariants.{Replica, Client}
 use Rattle.dsr_check.specs.Support.Audit.{AreCast, AreKeysBelow}
-use Rattle.dsr_check.proofs.KeyLemmas.{later_replicas, all_clients, later_clients}
+use Rattle.dsr_record.proofs.KeyLemmas.{later_replicas, all_clients, later_clients}
 use Rattle.dsr_check.proofs.Opening.{none_cast, one_cast, no_keys, more_keys}
 use Rattle.dsr_check.proofs.casting.all_parties.Goals as goal
 

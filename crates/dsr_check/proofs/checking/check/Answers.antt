@@ -8,7 +8,7 @@ use Rattle.dsr_run.specs.History.{history}
 use Rattle.dsr_run.specs.Linearizable.{IsLinearization}
 use Rattle.dsr_run.specs.Step.{log_of}
 use Rattle.dsr_run.proofs.Lemmas.{all_agree, all_right, linearized}
-use Rattle.dsr_check.specs.Check.{IsFirstBad}
+use Rattle.dsr_record.specs.FirstBad.{IsFirstBad}
 use Rattle.dsr_check.specs.Verdict.{IsVerdict}
 use Rattle.dsr_check.proofs.FirstBad.{none_bad, same_line}
 use Rattle.dsr_check.proofs.checking.check.Goals as goal

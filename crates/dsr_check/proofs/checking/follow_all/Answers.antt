@@ -4,7 +4,7 @@ use Rattle.dsr_names.specs.declared.refusal.Refusal.{Refusal}
 use Rattle.dsr_names.specs.declared.refusal.Refusal.TheVariants.{NotARun}
 use Rattle.dsr_run.specs.Run.{IsNextStep}
 use Rattle.dsr_run.specs.Step.{log_of}
-use Rattle.dsr_check.specs.Check.{IsFirstBad}
+use Rattle.dsr_record.specs.FirstBad.{IsFirstBad}
 use Rattle.dsr_check.proofs.Auditing.{where_false}
 use Rattle.dsr_check.proofs.FirstBad.{first_bad}
 use Rattle.dsr_check.proofs.checking.follow_all.Goals as goal

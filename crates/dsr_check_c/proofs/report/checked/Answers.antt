@@ -1,7 +1,7 @@
 use Rattle.std.proofs.Common.{◌≡◌, inr, Err, ap, sym, subst}
 use Rattle.dsr_record.specs.Record.{Record}
 use Rattle.dsr_run.specs.Run.{IsRun}
-use Rattle.dsr_check.specs.Check.{IsFirstBad}
+use Rattle.dsr_record.specs.FirstBad.{IsFirstBad}
 use Rattle.dsr_check_c.proofs.report.checked.Goals as goal
 
 pub returns-in-Ok-clause-accepts : goal.returns-in-Ok-clause-accepts

@@ -1,7 +1,7 @@
 use Rattle.std.proofs.Common.{◌≡◌, ◌∙◌, ◌++◌, ◌+◌, suc, ap, ap₂, append_assoc, arith, string_bytes}
 use Rattle.dsr_mail.specs.Logs.{logs_of}
 use Rattle.dsr_run.specs.History.{accepted_by}
-use Rattle.dsr_cli.specs.Report.{replies_text, texts_below}
+use Rattle.dsr_reports.specs.Report.{replies_text, texts_below}
 use Rattle.dsr_cli.proofs.serve_report.write_accepted.Goals as goal
 
 pub loop-number-preserved : goal.loop-number-preserved

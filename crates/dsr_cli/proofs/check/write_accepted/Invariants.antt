@@ -1,6 +1,0 @@
-use Rattle.std.proofs.Common.{◌≡◌, ◌++◌, reverse, string_bytes, take}
-use Rattle.dsr_cli.specs.Report.{accepted_line, texts_of}
-use Rattle.dsr_cli.proofs.check.write_accepted.Given as goal
-
-abbrev pub invariant-loop-client : goal.invariant-loop-client
-invariant-loop-client l = string_bytes l.out ≡ string_bytes l.initial.out ++ texts_of (λ index pair. accepted_line pair.0 pair.1) (reverse (take l.client-index l.accepted))

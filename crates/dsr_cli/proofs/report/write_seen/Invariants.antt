@@ -1,8 +1,0 @@
-use Rattle.std.proofs.Common.{◌≡◌, ◌++◌, string_bytes}
-use Rattle.dsr_run.specs.History.{seen_by}
-use Rattle.dsr_run.specs.Step.{log_of}
-use Rattle.dsr_cli.specs.Report.{seen_line, texts_below}
-use Rattle.dsr_cli.proofs.report.write_seen.Given as goal
-
-abbrev pub invariant-loop-number : goal.invariant-loop-number
-invariant-loop-number l = string_bytes l.out ≡ string_bytes l.initial.out ++ texts_below l.number (λ c. seen_line c (seen_by l.world.shape (log_of l.world.run) c))

@@ -1,0 +1,7 @@
+use Rattle.std.proofs.Common.{◌≡◌, ◌++◌, string_bytes}
+use Rattle.dsr_run.specs.Step.{log_of}
+use Rattle.dsr_reports.specs.Report.{decided_of, texts_below}
+use Rattle.dsr_reports.proofs.report.write_decided.Given as goal
+
+abbrev pub invariant-loop-number : goal.invariant-loop-number
+invariant-loop-number l = string_bytes l.out ≡ string_bytes l.initial.out ++ texts_below l.number (λ p. decided_of l.world.shape (log_of l.world.run) p)
