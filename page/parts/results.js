@@ -149,6 +149,7 @@ function shownOf(doing, ended) {
   if (doing === "picture" && ended.page) return framed(ended);
   if (doing === "check a play") return checkOfPlay(ended);
   if (doing === "explain" && !ended.status) return explanation(ended);
+  if (doing === "check" && ended.why) return `${fault(ended)}<h2>Why</h2>${pre(ended.why, 0, "explain")}`;
   const verdict = doing === "check" && !ended.status ? '<h2 class="good">This transcript is a run</h2>' : doing === "play" && !ended.status ? `<h2>What came of it</h2>${inShort(ended.output)}<h2>As ${code("dsr play")} writes it</h2>` : "";
   return fault(ended) + verdict + pre(ended.output, ended.more, doing);
 }

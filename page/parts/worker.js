@@ -44,6 +44,12 @@ function checked(text) {
   return { ...tell("check", played.output), transcript: told(played) };
 }
 
+// A transcript is checked; of one that is no transcript of a run, it is explained why not.
+function judged(text) {
+  const ended = tell("check", text);
+  return ended.status ? { ...ended, why: tell("explain", text).output } : ended;
+}
+
 // The report of a play, by which its outcome is told in short, and the explanation.
 function explained(text) {
   const ended = tell("explain", text);
@@ -79,7 +85,7 @@ function whole(text, task) {
 }
 
 const DO = {
-  picture: (text, { title, spot }) => drawn(text, title, spot), explain: explained, marks: marked, "check a play": checked,
+  picture: (text, { title, spot }) => drawn(text, title, spot), explain: explained, marks: marked, check: judged, "check a play": checked,
   whole: (text, { of }) => whole(text, of),
 };
 
