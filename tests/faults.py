@@ -69,7 +69,7 @@ WHOLE = {("apply", "first-lines.apply"), ("apply", "swaps.apply"), ("apply", "re
 # Of the others so many first ones are, and then steps grow by one for so many; and where all later ones are refused too.
 SOME, FEW = (24, 16), (8, 4)
 # The crates of tests that end with an error where memory was refused.
-CRATES = ["dsr_hosts_tests"]
+CRATES = ["dsr_boxes_tests", "dsr_hosts_tests"]
 # Tests that are left out: those that run threads. tests/threads.py refuses allocations of services.
 IN_THREADS = "threads::"
 WANT_OF_MEMORY = re.compile(rb"^(?:[Ee]rror:|  left:) .*(NoMemory|AllocError|AllocFailed|WriteFailed)", re.M)

@@ -22,11 +22,10 @@ tests/models/eager.py. A search finds an order of the requests that keeps real t
 in the same logs with each ask as late as it can come. All loyal replicas are eager, and what they hold acts within the bound of rounds: the greatest count of
 each shape is said, beside the bound. At least nine of ten services must serve all clients.
 
-mail: random tries of the mail, by `dsr_rows` with words, over shapes of all sizes, with `soak` for an hour. Each thread makes random calls at its seats, and
+mail: random tries of the mail, by `dsr_mail_tries`, over shapes of all sizes, with `soak` for an hour. Each thread makes random calls at its seats, and
 what came of it is a transcript, which must be a run. By its lines alone what an actor took from another is the first so many envelopes that were posted to
 it there, so none was lost, none came twice, and none overtook another; and there is no post at a full box, or take at an empty one. In all runs together
-each actor that there can be posted and took, and each kind of envelope was posted and taken. Two clients, of which the second asks after it was shown a moment
-of the first, accept the replies that are written down for them, each of 20 times.
+each actor that there can be posted and took, and each kind of envelope was posted and taken.
 """
 
 import os
@@ -45,7 +44,7 @@ from models.histories import requests_of
 from models.transcript_text import Reader, whole
 
 SERVICE = f"{TOP}/crates/dsr_own_service/out/dsr_own_service"
-TRIES = f"{TOP}/crates/dsr_rows/out/dsr_rows"
+TRIES = f"{TOP}/crates/dsr_mail_tries/out/dsr_mail_tries"
 # Within which a run must end, and one of which something is refused.
 SECONDS, SECONDS_OF_REFUSED = 300, 20
 
@@ -412,17 +411,6 @@ def wanted_kinds():
         (what, envelope) for what in ("post", "take") for envelope in ("ask", "round", "reply", "seen", "empty")}
 
 
-# What two clients accept, of which the second reads after the first has written.
-IN_ORDER = lines_text(["accepted c0 1 0 written", "accepted c1 1 1 held 7"])
-
-
-def judge_two_clients(report):
-    """Judges what two clients accept who ask one after the other."""
-    for again in range(20):
-        ran = run([TRIES, "two-clients"], b"", SECONDS)
-        report.judge(f"two clients in order, {again}", None if ran == (0, IN_ORDER, b"") else shown(ran), None)
-
-
 class Mail:
     """The tries of the mail, what is said of each, and what all so far had."""
 
@@ -470,7 +458,6 @@ def mail(report, is_soak):
         report.judge(TRIES, "it is missing: `rt ci` builds it")
         return
     judge_the_judges(report)
-    judge_two_clients(report)
     tried, start, seed, took = Mail(report), time.monotonic(), 1, 0
     while not took or is_soak and not report.failed and took <= SOAK:
         tried.judge_runs(seed)

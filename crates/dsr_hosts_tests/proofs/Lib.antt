@@ -1,2 +1,1 @@
-mod FewPosts
 mod SeatLemmas

@@ -1,9 +1,7 @@
-//! The tests of boxes and seats, of the calls of clients, of the hosts of replicas and traitors, and of services in threads: what
-//! neither contracts nor rows nor the program show. They are apart from the code because a crate with tests is proved twice.
+//! The tests of seats, of the calls of clients, of the hosts of replicas and traitors, and of services in threads: what neither
+//! contracts nor rows nor the program show. They are apart from the code because a crate with tests is proved twice.
 #![tactic(auto)]
 
-#[cfg(test)]
-mod boxes;
 #[cfg(test)]
 mod calls_memory;
 #[cfg(test)]

@@ -22,7 +22,7 @@ use std::thread::Threads;
 
 /// Opens a mail of one replica and two clients. Client 0 writes 7 to the register `a`, and then client 1 reads it. Returns the logs, in which the place
 /// of client 0's reply is lower than that of client 1's. `Unanswered` if a thread waited for another in vain; `NoMemory` if memory runs out.
-pub fn ask_in_order<R: Threads>(rt: &R, alloc: Global) -> Result<Logs, Refusal>
+pub(crate) fn ask_in_order<R: Threads>(rt: &R, alloc: Global) -> Result<Logs, Refusal>
     ensures ordered { IfOk result IsInOrder }
 {
     let shape = Shape::new(1, 0, 2, 0)?;
