@@ -24,6 +24,8 @@ class Refused(Exception):
 
 def split(text, mark):
     """The items of a text that are joined by this mark, where it stands outside of parentheses."""
+    if "(" not in text:
+        return text.split(mark)
     items, depth = [""], 0
     for letter in text:
         depth += (letter == "(") - (letter == ")")
