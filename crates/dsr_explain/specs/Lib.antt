@@ -1,1 +1,1 @@
-pub mod Reason
+pub mod Refused

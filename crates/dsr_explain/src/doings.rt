@@ -1,8 +1,8 @@
 //! Who does what to whom: the middle part of an event's line.
 
 use crate::pieces::name_of;
-use crate::wanted::{actor_of, other_of};
 use dsr_names::{Refusal, Shape};
+use dsr_reasons::{actor_of, other_of};
 use dsr_world::Event;
 use std::alloc::Global;
 use std::fmt::Write;

@@ -1,7 +1,7 @@
 //! Explains the outcome of a play: each event with its line, the fate of each chain, what was decided and which of its requests acted, who voted
 //! for which reply, why an event was refused, and who waits for whom at the end.
 //!
-//! The line that says why an event was refused is proved to the letter (`write_why`). What the explanation says about a chain, a slot, a vote or
+//! The line that says why an event was refused is proved to the letter (`dsr_reasons`). What the explanation says about a chain, a slot, a vote or
 //! a box is what the crates that own them return; their contracts say what that is. The wording is tested, not proved.
 #![tactic(auto)]
 
@@ -21,9 +21,7 @@ mod story;
 mod telling;
 mod texts;
 mod wanted;
-mod why;
 mod words;
 
 pub use telling::{Explained, explain};
 pub use wanted::Wanted;
-pub use why::{put, write_why};

@@ -4,7 +4,7 @@ ghost use Rattle.std.specs.Prelude.{◌≡◌, Option, IfOk, IfSome, IfNone, OnO
 ghost use Rattle.dsr_ledger.specs.declared.reply.Reply.{Reply as AReply};
 ghost use Rattle.dsr_run.specs.Step.{log_of};
 ghost use Rattle.dsr_world.specs.Event.{HasDone, IsRefusedBy, MayBeDone};
-ghost use Rattle.dsr_explain.specs.Reason.{EndsWithCause, WantsRefused};
+ghost use Rattle.dsr_explain.specs.Refused.{EndsWithCause, WantsRefused};
 
 use crate::before::Before;
 use crate::client_notes::tell_reply;
@@ -18,12 +18,12 @@ use crate::replica_notes::{tell_ask, tell_take, tell_unproposed};
 use crate::standing::last_envelope;
 use crate::texts::{Texts, Told, write_draft, write_none};
 use crate::wanted::Wanted;
-use crate::why::write_why;
 use crate::words::{write_choice, write_note};
 use dsr_envelope::Pick;
 use dsr_ledger::Reply;
 use dsr_names::{Actor, Refusal, Shape};
 use dsr_play::Choice;
+use dsr_reasons::write_why;
 use dsr_world::{Event, World};
 use std::alloc::Global;
 use std::fmt::Write;

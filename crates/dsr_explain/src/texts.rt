@@ -1,11 +1,11 @@
 //! The texts about envelopes, written once for all events that post or take one.
 
 use crate::pieces::{MOST_ACTORS, place_of};
-use crate::wanted::{actor_of, other_of};
 use crate::{data, words};
 use dsr_chain::Chain;
 use dsr_envelope::{Envelope, Pick};
 use dsr_names::{Actor, Refusal};
+use dsr_reasons::{actor_of, other_of};
 use dsr_script::Draft;
 use dsr_world::Event;
 use std::alloc::Global;

@@ -1,9 +1,11 @@
 ghost use Rattle.std.specs.Prelude.{◌≡◌, ◌↔◌, IsTrue, IfSome};
-ghost use Rattle.dsr_explain.specs.Reason.{actor_of, other_of, WantsRefused};
+ghost use Rattle.dsr_reasons.specs.Reason.{actor_of};
+ghost use Rattle.dsr_explain.specs.Refused.{WantsRefused};
 
 use crate::note::Note;
 use dsr_base::Exact;
 use dsr_names::Actor;
+use dsr_reasons::actor_of;
 use dsr_world::Event;
 
 /// Which events of a play to explain, and how.
@@ -79,29 +81,5 @@ impl Wanted {
             }
         }
         false
-    }
-}
-
-/// Returns the actor that posts, takes or tells.
-pub(crate) fn actor_of(event: &Event) -> Actor
-    ensures { result ≡ actor_of event.now }
-{
-    match event {
-        Event::Post { from, .. } => *from,
-        Event::Plant { from, .. } => *from,
-        Event::Take { at, .. } => *at,
-        Event::Tell { from, .. } => *from,
-    }
-}
-
-/// Returns the actor to whom it posts or tells, or from whom it takes.
-pub(crate) fn other_of(event: &Event) -> Actor
-    ensures { result ≡ other_of event.now }
-{
-    match event {
-        Event::Post { to, .. } => *to,
-        Event::Plant { to, .. } => *to,
-        Event::Take { from, .. } => *from,
-        Event::Tell { to, .. } => *to,
     }
 }

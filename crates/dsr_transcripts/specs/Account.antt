@@ -10,7 +10,7 @@ use Rattle.dsr_run.specs.Step.{Step, Logs, log_of}
 use Rattle.dsr_record.specs.Record.{Record}
 use Rattle.dsr_record.specs.RecordText.{Spells, IsRecordRefusal, step_text}
 use Rattle.dsr_record.specs.FirstBad.{IsFirstBad}
-use Rattle.dsr_explain.specs.Reason.{one_of}
+use Rattle.dsr_reasons.specs.Reason.{one_of}
 use Rattle.dsr_lines.specs.Record.{IsFaultAt}
 use Rattle.dsr_lines.specs.declared.line_fault.LineFault.{LineFault}
 use Rattle.dsr_transcripts.specs.Standing.{standing_line, entry_box_line}

@@ -17,7 +17,7 @@ use Rattle.dsr_node.specs.Conduct.{is_actor}
 use Rattle.dsr_run.specs.Step.{Logs}
 use Rattle.dsr_script.specs.EnvelopeText.{envelope_text}
 use Rattle.dsr_world.specs.Event.{in_box}
-use Rattle.dsr_explain.specs.Reason.{one_of}
+use Rattle.dsr_reasons.specs.Reason.{one_of}
 
 -- ---- what is due
 

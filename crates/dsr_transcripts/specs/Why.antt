@@ -18,7 +18,7 @@ use Rattle.dsr_facts.specs.declared.difference.Difference.{Difference}
 use Rattle.dsr_facts.specs.declared.difference.Difference.TheVariants.{OtherKind, OtherRound, Chains, OtherAsk, OtherReply, OtherFront}
 use Rattle.dsr_facts.specs.declared.difference.Parting.{Parting}
 use Rattle.dsr_facts.specs.declared.difference.Parting.TheVariants.{TooMany, Missing, Misplaced, OtherContent}
-use Rattle.dsr_explain.specs.Reason.{one_of, TellsCause}
+use Rattle.dsr_reasons.specs.Reason.{one_of, TellsCause}
 use Rattle.dsr_lines.specs.declared.line_fault.LineFault.{LineFault}
 use Rattle.dsr_lines.specs.declared.line_fault.LineFault.TheVariants.{Refused, OtherHeld, OtherPosted, SignedOutside}
 use Rattle.dsr_transcripts.specs.Standing.{current_number}
@@ -152,7 +152,7 @@ outside_text is_data signer statement =
     one_of is_data (codes "signed-outside ") (codes "it carries a signature of ") ++ (actor_text signer
     ++ (one_of is_data (codes " ") (codes ", who is no actor of this shape, on ") ++ statement_text statement))
 
--- the text says why a step of this actor may not follow: a cause that holds of the event that it would be, in the words of `dsr_explain`; that the box
+-- the text says why a step of this actor may not follow: a cause that holds of the event that it would be, in the words of `dsr_reasons`; that the box
 -- holds another envelope; how the envelope differs from the one that the actor posts there; or which signature nobody of the shape can make
 abbrev pub IsWhy : Bool → Shape → Logs → Actor → LineFault → List ℕ → Type 0
 IsWhy is_data shape logs actor (Refused event cause) text = TellsCause shape logs event is_data [] text

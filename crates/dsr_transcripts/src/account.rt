@@ -6,9 +6,9 @@ ghost use Rattle.dsr_lines.specs.Record.{IsFaultAt};
 ghost use Rattle.dsr_transcripts.specs.Account.{TellsRecord, TellsTranscript, first_line, run_line};
 
 use crate::stop::tell_stop;
-use dsr_explain::put;
 use dsr_lines::{Followed, Stop, follow_all};
 use dsr_names::{Refusal, Shape};
+use dsr_reasons::put;
 use dsr_record::{NotedStep, Record};
 use dsr_trouble::trouble_of;
 use dsr_world::World;

@@ -8,9 +8,9 @@ ghost use Rattle.dsr_transcripts.specs.Why.{ask_text, chain_text, chains_in, dif
 use crate::words::put_numbers;
 use dsr_chain::Chain;
 use dsr_envelope::Envelope;
-use dsr_explain::put;
 use dsr_facts::{Difference, Parting};
 use dsr_names::Refusal;
+use dsr_reasons::put;
 use std::fmt::Write;
 
 /// Writes how the posted envelope differs from the wanted one. Requires that it differs like this. `current` is the number of the actor's outstanding

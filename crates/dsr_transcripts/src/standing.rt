@@ -8,14 +8,14 @@ ghost use Rattle.dsr_envelope.specs.Log.{due};
 ghost use Rattle.dsr_node.specs.Conduct.{is_actor};
 ghost use Rattle.dsr_run.specs.Step.{log_of};
 ghost use Rattle.dsr_world.specs.Event.{in_box};
-ghost use Rattle.dsr_explain.specs.Reason.{one_of};
+ghost use Rattle.dsr_reasons.specs.Reason.{one_of};
 ghost use Rattle.dsr_transcripts.specs.Standing.{box_line, current_number, due_line, entry_box_line, held_text, next_text, number_text, own_number, standing_line};
 
 use crate::words::put_actor;
 use dsr_envelope::Due;
-use dsr_explain::put;
 use dsr_facts::{client_of, loyal_of};
 use dsr_names::{Actor, ClientId, Refusal, ReplicaId, Shape};
+use dsr_reasons::put;
 use dsr_record::{NotedEntry, NotedStep};
 use dsr_script::Draft;
 use dsr_world::World;

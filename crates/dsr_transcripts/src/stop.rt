@@ -8,9 +8,9 @@ ghost use Rattle.dsr_transcripts.specs.Standing.{entry_box_line, standing_line};
 
 use crate::standing::{write_box, write_standing};
 use crate::why::why_of;
-use dsr_explain::put;
 use dsr_lines::LineFault;
 use dsr_names::Refusal;
+use dsr_reasons::put;
 use dsr_record::NotedStep;
 use dsr_world::World;
 use std::alloc::Global;

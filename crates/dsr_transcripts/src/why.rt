@@ -2,7 +2,7 @@
 
 ghost use Rattle.std.specs.Prelude.{◌≡◌, ◌++◌, [], codes, IfOk, OnOk, IsOkUnless, string_bytes};
 ghost use Rattle.dsr_run.specs.Step.{log_of};
-ghost use Rattle.dsr_explain.specs.Reason.{TellsCause, one_of};
+ghost use Rattle.dsr_reasons.specs.Reason.{TellsCause, one_of};
 ghost use Rattle.dsr_facts.specs.Cause.{HoldsCause};
 ghost use Rattle.dsr_facts.specs.Difference.{IsDifference};
 ghost use Rattle.dsr_lines.specs.Line.{HoldsFault};
@@ -12,10 +12,10 @@ use crate::differing::write_difference;
 use crate::standing::current_of;
 use crate::words::{put_actor, shown_of};
 use dsr_envelope::Envelope;
-use dsr_explain::{put, write_why};
 use dsr_facts::{Cause, Difference};
 use dsr_lines::LineFault;
 use dsr_names::Refusal;
+use dsr_reasons::{put, write_why};
 use dsr_record::NotedStep;
 use dsr_script::Forged;
 use dsr_world::{Event, World};

@@ -2,12 +2,12 @@
 
 ghost use Rattle.std.specs.Prelude.{◌≡◌, ◌++◌, IfOk, OnOk, IsOkUnless, string_bytes};
 ghost use Rattle.dsr_names.specs.Actor.{actor_text};
-ghost use Rattle.dsr_explain.specs.Reason.{one_of};
+ghost use Rattle.dsr_reasons.specs.Reason.{one_of};
 ghost use Rattle.dsr_transcripts.specs.Why.{IsShown, numbers_text};
 
 use dsr_envelope::Envelope;
-use dsr_explain::put;
 use dsr_names::{Actor, Refusal};
+use dsr_reasons::put;
 use dsr_script::Draft;
 use std::alloc::Global;
 use std::fmt::Write;

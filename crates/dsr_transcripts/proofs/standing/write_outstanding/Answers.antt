@@ -1,7 +1,7 @@
 use Rattle.std.proofs.Common.{◌≡◌, ◌++◌, codes, subst}
 use Rattle.std.specs.Prelude.{OnOk, string_bytes}
 use Rattle.dsr_names.specs.Actor.{client_text}
-use Rattle.dsr_explain.specs.Reason.{one_of}
+use Rattle.dsr_reasons.specs.Reason.{one_of}
 use Rattle.dsr_transcripts.specs.Standing.{number_text}
 use Rattle.dsr_transcripts.proofs.TextLemmas.{after}
 use Rattle.dsr_transcripts.proofs.standing.write_outstanding.Goals as goal

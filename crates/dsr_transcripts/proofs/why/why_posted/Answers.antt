@@ -1,6 +1,6 @@
 use Rattle.std.proofs.Common.{◌≡◌, ◌++◌, codes, subst}
 use Rattle.std.specs.Prelude.{string_bytes}
-use Rattle.dsr_explain.specs.Reason.{one_of}
+use Rattle.dsr_reasons.specs.Reason.{one_of}
 use Rattle.dsr_transcripts.specs.Why.{difference_text, why_line}
 use Rattle.dsr_transcripts.proofs.TextLemmas.{whole}
 use Rattle.dsr_transcripts.proofs.why.why_posted.Goals as goal

@@ -5,9 +5,9 @@ ghost use Rattle.std.specs.Prelude.{◌≡◌, ◌++◌, OnOk, IsOkUnless, strin
 ghost use Rattle.dsr_names.specs.Actor.{actor_text};
 ghost use Rattle.dsr_run.specs.Step.{log_of};
 ghost use Rattle.dsr_world.specs.Event.{MayBeDone};
-ghost use Rattle.dsr_explain.specs.Reason.{TellsCause, reason_line, reason_text, part_text, limit_text, undue_text, due_text, sender_text, outstanding_text, forged_text, one_of, named};
+ghost use Rattle.dsr_reasons.specs.Reason.{TellsCause, reason_line, reason_text, part_text, limit_text, undue_text, due_text, sender_text, outstanding_text, forged_text, one_of, named};
 
-use crate::wanted::{actor_of, other_of};
+use crate::actors::{actor_of, other_of};
 use dsr_envelope::Due;
 use dsr_facts::{Cause, Limit, Part, Undue, why_refused};
 use dsr_names::{Actor, Refusal, ReplicaId};
@@ -52,7 +52,7 @@ fn write_line(
 }
 
 /// Writes the cause, without a line feed. The event is of `actor` with `other`.
-pub(crate) fn write_reason(
+fn write_reason(
     out: &mut String,
     as_data: bool,
     actor: Actor,

@@ -1,7 +1,7 @@
 use Rattle.std.proofs.Common.{◌≡◌, ◌++◌, subst}
 use Rattle.std.specs.Prelude.{string_bytes}
-use Rattle.dsr_explain.specs.Reason.{other_of, reason_line}
-use Rattle.dsr_explain.proofs.why.write_why.Goals as goal
+use Rattle.dsr_reasons.specs.Reason.{other_of, reason_line}
+use Rattle.dsr_reasons.proofs.why.write_why.Goals as goal
 
 pub returns-clause-told : goal.returns-clause-told
 returns-clause-told c =

@@ -1,6 +1,6 @@
 -- The text of the cause of a refused event (this project): a word, and the numbers and names that belong to it, if data are wanted; otherwise a
 -- sentence.
-use Rattle.std.specs.Prelude.{◌≡◌, ℕ, Bool, List, ◌++◌, codes, if◌then◌else◌, None, IfSome}
+use Rattle.std.specs.Prelude.{◌≡◌, ℕ, Bool, List, ◌++◌, codes, if◌then◌else◌}
 use Rattle.std.specs.Fmt.{decimal}
 use Rattle.dsr_names.specs.Actor.{actor_text, client_text, replica_text}
 use Rattle.dsr_names.specs.Shape.{Shape}
@@ -19,7 +19,6 @@ use Rattle.dsr_facts.specs.declared.cause.Part.{Part}
 use Rattle.dsr_facts.specs.declared.cause.Part.TheVariants.{Traitor, Loyal, BothClients, FromItself, NotTwoClients}
 use Rattle.dsr_facts.specs.declared.cause.Limit.{Limit}
 use Rattle.dsr_facts.specs.declared.cause.Limit.TheVariants.{Rounds, Numbers, Posts}
-use Rattle.dsr_explain.specs.declared.wanted.Wanted.{Wanted}
 use Rattle.dsr_facts.specs.declared.undue.Undue.{Undue}
 use Rattle.dsr_facts.specs.declared.undue.Undue.TheVariants.{First, ChosenBefore, OtherSender, NothingHeld, BeginsNothing, NothingActed, NoChoice, ProposesNothing, Outstanding, NothingOutstanding}
 
@@ -120,12 +119,3 @@ pub record TellsCause (shape : Shape) (logs : Logs) (event : Event) (is_data : B
   pub cause : Cause
   pub holds : HoldsCause shape logs event cause
   pub told : new ≡ old ++ reason_line is_data (actor_of event) (other_of event) cause
-
--- the text ends with the line of a cause that holds of the event
-abbrev pub EndsWithCause : Shape → Logs → Event → Bool → List ℕ → Type 0
-EndsWithCause shape logs event is_data text = (before : List ℕ) × TellsCause shape logs event is_data before text
-
--- the filter wants the event if it is refused: it asks for no slot, since a refused event has no part in any, and for no actor or for the one that posts,
--- takes or tells
-abbrev pub WantsRefused : Wanted → Event → Type 0
-WantsRefused wanted event = (wanted.slot ≡ None) × IfSome wanted.actor (λ actor. actor ≡ actor_of event)
