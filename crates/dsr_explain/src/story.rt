@@ -54,7 +54,7 @@ pub(crate) struct Story {
     doings: Doings,
     /// The notes of the last event; the next event uses their room.
     notes: Notes,
-    /// How many contents replicas kept, by slot.
+    /// How many contents replicas kept, by slot, unless only refused events are wanted.
     pub(crate) kept: Vec<KeptBy>,
 }
 
@@ -98,6 +98,7 @@ impl Story {
                 self.tell_refusal(line, event, &refusal)?;
                 self.note_refused(line);
             }
+            None if self.wanted.refused => {}
             None => {
                 self.note_kept(notes.as_slice())?;
                 self.tell_notes(alloc, line, event, notes.as_slice())?;
@@ -108,7 +109,8 @@ impl Story {
         Ok(())
     }
 
-    /// Makes the event happen, and adds its notes. Returns its refusal; `None` if the event was done. `NoMemory` if memory runs out.
+    /// Makes the event happen, and adds its notes, unless only refused events are wanted. Returns its refusal; `None` if the event was done. `NoMemory` if
+    /// memory runs out.
     fn step(
         &mut self,
         alloc: Global,
@@ -121,7 +123,30 @@ impl Story {
         ensures unchanged { IfOk result (λ refusal. IfSome refusal (λ _. self.new.world ≡ self.old.world)) }
         ensures stopped { IfOk result (λ refusal. IfSome refusal (λ _. ¬ MayBeDone self.new.world.shape (log_of self.new.world.run) event.now)) }
     {
-        let before = Before::of(&self.world, event);
+        let before = self.read_before(alloc, event, notes)?;
+        match self.world.step(alloc, event) {
+            Ok(reply) => {
+                if let Some(before) = before {
+                    tell_done(&self.world, event, reply, &before, notes)?;
+                }
+                Ok(None)
+            }
+            Err(Refusal::NoMemory) => Err(Refusal::NoMemory),
+            Err(refusal) => Ok(Some(refusal)),
+        }
+    }
+
+    /// Adds the notes about the envelope that the event takes, and returns what it may change. `None`, and no notes, if only refused events are wanted:
+    /// they have none. `NoMemory` if memory runs out.
+    fn read_before(
+        &self,
+        alloc: Global,
+        event: &Event,
+        notes: &mut Notes,
+    ) -> Result<Option<Before>, Refusal> {
+        if self.wanted.refused {
+            return Ok(None);
+        }
         if let Event::Take {
             at: Actor::Replica(replica),
             from: Actor::Replica(from),
@@ -129,14 +154,7 @@ impl Story {
         {
             read_envelope(alloc, &self.world, *replica, *from, notes)?;
         }
-        match self.world.step(alloc, event) {
-            Ok(reply) => {
-                tell_done(&self.world, event, reply, &before, notes)?;
-                Ok(None)
-            }
-            Err(Refusal::NoMemory) => Err(Refusal::NoMemory),
-            Err(refusal) => Ok(Some(refusal)),
-        }
+        Ok(Some(Before::of(&self.world, event)))
     }
 
     /// Writes the event that was refused, and why, if the filter wants it.
