@@ -21,7 +21,7 @@ import sys
 import tempfile
 
 from kit import inputs
-from kit.program import TOP, bytes_of, name_of, shown
+from kit.program import PYTHON, TOP, bytes_of, name_of, shown
 from kit.report import in_threads, main
 from models import slow_check, slow_play
 from models.words import MODELS
@@ -32,7 +32,7 @@ STEP = re.compile("(?P<host>\\S*) (?P<clock>{.*})\n(?P<event>.*)\n")
 
 def exported(words, text):
     """The run of tools/export with these words on this text."""
-    ran = subprocess.run([sys.executable, "-B", f"{TOP}/tools/export", *words], input=text, capture_output=True, timeout=120)
+    ran = subprocess.run([*PYTHON, f"{TOP}/tools/export", *words], input=text, capture_output=True, timeout=120)
     return ran.returncode, ran.stdout, ran.stderr
 
 

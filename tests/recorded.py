@@ -12,7 +12,7 @@ import sys
 import tempfile
 
 from kit.archives import archive_of, linked_with
-from kit.program import TOP, bytes_of, difference, run
+from kit.program import PYTHON, TOP, bytes_of, difference, run
 from kit.report import in_threads, main, say
 
 sys.path[:0] = [f"{TOP}/tools", f"{TOP}/examples/record"]
@@ -91,7 +91,7 @@ def judge_built(report, language, tool, build, fault, room, program):
 def languages(report, _):
     with tempfile.TemporaryDirectory(prefix="dsr-recorded-") as room:
         fault = fault_of_library(room)
-        judge_rows(report, "Python", fault, [sys.executable, "-B", f"{TOP}/examples/record/check.py", f"{room}/libdsr_check.so"])
+        judge_rows(report, "Python", fault, [*PYTHON, f"{TOP}/examples/record/check.py", f"{room}/libdsr_check.so"])
         judge_threads(report, fault, room)
         judge_built(report, "Rust", "cargo", cargo, fault, room, "target/debug/check-record")
         judge_built(report, "Go", "go", go, fault, room, "check-record-go")

@@ -19,7 +19,7 @@ import shlex
 import sys
 import tempfile
 
-from kit.program import TOP, run, shown, write_bytes
+from kit.program import PYTHON, TOP, run, shown, write_bytes
 from kit.report import in_threads, main
 
 sys.path.insert(0, f"{TOP}/conformance")
@@ -110,7 +110,7 @@ NO_ROWS = {
 
 def conformance_run(*words):
     """The run of conformance/run.py with these words, and how many rows passed, failed and were skipped, or None."""
-    ran = run([sys.executable, "-B", f"{TOP}/conformance/run.py", *words], seconds=600)
+    ran = run([*PYTHON, f"{TOP}/conformance/run.py", *words], seconds=600)
     found = re.search(rb"^(\d+) passed, (\d+) failed, (\d+) skipped\n\Z", ran[1], re.MULTILINE)
     return ran, tuple(map(int, found.groups())) if found else None
 
@@ -134,20 +134,20 @@ def fault_of_closed_pipe(words):
     """What is wrong with a run whose standard output nobody reads, or None: it ends with status 1, and says nothing."""
     reader, writer = os.pipe()
     os.close(reader)
-    status, _, errors = run([sys.executable, "-B", f"{TOP}/conformance/run.py", *words], stdout=writer)
+    status, _, errors = run([*PYTHON, f"{TOP}/conformance/run.py", *words], stdout=writer)
     os.close(writer)
     return None if (status, errors) == (1, b"") else f"status {status}, errors {errors[:200]!r}"
 
 
 def models(report, _):
-    ran, counts = conformance_run("--seconds", str(SECONDS), "--", sys.executable, "-B", f"{TOP}/tests/models/parts.py")
+    ran, counts = conformance_run("--seconds", str(SECONDS), "--", *PYTHON, f"{TOP}/tests/models/parts.py")
     is_well = ran[0] == 0 and counts is not None and counts[2] <= MOST_SKIPPED
     report.judge("the models", None if is_well else told_by(ran), f", {told(counts)}")
 
 
 def adapter(statement, answer="ok"):
     """The words for conformance/run.py by which it starts such an adapter."""
-    return ["--", sys.executable, "-c", ADAPTER.format(statement, answer)]
+    return ["--", *PYTHON, "-c", ADAPTER.format(statement, answer)]
 
 
 def written(room, name, text):

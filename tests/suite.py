@@ -29,7 +29,7 @@ import xml.etree.ElementTree as ElementTree
 import mistakes
 import rows_by_rule
 import rows_in_json
-from kit.program import TOP, bytes_of, run, text_of
+from kit.program import PYTHON, TOP, bytes_of, run, text_of
 from kit.report import main, say
 from rows import ROWS, SECONDS, SOME_ROWS, WRONG, adapter, conformance, conformance_run, fault_of_run, told, told_by, written
 
@@ -112,7 +112,7 @@ EXAMPLES = [
 def made(compiler, name, room):
     """The command of an adapter, which the compiler makes if there is one; None if it cannot."""
     if compiler is None:
-        return [sys.executable, "-B", f"{ADAPTERS}/{name}"]
+        return [*PYTHON, f"{ADAPTERS}/{name}"]
     status, *_ = run([*compiler, f"{ADAPTERS}/{name}", "-o", f"{room}/{name}.made"])
     return [f"{room}/{name}.made"] if status == 0 else None
 
@@ -189,7 +189,7 @@ COMMANDS = [
 def fault_of_texts_run(kind, name, script, passes, says):
     """What is wrong with what conformance/run_texts.py makes of this command on a text, or None."""
     words = [f"{TOP}/conformance/run_texts.py", kind, "--text", name, "--seconds", "2", "--", "sh", "-c", script]
-    ran = run([sys.executable, "-B", *words], cwd=TOP)
+    ran = run([*PYTHON, *words], cwd=TOP)
     last = b"1 passed, 0 failed, 0 skipped\n" if passes else b"0 passed, 1 failed, 0 skipped\n"
     return None if ran[0] == (0 if passes else 1) and ran[1].endswith(last) and says in ran[1] and not ran[2] else told_by(ran)
 
@@ -199,7 +199,7 @@ def texts(report, _):
     report.judge("conformance/texts", f"not current: {', '.join(stale)}; tools/whole_texts.py --write writes them" if stale else None)
     for command in COMMANDS:
         report.judge(f"of the {command[0]} of {command[1]}: {command[2]}", fault_of_texts_run(*command), None)
-    unheard = run([sys.executable, "-B", f"{TOP}/conformance/run_texts.py", "play", "--text", "none", "--", "cat"])
+    unheard = run([*PYTHON, f"{TOP}/conformance/run_texts.py", "play", "--text", "none", "--", "cat"])
     report.judge("a text that is not there", None if unheard[0] == 1 and unheard[2] == b"no text of this kind has the name none\n" else told_by(unheard), None)
 
 

@@ -26,7 +26,7 @@ import sys
 import transcript_rows
 from kit import inputs
 from kit.inputs import by_byte, by_chance, cut_at_bytes, with_a_byte_changed
-from kit.program import MOST_BYTES, MOST_EVENTS, TOP, bytes_of, fault_of, name_of, program, run
+from kit.program import MOST_BYTES, MOST_EVENTS, PYTHON, TOP, bytes_of, fault_of, name_of, program, run
 from kit.report import in_processes, main
 from models import slow_check, slow_play, slow_texts
 from models.histories import checked_report
@@ -129,7 +129,7 @@ def fault_of_record(word, ending, status):
     """What is wrong with a run of the service that records itself, or with what the program says of that, or None."""
     stem = f"examples/record/{word}"
     transcript, verdict = bytes_of(f"{stem}.transcript"), bytes_of(f"{stem}.{ending}")
-    command = [sys.executable, "-B", f"{TOP}/examples/record/service.py", *([word] if word == "lying" else [])]
+    command = [*PYTHON, f"{TOP}/examples/record/service.py", *([word] if word == "lying" else [])]
     if run(command, None, SECONDS, stdin=None) != (0, transcript, b"") or not transcript:
         return "its transcript is another one"
     return fault_of("check", transcript, (status, verdict, b"") if status == 0 else (status, b"", verdict))

@@ -3,6 +3,7 @@
 import glob
 import os
 import subprocess
+import sys
 import tempfile
 
 TOP = os.path.dirname(os.path.dirname(os.path.dirname(os.path.realpath(__file__))))
@@ -12,6 +13,8 @@ BUILDING = "./test proves and builds it, and if it is the program dsr, so does t
 os.environ["DSR_UNPROVED"] = "no"
 # ./dsr runs the program in this environment too: with large pages of memory, if the system has them.
 LARGE_PAGES = {"GLIBC_TUNABLES": "glibc.malloc.hugetlb=1", **os.environ}
+# How a script starts a program of Python's that needs the standard library alone: many run for less time than it takes to look for other packages.
+PYTHON = [sys.executable, "-B", "-S"]
 MOST_BYTES = 16_777_216
 MOST_EVENTS = 1_000_000
 SECONDS = 120
