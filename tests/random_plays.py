@@ -266,18 +266,23 @@ def answers(report, _):
 # ---- a world that is told the steps of a transcript
 
 
+def begun(actor, other, envelope, n):
+    """The clients of the requests with which this post of a replica begins a slot of its own, by the last chain of that slot; or none."""
+    words = envelope.split(" ")
+    if words[0] != "round" or other != "r0" or int(words[1]) % n != int(actor[1:]):
+        return []
+    values = [value for slot, value, _ in map(slow_play.parts_of, words[2:]) if str(slot) == words[1]]
+    return [signed.split("#")[0] for signed in values[-1]] if values else []
+
+
 def pick_of(world, actor, other, envelope):
     """A choice by which a loyal actor may have posted this envelope; None for none."""
     words = envelope.split(" ")
     if actor[0] == "c":
         is_new = words[0] == "ask" and world.machines[actor].ask is None
         return ("begin", words[1].split("~")[0].split(":")[1:]) if is_new else None
-    if words[0] != "round" or len(words) < 3 or other != "r0":
-        return None
-    slot, value, signatures = slow_play.parts_of(words[-1])
-    clients = [signed.split("#")[0] for signed in value]
-    is_own = signatures == [actor] and str(slot) == words[1]
-    return ("from", clients) if is_own and value and len(set(clients)) == len(clients) else None
+    clients = begun(actor, other, envelope, world.shape.n)
+    return ("from", clients) if clients and len(set(clients)) == len(clients) else None
 
 
 def event_of(world, line):

@@ -45,7 +45,7 @@ from kit.program import TOP, bytes_of, command_of, least_time, name_of, program,
 from kit.report import in_processes, main
 from kit.written import tables
 from models import explain_model, first_faults, histories, slow_check, slow_play
-from random_plays import event_of
+from random_plays import begun, event_of
 
 
 # ---- explanations
@@ -366,19 +366,28 @@ def in_words(line):
 
 
 def modelled_reason(transcript):
-    """The reason by the model of plays, if it refuses the event that is the first line which may not follow; else None. The model reads a replica that is not
-    the sender and proposes something as one that proposes nothing, and knows nobody who is not of the shape."""
+def client_twice(world, line):
+    """The first client that comes twice in the requests with which this post of a loyal replica begins a slot of its own; None for none."""
+    actor, word, other, envelope = line.split(" ", 3)
+    if word == "take" or actor not in world.loyal:
+        return None
+    clients = begun(actor, other, envelope, world.shape.n)
+    return next((client for place, client in enumerate(clients) if client in clients[place + 1:]), None)
+
+
+    """The reason by the model of plays, if it refuses the event that is the first line which may not follow, or if the line begins a slot with a client twice;
+    else None. The model reads a replica that is not the sender and proposes something as one that proposes nothing, and knows nobody who is not of the shape."""
     header, *lines = transcript.decode("latin-1").split("\n")[:-1]
     world = slow_play.World(slow_check.header_of(header.encode())[1])
     for line in lines:
-        event = event_of(world, line)
+        event, twice = event_of(world, line), client_twice(world, line)
         try:
             world.step(event)
         except slow_play.Refused as refusal:
             why = f"why {explain_model.why_refused(world, event, refusal.args[0])}"
             return None if why.startswith("why other-sender ") else why
         if world.lines[-1] != line:
-            return None
+            return f"why client-twice {twice}" if twice else None
     return None
 
 
@@ -400,7 +409,8 @@ def fault_of_account(transcript):
     if lines[:2] != [shape, wanted]:
         return f"it says {lines[:2]}, and not {[shape, wanted]}"
     why = modelled_reason(transcript) if status else None
-    return None if why in (None, lines[2]) or lines[2].startswith("why signed-outside ") else f"it says {lines[2]}, and not {why}"
+    is_free = why is None and not (status and lines[2].startswith("why client-twice "))
+    return None if is_free or why == lines[2] or lines[2].startswith("why signed-outside ") else f"it says {lines[2]}, and not {why}"
 
 
 def fault_of_lines_told(transcript, data, words):

@@ -1,5 +1,5 @@
 -- A step that has a fault may not follow.
-use Rattle.std.proofs.Common.{◌≡◌, List, ◌∷◌, None, inl, inr, ap, sym, ◌∙◌}
+use Rattle.std.proofs.Common.{◌≡◌, ℕ, List, ◌∷◌, None, inl, inr, ap, sym, ◌∙◌, subst}
 use Rattle.std.proofs.lemmas.Option.{none-some, same_Some}
 use Rattle.dsr_names.specs.Shape.{Shape, IsActor}
 use Rattle.dsr_names.specs.declared.actor.Actor.{Actor}
@@ -9,6 +9,7 @@ use Rattle.dsr_desk.specs.Signature.{Signature, signed}
 use Rattle.dsr_envelope.specs.declared.envelope.Envelope.{Envelope}
 use Rattle.dsr_envelope.specs.declared.entry.Entry.TheVariants.{Post as PostEntry, Take as TakeEntry}
 use Rattle.dsr_envelope.specs.Log.{posted_to, taken_from}
+use Rattle.dsr_envelope.specs.Pick.{IsPick}
 use Rattle.dsr_play.specs.declared.event.Event.{Event}
 use Rattle.dsr_play.specs.declared.event.Event.TheVariants.{Post, Plant, Take, Tell}
 use Rattle.dsr_run.specs.Run.{IsMadeOrPosted, IsNextStep, IsRun, IsTraitor, envelope_of}
@@ -19,11 +20,13 @@ use Rattle.dsr_facts.specs.Cause.{HoldsCause}
 use Rattle.dsr_facts.specs.declared.cause.Cause.{Cause}
 use Rattle.dsr_facts.specs.declared.cause.Cause.TheVariants.{NoActor, WrongRole, NotDue, Exhausted, BoxFull, BoxEmpty, Forged}
 use Rattle.dsr_facts.specs.declared.difference.Difference.{Difference}
+use Rattle.dsr_lines.specs.Begun.{clients_begun, BeginsTwice}
 use Rattle.dsr_lines.specs.Line.{HoldsFault, HoldsItsCause, IsOtherHeld, IsOtherPosted, IsSignedOutside}
 use Rattle.dsr_lines.specs.declared.line_fault.LineFault.{LineFault}
-use Rattle.dsr_lines.specs.declared.line_fault.LineFault.TheVariants.{Refused, OtherHeld, OtherPosted, SignedOutside}
+use Rattle.dsr_lines.specs.declared.line_fault.LineFault.TheVariants.{Refused, OtherHeld, OtherPosted, SignedOutside, ClientTwice}
 use Rattle.dsr_script.specs.declared.forged.Forged.{Forged as AForged}
-use Rattle.dsr_lines.proofs.NextLemmas.{PassesAs, left_is, next_passes}
+use Rattle.dsr_lines.proofs.BegunLemmas.{begun_is, twice_no_pick}
+use Rattle.dsr_lines.proofs.NextLemmas.{PassesAs, honest_is, left_is, next_passes}
 
 -- ---- a cause
 
@@ -73,6 +76,17 @@ outside_stops shape run (from, PostEntry to x) s is outside next =
     outside.2 (signer_inside shape ((from, PostEntry to x) ∷ run) (is, next) (signed s.signer s.statement)
     (step_made shape (from, PostEntry to x) run (is, next) (signed s.signer s.statement) outside.1))
 
+-- ---- a client twice
+
+twice_stops : (shape : Shape) (logs : Logs) (step : Step) (c : ℕ) → BeginsTwice shape step c → IsNextStep shape logs step → ⊥
+twice_stops shape logs (at, TakeEntry from x) c twice next = elim twice [ ]
+twice_stops shape logs (Replica p, PostEntry (Replica q) x) c twice next =
+    let may = next.conduct.0 (honest_is shape p next.actor twice.0) in
+    let is = begun_is shape (Replica p) (logs (Replica p)) q may.0.0 x may.0.1 may.0.2 in
+    twice_no_pick c (clients_begun shape (Replica p) q x) twice.1 (subst IsPick is may.0.1)
+twice_stops shape logs (Replica p, PostEntry (Client d) x) c twice next = elim twice [ ]
+twice_stops shape logs (Client d, PostEntry to x) c twice next = elim twice [ ]
+
 -- ---- any fault
 
 -- what has a cause may not be done
@@ -86,9 +100,10 @@ fault_stops shape run step (Refused event cause) is holds next =
     cause_stops shape (log_of run) event cause holds.1 passes.none passes.forges
 fault_stops shape run step OtherHeld is holds next = held_stops shape (log_of run) holds.event step holds.differs next
 fault_stops shape run step (OtherPosted wanted posted how) is holds next =
-    posted_stops shape (log_of run) holds.event step wanted posted how holds.differs
-    (next_passes shape (log_of run) step holds.event holds.is next)
+    posted_stops shape (log_of run) holds.0.event step wanted posted how holds.0.differs
+    (next_passes shape (log_of run) step holds.0.event holds.0.is next)
 fault_stops shape run step (SignedOutside s) is holds next = outside_stops shape run step s is holds next
+fault_stops shape run step (ClientTwice c) is holds next = twice_stops shape (log_of run) step c holds.1 next
 
 -- the cause that a fault tells holds
 pub its_cause : (shape : Shape) (logs : Logs) (step : Step) (fault : LineFault) → HoldsFault shape logs step fault → HoldsItsCause shape logs fault
@@ -96,3 +111,4 @@ its_cause shape logs step (Refused event cause) holds = holds.1
 its_cause shape logs step OtherHeld holds = tt
 its_cause shape logs step (OtherPosted wanted posted how) holds = tt
 its_cause shape logs step (SignedOutside s) holds = tt
+its_cause shape logs step (ClientTwice c) holds = tt

@@ -1,5 +1,5 @@
 -- What is found out about a step, over plain variables.
-use Rattle.std.proofs.Common.{◌≡◌, ℕ, Some, refl, ap, sym, ◌∙◌, subst}
+use Rattle.std.proofs.Common.{◌≡◌, ℕ, List, Some, refl, ap, sym, ◌∙◌, subst}
 use Rattle.dsr_names.specs.Shape.{Shape}
 use Rattle.dsr_names.specs.declared.actor.Actor.{Actor}
 use Rattle.dsr_names.specs.declared.actor.Actor.TheVariants.{Replica, Client}
@@ -9,7 +9,7 @@ use Rattle.dsr_envelope.specs.declared.envelope.Envelope.TheVariants.{Seen}
 use Rattle.dsr_envelope.specs.declared.entry.Entry.TheVariants.{Post as PostEntry, Take as TakeEntry}
 use Rattle.dsr_envelope.specs.declared.pick.Pick.{Pick}
 use Rattle.dsr_envelope.specs.declared.pick.Pick.TheVariants.{Plain}
-use Rattle.dsr_replica.specs.Shown.{shown_choice}
+use Rattle.dsr_replica.specs.Shown.{choice_of}
 use Rattle.dsr_script.specs.declared.forged.Forged.{Forged}
 use Rattle.dsr_play.specs.declared.event.Event.{Event}
 use Rattle.dsr_play.specs.declared.event.Event.TheVariants.{Post, Plant, Take, Tell}
@@ -21,10 +21,11 @@ use Rattle.dsr_facts.specs.Cause.{HoldsCause}
 use Rattle.dsr_facts.specs.TakeFault.{HoldsTakeFault}
 use Rattle.dsr_facts.specs.declared.cause.Cause.{Cause}
 use Rattle.dsr_facts.specs.declared.fault.Fault.TheVariants.{OtherHeld as TakeOtherHeld}
+use Rattle.dsr_lines.specs.Begun.{clients_begun, BeginsTwice}
 use Rattle.dsr_lines.specs.Line.{HoldsFault, IsEventOf}
 use Rattle.dsr_lines.specs.Support.Judged.{IsMade, IsOther}
 use Rattle.dsr_lines.specs.declared.line_fault.LineFault.{LineFault}
-use Rattle.dsr_lines.specs.declared.line_fault.LineFault.TheVariants.{Refused, OtherHeld, OtherPosted, SignedOutside}
+use Rattle.dsr_lines.specs.declared.line_fault.LineFault.TheVariants.{Refused, OtherHeld, OtherPosted, SignedOutside, ClientTwice}
 use Rattle.dsr_lines.specs.declared.notary.Made.TheVariants.{Outside}
 use Rattle.dsr_lines.proofs.NextLemmas.{take_passes}
 
@@ -60,34 +61,38 @@ module _ (shape : Shape) (logs : Logs) where
 
   -- ---- the event of a post
 
-  pub shown_event : (from to : Actor) (p q : ℕ) (x : Envelope) (pick : Pick) → from ≡ Replica p → to ≡ Replica q → (IsTraitor shape from → ⊥)
-      → (IsPick (shown_choice shape from q x) → pick ≡ shown_choice shape from q x)
-      → ((IsPick (shown_choice shape from q x) → ⊥) → pick ≡ Plain) → IsEventOf shape logs (from, PostEntry to x) (Post from to pick)
-  shown_event from to p q x pick from_is to_is loyal read plain =
-      subst (λ b. IsEventOf shape logs (from, PostEntry b x) (Post from b pick)) (sym to_is)
-      (subst (λ a. IsEventOf shape logs (a, PostEntry (Replica q) x) (Post a (Replica q) pick)) (sym from_is) (
-        λ traitor. absurd (loyal (subst (IsTraitor shape) (sym from_is) traitor)),
-        λ same. record {
-          pick = pick;
-          is = refl;
-          read = subst (λ a. IsPick (shown_choice shape a q x) → pick ≡ shown_choice shape a q x) from_is read;
-          plain = subst (λ a. (IsPick (shown_choice shape a q x) → ⊥) → pick ≡ Plain) from_is plain;
-        },
-      ))
+  pub round_event : (p q : ℕ) (x : Envelope) (clients : List ℕ) (pick : Pick) → (IsTraitor shape (Replica p) → ⊥)
+      → clients ≡ clients_begun shape (Replica p) q x → (IsPick (choice_of clients) → pick ≡ choice_of clients)
+      → ((IsPick (choice_of clients) → ⊥) → pick ≡ Plain)
+      → IsEventOf shape logs (Replica p, PostEntry (Replica q) x) (Post (Replica p) (Replica q) pick)
+  round_event p q x clients pick loyal are made plain = (
+    λ traitor. absurd (loyal traitor),
+    λ same. record {
+      pick = pick;
+      is = refl;
+      read = subst (λ l. IsPick (choice_of l) → pick ≡ choice_of l) are made;
+      plain = subst (λ l. (IsPick (choice_of l) → ⊥) → pick ≡ Plain) are plain;
+    },
+  )
 
   -- ---- what is posted instead
 
   pub other_told : (from to : Actor) (wanted found : Envelope) (event : Event) (fault : LineFault) → IsOther wanted found fault
-      → MayBeDone shape logs event → step_of shape logs event ≡ Some (from, PostEntry to wanted)
-      → IsEventOf shape logs (from, PostEntry to found) event → HoldsFault shape logs (from, PostEntry to found) fault
-  other_told from to wanted found event (Refused e cause) is may step_is event_is = elim is [ ]
-  other_told from to wanted found event OtherHeld is may step_is event_is = elim is [ ]
-  other_told from to wanted found event (OtherPosted ours theirs how) is may step_is event_is = record {
-    event = event;
-    is = event_is;
-    differs = (may.0, step_is ∙ ap (λ y. Some (from, PostEntry to y)) (sym is.0), is.1, is.2, is.3);
-  }
-  other_told from to wanted found event (SignedOutside s) is may step_is event_is = elim is [ ]
+      → ((c : ℕ) → BeginsTwice shape (from, PostEntry to found) c → ⊥) → MayBeDone shape logs event
+      → step_of shape logs event ≡ Some (from, PostEntry to wanted) → IsEventOf shape logs (from, PostEntry to found) event
+      → HoldsFault shape logs (from, PostEntry to found) fault
+  other_told from to wanted found event (Refused e cause) is apart may step_is event_is = elim is [ ]
+  other_told from to wanted found event OtherHeld is apart may step_is event_is = elim is [ ]
+  other_told from to wanted found event (OtherPosted ours theirs how) is apart may step_is event_is = (
+    record {
+      event = event;
+      is = event_is;
+      differs = (may.0, step_is ∙ ap (λ y. Some (from, PostEntry to y)) (sym is.0), is.1, is.2, is.3);
+    },
+    apart,
+  )
+  other_told from to wanted found event (SignedOutside s) is apart may step_is event_is = elim is [ ]
+  other_told from to wanted found event (ClientTwice c) is apart may step_is event_is = elim is [ ]
 
   pub same_step : (from to : Actor) (wanted found : Envelope) (event : Event) → wanted ≡ found → MayBeDone shape logs event
       → step_of shape logs event ≡ Some (from, PostEntry to wanted)

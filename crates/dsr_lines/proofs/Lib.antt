@@ -1,3 +1,4 @@
+mod BegunLemmas
 pub mod FaultLemmas
 mod JudgedLemmas
 mod NextLemmas

@@ -14,7 +14,6 @@ use Rattle.dsr_chain.specs.declared.signed_request.SignedRequest.{SignedRequest}
 use Rattle.dsr_request.specs.declared.op.Op.{Op}
 use Rattle.dsr_envelope.specs.declared.envelope.Envelope.{Envelope}
 use Rattle.dsr_envelope.specs.declared.envelope.Envelope.TheVariants.{Ask}
-use Rattle.dsr_envelope.specs.declared.entry.Entry.{Entry}
 use Rattle.dsr_envelope.specs.declared.entry.Entry.TheVariants.{Post as PostEntry, Take as TakeEntry}
 use Rattle.dsr_envelope.specs.declared.pick.Pick.{Pick}
 use Rattle.dsr_envelope.specs.declared.pick.Pick.TheVariants.{Plain, From, Begin}
@@ -24,16 +23,15 @@ use Rattle.dsr_envelope.specs.Pick.{IsPick}
 use Rattle.dsr_client.specs.Conduct.{ask_of, next_number, chosen_beside, ask_to}
 use Rattle.dsr_client.specs.State.{outstanding}
 use Rattle.dsr_client.proofs.Lemmas.{chosen_ask, choice_told}
-use Rattle.dsr_replica.specs.Conduct.{envelope_to}
-use Rattle.dsr_replica.proofs.Lemmas.{choice_shown}
 use Rattle.dsr_node.specs.Conduct.{post_of, is_exhausted, is_undue, is_actor, is_traitor_of, are_clients, is_own_client, are_two_clients, takes_from}
 use Rattle.dsr_play.specs.declared.event.Event.{Event}
 use Rattle.dsr_play.specs.declared.event.Event.TheVariants.{Post, Plant, Take, Tell}
 use Rattle.dsr_run.specs.Run.{IsNextStep, IsTraitor}
 use Rattle.dsr_run.specs.Step.{Step, Logs}
 use Rattle.dsr_world.specs.Event.{is_full, is_used_up, refusal_of, first_of, step_of, IsForged}
-use Rattle.dsr_facts.specs.Fault.{IsRead}
+use Rattle.dsr_lines.specs.Begun.{begun_choice}
 use Rattle.dsr_lines.specs.Line.{begun_by, IsReplicaPost, IsEventOf}
+use Rattle.dsr_lines.proofs.BegunLemmas.{read_gives}
 
 -- nothing refuses the event, and its step is this one
 pub record PassesAs (shape : Shape) (logs : Logs) (event : Event) (step : Step) : Type 0 where
@@ -120,13 +118,6 @@ begun_below None c number op x e fits =
 
 -- ---- choices
 
--- if some choice gives the envelope, then so does the one that is read off it
-pub read_gives : (shape : Shape) (me : Actor) (log : List Entry) (q : ℕ) (x : Envelope) (ours : Pick) → IsRead shape me q x ours
-    → (pick : Pick) → IsPick pick → envelope_to shape me log q pick ≡ Some x → envelope_to shape me log q ours ≡ Some x
-read_gives shape me log q x ours read pick good e =
-    let is = choice_shown shape me log q pick x good e in
-    subst (λ p. envelope_to shape me log q p ≡ Some x) (is ∙ sym (read (subst IsPick is good))) e
-
 -- ---- steps
 
 module _ (shape : Shape) (logs : Logs) where
@@ -157,7 +148,8 @@ module _ (shape : Shape) (logs : Logs) where
   }
 
   -- a loyal replica's post to a replica
-  shown_passes : (p q : ℕ) (x : Envelope) (pick : Pick) → (IsTraitor shape (Replica p) → ⊥) → IsRead shape (Replica p) q x pick
+  shown_passes : (p q : ℕ) (x : Envelope) (pick : Pick) → (IsTraitor shape (Replica p) → ⊥)
+      → (IsPick (begun_choice shape (Replica p) q x) → pick ≡ begun_choice shape (Replica p) q x)
       → IsNextStep shape logs (Replica p, PostEntry (Replica q) x)
       → PassesAs shape logs (Post (Replica p) (Replica q) pick) (Replica p, PostEntry (Replica q) x)
   shown_passes p q x pick loyal read next =

@@ -1,5 +1,5 @@
 -- What a post that nothing refuses has.
-use Rattle.std.proofs.Common.{◌≡◌, true, false, Option, None, Some, ap, sym, ◌∙◌}
+use Rattle.std.proofs.Common.{◌≡◌, false, Option, None, Some, ap, sym, ◌∙◌}
 use Rattle.std.specs.Prelude.{IfNone}
 use Rattle.std.specs.Option.{is_none}
 use Rattle.std.proofs.lemmas.Bool.{true≢false}

@@ -1,3 +1,4 @@
+pub mod Begun
 pub mod Line
 pub mod Record
 pub mod Support

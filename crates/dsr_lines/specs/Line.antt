@@ -14,7 +14,6 @@ use Rattle.dsr_envelope.specs.declared.pick.Pick.{Pick}
 use Rattle.dsr_envelope.specs.declared.pick.Pick.TheVariants.{Plain}
 use Rattle.dsr_client.specs.Conduct.{told_choice}
 use Rattle.dsr_client.specs.State.{outstanding}
-use Rattle.dsr_replica.specs.Shown.{shown_choice}
 use Rattle.dsr_script.specs.declared.forged.Forged.{Forged}
 use Rattle.dsr_play.specs.declared.event.Event.{Event}
 use Rattle.dsr_play.specs.declared.event.Event.TheVariants.{Post, Plant, Take, Tell}
@@ -23,11 +22,11 @@ use Rattle.dsr_run.specs.Step.{Step, Logs}
 use Rattle.dsr_world.specs.Event.{refusal_of, step_of}
 use Rattle.dsr_facts.specs.Cause.{HoldsCause}
 use Rattle.dsr_facts.specs.Difference.{IsDifference}
-use Rattle.dsr_facts.specs.Fault.{IsRead}
 use Rattle.dsr_facts.specs.TakeFault.{HoldsOther}
 use Rattle.dsr_facts.specs.declared.difference.Difference.{Difference}
+use Rattle.dsr_lines.specs.Begun.{begun_choice, BeginsTwice}
 use Rattle.dsr_lines.specs.declared.line_fault.LineFault.{LineFault}
-use Rattle.dsr_lines.specs.declared.line_fault.LineFault.TheVariants.{Refused, OtherHeld, OtherPosted, SignedOutside}
+use Rattle.dsr_lines.specs.declared.line_fault.LineFault.TheVariants.{Refused, OtherHeld, OtherPosted, SignedOutside, ClientTwice}
 
 -- ---- the event that a step would be
 
@@ -40,13 +39,13 @@ begun_by (Ask ask) current = told_choice current ask
 begun_by (Reply reply) current = Plain
 begun_by (Seen front) current = Plain
 
--- a loyal replica's post of this envelope to a replica: by the choice that the envelope shows; by the plain choice if it shows none that can
--- be made
+-- a loyal replica's post of this envelope to a replica: by the choice by which it begins a slot of its own; by the plain choice if that one
+-- cannot be made
 pub record IsShownPost (shape : Shape) (p q : ℕ) (found : Envelope) (event : Event) : Type 0 where
   pub pick : Pick
   pub is : event ≡ Post (Replica p) (Replica q) pick
-  pub read : IsRead shape (Replica p) q found pick
-  pub plain : (IsPick (shown_choice shape (Replica p) q found) → ⊥) → pick ≡ Plain
+  pub read : IsPick (begun_choice shape (Replica p) q found) → pick ≡ begun_choice shape (Replica p) q found
+  pub plain : (IsPick (begun_choice shape (Replica p) q found) → ⊥) → pick ≡ Plain
 
 -- a client's post of this envelope to a replica: by the choice that the envelope shows, if the client is one of the shape
 pub record IsAsking (shape : Shape) (logs : Logs) (c q : ℕ) (found : Envelope) (event : Event) : Type 0 where
@@ -85,7 +84,7 @@ IsOtherPosted shape logs event (from, PostEntry to found) wanted posted how =
     (refusal_of shape logs event ≡ None) × (step_of shape logs event ≡ Some (from, PostEntry to wanted)) × (posted ≡ found) × (wanted ≢ posted)
     × IsDifference wanted posted how
 
--- the step would be an event that nothing refuses, by which the actor takes or posts another envelope
+-- the step would be an event of which this holds: nothing refuses it, and by it the actor takes or posts another envelope
 pub record IsOtherStep (Other : Event → Type 0) (shape : Shape) (logs : Logs) (step : Step) : Type 0 where
   pub event : Event
   pub is : IsEventOf shape logs step event
@@ -97,13 +96,16 @@ IsSignedOutside shape (at, TakeEntry from found) s = ⊥
 IsSignedOutside shape (from, PostEntry to found) s =
     (IsTraitor shape from → ⊥) × Carries found (signed s.signer s.statement) × (IsActor shape s.signer → ⊥)
 
--- why the step may not follow: the event that it would be is refused, or is another step; or nobody could have signed what it posts
+-- why the step may not follow: the event that it would be is refused, or is another step; or nobody could have signed what it posts; or it
+-- begins a slot with two requests of one client, which no choice does
 abbrev pub HoldsFault : Shape → Logs → Step → LineFault → Type 0
 HoldsFault shape logs step (Refused event cause) = IsEventOf shape logs step event × HoldsCause shape logs event cause
 HoldsFault shape logs step OtherHeld = IsOtherStep (λ event. IsOtherHeld shape logs event step) shape logs step
 HoldsFault shape logs step (OtherPosted wanted posted how) =
-    IsOtherStep (λ event. IsOtherPosted shape logs event step wanted posted how) shape logs step
+    IsOtherStep (λ event. IsOtherPosted shape logs event step wanted posted how) shape logs step × ((c : ℕ) → BeginsTwice shape step c → ⊥)
 HoldsFault shape logs step (SignedOutside s) = IsSignedOutside shape step s
+HoldsFault shape logs step (ClientTwice c) =
+    IsOtherStep (λ event. refusal_of shape logs event ≡ None) shape logs step × BeginsTwice shape step c
 
 -- the cause that a fault tells holds of its event
 abbrev pub HoldsItsCause : Shape → Logs → LineFault → Type 0
@@ -111,3 +113,4 @@ HoldsItsCause shape logs (Refused event cause) = HoldsCause shape logs event cau
 HoldsItsCause shape logs OtherHeld = Unit {0}
 HoldsItsCause shape logs (OtherPosted wanted posted how) = Unit {0}
 HoldsItsCause shape logs (SignedOutside s) = Unit {0}
+HoldsItsCause shape logs (ClientTwice c) = Unit {0}

@@ -1,23 +1,27 @@
 //! What a recorded step is: an event that nothing refuses, or a fault.
 
-ghost use Rattle.std.specs.Prelude.{◌≡◌, ◌↔◌, Some, IfOk, IfSome, IfNone, IsTrue, IsOkUnless};
+ghost use Rattle.std.specs.Prelude.{◌≡◌, ◌↔◌, ℕ, Some, IfOk, IfSome, IfNone, IsTrue, IsOkUnless};
 ghost use Rattle.dsr_names.specs.Shape.{Shape as AShape};
 ghost use Rattle.dsr_names.specs.declared.actor.Actor.{Actor as AnActor};
-ghost use Rattle.dsr_names.specs.declared.actor.Actor.TheVariants.{Client as ClientNumber};
+ghost use Rattle.dsr_names.specs.declared.actor.Actor.TheVariants.{Client as ClientNumber, Replica as ReplicaNumber};
 ghost use Rattle.dsr_envelope.specs.declared.entry.Entry.TheVariants.{Post as PostEntry, Take as TakeEntry};
+ghost use Rattle.dsr_envelope.specs.declared.envelope.Envelope.{Envelope as AnEnvelope};
+ghost use Rattle.dsr_envelope.specs.declared.pick.Pick.TheVariants.{Plain};
 ghost use Rattle.dsr_play.specs.declared.event.Event.TheVariants.{Post};
 ghost use Rattle.dsr_run.specs.Run.{IsTraitor};
 ghost use Rattle.dsr_run.specs.Step.{Logs, log_of};
 ghost use Rattle.dsr_world.specs.Event.{step_of, MayBeDone};
+ghost use Rattle.dsr_lines.specs.Begun.{BeginsTwice};
 ghost use Rattle.dsr_lines.specs.Line.{IsEventOf};
 ghost use Rattle.dsr_lines.specs.Support.Judged.{IsJudged, IsOther};
 
+use crate::begun::{choice_of, client_twice, clients_begun};
 use crate::line_fault::LineFault;
 use crate::notary::{Made, Notary};
 use crate::wanted::{shown_pick, wanted_post};
 use dsr_envelope::{Envelope, Pick};
-use dsr_facts::{Fault, how_differs, pick_of, shown_clients, take_fault, why_refused};
-use dsr_names::{Actor, ClientId, Refusal, Shape};
+use dsr_facts::{Fault, how_differs, take_fault, why_refused};
+use dsr_names::{Actor, ClientId, Refusal, ReplicaId, Shape};
 use dsr_play::Choice;
 use dsr_record::{NotedEntry, NotedStep};
 use dsr_script::Draft;
@@ -133,9 +137,8 @@ fn judge_loyal(
     ensures refusal { IsOkUnless result Refusal.NoMemory }
 {
     match (from, to) {
-        (Actor::Replica(_), Actor::Replica(taker)) => {
-            let clients = shown_clients(alloc, world.shape(), from, *taker, &found)?;
-            judge_pick(alloc, world, from, to, &pick_of(&clients), found)
+        (Actor::Replica(poster), Actor::Replica(taker)) => {
+            judge_round(alloc, world, *poster, *taker, found)
         }
         (Actor::Replica(_), Actor::Client(_)) => {
             judge_pick(alloc, world, from, to, &Pick::Plain, found)
@@ -150,6 +153,55 @@ fn judge_loyal(
     }
 }
 
+/// Finds out whether a loyal replica may post this envelope to a replica next. `NoMemory` if memory runs out.
+fn judge_round(
+    alloc: Global,
+    world: &World,
+    from: ReplicaId,
+    to: ReplicaId,
+    found: Envelope,
+) -> Result<Judged, Refusal>
+    requires { IsTraitor world.now.shape (ReplicaNumber from) → ⊥ }
+    ensures judged { IfOk result (IsJudged world.now.shape (log_of world.now.run) (ReplicaNumber from, PostEntry (ReplicaNumber to) found)) }
+    ensures refusal { IsOkUnless result Refusal.NoMemory }
+{
+    let (from, taker) = (Actor::Replica(from), Actor::Replica(to));
+    let clients = clients_begun(alloc, world.shape(), &from, to, &found)?;
+    match client_twice(clients.as_slice()) {
+        Some(client) => judge_twice(alloc, world, from, taker, client),
+        None => {
+            let pick = choice_of(clients.as_slice());
+            judge_pick(alloc, world, &from, &taker, &pick, found)
+        }
+    }
+}
+
+/// Returns why a replica may not begin a slot of its own with two requests of this client: its post is refused, or no replica does so. `NoMemory` if
+/// memory runs out.
+fn judge_twice(
+    alloc: Global,
+    world: &World,
+    from: Actor,
+    to: Actor,
+    client: ClientId,
+) -> Result<Judged, Refusal>
+    ensures judged { (found : AnEnvelope) → IsEventOf world.now.shape (log_of world.now.run) (from, PostEntry to found) (Post from to Plain)
+        → BeginsTwice world.now.shape (from, PostEntry to found) client
+        → IfOk result (IsJudged world.now.shape (log_of world.now.run) (from, PostEntry to found)) }
+    ensures refusal { IsOkUnless result Refusal.NoMemory }
+{
+    let event = Event::Post {
+        from,
+        to,
+        pick: Choice::of(alloc, Pick::Plain)?,
+    };
+    let fault = match why_refused(world, &event) {
+        Some(cause) => LineFault::Refused { event, cause },
+        None => LineFault::ClientTwice(client),
+    };
+    Ok(Judged::Not(fault))
+}
+
 /// Finds out whether a loyal actor may post this envelope by this choice next. `NoMemory` if memory runs out.
 fn judge_pick(
     alloc: Global,
@@ -160,6 +212,7 @@ fn judge_pick(
     found: Envelope,
 ) -> Result<Judged, Refusal>
     ensures judged { IsEventOf world.now.shape (log_of world.now.run) (from.now, PostEntry to.now found) (Post from.now to.now pick.now)
+        → ((c : ℕ) → BeginsTwice world.now.shape (from.now, PostEntry to.now found) c → ⊥)
         → IfOk result (IsJudged world.now.shape (log_of world.now.run) (from.now, PostEntry to.now found)) }
     ensures refusal { IsOkUnless result Refusal.NoMemory }
 {
@@ -197,7 +250,7 @@ fn judge_tell(world: &World, from: ClientId, to: ClientId, found: Envelope) -> J
 fn judged_by(event: Event, wanted: Envelope, found: Envelope) -> Judged
     ensures { (shape : AShape) (logs : Logs) (from to : AnActor) → MayBeDone shape logs event
         → step_of shape logs event ≡ Some (from, PostEntry to wanted) → IsEventOf shape logs (from, PostEntry to found) event
-        → IsJudged shape logs (from, PostEntry to found) result }
+        → ((c : ℕ) → BeginsTwice shape (from, PostEntry to found) c → ⊥) → IsJudged shape logs (from, PostEntry to found) result }
 {
     match other_posted(wanted, found) {
         Some(fault) => Judged::Not(fault),

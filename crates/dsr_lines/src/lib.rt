@@ -2,6 +2,7 @@
 //! that goes on with the steps before it.
 #![tactic(auto)]
 
+mod begun;
 mod following;
 mod judged;
 mod line_fault;

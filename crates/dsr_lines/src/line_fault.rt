@@ -7,6 +7,7 @@ ghost use Rattle.dsr_lines.specs.declared.line_fault.LineFault.{LineFault as ALi
 
 use dsr_envelope::Envelope;
 use dsr_facts::{Cause, Difference};
+use dsr_names::ClientId;
 use dsr_script::Forged;
 use dsr_world::Event;
 
@@ -28,6 +29,8 @@ pub enum LineFault {
     },
     /// The envelope that the step posts carries this signature, whose signer is not an actor of the shape.
     SignedOutside(Forged),
+    /// The replica begins a slot of its own with two requests of this client, which no replica does.
+    ClientTwice(ClientId),
 }
 
 /// If a fault holds of a step after a run, the step may not follow.

@@ -5,6 +5,7 @@ use Rattle.std.specs.Fmt.{decimal}
 use Rattle.dsr_names.specs.Actor.{actor_text}
 use Rattle.dsr_names.specs.Shape.{Shape}
 use Rattle.dsr_names.specs.declared.actor.Actor.{Actor}
+use Rattle.dsr_names.specs.declared.actor.Actor.TheVariants.{Client}
 use Rattle.dsr_desk.specs.SignersText.{signers_text}
 use Rattle.dsr_desk.specs.StatementText.{statement_text}
 use Rattle.dsr_desk.specs.declared.statement.Statement.{Statement}
@@ -20,7 +21,7 @@ use Rattle.dsr_facts.specs.declared.difference.Parting.{Parting}
 use Rattle.dsr_facts.specs.declared.difference.Parting.TheVariants.{TooMany, Missing, Misplaced, OtherContent}
 use Rattle.dsr_reasons.specs.Reason.{one_of, TellsCause}
 use Rattle.dsr_lines.specs.declared.line_fault.LineFault.{LineFault}
-use Rattle.dsr_lines.specs.declared.line_fault.LineFault.TheVariants.{Refused, OtherHeld, OtherPosted, SignedOutside}
+use Rattle.dsr_lines.specs.declared.line_fault.LineFault.TheVariants.{Refused, OtherHeld, OtherPosted, SignedOutside, ClientTwice}
 use Rattle.dsr_transcripts.specs.Standing.{current_number}
 
 -- ---- how an envelope differs from the one that the actor posts there
@@ -152,10 +153,16 @@ outside_text is_data signer statement =
     one_of is_data (codes "signed-outside ") (codes "it carries a signature of ") ++ (actor_text signer
     ++ (one_of is_data (codes " ") (codes ", who is no actor of this shape, on ") ++ statement_text statement))
 
+-- that the replica begins a slot of its own with more than one request of this client
+abbrev pub twice_text : Bool → ℕ → List ℕ
+twice_text is_data c = one_of is_data (codes "client-twice ") (codes "it begins its slot with more than one request of ") ++ actor_text (Client c)
+
 -- the text says why a step of this actor may not follow: a cause that holds of the event that it would be, in the words of `dsr_reasons`; that the box
--- holds another envelope; how the envelope differs from the one that the actor posts there; or which signature nobody of the shape can make
+-- holds another envelope; how the envelope differs from the one that the actor posts there; which signature nobody of the shape can make; or of which
+-- client the replica begins its slot with more than one request
 abbrev pub IsWhy : Bool → Shape → Logs → Actor → LineFault → List ℕ → Type 0
 IsWhy is_data shape logs actor (Refused event cause) text = TellsCause shape logs event is_data [] text
 IsWhy is_data shape logs actor OtherHeld text = text ≡ why_line is_data (other_held_text is_data)
 IsWhy is_data shape logs actor (OtherPosted wanted posted how) text = TellsDifference is_data (current_number shape logs actor) wanted posted how text
 IsWhy is_data shape logs actor (SignedOutside s) text = text ≡ why_line is_data (outside_text is_data s.signer s.statement)
+IsWhy is_data shape logs actor (ClientTwice c) text = text ≡ why_line is_data (twice_text is_data c)

@@ -6,7 +6,7 @@ ghost use Rattle.dsr_reasons.specs.Reason.{TellsCause, one_of};
 ghost use Rattle.dsr_facts.specs.Cause.{HoldsCause};
 ghost use Rattle.dsr_facts.specs.Difference.{IsDifference};
 ghost use Rattle.dsr_lines.specs.Line.{HoldsFault};
-ghost use Rattle.dsr_transcripts.specs.Why.{IsWhy, TellsDifference, difference_text, other_held_text, outside_text, why_line};
+ghost use Rattle.dsr_transcripts.specs.Why.{IsWhy, TellsDifference, difference_text, other_held_text, outside_text, twice_text, why_line};
 
 use crate::differing::write_difference;
 use crate::standing::current_of;
@@ -14,7 +14,7 @@ use crate::words::{put_actor, shown_of};
 use dsr_envelope::Envelope;
 use dsr_facts::{Cause, Difference};
 use dsr_lines::LineFault;
-use dsr_names::Refusal;
+use dsr_names::{Actor, ClientId, Refusal};
 use dsr_reasons::{put, write_why};
 use dsr_record::NotedStep;
 use dsr_script::Forged;
@@ -46,6 +46,7 @@ pub(crate) fn why_of(
             why_posted(alloc, as_data, current, wanted, posted, how)
         }
         LineFault::SignedOutside(forged) => why_signed(alloc, as_data, forged),
+        LineFault::ClientTwice(client) => why_twice(alloc, as_data, *client),
     }
 }
 
@@ -158,5 +159,23 @@ fn why_signed(alloc: Global, as_data: bool, forged: &Forged) -> Result<String, R
         ", who is no actor of this shape, on ",
     )?;
     writeln!(out, "{statement}")?;
+    Ok(out)
+}
+
+/// Returns of which client a replica begins its slot with more than one request.
+fn why_twice(alloc: Global, as_data: bool, client: ClientId) -> Result<String, Refusal>
+    ensures says { IfOk result (λ why. string_bytes why ≡ why_line as_data (twice_text as_data client)) }
+    ensures refusal { IsOkUnless result Refusal.NoMemory }
+{
+    let mut out = String::new(alloc);
+    put(&mut out, as_data, "why ", "    because ")?;
+    put_actor(
+        &mut out,
+        as_data,
+        "client-twice ",
+        "it begins its slot with more than one request of ",
+        Actor::Client(client),
+    )?;
+    out.push_str("\n")?;
     Ok(out)
 }

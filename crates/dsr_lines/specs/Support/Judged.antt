@@ -11,7 +11,7 @@ use Rattle.dsr_lines.specs.Line.{HoldsFault}
 use Rattle.dsr_lines.specs.declared.judged.Judged.{Judged}
 use Rattle.dsr_lines.specs.declared.judged.Judged.TheVariants.{May, Not}
 use Rattle.dsr_lines.specs.declared.line_fault.LineFault.{LineFault}
-use Rattle.dsr_lines.specs.declared.line_fault.LineFault.TheVariants.{Refused, OtherHeld, OtherPosted, SignedOutside}
+use Rattle.dsr_lines.specs.declared.line_fault.LineFault.TheVariants.{Refused, OtherHeld, OtherPosted, SignedOutside, ClientTwice}
 use Rattle.dsr_lines.specs.declared.notary.Made.{Made}
 use Rattle.dsr_lines.specs.declared.notary.Made.TheVariants.{Whole, Outside}
 
@@ -27,6 +27,7 @@ IsOther wanted found (Refused event cause) = ⊥
 IsOther wanted found OtherHeld = ⊥
 IsOther wanted found (OtherPosted ours theirs how) = (ours ≡ wanted) × (theirs ≡ found) × (ours ≢ theirs) × IsDifference ours theirs how
 IsOther wanted found (SignedOutside s) = ⊥
+IsOther wanted found (ClientTwice c) = ⊥
 
 -- the step is that of this event, which nothing refuses; or this is why the step may not follow
 abbrev pub IsJudged : Shape → Logs → Step → Judged → Type 0

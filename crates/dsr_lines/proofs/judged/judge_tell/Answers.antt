@@ -13,4 +13,4 @@ returns c =
     let from = c.args.from in
     let to = c.args.to in
     let may = where_none c.why_refused.result (MayBeDone w.shape (log_of w.run) (Tell (Client from) (Client to))) c.in_default.is c.why_refused.ensures.none in
-    c.judged_by.ensures w.shape (log_of w.run) (Client from) (Client to) may (tell_step w.shape (log_of w.run) from to c.in-Ok.front c.in-Ok.ensures.same) refl
+    c.judged_by.ensures w.shape (log_of w.run) (Client from) (Client to) may (tell_step w.shape (log_of w.run) from to c.in-Ok.front c.in-Ok.ensures.same) refl (λ client twice. twice)
