@@ -31,8 +31,9 @@ import tempfile
 
 from kit import inputs
 from kit.archives import archive_of, linked_with
-from kit.program import TOP, bytes_of, program, run, shown, text_of
+from kit.program import PYTHON, TOP, bytes_of, program, run, shown, text_of
 from kit.report import in_threads, main, say
+from kit.written import tables
 
 sys.path.insert(0, f"{TOP}/tools")
 
@@ -50,7 +51,7 @@ ELSEWHERE = re.compile(r"""\b(?:src|href)\s*=\s*["']?(?!["']?#)(?!["']?\$\{shown
 
 def fault_of_sums():
     """How the page is not that of these sources, or None."""
-    found = subprocess.run([sys.executable, "-B", f"{TOP}/tools/page", "sums"], stdin=subprocess.DEVNULL, stdout=subprocess.PIPE, text=True)
+    found = subprocess.run([*PYTHON, f"{TOP}/tools/page", "sums"], stdin=subprocess.DEVNULL, stdout=subprocess.PIPE, text=True)
     return None if found.returncode == 0 else f"{found.stdout.strip()}; tools/page makes it anew"
 
 
@@ -264,6 +265,9 @@ def pictures(report, _):
     for name, event, said in SAYINGS:
         data = wanted("explain --data", bytes_of(f"examples/attacks/{name}.play"))[1]
         lines.append({"name": f"what is said of event {event} of {name}", "data": in_base64(data), "event": event, "said": said})
+    for steps, _, told, reason in tables("stops")["stops"]:
+        data, said = header + b"event 0 2 post r0 r1 E14 -\n" + told.split("\n")[0].encode() + b"\n", ["r0 posts to r1", f"Refused, E14 NotARun: {reason}."]
+        lines.append({"name": f"what is said of the step after {steps[-80:]!r}", "data": in_base64(data), "event": 0, "said": said})
     data = wanted("explain --data", long_play())[1]
     report.compare("events of a long play", data.count(b"\nevent "), STRETCHES[-1] + 1)
     lines += [{"name": f"the stretch around event {at} of a long play", "data": in_base64(data), "at": at} for at in STRETCHES]

@@ -20,7 +20,8 @@ names, and end with its status and what it tells. If the model of plays refuses 
 pictures: of each attack what its explanation says was decided, acted and accepted is what the .out beside it says; the .svg beside it is what tools/picture
 makes of the explanation, is well formed, asks for nothing from elsewhere, and has less than 60,000 bytes. The page that tools/picture makes has all of its
 events, and asks for nothing from elsewhere. Both are made of random plays too, and of a long one of 16 replicas. Of texts that are no explanation
-tools/picture says which line is none, writes nothing, and ends with status 1.
+tools/picture says which line is none, writes nothing, and ends with status 1. What tools/steps tells of each transcript of examples/ is what the play beside it
+does, or its steps, and last why one may not follow, and it can be drawn.
 
 samples: each `$ COMMAND` with the lines it prints, in README.md, examples/record/README.md and the helps, in which `dsr` is `./dsr`, prints just that. Of
 docs/FORMATS.md the requests with their answers, two or more spaces after them; each text of code in the table of bad lines, if the row says no more about it;
@@ -41,7 +42,7 @@ import xml.etree.ElementTree
 
 from kit import inputs, wrong_texts
 from kit.inputs import lines_text
-from kit.program import TOP, bytes_of, command_of, least_time, name_of, program, run, shown, text_of, write_bytes
+from kit.program import PYTHON, TOP, bytes_of, command_of, least_time, name_of, program, run, shown, text_of, write_bytes
 from kit.report import in_processes, main
 from kit.written import tables
 from models import explain_model, first_faults, histories, slow_check, slow_play
@@ -365,7 +366,6 @@ def in_words(line):
     return WORDS[f"due {whose}" if whose == "c" and parts[1] != "-" else f"due {whose} {parts[1]}"].format(*parts)
 
 
-def modelled_reason(transcript):
 def client_twice(world, line):
     """The first client that comes twice in the requests with which this post of a loyal replica begins a slot of its own; None for none."""
     actor, word, other, envelope = line.split(" ", 3)
@@ -375,6 +375,7 @@ def client_twice(world, line):
     return next((client for place, client in enumerate(clients) if client in clients[place + 1:]), None)
 
 
+def modelled_reason(transcript):
     """The reason by the model of plays, if it refuses the event that is the first line which may not follow, or if the line begins a slot with a client twice;
     else None. The model reads a replica that is not the sender and proposes something as one that proposes nothing, and knows nobody who is not of the shape."""
     header, *lines = transcript.decode("latin-1").split("\n")[:-1]
@@ -466,7 +467,7 @@ def explanation_of(play):
 
 def picture(data, *words):
     """The run of tools/picture with these words on these data lines."""
-    return run([sys.executable, f"{TOP}/tools/picture", *words], data)
+    return run([*PYTHON, f"{TOP}/tools/picture", *words], data)
 
 
 def svg_of(data, title):
@@ -573,6 +574,37 @@ def fault_of_long_play():
     return fault or (None if b"The run goes on" in svg else "the SVG does not say that the run goes on")
 
 
+def without_lines(data):
+    """These data lines, as lists of words, without the lines in which events stand."""
+    return [[*words[:2], *words[3:]] if words[0] == "event" else words for words in (line.split(" ") for line in data.decode().splitlines())]
+
+
+def fault_of_steps(path):
+    """What tools/steps tells otherwise of a transcript than it should, or None. If it is that of a play beside it, of which no event is refused, it tells what the
+    play does. Otherwise it tells the steps of the run as events that are done, and last the step that may not follow, if there is one, and why."""
+    transcript, (stem, _) = bytes_of(path), os.path.splitext(path)
+    status, data, errors = run([*PYTHON, f"{TOP}/tools/steps"], transcript)
+    if status or errors:
+        return shown((status, data, errors))
+    play = without_lines(explanation_of(bytes_of(f"{stem}.play"))) if os.path.exists(f"{stem}.play") else []
+    if play and all(words[0] != "event" or words[5] == "done" for words in play):
+        return fault_of_same(without_lines(data), play)
+    header, *steps = transcript.decode().splitlines()
+    told, *why = program("explain --data", transcript)[1].decode().splitlines()[1:3]
+    stop = int(told.split(" ")[1]) if told.startswith("stop ") else None
+    lines = [line for line in data.decode().splitlines() if not line.startswith("waits ")]
+    if stop:
+        actor, word, other, envelope = steps[stop - 2].split(" ", 3)
+        is_planted, is_told = word == "post" and actor in header.split(" ")[-1].split("+"), word == "post" and actor[0] == other[0] == "c"
+        kind = "plant" if is_planted else "tell" if is_told else word
+        wanted = [f"event {stop - 2} {stop} {kind} {actor} {other} E14 {envelope}", *why]
+        if lines[-2:] != wanted:
+            return f"it ends with {lines[-2:]}, and not with {wanted}"
+    events = [line.split(" ", 7) for line in lines[:-2 if stop else None] if line.startswith("event ")]
+    found = [f"{words[4]} {'take' if words[3] == 'take' else 'post'} {words[5]} {words[7]}" for words in events]
+    return fault_of_same(found, steps[:stop - 2] if stop else steps) or fault_of_svg(svg_of(data, "steps"))
+
+
 HEADER = b"dsr-explain 1 3 1 1 r0\n"
 NO_EXPLANATIONS = [
     ("an empty text", b""),
@@ -605,6 +637,10 @@ def pictures(report, is_written):
     report.judge(f"{PICTURED_PLAYS} random plays", fault_of_random_plays())
     report.judge("a long play", fault_of_long_play())
     report.judge_all((name, fault_of_none(text)) for name, text in NO_EXPLANATIONS)
+    for path in inputs.found("**/*.check", "**/*.transcript"):
+        errors = program("check", bytes_of(path))[2]
+        if not errors or b"not a run" in errors:
+            report.judge(f"the steps of {inputs.name_in_examples(path)}", fault_of_steps(path))
 
 
 # ---- samples
@@ -702,7 +738,7 @@ WORDS_OF_KINDS = {"check": "check", "play": "play", "transcript": "play --transc
 
 def texts(report, _):
     for kind, words in WORDS_OF_KINDS.items():
-        status, output, errors = run([sys.executable, "-B", f"{TOP}/conformance/run_texts.py", kind, "--", *command_of(words)])
+        status, output, errors = run([*PYTHON, f"{TOP}/conformance/run_texts.py", kind, "--", *command_of(words)])
         counts = (output.decode().splitlines() or [""])[-1]
         report.judge(f"whole texts, dsr {words}", None if status == 0 and not errors else (output[-2000:] + errors).decode(), f", {counts}")
 

@@ -9,7 +9,7 @@ import re
 
 TITLE = "dsr-explain 1 "
 REFUSALS = {"E1": "BadShape", "E4": "Busy", "E5": "NotDue", "E6": "BoxFull", "E7": "BoxEmpty", "E8": "Forged", "E9": "Exhausted", "E12": "NoMemory",
-            "E15": "NoActor", "E16": "WrongRole"}
+            "E14": "NotARun", "E15": "NoActor", "E16": "WrongRole"}
 KEPT, UNKEPT = ("first", "second"), ("not-new", "one-too-many")
 FAULTS = ("wrong-count", "wrong-sender", "no-replica", "signed-twice", "misfit", "bad-request", "other-slot", "not-in-flight")
 # Why an envelope is no vote, in words, by the word of its line; what belongs to it follows the word.

@@ -4,7 +4,8 @@
 const picture = (() => {
   const TITLE = "dsr-explain 1 ";
   const REFUSALS = {
-    E1: "BadShape", E4: "Busy", E5: "NotDue", E6: "BoxFull", E7: "BoxEmpty", E8: "Forged", E9: "Exhausted", E12: "NoMemory", E15: "NoActor", E16: "WrongRole",
+    E1: "BadShape", E4: "Busy", E5: "NotDue", E6: "BoxFull", E7: "BoxEmpty", E8: "Forged", E9: "Exhausted", E12: "NoMemory", E14: "NotARun", E15: "NoActor",
+    E16: "WrongRole",
   };
   const KEPT = ["first", "second"], UNKEPT = ["not-new", "one-too-many"];
   // What is said of a chain that is not kept for a fault, after `is dropped: `.
@@ -43,6 +44,22 @@ const picture = (() => {
     "box-full": () => "what was posted there before has not been taken",
     "box-empty": () => "no envelope is waiting there",
     forged: (signer, statement) => `the signature of ${signer} on ${statement} is forged: ${signer} is no traitor of this shape, and has not posted it`,
+    // Those that only a recorded step has.
+    "other-held": () => "the box holds another envelope",
+    "other-kind": () => "it posts an envelope of another kind there",
+    "other-round": (ours, theirs) => `it is in round ${ours}, and the envelope is of round ${theirs}`,
+    "chain-too-many": (...chain) => `${chainOfReason(chain)}, is one too many`,
+    "chain-missing": (...chain) => `${chainOfReason(chain)}, is missing`,
+    "chain-misplaced": (...chain) => `${chainOfReason(chain)}, is in the wrong place`,
+    "chain-other-content": (...chain) => `${chainOfReason(chain)}, has another content or signature there`,
+    "number-used": (number, next) => `its request ${number} is answered, and its next one is ${next}`,
+    "number-too-high": (number, next) => `the number ${number} is too high: its next request is ${next}`,
+    "other-outstanding": (number, next) => `its ask ${number} is not for its outstanding request ${next}`,
+    "not-own": () => "the request or its signature is not its own",
+    "other-reply": () => "it gives another reply there",
+    "other-front": () => "its seen front is another",
+    "signed-outside": (signer, statement) => `it carries a signature of ${signer}, who is no actor of this shape, on ${statement}`,
+    "client-twice": client => `it begins its slot with more than one request of ${client}`,
   }));
   const NO_VOTES = new Map(Object.entries({
     "no-reply": () => "it is no reply",
@@ -67,6 +84,8 @@ const picture = (() => {
   const isLower = text => text === text.toLowerCase() && text !== text.toUpperCase();
   // The value of this key, which is made where there is none.
   const at = (map, key, make) => { if (!map.has(key)) map.set(key, make()); return map.get(key); };
+
+  const chainOfReason = ([place, slot, signers]) => `its chain ${place}, of slot ${slot} and signed by ${signers}`;
 
   // The sentence of a reason, by its word and what follows it.
   function sentenceOf(reasons, text) {
