@@ -12,7 +12,8 @@ Then services of which something is refused, each of which must end within 20 se
 1. each thread in turn: the service ends as `no thread`, and its transcript is a run;
 2. each thread in turn, while the gate stops the host that was started before it: the service ends as `no thread` too, whichever of the two has the lower place;
 3. one allocation, the 1st, the 2nd and so on, with wider and wider steps, until a service meets no refusal: the service serves all clients; or it ends as
-   `no memory`, or as `no thread` if the memory was that of a thread, and its transcript is a run, if it has the memory to write one.
+   `no memory`, or as `no thread` if the memory was that of a thread, and its transcript is a run, if it has the memory to write one. Of the example
+   `three-loyal` each of the first 200 is refused, and with `soak` each up to the last; if it serves all clients, its report is the one beside the example.
 
 The first and the last of these are asked of `dsr serve` and of `dsr serve --transcript` too. Their status is 3 if they say `no memory`, and 1 if they say
 anything else; and the report says of each accepted reply that the client's request is at its place of the history.
@@ -36,7 +37,7 @@ import time
 from collections import Counter, namedtuple
 
 from kit.inputs import lines_text
-from kit.program import MOST_BYTES, TOP, command_of, program, run, shown
+from kit.program import MOST_BYTES, TOP, bytes_of, command_of, program, run, shown
 from kit.refusals import numbers, refusing
 from kit.report import main, say
 from models import eager, real_time
@@ -81,8 +82,11 @@ USAGE = b"usage: dsr_own_service COUNT [transcript]\n"
 ACCEPTED = re.compile(r"^accepted (c\d+) (\d+) (\d+) .+$", re.M)
 # The status of `dsr serve`, by what it says.
 STATUSES = {b"": 0, NO_ANSWER: 1, NO_THREAD: 1, NO_MEMORY: 3}
-# A script: its shape, its text, and how many operations each client has there.
-Script = namedtuple("Script", "shape text counts")
+# A script: its shape, its text, how many operations each client has there, and the report if all clients are served, if it is known.
+Script = namedtuple("Script", "shape text counts report", defaults=[None])
+THREE_LOYAL = Script("3 1 1 -", bytes_of("examples/services/three-loyal.serve"), [2], bytes_of("examples/services/three-loyal.out"))
+# Of so many allocations each one is refused.
+EACH_REFUSED = 200
 
 
 def drafts_of(chance, n, m, traitor):
@@ -233,11 +237,13 @@ def fault_without_memory(ran, counts):
     return fault_of_transcript(*ran[:2], counts)
 
 
-def fault_of_starved(ran, is_refused, form, counts):
+def fault_of_starved(ran, is_refused, form, script):
     """What is wrong with how a service ended of which an allocation was refused, or at last none, or None."""
+    if form == "serve" and script.report and ran[0] == 0 and ran[1] != script.report:
+        return f"its report is another than the one that is known: {shown(ran)}"
     if form:
-        return fault_of_program(form, ran, counts) if is_refused or ran[2] in (b"", NO_ANSWER) else shown(ran)
-    return fault_without_memory(ran, counts) if is_refused else fault_of_service(ran, counts)
+        return fault_of_program(form, ran, script.counts) if is_refused or ran[2] in (b"", NO_ANSWER) else shown(ran)
+    return fault_without_memory(ran, script.counts) if is_refused else fault_of_service(ran, script.counts)
 
 
 def fault_of_ends(ends):
@@ -251,12 +257,12 @@ def fault_of_ends(ends):
     return None
 
 
-def starved(shim, script, form):
-    """What is wrong with services of which one allocation after the other is refused, with wider and wider steps, or None; and what they said."""
+def starved(shim, script, form, refused):
+    """What is wrong with services of which one allocation after the other is refused, those of these numbers, or None; and what they said."""
     ends = []
-    for nth in numbers(steps=30 if form else 60):
+    for nth in refused:
         ran, is_refused = refused_service(shim, script, form, nth=nth)
-        fault = fault_of_starved(ran, is_refused, form, script.counts)
+        fault = fault_of_starved(ran, is_refused, form, script)
         if fault:
             return f"with allocation {nth} refused: {fault}", ends
         ends.append(ran[2])
@@ -265,15 +271,22 @@ def starved(shim, script, form):
     return "there is no end of refusals", ends
 
 
-def judge_without_memory(report, chance, shim):
-    """Judges services on some scripts, of which one allocation after the other was refused."""
+def judge_starved(report, what, shim, script, form, refused):
+    """Judges services on this script, of which one allocation after the other was refused."""
+    fault, ends = starved(shim, script, form, refused)
+    told = {said.decode(): ends.count(said) for said in ends}
+    said = f", {len(ends)} services with one allocation refused, by what they said: {told}"
+    report.judge(what, fault and f"{fault}\n{script.text.decode()}", said)
+
+
+def judge_without_memory(report, chance, shim, is_soak):
+    """Judges services on some scripts, and on that of the example, of which one allocation after the other was refused."""
     kinds = [("dsr_own_service", shape, None) for shape in STARVED_SHAPES] + [(f"dsr {form}", shape, form) for form in FORMS for shape in SERVED_SHAPES]
     for what, shape, form in kinds:
-        script = script_of(chance, shape)
-        fault, ends = starved(shim, script, form)
-        told = {said.decode(): ends.count(said) for said in ends}
-        said = f", {len(ends)} services with one allocation refused, by what they said: {told}"
-        report.judge(f"{what} of shape {shape}", fault and f"{fault}\n{script.text.decode()}", said)
+        judge_starved(report, f"{what} of shape {shape}", shim, script_of(chance, shape), form, numbers(steps=30 if form else 60))
+    for form in FORMS:
+        refused = numbers() if is_soak else numbers(first=EACH_REFUSED, steps=30)
+        judge_starved(report, f"dsr {form} of the example three-loyal", shim, THREE_LOYAL, form, refused)
 
 
 def services(report, is_soak):
@@ -281,7 +294,7 @@ def services(report, is_soak):
     judge_services(report, chance, 1000 if is_soak else 200)
     with refusing() as shim:
         judge_without_threads(report, chance, shim)
-        judge_without_memory(report, chance, shim)
+        judge_without_memory(report, chance, shim, is_soak)
 
 
 # ---- answers
