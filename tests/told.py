@@ -377,7 +377,7 @@ def client_twice(world, line):
 
 def modelled_reason(transcript):
     """The reason by the model of plays, if it refuses the event that is the first line which may not follow, or if the line begins a slot with a client twice;
-    else None. The model reads a replica that is not the sender and proposes something as one that proposes nothing, and knows nobody who is not of the shape."""
+    else None. The model knows nobody who is not of the shape."""
     header, *lines = transcript.decode("latin-1").split("\n")[:-1]
     world = slow_play.World(slow_check.header_of(header.encode())[1])
     for line in lines:
@@ -385,8 +385,7 @@ def modelled_reason(transcript):
         try:
             world.step(event)
         except slow_play.Refused as refusal:
-            why = f"why {explain_model.why_refused(world, event, refusal.args[0])}"
-            return None if why.startswith("why other-sender ") else why
+            return f"why {explain_model.why_refused(world, event, refusal.args[0])}"
         if world.lines[-1] != line:
             return f"why client-twice {twice}" if twice else None
     return None

@@ -111,7 +111,8 @@ class Run:
         lines = text.split("\n")
         if not lines[0].startswith(TITLE):
             what = "this is a play" if lines[0].startswith("dsr-play ") else f"the first line is not a header `{TITLE}N F M TRAITORS`"
-            raise BadData(f"{what}: pass what `dsr explain --data` writes of a play, as in `./dsr explain --data < NAME.play | tools/picture > NAME.html`")
+            raise BadData(f"{what}: pass what `dsr explain --data` writes of a play, as in `./dsr explain --data < NAME.play | tools/picture > NAME.html`, or `tools/steps` of a "
+                          "transcript")
         if lines[-1]:
             raise BadData("the last line has no line feed: the data lines are cut short")
         try:
