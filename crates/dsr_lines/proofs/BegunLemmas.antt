@@ -98,6 +98,14 @@ step_of_slot slot chains i chain asks inside is of_slot e =
     ∙ (sym (ap (λ b. if b then signed_in chain.value else slot_asks slot [] (take i chains)) ((Decides-eqb chain.slot slot).1 of_slot))
     ∙ sym (slot_step slot chains i chain inside is))
 
+-- numbers that are not equal do not pass for equal
+pub apart_not : (x y : ℕ) → x ≢ y → (x == y) ≡ false
+apart_not x y apart = by_test (x == y) refl
+  where
+    by_test : (b : Bool) → (x == y) ≡ b → b ≡ false
+    by_test false same = refl
+    by_test true same = absurd (apart ((Decides-eqb x y).0 same))
+
 -- it is not
 pub step_of_other : (slot : ℕ) (chains : List Chain) (i : ℕ) (chain : Chain) (asks : List SignedRequest) → i < length chains
     → chain ≡ slice_index_or chains i chain → chain.slot ≢ slot → asks ≡ slot_asks slot [] (take i chains)
@@ -106,13 +114,6 @@ step_of_other slot chains i chain asks inside is other e =
     e
     ∙ (sym (ap (λ b. if b then signed_in chain.value else slot_asks slot [] (take i chains)) (apart_not chain.slot slot other))
     ∙ sym (slot_step slot chains i chain inside is))
-  where
-    apart_not : (x y : ℕ) → x ≢ y → (x == y) ≡ false
-    apart_not x y apart = by_test (x == y) refl
-      where
-        by_test : (b : Bool) → (x == y) ≡ b → b ≡ false
-        by_test false same = refl
-        by_test true same = absurd (apart ((Decides-eqb x y).0 same))
 
 -- the last chain is of the slot
 slot_last : (slot : ℕ) (asks : List SignedRequest) (chains : List Chain) (chain : Chain) → chain.slot ≡ slot

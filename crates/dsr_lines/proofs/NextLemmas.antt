@@ -31,7 +31,7 @@ use Rattle.dsr_run.specs.Step.{Step, Logs}
 use Rattle.dsr_world.specs.Event.{is_full, is_used_up, refusal_of, first_of, step_of, IsForged}
 use Rattle.dsr_lines.specs.Begun.{begun_choice}
 use Rattle.dsr_lines.specs.Line.{begun_by, IsReplicaPost, IsEventOf}
-use Rattle.dsr_lines.proofs.BegunLemmas.{read_gives}
+use Rattle.dsr_lines.proofs.BegunLemmas.{apart_not, read_gives}
 
 -- nothing refuses the event, and its step is this one
 pub record PassesAs (shape : Shape) (logs : Logs) (event : Event) (step : Step) : Type 0 where
@@ -74,13 +74,6 @@ below_not a b h = grind (arith, nat_tests)
 
 same_not : (a b : ℕ) → a ≡ b → nat_lt a b ≡ false
 same_not a b h = grind (arith, nat_tests)
-
-apart_not : (c d : ℕ) → d ≢ c → (c == d) ≡ false
-apart_not c d apart = by_test (c == d) refl
-  where
-    by_test : (b : Bool) → (c == d) ≡ b → b ≡ false
-    by_test false e = refl
-    by_test true e = absurd (apart (sym ((Decides-eqb c d).0 e)))
 
 actor_yes : (shape : Shape) (a : Actor) → IsActor shape a → is_actor shape a ≡ true
 actor_yes shape (Replica p) inside = below_yes p shape.n inside
@@ -208,7 +201,7 @@ module _ (shape : Shape) (logs : Logs) where
     none =
         four_pass (not (is_actor shape (Client c) && is_actor shape (Client d))) (not (are_two_clients (Client c) (Client d)))
         (is_used_up logs (Client c) (Client d)) (is_full logs (Client c) (Client d)) NoActor WrongRole Exhausted BoxFull
-        (inside_both (Client c) (Client d) next.actor next.other) (ap (λ b. not (true && not b)) (apart_not c d next.conduct.1))
+        (inside_both (Client c) (Client d) next.actor next.other) (ap (λ b. not (true && not b)) (apart_not c d (λ e. next.conduct.1 (sym e))))
         (posts_left (Client c) (Client d) next.limits.1) (room_left (Client c) (Client d) next.box);
     forges = λ f. f;
     step_is = ap (λ y. Some (Client c, PostEntry (Client d) y)) (sym next.conduct.2);
@@ -217,7 +210,7 @@ module _ (shape : Shape) (logs : Logs) where
   own_not : (at from : Actor) (x : Envelope) → IsNextStep shape logs (at, TakeEntry from x) → is_own_client at from ≡ false
   own_not (Replica p) from x next = refl
   own_not (Client c) (Replica q) x next = refl
-  own_not (Client c) (Client d) x next = apart_not c d (λ e. next.conduct.1 (ap Client e))
+  own_not (Client c) (Client d) x next = apart_not c d (λ e. next.conduct.1 (ap Client (sym e)))
 
   undue_not : (at from : Actor) (x : Envelope) → IsNextStep shape logs (at, TakeEntry from x) → is_undue shape (logs at) at from ≡ false
   undue_not (Replica p) (Client c) x next = refl

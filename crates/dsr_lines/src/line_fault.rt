@@ -29,7 +29,7 @@ pub enum LineFault {
     },
     /// The envelope that the step posts carries this signature, whose signer is not an actor of the shape.
     SignedOutside(Forged),
-    /// The replica begins a slot of its own with two requests of this client, which no replica does.
+    /// The replica begins a slot of its own with two requests of this client, which no loyal replica does.
     ClientTwice(ClientId),
 }
 

@@ -1,4 +1,4 @@
-//! Recorded runs as data: a shape and the steps of all actors in one order. Also the texts that write them.
+//! Recorded runs as data: a shape and the steps of all actors in one order. Also the texts that write them, and the keys of the actors of a run.
 #![tactic(auto)]
 
 mod files;
