@@ -23,6 +23,14 @@ tests/models/eager.py. A search finds an order of the requests that keeps real t
 in the same logs with each ask as late as it can come. All loyal replicas are eager, and what they hold acts within the bound of rounds: the greatest count of
 each shape is said, beside the bound. At least nine of ten services must serve all clients.
 
+schedules: 500 services by `dsr_own_service in-turn`, with `soak` 5,000, over ten shapes, with traitors. A model that was written anew (tests/models/hosts.py)
+draws by chance in which order their hosts make their tries, one at a time; and after each turn the hosts must be where it has them: who asks next and with which
+turn, how many sleep, and how many have ended. At the end each entry of each log must be the model's, and why the service ended. Some hosts are slow, some are
+stopped, and in a third of the schedules almost every post and take wakes somebody who sleeps. While all wait or sleep, the service must spend no processor,
+and little in each turn; and hosts must have let others run (sched_yield) as often as the model's. In two schedules replicas use up their rounds before their
+clients are served. In all together each kind of host was woken by posts and takes, often, and by each kind of host that was stopped. A schedule that is not
+kept fails within 10 seconds, and says where.
+
 mail: random tries of the mail, by `dsr_mail_tries`, over shapes of all sizes, with `soak` for an hour. Each thread makes random calls at its seats, and
 what came of it is a transcript, which must be a run. By its lines alone what an actor took from another is the first so many envelopes that were posted to
 it there, so none was lost, none came twice, and none overtook another; and there is no post at a full box, or take at an empty one. In all runs together
@@ -36,10 +44,11 @@ import sys
 import time
 from collections import Counter, namedtuple
 
+from kit import schedules as turns
 from kit.inputs import lines_text
 from kit.program import MOST_BYTES, TOP, bytes_of, command_of, program, run, shown
-from kit.refusals import numbers, refusing
-from kit.report import main, say
+from kit.refusals import numbers, refusing, yielding
+from kit.report import in_processes, main, say
 from models import eager, real_time
 from models.histories import requests_of
 from models.transcript_text import Reader, whole
@@ -77,7 +86,7 @@ LATE = 60
 FORMS = ["serve", "serve --transcript"]
 NO_MEMORY, NO_THREAD, NO_ANSWER = b"dsr: no memory\n", b"dsr: no thread\n", b"dsr: no answer within the turns\n"
 # What the example says if there is no memory for its own words, of which it then has none.
-USAGE = b"usage: dsr_own_service COUNT [transcript]\n"
+USAGE = b"usage: dsr_own_service COUNT [transcript], or dsr_own_service in-turn SCRIPT TURN..\n"
 # A line of a report of `dsr serve`.
 ACCEPTED = re.compile(r"^accepted (c\d+) (\d+) (\d+) .+$", re.M)
 # The status of `dsr serve`, by what it says.
@@ -349,6 +358,31 @@ def answers(report, is_soak):
     report.judge("pairs in real time", None if sums["pairs"] else "there are none", None)
 
 
+# ---- schedules
+
+# How often at least each kind of host must have been woken by posts, and by takes, and by a host of each kind that was the first to stop all.
+WOKEN, WOKEN_BY_ALL = 1_000, 10
+
+
+def schedules(report, is_soak):
+    rows = list(turns.rows(5_000 if is_soak else 500))
+    causes, woken, count = Counter(), Counter(), 0
+    with yielding() as shim:
+        for row, (fault, came) in zip(rows, in_processes(turns.judged_row, [(row, shim.library) for row in rows])):
+            report.judge(f"schedule {row.seed} of shape {row.shape}, {row.rule}, with {row.stops} to be stopped", fault, None)
+            causes[came.cause] += 1
+            woken += came.woken
+            count += came.turns
+    ends = ", ".join(f"{cause or 'served'} {often}" for cause, often in causes.items())
+    say(f"{count} turns; services ended: {ends}")
+    say("; ".join(f"{kind} woken by {what} {often}" for (kind, what), often in sorted(woken.items())))
+    wanted = {(kind, what): WOKEN for kind in ("replica", "traitor") for what in ("post", "take")}
+    wanted |= {(kind, what): WOKEN_BY_ALL for kind in ("replica", "traitor") for what in ("replica", "traitor", "client")}
+    for (kind, what), often in wanted.items():
+        report.judge(f"{kind} woken by {what}", None if woken[kind, what] >= often else f"only {woken[kind, what]} times", None)
+    report.judge("services that ended each way", None if len(causes) == 3 else f"they ended as {causes}", None)
+
+
 # ---- mail
 
 # For how many seconds the mail is tried with `soak`.
@@ -480,4 +514,4 @@ def mail(report, is_soak):
 
 
 if __name__ == "__main__":
-    sys.exit(main(__doc__, {"services": services, "answers": answers, "mail": mail}, "soak"))
+    sys.exit(main(__doc__, {"services": services, "answers": answers, "schedules": schedules, "mail": mail}, "soak"))

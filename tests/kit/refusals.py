@@ -18,7 +18,8 @@ class Shim:
 
     def __enter__(self):
         self.room = tempfile.TemporaryDirectory(prefix=f"dsr-{self.name}-")
-        words = ["-Wall", "-Wextra", "-Werror", "-shared", "-fPIC", "-O1", "-o", f"{self.room.name}/shim.so"]
+        self.library = f"{self.room.name}/shim.so"
+        words = ["-Wall", "-Wextra", "-Werror", "-shared", "-fPIC", "-O1", "-o", self.library]
         subprocess.run(["cc", *words, f"{TOP}/tests/{self.name}.c", "-ldl"], check=True)
         return self
 
@@ -30,7 +31,7 @@ class Shim:
         what they mean."""
         note = f"{self.room.name}/note{next(self.runs)}"
         values = {f"{self.prefix}_{name.upper()}": str(value) for name, value in named.items() if value is not None}
-        env = {**env, "LD_PRELOAD": f"{self.room.name}/shim.so", f"{self.prefix}_NOTE": note, **values}
+        env = {**env, "LD_PRELOAD": self.library, f"{self.prefix}_NOTE": note, **values}
         ran = run(command, text, seconds, env=env, **({} if stdin is None else {"stdin": stdin}))
         if not os.path.exists(note):
             return ran, None
@@ -53,6 +54,11 @@ def failing():
 def counting():
     """The shim that refuses nothing, and counts allocations, reallocations, the bytes of these, and the most bytes held at once."""
     return Shim("count", "COUNT")
+
+
+def yielding():
+    """The shim that refuses nothing, and counts how often a program lets other threads run: eight bytes, the least first."""
+    return Shim("yields", "YIELDS")
 
 
 def numbers(first=0, steps=None, shift=0):

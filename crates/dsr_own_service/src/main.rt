@@ -1,9 +1,14 @@
-//! A service of one's own: `dsr_own_service COUNT [transcript]` serves the script on standard input in threads, through a gate that stops every host
-//! once it was asked COUNT times, and prints the replies that the clients accepted, or the transcript of the run.
+//! Services of one's own. `dsr_own_service COUNT [transcript]` serves the script on standard input in threads, through a gate that stops every host
+//! once it was asked COUNT times, and prints the replies that the clients accepted, or the transcript of the run. `dsr_own_service in-turn SCRIPT TURN..`
+//! serves a script through a gate with a schedule: hosts have their turns in this order, such as `r0 c1 !r0`, where `!` stops one, and each turn begins
+//! with a byte of standard input. It writes which actor comes with which turn, and then the transcript.
 #![tactic(auto)]
 
+mod turnstile;
+
+use crate::turnstile::{Turn, Turnstile};
 use dsr_base::read_decimal;
-use dsr_hosts::serve;
+use dsr_hosts::{ServeFault, serve};
 use dsr_mail::Logs;
 use dsr_names::{
     Actor, ClientId, Outside, Refusal, Sink, Source, read_input, tell, tell_refusal, write_output,
@@ -13,6 +18,7 @@ use dsr_rounds::Gate;
 use dsr_script::Script;
 use std::alloc::{AllocError, Global};
 use std::fmt::Write;
+use std::io::{Stdin, Stdout};
 use std::process::ExitCode;
 use std::sync::Wait;
 use std::sync::atomic::AtomicU64;
@@ -26,11 +32,23 @@ const REFUSED: u8 = 1;
 /// The exit status if the words are wrong.
 const USAGE_FAULT: u8 = 2;
 
-/// The task that the words ask for.
+/// What is said if the words are wrong.
+const USAGE: &[u8] =
+    b"usage: dsr_own_service COUNT [transcript], or dsr_own_service in-turn SCRIPT TURN..\n";
+
+/// What the words ask for.
 #[derive(Drop)]
-struct Wanted {
-    passes: u64,
-    transcript: bool,
+enum Wanted<'a> {
+    /// The script on standard input, through a gate that passes so many checks; its transcript, or the replies that clients accept.
+    Counted {
+        most: u64,
+        transcript: bool,
+    },
+    /// This script, in turn.
+    InTurn {
+        script: &'a [u8],
+        schedule: Vec<Turn>,
+    },
 }
 
 /// A gate that passes the first `most` checks, whichever hosts ask, then refuses all.
@@ -50,41 +68,54 @@ impl Gate for Count {
 }
 
 /// Serves the script that the source has, and writes the outcome, also if a fault ended the service.
-fn run<R: Threads + Wait + Sync, I: Source, O: Sink>(
+fn serve_counted<R: Threads + Wait + Sync, I: Source, O: Sink>(
     rt: &R,
     alloc: Global,
-    wanted: &Wanted,
+    most: u64,
+    transcript: bool,
     input: &mut I,
     output: &mut O,
 ) -> Result<(), Refusal> {
     let text = read_input(alloc, input)?;
     let script = Script::read(alloc, text.as_slice())?;
     let gate = Count {
-        most: wanted.passes,
+        most,
         asked: AtomicU64::new(0),
     };
-    match serve(rt, alloc, &script, &gate) {
-        Ok(logs) => tell_of(alloc, wanted, &logs, output),
-        Err(fault) => {
-            tell_of(alloc, wanted, &fault.logs, output)?;
-            Err(fault.cause)
-        }
+    let (logs, end) = ended(serve(rt, alloc, &script, &gate));
+    if transcript {
+        write_transcript(alloc, &logs, output)?;
+    } else {
+        write_accepted(alloc, &logs, output)?;
+    }
+    end
+}
+
+/// Serves the script in turn, and writes the transcript, also if a fault ended the service.
+fn serve_in_turn<R: Threads + Wait + Sync, O: Sink>(
+    rt: &R,
+    alloc: Global,
+    script: &Script,
+    gate: &Turnstile<R>,
+    output: &mut O,
+) -> Result<(), Refusal> {
+    let (logs, end) = ended(serve(rt, alloc, script, gate));
+    write_transcript(alloc, &logs, output)?;
+    end
+}
+
+/// Returns the logs of a service that has ended, and why it did if a fault ended it.
+fn ended(served: Result<Logs, ServeFault>) -> (Logs, Result<(), Refusal>) {
+    match served {
+        Ok(logs) => (logs, Ok(())),
+        Err(fault) => (fault.logs, Err(fault.cause)),
     }
 }
 
-/// Writes the transcript of these logs if `wanted` asks for it, else the replies that clients accepted.
-fn tell_of<O: Sink>(
-    alloc: Global,
-    wanted: &Wanted,
-    logs: &Logs,
-    output: &mut O,
-) -> Result<(), Refusal> {
-    if wanted.transcript {
-        let recorded = Record::of_logs(alloc, logs)?;
-        write(alloc, &recorded, output)
-    } else {
-        write_accepted(alloc, logs, output)
-    }
+/// Writes the transcript of these logs.
+fn write_transcript<O: Sink>(alloc: Global, logs: &Logs, output: &mut O) -> Result<(), Refusal> {
+    let recorded = Record::of_logs(alloc, logs)?;
+    write(alloc, &recorded, output)
 }
 
 /// Writes a line for each reply that a client accepted.
@@ -100,28 +131,71 @@ fn write_accepted<O: Sink>(alloc: Global, logs: &Logs, output: &mut O) -> Result
     write_output(output, text.as_bytes())
 }
 
-/// Returns what the words of the command line ask for; `None` if they are wrong.
-fn read_words(rt: &HostRuntime) -> Option<Wanted> {
-    let words = env::args(rt).ok()?;
-    let words: Result<Vec<String>, AllocError> = words.skip(1).collect(rt.alloc());
-    let words = words.ok()?;
-    let (passes, transcript) = match words.as_slice() {
-        [passes] => (passes, false),
-        [passes, word] => (passes, word.as_bytes() == b"transcript".as_slice()),
-        _ => return None,
-    };
-    let passes = read_decimal(passes.as_bytes())?;
-    Some(Wanted { passes, transcript })
+/// Returns what the words ask for; `None` if they are wrong.
+fn wanted_by<'a>(alloc: Global, words: &'a [String]) -> Option<Wanted<'a>> {
+    match words {
+        [first, script, turns @ ..] if first.as_bytes() == b"in-turn".as_slice() => {
+            let script = script.as_bytes();
+            let schedule = read_schedule(alloc, turns)?;
+            Some(Wanted::InTurn { script, schedule })
+        }
+        [most] => read_count(most, false),
+        [most, word] => read_count(most, word.as_bytes() == b"transcript".as_slice()),
+        _ => None,
+    }
+}
+
+/// Returns what is wanted if this word is a count.
+fn read_count<'a>(word: &String, transcript: bool) -> Option<Wanted<'a>> {
+    let most = read_decimal(word.as_bytes())?;
+    Some(Wanted::Counted { most, transcript })
+}
+
+/// Returns the turns that the words spell, if each spells one.
+fn read_schedule(alloc: Global, words: &[String]) -> Option<Vec<Turn>> {
+    let mut turns = Vec::with_capacity(alloc, words.len()).ok()?;
+    for word in words {
+        turns.push(Turn::read(word.as_bytes())?).ok()?;
+    }
+    Some(turns)
+}
+
+/// Does what is wanted.
+fn run<R: Threads + Wait + Sync>(
+    rt: &R,
+    alloc: Global,
+    stdin: Stdin,
+    stdout: Stdout,
+    wanted: Wanted,
+) -> Result<(), Refusal> {
+    let mut output = Outside(stdout);
+    match wanted {
+        Wanted::Counted { most, transcript } => {
+            let mut input = Outside(stdin);
+            serve_counted(rt, alloc, most, transcript, &mut input, &mut output)
+        }
+        Wanted::InTurn { script, schedule } => {
+            let script = Script::read(alloc, script)?;
+            let gate = Turnstile::new(rt, alloc, stdin, stdout, schedule)?;
+            serve_in_turn(rt, alloc, &script, &gate, &mut output)
+        }
+    }
+}
+
+/// Returns the words of the command line.
+fn words_of(rt: &HostRuntime) -> Option<Vec<String>> {
+    let words: Result<Vec<String>, AllocError> = env::args(rt).ok()?.skip(1).collect(rt.alloc());
+    words.ok()
 }
 
 fn main(rt: HostRuntime) -> io::Result<ExitCode> {
     let mut errors = Outside(rt.stderr());
-    let Some(wanted) = read_words(&rt) else {
-        tell(&mut errors, b"usage: dsr_own_service COUNT [transcript]\n");
+    let words = words_of(&rt).unwrap_or(Vec::new(rt.alloc()));
+    let Some(wanted) = wanted_by(rt.alloc(), words.as_slice()) else {
+        tell(&mut errors, USAGE);
         return Ok(ExitCode::from(USAGE_FAULT));
     };
-    let (mut input, mut output) = (Outside(rt.stdin()), Outside(rt.stdout()));
-    match run(&rt, rt.alloc(), &wanted, &mut input, &mut output) {
+    match run(&rt, rt.alloc(), rt.stdin(), rt.stdout(), wanted) {
         Ok(()) => Ok(ExitCode::SUCCESS),
         Err(refusal) => {
             tell_refusal(&mut errors, refusal);
