@@ -27,7 +27,7 @@ schedules: 500 services by `dsr_own_service in-turn`, with `soak` 5,000, over te
 draws by chance in which order their hosts make their tries, one at a time; and after each turn the hosts must be where it has them: who asks next and with which
 turn, how many sleep, and how many have ended. At the end each entry of each log must be the model's, and why the service ended. Some hosts are slow, some are
 stopped, and in a third of the schedules almost every post and take wakes somebody who sleeps. While all wait or sleep, the service must spend no processor,
-and little in each turn; and hosts must have let others run (sched_yield) as often as the model's. In two schedules replicas use up their rounds before their
+and in most turns little; and hosts must have let others run (sched_yield) as often as the model's. In two schedules replicas use up their rounds before their
 clients are served. In all together each kind of host was woken by posts and takes, often, and by each kind of host that was stopped. A schedule that is not
 kept fails within 10 seconds, and says where.
 
