@@ -23,13 +23,14 @@ tests/models/eager.py. A search finds an order of the requests that keeps real t
 in the same logs with each ask as late as it can come. All loyal replicas are eager, and what they hold acts within the bound of rounds: the greatest count of
 each shape is said, beside the bound. At least nine of ten services must serve all clients.
 
-schedules: 500 services by `dsr_own_service in-turn`, with `soak` 5,000, over ten shapes, with traitors. A model that was written anew (tests/models/hosts.py)
-draws by chance in which order their hosts make their tries, one at a time; and after each turn the hosts must be where it has them: who asks next and with which
-turn, how many sleep, and how many have ended. At the end each entry of each log must be the model's, and why the service ended. Some hosts are slow, some are
-stopped, and in a third of the schedules almost every post and take wakes somebody who sleeps. While all wait or sleep, the service must spend no processor,
-and in most turns little; and hosts must have let others run (sched_yield) as often as the model's. In two schedules replicas use up their rounds before their
-clients are served. In all together each kind of host was woken by posts and takes, often, and by each kind of host that was stopped. A schedule that is not
-kept fails within 10 seconds, and says where.
+schedules: 500 services by `dsr_own_service in-turn`, with `soak` 5,000, over ten shapes, with traitors; and two in which replicas use up their rounds before
+their clients are served. A model that was written anew (tests/models/hosts.py) draws by chance in which order their hosts make their tries, one at a time; and
+after each turn the hosts must be where it has them: who asks next and with which turn, whether all others sleep, and how many have ended. At the end each entry
+of each log must be the model's, and why the service ended. Some hosts are slow, some are stopped, and in a third of the schedules almost every post and take
+wakes somebody who sleeps. If somebody sleeps after 50 turns, all are left alone for 0.3 seconds, in which at most a tenth of a processor may be spent; and few
+turns may take much of one. Until all are told to stop, hosts must have let others run (sched_yield) as often as the model's. In all together replicas and
+traitors were woken by posts and takes, often, and by hosts of each kind that told all to stop. A schedule that is not kept fails some 10 seconds after the first
+host that does not come, and says where.
 
 mail: random tries of the mail, by `dsr_mail_tries`, over shapes of all sizes, with `soak` for an hour. Each thread makes random calls at its seats, and
 what came of it is a transcript, which must be a run. By its lines alone what an actor took from another is the first so many envelopes that were posted to
@@ -49,11 +50,11 @@ from kit.inputs import lines_text
 from kit.program import MOST_BYTES, TOP, bytes_of, command_of, program, run, shown
 from kit.refusals import numbers, refusing, yielding
 from kit.report import in_processes, main, say
+from kit.turnstile import SERVICE
 from models import eager, real_time
 from models.histories import requests_of
 from models.transcript_text import Reader, whole
 
-SERVICE = f"{TOP}/crates/dsr_own_service/out/dsr_own_service"
 TRIES = f"{TOP}/crates/dsr_mail_tries/out/dsr_mail_tries"
 # Within which a run must end, and one of which something is refused.
 SECONDS, SECONDS_OF_REFUSED = 300, 20
@@ -74,7 +75,6 @@ def checked(transcript):
 UNSTOPPED = 10**12
 SHAPES = ["1 0 1 -", "3 1 1 -", "3 1 2 r2", "4 1 2 r0", "4 1 4 r3", "5 2 3 r1+r4", "7 3 4 r0+r2+r6"]
 LARGE = "16 7 32 r1+r3+r5+r7+r9+r11+r13"
-OPERATIONS = ["read a", "write a 5", "write b 7", "remove a", "swap a 5 6", "swap b none 1"]
 # The shapes of which each allocation is refused, with wider and wider steps: those that `dsr_own_service` serves, and those that `dsr serve` does.
 STARVED_SHAPES = ["1 0 1 -", "3 1 2 r2", "7 3 4 r0+r2+r6"]
 SERVED_SHAPES = ["1 0 1 -", "3 1 2 r2"]
@@ -118,7 +118,7 @@ def script_of(chance, shape):
     n, _, m, traitors = shape.split(" ")
     n, m = int(n), int(m)
     counts = [chance.randrange(1, 4) for _ in range(m)]
-    lines = [f"ask c{client} {chance.choice(OPERATIONS)}" for client in range(m) for _ in range(counts[client])]
+    lines = [f"ask c{client} {chance.choice(turns.OPERATIONS)}" for client in range(m) for _ in range(counts[client])]
     for traitor in [] if traitors == "-" else traitors.split("+"):
         lines += list(dict.fromkeys(drafts_of(chance, n, m, int(traitor[1:]))))
     return Script(shape, lines_text([f"dsr-serve 1 {shape}", *lines]), counts)

@@ -7,8 +7,8 @@
 #include <sys/syscall.h>
 #include <unistd.h>
 
-static unsigned long none;
-static unsigned long *yields = &none;
+static unsigned long unshared;
+static unsigned long *yields = &unshared;
 
 __attribute__((constructor)) static void share(void)
 {
@@ -16,7 +16,7 @@ __attribute__((constructor)) static void share(void)
     int file = note ? open(note, O_CREAT | O_RDWR, 0600) : -1;
     if (file < 0)
         return;
-    void *shared = ftruncate(file, sizeof none) ? MAP_FAILED : mmap(0, sizeof none, PROT_READ | PROT_WRITE, MAP_SHARED, file, 0);
+    void *shared = ftruncate(file, sizeof unshared) ? MAP_FAILED : mmap(0, sizeof unshared, PROT_READ | PROT_WRITE, MAP_SHARED, file, 0);
     if (shared != MAP_FAILED)
         yields = shared;
     close(file);

@@ -85,7 +85,7 @@ class Random:
     def __init__(self, chance, actors, stops):
         self.chance = chance
         self.weights = {actor: chance.choice([0.02, 0.3, 1, 1, 1]) * (0.2 if actor[0] == "c" else 1) for actor in actors}
-        self.stops = {chance.choice(actors): int(10 ** chance.uniform(0, 2.5)) - 1 for _ in range(stops)}
+        self.stops = {actor: int(10 ** chance.uniform(0, 2.5)) - 1 for actor in chance.sample(actors, min(stops, len(actors)))}
 
     def next(self, model):
         """The next host, and whether it goes on."""
@@ -95,7 +95,7 @@ class Random:
 
 
 class Sleepy(Random):
-    """A host whose next try finds its box as it cannot use it is next, if there is one: so almost every hand-over wakes somebody who sleeps."""
+    """A host whose next try would find its box full or empty, and sleep, is next, if there is one: so almost every hand-over wakes somebody who sleeps."""
 
     def next(self, model):
         boxes = model.mail.boxes
@@ -130,10 +130,10 @@ def rows(count):
 
 # ---- a schedule, and what comes of it
 
-# A turn, and what the model has after it: who asks then and with which turn, how many threads hosts have, and how it is known that no host does anything
-# then; None if the host asks again, and nobody sleeps or ends. And what it has before it: how often hosts have let others run, unless they were told to stop,
-# and whether somebody sleeps.
-Turn = namedtuple("Turn", "actor number goes_on came threads rest yields sleeps")
+# A turn: whose it is, its number, and whether the actor goes on. What the model has before it: how often hosts have let others run, or None if they were told to
+# stop, and whether somebody sleeps. What it has after it: who asks then and with which turn, how many threads hosts have, and how it is known that no host does
+# anything then, or None if the host asks again, and nobody sleeps or ends.
+Turn = namedtuple("Turn", "actor number goes_on yields sleeps came threads rest")
 # Hosts are at rest if all sleep; while the first that stops all wakes them, in which it goes on and on; and later, as soon as those have ended that do.
 SLEEP, WAKE, END = "sleep", "wake", "end"
 
@@ -144,17 +144,17 @@ def planned(model, rule):
     while model.asks:
         actor, goes_on = rule.next(model)
         goes_on = goes_on and len(schedule) < rule.most
-        number, before, was_told, sleeps = model.asks[actor], place_of(model), model.is_told, bool(model.sleeps)
+        number, before, was_told, sleeps = model.asks[actor], state_of(model), model.is_told, bool(model.sleeps)
         yields, model.came = None if was_told else model.yields(), []
         model.let(actor, goes_on)
         rest = None
-        if place_of(model) != before and model.threads():
+        if state_of(model) != before and model.threads():
             rest = SLEEP if not model.is_waking() else END if was_told else WAKE
-        schedule.append(Turn(actor, number, goes_on, model.came, model.threads(), rest, yields, sleeps))
+        schedule.append(Turn(actor, number, goes_on, yields, sleeps, model.came, model.threads(), rest))
     return schedule
 
 
-def place_of(model):
+def state_of(model):
     """What changes in the model if a host sleeps or ends."""
     return model.threads(), model.is_told, model.slept
 
@@ -226,8 +226,11 @@ def hear(gate, came):
 
 def fault_of_logs(model, transcript):
     """What is wrong with the logs in the transcript, or None."""
+    first, *lines = transcript.decode().split("\n")[:-1]
+    if first.split(" ")[2:] != shape_text(model.shape).split(" "):
+        return f"the transcript begins with {first}"
     logs = {actor: [] for actor in model.actors}
-    for line in transcript.decode().split("\n")[1:-1]:
+    for line in lines:
         actor, _, entry = line.partition(" ")
         logs.setdefault(actor, []).append(entry)
     if sorted(logs) != sorted(model.actors):

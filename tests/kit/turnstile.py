@@ -1,9 +1,10 @@
 """Services whose hosts make their tries in the order of a schedule, one at a time, each when it is told to here: by `dsr_own_service in-turn`. A host that waits
 for its turn waits at the gate, and says so. One that sleeps at a box is seen to sleep, by /proc: nobody else runs then. So there is no luck in it: what is asked
-of a service is known to be over before more is asked."""
+of a service is known to be over before more is asked. A sleep that ends early, which its contract allows, counts as a fault here."""
 
 import mmap
 import os
+import re
 import select
 import struct
 import subprocess
@@ -15,6 +16,8 @@ from kit.program import TOP
 
 SERVICE = f"{TOP}/crates/dsr_own_service/out/dsr_own_service"
 TRANSCRIPT = b"dsr-transcript "
+# The line of an actor that comes to the gate.
+ASK = re.compile(rb"([rc][0-9]+) ([0-9]+)")
 # Within which a host must come where it is expected, and the service must end.
 SECONDS = 10
 # How many nanoseconds of a processor show that a thread goes on and on: a host that was refused tells the others in some thousandths of that.
@@ -48,9 +51,13 @@ class Threads:
             return []
 
     def states(self):
-        """The letter of the state of each: `S` if it sleeps."""
-        found = [content(f"{self.folder}/{thread}/stat").rpartition(b") ")[2][:1] for thread in self.all()]
-        return [state.decode() for state in found if state]
+        """Of each the letter of its state, `S` if it sleeps, and how often it has had a processor."""
+        found = {}
+        for thread in self.all():
+            state, had = content(f"{self.folder}/{thread}/stat").rpartition(b") ")[2][:1], content(f"{self.folder}/{thread}/schedstat").split()
+            if state and len(had) == 3:
+                found[thread] = state.decode(), int(had[2])
+        return found
 
     def times(self):
         """How many nanoseconds of a processor each has had."""
@@ -110,8 +117,10 @@ class Turnstile:
         self.rest += read
         while b"\n" in self.rest and not self.rest.startswith(TRANSCRIPT):
             line, _, self.rest = self.rest.partition(b"\n")
-            actor, turn = line.decode().split(" ")
-            self.asked.append((actor, int(turn)))
+            found = ASK.fullmatch(line)
+            if not found:
+                raise Left(f"it wrote {line[:200]!r}")
+            self.asked.append((found[1].decode(), int(found[2])))
         return True
 
     def next_ask(self):
@@ -131,31 +140,33 @@ class Turnstile:
             actor, turn = self.asked[0]
             raise Left(f"{actor} asked with turn {turn}, which was not expected")
 
-    def rest_with(self, threads, is_over):
-        """Waits until there are so many threads of hosts, and it is over with what they do, as this tells of the threads."""
-        end = time.monotonic() + SECONDS
+    def rest_with(self, count, is_over):
+        """Waits until there are so many threads of hosts, and it is over with what they do, as this tells by two looks at them, one after the other."""
+        end, before = time.monotonic() + SECONDS, None
         while True:
             states = self.threads.states()
-            is_at_rest = len(states) == threads + 1 and is_over(states)
+            is_at_rest = len(states) == count + 1 and is_over(before, states)
             self.need_no_ask()
             if is_at_rest:
                 return
             if time.monotonic() > end:
-                raise Left(f"after {SECONDS} seconds the states of the threads are {' '.join(states)}, and {threads} hosts were to be left")
+                letters = " ".join(state for state, _ in states.values())
+                raise Left(f"after {SECONDS} seconds the states of the threads are {letters}, and {count} hosts were to be left")
+            before = states
             time.sleep(PAUSE)
 
-    def sleeps_with(self, threads):
-        """Waits until there are so many threads of hosts, and all of them sleep, as does the one that waits for them."""
-        self.rest_with(threads, lambda states: set(states) == {"S"})
+    def sleeps_with(self, count):
+        """Waits until there are so many threads of hosts, and all of them sleep, as does the one that waits for them, and none has run in between."""
+        self.rest_with(count, lambda before, states: before == states and all(state == "S" for state, _ in states.values()))
 
-    def ends_with(self, threads):
+    def ends_with(self, count):
         """Waits until there are so many threads of hosts."""
-        self.rest_with(threads, lambda states: True)
+        self.rest_with(count, lambda before, states: True)
 
-    def goes_on_with(self, threads):
+    def goes_on_with(self, count):
         """Waits until there are so many threads of hosts, and one of them goes on and on."""
-        before = self.threads.times()
-        self.rest_with(threads, lambda states: self.has_run_on(before))
+        times = self.threads.times()
+        self.rest_with(count, lambda before, states: self.has_run_on(times))
 
     def has_run_on(self, before):
         """Whether a thread has had much of a processor since."""

@@ -1,7 +1,8 @@
-"""Hosts, and the service in threads that they make: definitions written anew, from docs/THREADS.md and docs/PROTOCOL.md.
+"""Hosts, and the service in threads that they make: definitions written anew, from docs/THREADS.md and docs/PROTOCOL.md, with the numbers of rounds, turns and
+rests that the crates name.
 
-A host is a generator. It stops where it asks its gate, and goes on with the gate's answer; and it stops where it sleeps at a box, and goes on once that is as
-it waits for it, or somebody wakes all. So whoever answers the gates says in which order the hosts make their tries, one at a time, and all else follows: who
+A host is a generator. It stops where it asks its gate, and goes on with the gate's answer; and it stops where it sleeps at a box, and goes on once the box
+is full or empty, as it needs it, or somebody wakes all. So whoever answers the gates says in which order the hosts make their tries, one at a time, and all else follows: who
 asks next and with which turn, who sleeps where, what each log has, and how each host ends. Envelopes are their texts, and the conduct of loyal replicas and
 clients is that of slow_play.py.
 """
@@ -52,7 +53,7 @@ class Caller:
         self.shape, self.mail, self.me = shape, mail, me
         self.machine, self.asked = Client(shape, me), set()
         # How often a call went from the last replica on to the first one.
-        self.passes = 0
+        self.laps = 0
 
     def call(self, operation, turns):
         """Makes a call with so many turns: goes on with the outstanding request, or begins one for the operation. Returns whether a reply was accepted. If it
@@ -65,14 +66,14 @@ class Caller:
             moves += moved
             q = (q + 1) % self.shape.n
             if q == 0:
-                self.passes += 1
+                self.laps += 1
                 if not moves:
-                    self.passes += self.passes_of(left)
+                    self.laps += self.laps_of(left)
                     return False
                 moves = 0
         return False
 
-    def passes_of(self, left):
+    def laps_of(self, left):
         """Returns how often the turns that are left go past all replicas, if every box stays as it is: a turn at each replica, and one more where it is not
         asked, since its box is full. The last turn may be the first one of two at the last replica."""
         cost = 2 * self.shape.n - len(self.asked)
@@ -121,11 +122,15 @@ class Service:
         self.callers = {client: Caller(shape, self.mail, client) for client in self.clients}
         # Where each host is: at its gate with a turn, asleep at a box until it is full or empty, or ended.
         self.asks, self.sleeps, self.ends = {}, {}, {}
-        # Which hosts came to their gates since somebody looked, and the box at which the next try of each waits. How often hosts slept, and of which kind who
-        # slept was when woken by what: a post, a take, or a host of a kind that wakes all.
-        self.came, self.waits_at, self.slept, self.woken = [], {}, 0, Counter()
+        # Which hosts came to their gates since somebody looked, and the box at which the next try of each waits.
+        self.came, self.waits_at = [], {}
+        # How often hosts slept, and of which kind who slept was when woken by what: a post, a take, or a host of a kind that wakes all.
+        self.slept, self.woken = 0, Counter()
         self.turns = dict.fromkeys(self.actors, 0)
-        self.is_told, self.waker, self.unserved, self.over, self.rests = False, None, shape.m, 0, 0
+        # Whether all were told to stop, and who told them first and wakes them.
+        self.is_told, self.waker = False, None
+        # How many clients are not served, how many replicas and traitors have ended, and how often replicas have rested.
+        self.unserved, self.over, self.rests = shape.m, 0, 0
         self.hosts = {actor: self.host(actor) for actor in self.actors}
         for actor in self.actors:
             self.go_on(actor, None)
@@ -146,7 +151,7 @@ class Service:
             except StopIteration as end:
                 self.leave(actor, end.value)
             else:
-                self.place(actor, what, more)
+                self.put(actor, what, more)
             for other, (box, is_full) in list(self.sleeps.items()):
                 has_changed = (box in self.mail.boxes) == is_full
                 if has_changed or self.is_waking():
@@ -154,7 +159,7 @@ class Service:
                     ready.append((other, None))
                     self.woken[self.kind(other), ("post" if is_full else "take") if has_changed else self.kind(self.waker)] += 1
 
-    def place(self, actor, what, more):
+    def put(self, actor, what, more):
         if what == "asks":
             self.asks[actor] = more
             self.came.append((actor, more))
@@ -171,9 +176,9 @@ class Service:
             self.unserved -= 1
         if not is_client:
             self.over += 1
-        if end in (STOPPED, UNANSWERED) or is_client and end is None and self.unserved == 0:
-            if not self.is_told:
-                self.is_told, self.waker = True, actor
+        is_last_served = is_client and end is None and self.unserved == 0
+        if not self.is_told and (end in (STOPPED, UNANSWERED) or is_last_served):
+            self.is_told, self.waker = True, actor
 
     def kind(self, actor):
         return "client" if actor in self.callers else "traitor" if actor in self.traitors else "replica"
@@ -184,7 +189,7 @@ class Service:
 
     def yields(self):
         """How often hosts have let others run, until somebody wakes all."""
-        return self.rests + sum(caller.passes for caller in self.callers.values())
+        return self.rests + sum(caller.laps for caller in self.callers.values())
 
     def threads(self):
         """How many threads hosts have."""
@@ -193,7 +198,7 @@ class Service:
     def cause(self):
         """Why the service ended, if it did so before all clients were served: of several refusals that of the least actor counts."""
         refused = [end for end in (self.ends.get(actor) for actor in self.actors) if end in (STOPPED, UNANSWERED)]
-        return next(iter(refused), UNANSWERED if self.unserved else None)
+        return refused[0] if refused else UNANSWERED if self.unserved else None
 
     # ---- what the hosts do
 

@@ -11,7 +11,7 @@ use dsr_base::read_decimal;
 use dsr_hosts::{ServeFault, serve};
 use dsr_mail::Logs;
 use dsr_names::{
-    Actor, ClientId, Outside, Refusal, Sink, Source, read_input, tell, tell_refusal, write_output,
+    Actor, ClientId, Outside, Refusal, Sink, read_input, tell, tell_refusal, write_output,
 };
 use dsr_record::{Record, write};
 use dsr_rounds::Gate;
@@ -39,12 +39,12 @@ const USAGE: &[u8] =
 /// What the words ask for.
 #[derive(Drop)]
 enum Wanted<'a> {
-    /// The script on standard input, through a gate that passes so many checks; its transcript, or the replies that clients accept.
+    /// To serve the script on standard input through a gate that passes `most` checks, and write the transcript, or the replies that clients accept.
     Counted {
         most: u64,
         transcript: bool,
     },
-    /// This script, in turn.
+    /// To serve this script by a schedule, and write the transcript.
     InTurn {
         script: &'a [u8],
         schedule: Vec<Turn>,
@@ -67,40 +67,21 @@ impl Gate for Count {
     }
 }
 
-/// Serves the script that the source has, and writes the outcome, also if a fault ended the service.
-fn serve_counted<R: Threads + Wait + Sync, I: Source, O: Sink>(
+/// Serves the script, and writes the transcript, or the replies that clients accept, also if a fault ended the service.
+fn serve_through<R: Threads + Wait + Sync, G: Gate + Sync, O: Sink>(
     rt: &R,
     alloc: Global,
-    most: u64,
+    script: &Script,
+    gate: &G,
     transcript: bool,
-    input: &mut I,
     output: &mut O,
 ) -> Result<(), Refusal> {
-    let text = read_input(alloc, input)?;
-    let script = Script::read(alloc, text.as_slice())?;
-    let gate = Count {
-        most,
-        asked: AtomicU64::new(0),
-    };
-    let (logs, end) = ended(serve(rt, alloc, &script, &gate));
+    let (logs, end) = ended(serve(rt, alloc, script, gate));
     if transcript {
         write_transcript(alloc, &logs, output)?;
     } else {
         write_accepted(alloc, &logs, output)?;
     }
-    end
-}
-
-/// Serves the script in turn, and writes the transcript, also if a fault ended the service.
-fn serve_in_turn<R: Threads + Wait + Sync, O: Sink>(
-    rt: &R,
-    alloc: Global,
-    script: &Script,
-    gate: &Turnstile<R>,
-    output: &mut O,
-) -> Result<(), Refusal> {
-    let (logs, end) = ended(serve(rt, alloc, script, gate));
-    write_transcript(alloc, &logs, output)?;
     end
 }
 
@@ -131,7 +112,7 @@ fn write_accepted<O: Sink>(alloc: Global, logs: &Logs, output: &mut O) -> Result
     write_output(output, text.as_bytes())
 }
 
-/// Returns what the words ask for; `None` if they are wrong.
+/// Returns what the words ask for; `None` if they are wrong, or memory runs out.
 fn wanted_by<'a>(alloc: Global, words: &'a [String]) -> Option<Wanted<'a>> {
     match words {
         [first, script, turns @ ..] if first.as_bytes() == b"in-turn".as_slice() => {
@@ -139,15 +120,17 @@ fn wanted_by<'a>(alloc: Global, words: &'a [String]) -> Option<Wanted<'a>> {
             let schedule = read_schedule(alloc, turns)?;
             Some(Wanted::InTurn { script, schedule })
         }
-        [most] => read_count(most, false),
-        [most, word] => read_count(most, word.as_bytes() == b"transcript".as_slice()),
+        [most] => counted(most.as_bytes(), false),
+        [most, word] if word.as_bytes() == b"transcript".as_slice() => {
+            counted(most.as_bytes(), true)
+        }
         _ => None,
     }
 }
 
 /// Returns what is wanted if this word is a count.
-fn read_count<'a>(word: &String, transcript: bool) -> Option<Wanted<'a>> {
-    let most = read_decimal(word.as_bytes())?;
+fn counted<'a>(word: &[u8], transcript: bool) -> Option<Wanted<'a>> {
+    let most = read_decimal(word)?;
     Some(Wanted::Counted { most, transcript })
 }
 
@@ -171,13 +154,16 @@ fn run<R: Threads + Wait + Sync>(
     let mut output = Outside(stdout);
     match wanted {
         Wanted::Counted { most, transcript } => {
-            let mut input = Outside(stdin);
-            serve_counted(rt, alloc, most, transcript, &mut input, &mut output)
+            let text = read_input(alloc, &mut Outside(stdin))?;
+            let script = Script::read(alloc, text.as_slice())?;
+            let asked = AtomicU64::new(0);
+            let gate = Count { most, asked };
+            serve_through(rt, alloc, &script, &gate, transcript, &mut output)
         }
         Wanted::InTurn { script, schedule } => {
             let script = Script::read(alloc, script)?;
             let gate = Turnstile::new(rt, alloc, stdin, stdout, schedule)?;
-            serve_in_turn(rt, alloc, &script, &gate, &mut output)
+            serve_through(rt, alloc, &script, &gate, true, &mut output)
         }
     }
 }

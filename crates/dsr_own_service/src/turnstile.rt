@@ -4,20 +4,24 @@ use dsr_names::{Actor, Outside, Refusal, write_output};
 use dsr_rounds::Gate;
 use std::alloc::{AllocError, Global};
 use std::fmt::Write;
-use std::io::{Read, Stdin, Stdout};
+use std::io::{ErrorKind, Read, Stdin, Stdout};
 use std::sync::{Condvar, Mutex, Wait};
 
-/// The number of actors that a shape can have: 16 replicas and 32 clients.
-const MOST_ACTORS: usize = 48;
+/// The greatest number of replicas of a shape.
+const MOST_REPLICAS: usize = 16;
 
-/// The number of the first client's place among them.
-const FIRST_CLIENT: usize = 16;
+/// The greatest number of clients of a shape.
+const MOST_CLIENTS: usize = 32;
+
+/// How often a read is tried again that was interrupted.
+const MOST_READS: u32 = 1_000;
 
 /// A turn of a schedule.
 #[derive(Clone, Copy)]
 pub(crate) struct Turn {
-    /// The place of the actor.
-    place: usize,
+    /// The index of the actor.
+    index: usize,
+    /// Whether the actor goes on; otherwise it is stopped.
     goes_on: bool,
 }
 
@@ -28,16 +32,17 @@ impl Turn {
             [b'!', actor @ ..] => (actor, false),
             actor => (actor, true),
         };
-        let place = place_of(Actor::read(actor)?);
-        Some(Turn { place, goes_on })
+        let index = index_of(Actor::read(actor)?);
+        Some(Turn { index, goes_on })
     }
 }
 
-/// A gate that lets an actor pass only if the next turn of a schedule is its own. After the last turn it stops everybody.
+/// A gate that lets an actor pass only if the next turn of a schedule is its own. After the last turn it stops everybody. If the actor whose turn is
+/// next never comes, all others wait for ever.
 ///
-/// An actor that comes to it writes a line with its name and the number of its turn, such as `r0 5`. Each turn begins with a byte of standard input. So
-/// whoever writes there can have each turn be over before the next begins, and then the service is the same each time. If standard input has ended, no
-/// turn waits.
+/// An actor that comes to it writes a line with its name and the number of its turn, such as `r0 5`. Each turn of the schedule begins with a byte of
+/// standard input. So whoever writes there can have each turn be over before the next begins, and then the service is the same each time. If standard
+/// input has ended, no turn waits; if it cannot be read, the actor is stopped.
 #[derive(Drop)]
 pub(crate) struct Turnstile<'a, R> {
     rt: &'a R,
@@ -47,8 +52,8 @@ pub(crate) struct Turnstile<'a, R> {
     schedule: Vec<Turn>,
     /// The number of turns that have begun.
     begun: Mutex<usize>,
-    /// What the actors wait for, each at its own place.
-    calls: Vec<Condvar>,
+    /// What the actors wait for, by their indices.
+    condvars: Vec<Condvar>,
 }
 
 impl<'a, R: Wait> Turnstile<'a, R> {
@@ -60,9 +65,9 @@ impl<'a, R: Wait> Turnstile<'a, R> {
         stdout: Stdout,
         schedule: Vec<Turn>,
     ) -> Result<Turnstile<'a, R>, AllocError> {
-        let mut calls = Vec::with_capacity(alloc, MOST_ACTORS)?;
-        for _ in 0..MOST_ACTORS {
-            calls.push(Condvar::new())?;
+        let mut condvars = Vec::with_capacity(alloc, MOST_REPLICAS + MOST_CLIENTS)?;
+        for _ in 0..MOST_REPLICAS + MOST_CLIENTS {
+            condvars.push(Condvar::new())?;
         }
         Ok(Turnstile {
             rt,
@@ -71,7 +76,7 @@ impl<'a, R: Wait> Turnstile<'a, R> {
             stdout,
             schedule,
             begun: Mutex::new(0),
-            calls,
+            condvars,
         })
     }
 
@@ -82,41 +87,55 @@ impl<'a, R: Wait> Turnstile<'a, R> {
         write_output(&mut Outside(self.stdout), line.as_bytes())
     }
 
-    /// Returns whether the turn after so many is that of another actor than the one with this place.
-    fn is_anothers(&self, begun: usize, place: usize) -> bool {
+    /// Returns whether turn `begun` is that of another actor than the one with this index.
+    fn belongs_to_other(&self, begun: usize, index: usize) -> bool {
         self.schedule
             .get(begun)
-            .is_some_and(|turn| turn.place != place)
+            .is_some_and(|turn| turn.index != index)
     }
 
-    /// Waits until the next turn is that of the actor with this place, and may begin. Returns whether the actor goes on.
-    fn begin(&self, place: usize, call: &Condvar) -> bool {
+    /// Waits until the next turn is that of the actor with this index, and begins it. Returns whether the actor goes on; false after the last turn.
+    fn begin(&self, index: usize, condvar: &Condvar) -> bool {
         let begun = self.begun.lock(self.rt);
-        let mut begun = call.wait_while(self.rt, begun, |begun| self.is_anothers(*begun, place));
-        self.wait_for_step();
-        let goes_on = self.schedule.get(*begun).is_some_and(|turn| turn.goes_on);
+        let mut begun = condvar.wait_while(
+            self.rt,
+            begun,
+            |begun| self.belongs_to_other(*begun, index),
+        );
+        let goes_on = match self.schedule.get(*begun) {
+            // The lock is held meanwhile, since no other turn can begin.
+            Some(turn) => self.wait_for_step() && turn.goes_on,
+            None => return false,
+        };
         *begun = begun.saturating_add(1);
         self.call_next(*begun);
         goes_on
     }
 
-    /// Waits for a byte of standard input, or its end.
-    fn wait_for_step(&self) {
+    /// Waits for a byte of standard input, or its end. Returns false if it cannot be read.
+    fn wait_for_step(&self) -> bool {
         let (mut stdin, mut byte) = (self.stdin, [0u8; 1]);
-        let _read = stdin.read(&mut byte);
+        for _ in 0..MOST_READS {
+            match stdin.read(&mut byte) {
+                Ok(_) => return true,
+                Err(error) if error.kind() == ErrorKind::Interrupted => {}
+                Err(_) => return false,
+            }
+        }
+        false
     }
 
-    /// Calls the actor whose turn is the one after so many; after the last turn, everybody.
+    /// Calls the actor of turn `begun`; after the last turn, everybody.
     fn call_next(&self, begun: usize) {
         match self.schedule.get(begun) {
             Some(turn) => {
-                if let Some(call) = self.calls.get(turn.place) {
-                    call.notify_one();
+                if let Some(condvar) = self.condvars.get(turn.index) {
+                    condvar.notify_one();
                 }
             }
             None => {
-                for call in self.calls.as_slice() {
-                    call.notify_one();
+                for condvar in self.condvars.as_slice() {
+                    condvar.notify_one();
                 }
             }
         }
@@ -128,21 +147,21 @@ impl<'a, R: Wait> Gate for Turnstile<'a, R> {
     ghost may_refuse = { λ gate actor. Unit {0} };
 
     fn pass(&self, actor: Actor, turn: u64) -> bool {
-        let place = place_of(actor);
-        let Some(call) = self.calls.get(place) else {
+        let index = index_of(actor);
+        let Some(condvar) = self.condvars.get(index) else {
             return false;
         };
         match self.tell(&actor, turn) {
-            Ok(()) => self.begin(place, call),
+            Ok(()) => self.begin(index, condvar),
             Err(_) => false,
         }
     }
 }
 
-/// Returns the place of an actor among all that a shape can have.
-fn place_of(actor: Actor) -> usize {
+/// Returns the index of an actor among all that a shape can have, replicas first.
+fn index_of(actor: Actor) -> usize {
     match actor {
         Actor::Replica(replica) => replica.number() as usize,
-        Actor::Client(client) => FIRST_CLIENT + client.number() as usize,
+        Actor::Client(client) => MOST_REPLICAS + client.number() as usize,
     }
 }
