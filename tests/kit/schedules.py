@@ -1,6 +1,5 @@
-"""Random schedules of services in threads: at each turn one host goes on or is stopped, and then all hosts must be where the model of
-tests/models/hosts.py has them. What must be is the model's: who asks next and with which turn, how many sleep and have ended, each entry of each log, and why
-the service ended."""
+"""Random schedules of services in threads. In each turn one host goes on or is stopped, and after it the service must match the model of tests/models/hosts.py:
+which hosts ask next and with which turn, how many have ended, and that all others sleep; at the end each entry of each log, and why the service ended."""
 
 import random
 import time

@@ -32,7 +32,7 @@ const REFUSED: u8 = 1;
 /// The exit status if the words are wrong.
 const USAGE_FAULT: u8 = 2;
 
-/// What is said if the words are wrong.
+/// The usage message for a wrong command line.
 const USAGE: &[u8] =
     b"usage: dsr_own_service COUNT [transcript], or dsr_own_service in-turn SCRIPT TURN..\n";
 

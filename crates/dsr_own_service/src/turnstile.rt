@@ -13,7 +13,7 @@ const MOST_REPLICAS: usize = 16;
 /// The greatest number of clients of a shape.
 const MOST_CLIENTS: usize = 32;
 
-/// How often a read is tried again that was interrupted.
+/// The maximum number of tries of a read that signals interrupt.
 const MOST_READS: u32 = 1_000;
 
 /// A turn of a schedule.
