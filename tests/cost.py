@@ -303,7 +303,7 @@ SIGNATURES = 700_000
 OF_AN_ENVELOPE = 512
 # How many times as long a byte may take, and one of four times the rounds.
 MOST_TIMES_A_BYTE, MOST_GROWTH = 4, 1.5
-RUNS = 3
+RUNS = 5
 # Rounds of a script, and operations of its client.
 OF_A_SCRIPT = 24
 
@@ -340,10 +340,13 @@ def service(shape, rounds):
     return program("play --transcript", Rounds(n, f, traitors, True, rounds).text())[1]
 
 
-def time_a_byte(words, text, begins):
-    """The least seconds of a processor that the program takes for a byte of this text; None if what it writes does not begin so."""
-    least = least_time(words, text, RUNS, begins)
-    return least and least / len(text)
+def times_a_byte(words, texts):
+    """The least seconds of a processor that the program takes for a byte of each of these texts; None if what it writes for one does not begin as it must.
+    The texts take turns, since a processor may change its speed meanwhile."""
+    rounds = [[least_time(words, text, 1, begins) for text, begins in texts] for _ in range(RUNS)]
+    if any(None in seconds for seconds in rounds):
+        return None
+    return [min(seconds) / len(text) for (text, _), seconds in zip(texts, zip(*rounds))]
 
 
 def times():
@@ -359,12 +362,12 @@ def times():
         (f"signatures that agree in signer, slot and count, up to {SIGNATURES}", MOST_TIMES_A_BYTE,
          *alike([], lambda number: f"r0(0/c0#{number + 1}:read:a/-)")),
     ]
-    found = [time_a_byte("check", text, b"run %d\n" % steps) for _, _, text, steps in cases]
-    usual = time_a_byte("check", common, b"run %d\n" % (common.count(b"\n") - 1))
-    if usual is None or None in found:
+    found = times_a_byte("check", [(text, b"run %d\n" % steps) for text, steps in [(common, common.count(b"\n") - 1), *(case[2:] for case in cases)]])
+    if found is None:
         yield "transcripts whose time is taken", "one of them is no run"
         return
-    for (what, most, text, _), a_byte in zip(cases, found):
+    usual, *others = found
+    for (what, most, text, _), a_byte in zip(cases, others):
         said = f"{len(text)} bytes, {a_byte * len(text):.2f} seconds, {a_byte / usual:.2f} times as long a byte as {len(common)} bytes of a service"
         yield what, said if a_byte > most * usual else None, f", {said}"
     yield script_times()
@@ -373,10 +376,11 @@ def times():
 def script_times():
     """The same of scripts: what signatures take that differ in what is signed alone, beside some that differ in their slot."""
     alike_ones, others = script(lambda number: f"r0(0/c0#{number}:read:a/-)"), script(lambda number: f"r0({number}/c0#1:read:a/-)")
-    a_byte, usual = (time_a_byte("serve", text, b"accepted c0 1 ") for text in (alike_ones, others))
+    found = times_a_byte("serve", [(text, b"accepted c0 1 ") for text in (alike_ones, others)])
     what = f"a script with {OF_A_SCRIPT * OF_AN_ENVELOPE} signatures that agree in signer, slot and count"
-    if a_byte is None or usual is None:
+    if found is None:
         return what, "one of two scripts is not served"
+    a_byte, usual = found
     said = f"{len(alike_ones)} bytes, {a_byte * len(alike_ones):.2f} seconds, {a_byte / usual:.2f} times as long a byte as if they differ in their slot"
     return what, said if a_byte > MOST_TIMES_A_BYTE * usual else None, f", {said}"
 
