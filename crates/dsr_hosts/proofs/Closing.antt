@@ -1,5 +1,5 @@
 -- What the hosts of all seats leave, once the mail is closed.
-use Rattle.std.proofs.Common.{◌≡◌, ℕ, zero, suc, ◌<◌, ◌+◌, not, Bool, true, false, ◌++◌, List, [], ◌∷◌, Option, None, Some, ◌⊎◌, inl, inr, refl, sym, subst, ap, ◌∙◌, length, arith}
+use Rattle.std.proofs.Common.{◌≡◌, ℕ, zero, suc, ◌<◌, not, Bool, true, false, ◌++◌, List, [], ◌∷◌, Option, None, Some, inl, inr, refl, sym, subst, ap, ◌∙◌, length, arith}
 use Rattle.std.specs.Prelude.{All, IfSome, map}
 use Rattle.std.proofs.lemmas.Bool.{cases_eq}
 use Rattle.std.proofs.lemmas.List.Elements.{All-cons, All-nil}

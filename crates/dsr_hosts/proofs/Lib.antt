@@ -1,4 +1,5 @@
 mod Backs
+mod Calling
 mod Closing
 mod Making
 mod Operations

@@ -7,3 +7,4 @@ pub mod Requests
 pub mod Returns
 pub mod Seats
 pub mod Served
+pub mod Turns

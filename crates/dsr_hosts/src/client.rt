@@ -1,16 +1,17 @@
 //! The operations of a client.
 
-ghost use Rattle.std.specs.Prelude.{◌≡◌, true, None, Some, Err, IsErrOf, OnOk, OnErr, IfErr, IsSome, IsNone};
+ghost use Rattle.std.specs.Prelude.{◌≡◌, ℕ, true, None, Some, reverse, IsErrOf, OnOk, OnErr, IfErr, IsSome, IsNone};
 ghost use Rattle.dsr_names.specs.declared.refusal.Refusal.TheVariants.{Unanswered};
 ghost use Rattle.dsr_rounds.specs.declared.end.End.TheVariants.{Fault};
 ghost use Rattle.dsr_client.specs.State.{accepted, outstanding};
+ghost use Rattle.dsr_script.specs.Script.{ops_of};
 ghost use Rattle.dsr_boxes.specs.Pass.{IsPassOf};
-ghost use Rattle.dsr_calls.specs.Calls.{GoesOn};
-ghost use Rattle.dsr_calls.specs.Course.{HasCourse};
+ghost use Rattle.dsr_calls.specs.Calls.{GoesOn, number_of};
 ghost use Rattle.dsr_hosts.specs.Causes.{ClientRefusal, IsUnserved};
 ghost use Rattle.dsr_hosts.specs.Hosted.{ClientEnd, IsServed};
 ghost use Rattle.dsr_hosts.specs.Requests.{HasMade, Answers, Keeps};
 ghost use Rattle.dsr_hosts.specs.Seats.{IsNewSeat};
+ghost use Rattle.dsr_hosts.specs.Turns.{HasCallCourse, IsCall, CallsFor, CallsForEach};
 
 use crate::over::Calls;
 use crate::service::Service;
@@ -30,6 +31,8 @@ impl<'a, R: Wait, G: Gate> Service<'a, R, G> {
         requires { IsNewSeat self.now.host.mail.now seat.old }
         ensures log { GoesOn seat.new seat.old }
         ensures served { OnOk result (IsServed self.now.script.now seat.new) }
+        ensures calls { OnOk result ((turn : ℕ) × CallsForEach (G.may_pass self.now.host.gate.now) (reverse (ops_of self.now.script.now (number_of seat.old.actor)))
+            seat.old seat.new 0 turn) }
         ensures unserved { OnErr result (IsUnserved self.now.script.now seat.new) }
         ensures end { IfErr result (ClientEnd (G.may_refuse self.now.host.gate.now) seat.new) }
     {
@@ -54,6 +57,7 @@ impl<'a, R: Wait, G: Gate> Service<'a, R, G> {
         ensures log { GoesOn seat.new seat.old }
         ensures made { OnOk result (HasMade op.now seat.old seat.new) }
         ensures same { OnErr result (accepted seat.new.shape seat.new.log ≡ accepted seat.old.shape seat.old.log) }
+        ensures calls { CallsFor (G.may_pass self.now.host.gate.now) op.now seat.old seat.new turn.old.number turn.new.number result }
         ensures last { IsErrOf result (Fault Unanswered) → calls.new.last ≡ true }
         ensures end { IfErr result (ClientEnd (G.may_refuse self.now.host.gate.now) seat.new) }
     {
@@ -81,8 +85,7 @@ impl<'a, R: Wait, G: Gate> Service<'a, R, G> {
         ensures answered { OnOk result (Answers op.now seat.old seat.new) }
         ensures awaited { OnErr result (Keeps op.now seat.old seat.new) }
         ensures refused { IfErr result (ClientRefusal (G.may_refuse self.now.host.gate.now) seat.new) }
-        ensures asked { IsNone (outstanding seat.old.shape seat.old.log) → IfErr result (λ refusal. HasCourse (Some op.now) 1000 seat.old seat.new (Err refusal)) }
-        ensures goes_on { IsSome (outstanding seat.old.shape seat.old.log) → IfErr result (λ refusal. HasCourse None 1000 seat.old seat.new (Err refusal)) }
+        ensures course { IsCall op.now seat.old seat.new result }
         ensures last { calls.new.last ≡ calls.old.over }
     {
         calls.note();
@@ -100,7 +103,7 @@ impl<'a, R: Wait, G: Gate> Service<'a, R, G> {
         ensures log { GoesOn seat.new seat.old }
         ensures answered { OnOk result (Answers op.now seat.old seat.new) }
         ensures awaited { OnErr result (Keeps op.now seat.old seat.new) }
-        ensures course { IfErr result (λ refusal. HasCourse None 1000 seat.old seat.new (Err refusal)) }
+        ensures course { HasCallCourse None seat.old seat.new result }
         ensures refused { IfErr result (ClientRefusal (G.may_refuse self.now.host.gate.now) seat.new) }
     {
         // The contract alone names the operation: it is that of the outstanding request.
@@ -121,7 +124,7 @@ impl<'a, R: Wait, G: Gate> Service<'a, R, G> {
         ensures log { GoesOn seat.new seat.old }
         ensures answered { OnOk result (Answers op.now seat.old seat.new) }
         ensures awaited { OnErr result (Keeps op.now seat.old seat.new) }
-        ensures course { IfErr result (λ refusal. HasCourse (Some op.now) 1000 seat.old seat.new (Err refusal)) }
+        ensures course { HasCallCourse (Some op.now) seat.old seat.new result }
         ensures refused { IfErr result (ClientRefusal (G.may_refuse self.now.host.gate.now) seat.new) }
     {
         // For the proof: what their contracts say.

@@ -1,4 +1,4 @@
-use Rattle.std.proofs.Common.{◌≡◌, ◌<◌, sym, subst, arith}
+use Rattle.std.proofs.Common.{◌<◌, sym, subst, arith}
 use Rattle.dsr_names.specs.Places.{size, place_of}
 use Rattle.dsr_names.specs.Shape.{IsActor}
 use Rattle.dsr_hosts.proofs.Closing.{place_inside}
