@@ -18,6 +18,9 @@ Then services of which something is refused, each of which must end within 20 se
 The first and the last of these are asked of `dsr serve` and of `dsr serve --transcript` too. Their status is 3 if they say `no memory`, and 1 if they say
 anything else; and the report says of each accepted reply that the client's request is at its place of the history.
 
+wakes: 20 services, with `soak` a hundred, in which each thread rests for two thousandths of a second as soon as it has woken another. So a host that is woken
+too early looks, and sleeps again, before what it waits for is there, and nobody wakes it then. Each service must end within 20 seconds, as above.
+
 answers: 200 services by `dsr serve --transcript`, with `soak` a thousand, and one of 16 replicas, with traitors, judged by tests/models/real_time.py and
 tests/models/eager.py. A search finds an order of the requests that keeps real time, and the history that `dsr check` reports is one: in the transcript, and
 in the same logs with each ask as late as it can come. All loyal replicas are eager, and what they hold acts within the bound of rounds: the greatest count of
@@ -27,10 +30,10 @@ schedules: 500 services by `dsr_own_service in-turn`, with `soak` 5,000, over te
 their clients are served. A model that was written anew (tests/models/hosts.py) draws by chance in which order their hosts make their tries, one at a time; and
 after each turn the hosts must be where it has them: who asks next and with which turn, whether all others sleep, and how many have ended. At the end each entry
 of each log must be the model's, and why the service ended. Some hosts are slow, some are stopped, and in a third of the schedules almost every post and take
-wakes somebody who sleeps. If somebody sleeps after 50 turns, all are left alone for 0.3 seconds, in which at most a tenth of a processor may be spent; and few
-turns may take much of one. Until all are told to stop, hosts must have let others run (sched_yield) as often as the model's. In all together replicas and
-traitors were woken by posts and takes, often, and by hosts of each kind that told all to stop. A schedule that is not kept fails some 10 seconds after the first
-host that does not come, and says where.
+wakes somebody who sleeps. If somebody sleeps after 50 turns, all are left alone for 0.3 seconds, in which at most a tenth of a processor may be spent; and of
+all turns in which a host goes on or falls asleep, at most one of 50 may take much of one. Until all are told to stop, hosts must have let others run
+(sched_yield) as often as the model's. In all together replicas and traitors were woken by posts and takes, often, and by hosts of each kind that told all to
+stop. A schedule that is not kept fails some 10 seconds after the first host that does not come, and says where.
 
 mail: random tries of the mail, by `dsr_mail_tries`, over shapes of all sizes, with `soak` for an hour. Each thread makes random calls at its seats, and
 what came of it is a transcript, which must be a run. By its lines alone what an actor took from another is the first so many envelopes that were posted to
@@ -48,7 +51,7 @@ from collections import Counter, namedtuple
 from kit import schedules as turns
 from kit.inputs import lines_text
 from kit.program import MOST_BYTES, TOP, bytes_of, command_of, program, run, shown
-from kit.refusals import numbers, refusing, yielding
+from kit.refusals import numbers, refusing, resting, yielding
 from kit.report import in_processes, main, say
 from kit.turnstile import SERVICE
 from models import eager, real_time
@@ -306,6 +309,28 @@ def services(report, is_soak):
         judge_without_memory(report, chance, shim, is_soak)
 
 
+# ---- wakes
+
+# The shapes of these services, and how many there are of each, and with `soak` five times as many.
+WAKING_SHAPES, WAKING = ["3 1 2 r2", "4 1 2 -", "4 1 4 r3", "5 2 3 r1+r4", "7 3 4 r0+r2+r6"], 4
+# For how many microseconds a thread rests that has woken another, and how many must be woken in all services of a shape together.
+REST, FEWEST_WOKEN = 2_000, 20
+
+
+def wakes(report, is_soak):
+    chance = random.Random(2003)
+    with resting() as shim:
+        for shape in WAKING_SHAPES:
+            woken = 0
+            for number in range(WAKING * (5 if is_soak else 1)):
+                script = script_of(chance, shape)
+                ran, noted = shim.run([SERVICE, str(UNSTOPPED), "transcript"], script.text, SECONDS_OF_REFUSED, rest=REST)
+                woken += int.from_bytes(noted or b"", "little")
+                fault = fault_of_service(ran, script.counts)
+                report.judge(f"service {number} of shape {shape}", fault and f"{fault}\n{script.text.decode()}", None)
+            report.judge(f"threads woken in services of shape {shape}", f"only {woken}" if woken < FEWEST_WOKEN else None, f", {woken}")
+
+
 # ---- answers
 
 # The shapes that are served so often, each, and with `soak` five times as often.
@@ -514,4 +539,4 @@ def mail(report, is_soak):
 
 
 if __name__ == "__main__":
-    sys.exit(main(__doc__, {"services": services, "answers": answers, "schedules": schedules, "mail": mail}, "soak"))
+    sys.exit(main(__doc__, {"services": services, "wakes": wakes, "answers": answers, "schedules": schedules, "mail": mail}, "soak"))

@@ -1,4 +1,5 @@
-"""Programs of which something is refused: allocations, threads, reads or writes. The C files of tests/ are preloaded to refuse it."""
+"""Programs of which something is refused: allocations, threads, reads or writes; or whose calls are counted or take longer. The C files of tests/ are preloaded
+to do that."""
 
 import itertools
 import os
@@ -59,6 +60,11 @@ def counting():
 def yielding():
     """The shim that refuses nothing, and counts how often a program lets other threads run: eight bytes, the least first."""
     return Shim("yields", "YIELDS")
+
+
+def resting():
+    """The shim that refuses nothing, and has each thread that has woken another rest a while. It notes how many were woken: eight bytes, the least first."""
+    return Shim("wakes", "WAKES")
 
 
 def numbers(first=0, steps=None, shift=0):

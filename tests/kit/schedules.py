@@ -25,9 +25,9 @@ Row = namedtuple("Row", "seed shape stops rule")
 SHAPES = ["1 0 1 -", "1 0 3 -", "2 0 2 -", "3 1 1 r2", "3 1 2 r0", "4 1 3 r3", "4 1 2 -", "5 2 2 r1+r4", "6 2 5 r0+r5", "7 3 4 r0+r2+r6"]
 # After how many turns all is left alone, if somebody sleeps, for how many seconds, and how many of these may be spent of a processor.
 LEFT_ALONE, ALONE, SPENT_ALONE = 50, 0.3, 0.03
-# Of every so many turns it is looked how many seconds of a processor one takes. It is slow if it takes more than this, some thirty times what it takes: a try
-# of a replica or a traitor, and a call of a client, which has up to 1,000 tries. So many may be slow, and one of so many.
-LOOKED_EVERY, SLOW_TRY, SLOW_CALL, MOST_SLOW, FEW = 10, 0.0005, 0.01, 4, 5
+# A turn is slow if it takes more than so many seconds of a processor, some fifty times what it takes: a try of a replica or a traitor, and a call of a client,
+# which has up to 1,000 tries. So many turns may be slow, and one of so many.
+SLOW_TRY, SLOW_CALL, MOST_SLOW, FEW = 0.0005, 0.01, 9, 50
 # After how many faults a process tries no more.
 MOST_FAULTS = 2
 FOUND = Counter()
@@ -166,20 +166,19 @@ def word_of(turn):
 def follow(gate, first, schedule):
     """Has the service go on by the schedule, until all hosts have ended. At first these ask. Yields each turn that is over."""
     hear(gate, first)
-    spent = Spent(gate)
+    spent = Spent()
     for number, turn in enumerate(schedule):
         if turn.yields is not None:
             look_at_yields(gate, turn.yields)
             if number == LEFT_ALONE and turn.sleeps:
                 leave_alone(gate)
-        is_looked_at = number % LOOKED_EVERY == LOOKED_EVERY - 1 and turn.rest is None
-        before = gate.spent() if is_looked_at else None
+        before = gate.spent()
         gate.step()
         hear(gate, turn.came)
         if turn.rest:
             {SLEEP: gate.sleeps_with, WAKE: gate.goes_on_with, END: gate.ends_with}[turn.rest](turn.threads)
-        if is_looked_at:
-            spent.look(turn, before)
+        if turn.rest in (None, SLEEP):
+            spent.look(turn, gate.spent() - before)
         yield turn
 
 
@@ -200,18 +199,17 @@ def leave_alone(gate):
 
 
 class Spent:
-    """How many of the turns that were looked at were slow."""
+    """How many turns were slow."""
 
-    def __init__(self, gate):
-        self.gate, self.seen, self.slow = gate, 0, 0
+    def __init__(self):
+        self.seen = self.slow = 0
 
-    def look(self, turn, before):
-        """This turn is over, before which the threads had taken so much of a processor. Few turns may be slow."""
-        taken = self.gate.spent() - before
+    def look(self, turn, taken):
+        """This turn has taken so many seconds of a processor. Few turns may be slow."""
         self.seen += 1
         self.slow += taken > (SLOW_CALL if turn.actor[0] == "c" else SLOW_TRY)
         if self.slow > MOST_SLOW and self.slow * FEW > self.seen:
-            raise Left(f"of {self.seen} turns that were looked at {self.slow} have taken long, the last {taken:.4f} seconds of a processor")
+            raise Left(f"of {self.seen} turns {self.slow} have taken long, the last {taken:.4f} seconds of a processor")
 
 
 def hear(gate, came):

@@ -79,6 +79,8 @@ class Turnstile:
             command = [SERVICE, "in-turn", script, *turns]
             self.process = subprocess.Popen(command, env=env, bufsize=0, pass_fds=[file.fileno()], **streams)
         self.threads, self.output = Threads(self.process.pid), self.process.stdout.fileno()
+        # The clock of the time that the process has had of processors, as Linux numbers it.
+        self.clock = ~self.process.pid << 3 | 2
         os.set_blocking(self.output, False)
         # Asks that were heard and not looked at yet, and the bytes of a line that has not ended, or of the transcript.
         self.asked, self.rest, self.has_ended = deque(), b"", False
@@ -105,8 +107,8 @@ class Turnstile:
         return struct.unpack("=Q", self.counted[:])[0]
 
     def spent(self):
-        """How many seconds of a processor its threads have had that have not ended."""
-        return sum(self.threads.times().values()) / 10**9
+        """How many seconds of a processor the service has had."""
+        return time.clock_gettime(self.clock)
 
     def hear(self, seconds):
         """Reads what the service has written, and waits for it at most so long. Returns whether there was something."""
