@@ -25,7 +25,7 @@ pub struct Account {
 }
 
 /// Reads a transcript, and tells, as data or in words, whether its steps are a run; if not, which is the first that may not follow those before it, and
-/// why. If the text is not a transcript, tells the first place where it is wrong. `NoMemory` if memory runs out.
+/// why. If the text is not a transcript, reports its first error. `NoMemory` if memory runs out.
 pub fn explain_transcript(alloc: Global, text: &[u8], as_data: bool) -> Result<Account, Refusal>
     ensures told { IfOk result (λ account. TellsTranscript text.now as_data account.refusal (string_bytes account.text)) }
     ensures refusal { IsOkUnless result Refusal.NoMemory }
