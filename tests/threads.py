@@ -32,8 +32,8 @@ after each turn the hosts must be where it has them: who asks next and with whic
 of each log must be the model's, and why the service ended. Some hosts are slow, some are stopped, and in a third of the schedules almost every post and take
 wakes somebody who sleeps. If somebody sleeps after 50 turns, all are left alone for 0.3 seconds, in which at most a tenth of a processor may be spent; and of
 all turns in which a host goes on or falls asleep, at most one of 50 may take much of one. Until all are told to stop, hosts must have let others run
-(sched_yield) as often as the model's. In all together replicas and traitors were woken by posts and takes, often, and by hosts of each kind that told all to
-stop. A schedule that is not kept fails some 10 seconds after the first host that does not come, and says where.
+(sched_yield, which returns at once here) as often as the model's. In all together replicas and traitors were woken by posts and takes, often, and by hosts of
+each kind that told all to stop. A schedule that is not kept fails some 10 seconds after the first host that does not come, and says where.
 
 mail: random tries of the mail, by `dsr_mail_tries`, over shapes of all sizes, with `soak` for an hour. Each thread makes random calls at its seats, and
 what came of it is a transcript, which must be a run. By its lines alone what an actor took from another is the first so many envelopes that were posted to

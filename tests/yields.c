@@ -1,10 +1,10 @@
-/* Counts how often a program that this is preloaded into lets other threads run (sched_yield). The count is in the file that YIELDS_NOTE names, at any time:
-   eight bytes, which others may look at while the program runs. */
+/* Counts how often a program that this is preloaded into lets other threads run (sched_yield), and goes on at once: it is for services whose threads go on one at
+   a time, where nobody waits for that, and on a machine with much to do each time would take milliseconds. The count is in the file that YIELDS_NOTE names, at any
+   time: eight bytes, which others may look at while the program runs. */
 #define _GNU_SOURCE
 #include <fcntl.h>
 #include <stdlib.h>
 #include <sys/mman.h>
-#include <sys/syscall.h>
 #include <unistd.h>
 
 static unsigned long unshared;
@@ -25,5 +25,5 @@ __attribute__((constructor)) static void share(void)
 int sched_yield(void)
 {
     __atomic_add_fetch(yields, 1, __ATOMIC_SEQ_CST);
-    return syscall(SYS_sched_yield);
+    return 0;
 }

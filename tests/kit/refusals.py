@@ -58,7 +58,7 @@ def counting():
 
 
 def yielding():
-    """The shim that refuses nothing, and counts how often a program lets other threads run: eight bytes, the least first."""
+    """The shim that refuses nothing, and counts how often a program lets other threads run, but goes on at once: eight bytes, the least first."""
     return Shim("yields", "YIELDS")
 
 
