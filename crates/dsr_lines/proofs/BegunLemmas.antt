@@ -133,7 +133,7 @@ module _ (shape : Shape) (me : Actor) (log : List Entry) where
   both_by true asks = refl
   both_by false asks = refl
 
-  -- an envelope whose own chain comes last shows the choice by which it begins the slot
+  -- an envelope whose own chain comes last shows which choice begins the slot
   same_last : (t : ℕ) (value : SlotValue) (relayed : List Chain)
       → shown_choice shape me 0 (Round t (relayed ++ started t value me ∷ [])) ≡ begun_choice shape me 0 (Round t (relayed ++ started t value me ∷ []))
   same_last t value relayed =
@@ -172,12 +172,12 @@ module _ (shape : Shape) (me : Actor) (log : List Entry) where
           subst (λ y. shown_choice shape me 0 y ≡ begun_choice shape me 0 y) given.1
           (same_other (rounds shape log) (chains_posted shape me log (rounds shape log) given.0) other)
 
-  -- the post is by the choice by which it begins a slot
+  -- the post is by the choice that begins a slot
   pub begun_is : (q : ℕ) (pick : Pick) (x : Envelope) → IsPick pick → envelope_to shape me log q pick ≡ Some x → pick ≡ begun_choice shape me q x
   begun_is zero pick x good e = choice_shown shape me log 0 pick x good e ∙ same_first pick x e
   begun_is (suc q) pick x good e = choice_shown shape me log (suc q) pick x good e
 
-  -- if some choice gives the envelope, then so does the one by which it begins a slot
+  -- if some choice gives the envelope, then so does the one that begins a slot
   pub read_gives : (q : ℕ) (x : Envelope) (ours : Pick) → (IsPick (begun_choice shape me q x) → ours ≡ begun_choice shape me q x)
       → (pick : Pick) → IsPick pick → envelope_to shape me log q pick ≡ Some x → envelope_to shape me log q ours ≡ Some x
   read_gives q x ours read pick good e =

@@ -26,7 +26,7 @@ slot_asks slot asks (chain ∷ more) = slot_asks slot (if chain.slot == slot the
 abbrev pub clients_of : List SignedRequest → List ℕ
 clients_of asks = map (λ ask. ask.request.client) asks
 
--- the clients of the requests with which a post of this replica to replica 0 begins a slot of its own; none if it begins no such slot
+-- the clients whose requests begin a slot of this replica, by its post to replica 0; none if that post begins no slot
 abbrev pub clients_begun : Shape → Actor → ℕ → Envelope → List ℕ
 clients_begun shape me zero Empty = []
 clients_begun shape me zero (Round round chains) =
@@ -36,7 +36,7 @@ clients_begun shape me zero (Reply reply) = []
 clients_begun shape me zero (Seen front) = []
 clients_begun shape me (suc q) envelope = []
 
--- the choice by which the slot would be begun like this
+-- the choice that would begin the slot like this
 abbrev pub begun_choice : Shape → Actor → ℕ → Envelope → Pick
 begun_choice shape me q envelope = choice_of (clients_begun shape me q envelope)
 

@@ -39,7 +39,7 @@ begun_by (Ask ask) current = told_choice current ask
 begun_by (Reply reply) current = Plain
 begun_by (Seen front) current = Plain
 
--- a loyal replica's post of this envelope to a replica: by the choice by which it begins a slot of its own; by the plain choice if that one
+-- a loyal replica's post of this envelope to a replica: by the choice that begins a slot of its own; by the plain choice if that one
 -- cannot be made
 pub record IsShownPost (shape : Shape) (p q : ℕ) (found : Envelope) (event : Event) : Type 0 where
   pub pick : Pick
@@ -84,7 +84,7 @@ IsOtherPosted shape logs event (from, PostEntry to found) wanted posted how =
     (refusal_of shape logs event ≡ None) × (step_of shape logs event ≡ Some (from, PostEntry to wanted)) × (posted ≡ found) × (wanted ≢ posted)
     × IsDifference wanted posted how
 
--- the step would be an event of which this holds: nothing refuses it, and by it the actor takes or posts another envelope
+-- the step would be an event for which this holds: nothing refuses it, and it takes or posts another envelope
 pub record IsOtherStep (Other : Event → Type 0) (shape : Shape) (logs : Logs) (step : Step) : Type 0 where
   pub event : Event
   pub is : IsEventOf shape logs step event

@@ -12,7 +12,7 @@ use dsr_facts::pick_of;
 use dsr_names::{Actor, ClientId, Refusal, ReplicaId, Shape};
 use std::alloc::Global;
 
-/// Returns the clients of the requests with which a post of this replica begins a slot of its own, in their order; none if it begins no such slot.
+/// Returns the clients whose requests begin a slot of this replica, by its post, in their order; none if the post begins no slot.
 /// `NoMemory` if memory runs out.
 pub(crate) fn clients_begun(
     alloc: Global,

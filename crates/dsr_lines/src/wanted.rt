@@ -1,4 +1,4 @@
-//! What a loyal actor posts, and by which choice.
+//! What a loyal actor posts, and which choice makes it post that.
 
 ghost use Rattle.std.specs.Prelude.{◌≡◌, ◌<◌, ℕ, List, None, Some, true, false, IfOk, IfSome, IfNone, IsOkUnless};
 ghost use Rattle.std.specs.Option.{is_none};

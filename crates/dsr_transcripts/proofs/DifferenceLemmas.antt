@@ -18,7 +18,7 @@ use Rattle.dsr_transcripts.specs.Why.{chains_in, parted_of}
 
 -- ---- chains
 
--- there is a chain with which something is wrong
+-- there is a wrong chain
 there : (ours theirs : List Chain) (next other : Option Chain) (how : Parting) → IsParting ours theirs next other how
     → (x : Chain) × (parted_of how next other ≡ Some x)
 there ours theirs None (Some y) TooMany h = (y, refl)

@@ -88,7 +88,7 @@ abbrev pub parted_text : Bool → ℕ → Option Chain → Parting → List ℕ
 parted_text is_data place (Some chain) how = chain_text is_data (place + 1) chain how
 parted_text is_data place None how = []
 
--- of a wanted and a posted envelope, the one that has the chain with which something is wrong: a missing chain is one of the wanted envelope, any
+-- of a wanted and a posted envelope, the one that has the wrong chain: a missing chain is one of the wanted envelope, any
 -- other chain one of the posted envelope
 abbrev pub parted_of : {X : Type 0} → Parting → X → X → X
 parted_of TooMany wanted posted = posted

@@ -44,7 +44,7 @@ pub(crate) fn write_difference(
     }
 }
 
-/// Writes which round is in progress, and of which round the envelope is. Requires that both envelopes are of rounds, and differ in them.
+/// Writes which round is in progress, and the round of the envelope. Requires that both envelopes are of rounds, and differ in them.
 fn write_rounds(
     out: &mut String,
     as_data: bool,
@@ -100,7 +100,7 @@ fn write_chains(
     write_parted(out, as_data, chains, place, how)
 }
 
-/// Returns the envelope that has the chain with which something is wrong.
+/// Returns the envelope that has the wrong chain.
 fn parted_of<'a>(how: Parting, wanted: &'a Envelope, posted: &'a Envelope) -> &'a Envelope
     ensures { result.now ≡ parted_of how wanted.now posted.now }
 {

@@ -162,7 +162,7 @@ fn why_signed(alloc: Global, as_data: bool, forged: &Forged) -> Result<String, R
     Ok(out)
 }
 
-/// Returns of which client a replica begins its slot with more than one request.
+/// Writes which client has more than one request in the list that begins a replica's slot.
 fn why_twice(alloc: Global, as_data: bool, client: ClientId) -> Result<String, Refusal>
     ensures says { IfOk result (λ why. string_bytes why ≡ why_line as_data (twice_text as_data client)) }
     ensures refusal { IsOkUnless result Refusal.NoMemory }
