@@ -1,33 +1,22 @@
 /* Has each thread of a program that this is preloaded into rest as soon as it has woken another, for as many microseconds as WAKES_REST says. So a thread that is
-   woken too early looks, finds nothing, and sleeps again before what it waits for is there. How many were woken is in the file that WAKES_NOTE names: eight bytes,
-   the least first. */
+   woken too early looks, finds nothing, and sleeps again before what it waits for is there. How many were woken is in the file that WAKES_NOTE names. */
 #define _GNU_SOURCE
+#include "shared_count.h"
 #include <dlfcn.h>
-#include <fcntl.h>
 #include <linux/futex.h>
 #include <stdarg.h>
-#include <stdlib.h>
-#include <sys/mman.h>
 #include <sys/syscall.h>
-#include <unistd.h>
 
 static long (*next)(long, ...);
 static useconds_t rest;
-static unsigned long unshared;
-static unsigned long *woken = &unshared;
+static unsigned long *woken;
 
-__attribute__((constructor)) static void share(void)
+__attribute__((constructor)) static void begin(void)
 {
-    const char *note = getenv("WAKES_NOTE"), *how_long = getenv("WAKES_REST");
+    const char *microseconds = getenv("WAKES_REST");
     next = (long (*)(long, ...))dlsym(RTLD_NEXT, "syscall");
-    rest = how_long ? atoi(how_long) : 0;
-    int file = note ? open(note, O_CREAT | O_RDWR, 0600) : -1;
-    if (file < 0)
-        return;
-    void *shared = ftruncate(file, sizeof unshared) ? MAP_FAILED : mmap(0, sizeof unshared, PROT_READ | PROT_WRITE, MAP_SHARED, file, 0);
-    if (shared != MAP_FAILED)
-        woken = shared;
-    close(file);
+    rest = microseconds ? atoi(microseconds) : 0;
+    woken = shared_count("WAKES_NOTE");
 }
 
 long syscall(long number, ...)
