@@ -1,5 +1,5 @@
--- Which calls a client's host makes for its operations, and with which of its turns it asks the gate before each (this project). No public contract
--- cites this.
+-- Which calls a client's host makes for its operations, and the turn with which it asks the gate before each (this project). No public contract cites
+-- this.
 use Rattle.std.specs.Prelude.{◌≡◌, ◌⊎◌, ℕ, zero, suc, List, [], ◌∷◌, Option, None, Some, Result, Ok, Err, IsSome}
 use Rattle.dsr_names.specs.declared.actor.Actor.{Actor}
 use Rattle.dsr_names.specs.declared.refusal.Refusal.{Refusal}
@@ -37,7 +37,7 @@ CallsInVain may op (suc calls) old new now next = (mid : Pass) × (turn : ℕ) �
 abbrev pub StaysOut : Pass → Pass → ℕ → ℕ → Type 0
 StaysOut old new now next = (new ≡ old) × ((next ≡ now) ⊎ (next ≡ turn_after now))
 
--- the last of its calls for an operation: it brings the reply, or is refused; or the host is told to stop, or refused, before it
+-- how its calls for an operation end: a call brings the reply, or is refused; or, before another call, the host is told to stop or refused by its gate
 abbrev pub CallsLast : (Actor → ℕ → Type 0) → Op → Pass → Pass → ℕ → ℕ → Result (Unit {0}) End → Type 0
 CallsLast may op old new now next (Ok done) = CallsOnce may op old new now next (Ok done)
 CallsLast may op old new now next (Err Told) = StaysOut old new now next
@@ -48,7 +48,7 @@ abbrev pub CallsFor : (Actor → ℕ → Type 0) → Op → Pass → Pass → �
 CallsFor may op old new now next result = (calls : ℕ) × (mid : Pass) × (turn : ℕ) × CallsInVain may op calls old mid now turn
     × CallsLast may op mid new turn next result
 
--- all of its calls for these operations, given newest first: each is made, with the turns after those of the one before it
+-- all of its calls for these operations, given newest first: each was answered, and turns go on from one operation to the next
 abbrev pub CallsForEach : (Actor → ℕ → Type 0) → List Op → Pass → Pass → ℕ → ℕ → Type 0
 CallsForEach may [] old new now next = (new ≡ old) × (next ≡ now)
 CallsForEach may (op ∷ ops) old new now next = (mid : Pass) × (turn : ℕ) × CallsForEach may ops old mid now turn
