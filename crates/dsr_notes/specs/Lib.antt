@@ -1,0 +1,7 @@
+pub mod Ask
+pub mod Closing
+pub mod End
+pub mod Notes
+pub mod Reading
+pub mod Unproposed
+pub mod Vote
