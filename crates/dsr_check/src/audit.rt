@@ -21,7 +21,7 @@ use crate::held::Held;
 use crate::party::Party;
 use dsr_base::Boxes;
 use dsr_desk::Key;
-use dsr_envelope::Envelope;
+use dsr_envelope::{Envelope, Letter};
 use dsr_names::{Actor, NUMBER_END, Refusal, ReplicaId, Shape};
 use dsr_record::{NotedEntry, NotedStep, all_keys};
 use dsr_script::{Draft, Known, build};
@@ -82,7 +82,7 @@ impl<'a> Audit<'a> {
         let actor = step.actor();
         match step.entry() {
             NotedEntry::Post { to, envelope } => self.post(alloc, &actor, to, envelope),
-            NotedEntry::Take { from, envelope } => self.take(&actor, from, envelope),
+            NotedEntry::Take { from, envelope } => self.take(alloc, &actor, from, envelope),
         }
     }
 
@@ -112,13 +112,20 @@ impl<'a> Audit<'a> {
         let Some(envelope) = self.unforged(alloc, from, draft)? else {
             return Ok(false);
         };
+        let envelope = Letter::of(alloc, envelope)?;
         let held = Held { envelope, draft };
         let next = self.put(alloc, from, to, held)?;
         Ok(next)
     }
 
     /// Tells whether this take may be next, and follows it if so.
-    fn take(&mut self, at: &Actor, from: &Actor, draft: &Draft) -> Result<bool, Refusal>
+    fn take(
+        &mut self,
+        alloc: Global,
+        at: &Actor,
+        from: &Actor,
+        draft: &Draft,
+    ) -> Result<bool, Refusal>
         requires { Stands self.old }
         ensures shape { self.new.shape ≡ self.old.shape }
         ensures next { (run : List Step) → StandsFor self.old run
@@ -132,7 +139,7 @@ impl<'a> Audit<'a> {
         }
         let (poster, taker) = (self.shape.place(from), self.shape.place(at));
         let held = self.boxes.take(poster, taker);
-        let next = self.parties[taker].take(at, from, held.envelope)?;
+        let next = self.parties[taker].take(alloc, at, from, held.envelope.envelope())?;
         Ok(next)
     }
 
@@ -184,7 +191,7 @@ impl<'a> Audit<'a> {
         ensures refusal { IsOkUnless result Refusal.NoMemory }
     {
         let (poster, taker) = (from.number() as usize, to.number() as usize);
-        let Some(envelope) = copy_of(alloc, &self.firsts[poster], draft)? else {
+        let Some(envelope) = copy_of(&self.firsts[poster], draft)? else {
             return Ok(false);
         };
         if !self.parties[poster].can_repeat(to) {
@@ -270,7 +277,7 @@ impl<'a> Audit<'a> {
         ensures refusal { IsOkUnless result Refusal.NoMemory }
     {
         let (poster, taker) = (self.shape.place(from), self.shape.place(to));
-        let next = self.parties[poster].post(alloc, from, to, &held.envelope)?;
+        let next = self.parties[poster].post(alloc, from, to, held.envelope.envelope())?;
         if !next {
             return Ok(false);
         }
@@ -279,9 +286,9 @@ impl<'a> Audit<'a> {
             self.keys.as_slice(),
             &self.shape,
             from,
-            &held.envelope,
+            held.envelope.envelope(),
         )?;
-        let first = first_of(alloc, to, &held)?;
+        let first = first_of(to, &held)?;
         keep_first(&mut self.firsts, poster, first);
         self.boxes.put(poster, taker, held);
         Ok(true)
@@ -340,9 +347,9 @@ fn no_firsts<'a>(alloc: Global, count: usize) -> Result<Vec<Option<Held<'a>>>, R
     Ok(firsts)
 }
 
-/// Returns a copy of the stored envelope; `None` if nothing is stored, or the recorded draft differs from this one. `NoMemory` if memory runs
-/// out or one more handle is refused.
-fn copy_of(alloc: Global, first: &Option<Held>, draft: &Draft) -> Result<Option<Envelope>, Refusal>
+/// Returns another handle of the stored envelope; `None` if nothing is stored, or the recorded draft differs from this one. `NoMemory` if one
+/// more handle is refused.
+fn copy_of(first: &Option<Held>, draft: &Draft) -> Result<Option<Letter>, Refusal>
     ensures copy { IfOk result (λ copy. IfSome copy (λ envelope. (held : AHeld) × (first.now ≡ Some held) × (held.draft.now ≡ draft.now) × (envelope ≡ held.envelope))) }
     ensures refusal { IsOkUnless result Refusal.NoMemory }
 {
@@ -351,22 +358,21 @@ fn copy_of(alloc: Global, first: &Option<Held>, draft: &Draft) -> Result<Option<
             if !held.draft.same(draft) {
                 return Ok(None);
             }
-            let envelope = held.envelope.try_copy(alloc)?;
+            let envelope = held.envelope.try_copy()?;
             Ok(Some(envelope))
         }
         None => Ok(None),
     }
 }
 
-/// Returns what is to be stored for a post: a copy of a post to replica 0, `None` for any other. `NoMemory` if memory runs out or one more
-/// handle is refused.
-fn first_of<'a>(alloc: Global, to: &Actor, held: &Held<'a>) -> Result<Option<Held<'a>>, Refusal>
+/// Returns what is to be stored for a post: a copy of a post to replica 0, `None` for any other. `NoMemory` if one more handle is refused.
+fn first_of<'a>(to: &Actor, held: &Held<'a>) -> Result<Option<Held<'a>>, Refusal>
     ensures first { IfOk result (λ first. IsFirstOf to.now held.now first) }
     ensures refusal { IsOkUnless result Refusal.NoMemory }
 {
     match to {
         Actor::Replica(taker) if taker.number() == 0 => {
-            let envelope = held.envelope.try_copy(alloc)?;
+            let envelope = held.envelope.try_copy()?;
             Ok(Some(Held {
                 envelope,
                 draft: held.draft,

@@ -83,26 +83,28 @@ impl Party {
     }
 
     /// Tells whether the protocol of the actor, which is `me`, lets it take this envelope from this actor next. If so, it has
-    /// taken it. `NoMemory` if memory runs out.
+    /// taken it; it copies the envelope only if something in it may be stored. `NoMemory` if memory runs out or one more handle is refused.
     pub(crate) fn take(
         &mut self,
+        alloc: Global,
         me: &Actor,
         from: &Actor,
-        envelope: Envelope,
+        envelope: &Envelope,
     ) -> Result<bool, Refusal>
-        requires { CanGet self.old me.now from.now envelope }
+        requires { CanGet self.old me.now from.now envelope.now }
         ensures takes { (shape : Shape) (log : List Entry) → Plays shape me.now log self.old → IsActor shape from.now
-            → IfOk result (λ takes. OnTrue takes (KeepsOwn shape me.now log (Take from.now envelope)
-            × Plays shape me.now (Take from.now envelope ∷ log) self.new)) }
+            → IfOk result (λ takes. OnTrue takes (KeepsOwn shape me.now log (Take from.now envelope.now)
+            × Plays shape me.now (Take from.now envelope.now ∷ log) self.new)) }
         ensures not { (shape : Shape) (log : List Entry) → Plays shape me.now log self.old
-            → IfOk result (λ takes. OnFalse takes (¬ KeepsOwn shape me.now log (Take from.now envelope))) }
+            → IfOk result (λ takes. OnFalse takes (¬ KeepsOwn shape me.now log (Take from.now envelope.now))) }
         ensures refusal { IsOkUnless result Refusal.NoMemory }
     {
         match self {
             Party::Loyal(replica) => match from {
-                Actor::Replica(number) => replica_takes(replica, *number, envelope),
+                Actor::Replica(number) => replica_takes(alloc, replica, *number, envelope),
                 Actor::Client(client) => {
-                    replica.ask_taken(*client, envelope);
+                    let copy = envelope.try_copy(alloc)?;
+                    replica.ask_taken(*client, copy);
                     Ok(true)
                 }
             },
@@ -111,7 +113,8 @@ impl Party {
                 if *from == *me {
                     return Ok(false);
                 }
-                customer.take(from, envelope)?;
+                let copy = envelope.try_copy(alloc)?;
+                customer.take(from, copy)?;
                 Ok(true)
             }
         }
@@ -190,14 +193,15 @@ fn replies(replica: &Replica, client: ClientId, envelope: &Envelope) -> bool
 
 /// Tells whether a loyal replica may take from this replica next. If so, it has taken this envelope.
 fn replica_takes(
+    alloc: Global,
     replica: &mut Replica,
     from: ReplicaId,
-    envelope: Envelope,
+    envelope: &Envelope,
 ) -> Result<bool, Refusal>
     ensures me { replica.new.me ≡ replica.old.me }
     ensures shape { replica.new.shape ≡ replica.old.shape }
     ensures takes { (log : List Entry) → StandsFor replica.old log
-        → IfOk result (λ takes. OnTrue takes ((due replica.old.shape log ≡ TakeFrom from) × StandsFor replica.new (Take (ReplicaNumber from) envelope ∷ log))) }
+        → IfOk result (λ takes. OnTrue takes ((due replica.old.shape log ≡ TakeFrom from) × StandsFor replica.new (Take (ReplicaNumber from) envelope.now ∷ log))) }
     ensures not { (log : List Entry) → StandsFor replica.old log
         → IfOk result (λ takes. OnFalse takes (due replica.old.shape log ≡ TakeFrom from → ⊥)) }
     ensures refusal { IsOkUnless result Refusal.NoMemory }
@@ -206,6 +210,9 @@ fn replica_takes(
         return Ok(false);
     }
     replica.room()?;
-    replica.taken(from, envelope);
+    if !replica.passed_over(from, envelope) {
+        let copy = envelope.try_copy(alloc)?;
+        replica.taken(from, copy);
+    }
     Ok(true)
 }

@@ -1,4 +1,4 @@
-use Rattle.std.proofs.Common.{◌≡◌, ◌∷◌, sym, subst}
+use Rattle.std.proofs.Common.{◌≡◌, ◌∷◌, ◌∙◌, sym, subst}
 use Rattle.std.specs.Bool.{OnTrue}
 use Rattle.std.specs.Prelude.{IfSome}
 use Rattle.dsr_envelope.specs.declared.entry.Entry.TheVariants.{Post}
@@ -31,5 +31,6 @@ returns-clause-next c run are =
     let still = subst (λ z. StandsFor z run) (sym unchanged) are in
     let same : made ≡ x = subst (λ o. IfSome o (λ e. e ≡ x)) c.in-Some.is c.in_ok-envelope.ensures.same in
     let forges = where_some c.in_ok-envelope.field-0 made (ForgesNone b.shape (log_of run) from x) c.in-Some.is (c.in_ok-envelope.ensures.unforged run still) in
-    subst (λ e. OnTrue c.in_ok-next.next (StandsFor c.put.new.self ((from, Post to e) ∷ run))) same
-    (c.in_ok-next.ensures.next run still (subst (ForgesNone b.shape (log_of run) from) (sym same) forges))
+    let letter = c.in_ok-envelope-2.ensures.made in
+    subst (λ e. OnTrue c.in_ok-next.next (StandsFor c.put.new.self ((from, Post to e) ∷ run))) (letter ∙ same)
+    (c.in_ok-next.ensures.next run still (subst (ForgesNone b.shape (log_of run) from) (sym (letter ∙ same)) forges))

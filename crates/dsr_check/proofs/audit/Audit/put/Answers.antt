@@ -1,5 +1,8 @@
-use Rattle.std.proofs.Common.{◌≡◌, ◌∷◌, sym, subst, ap, ◌∙◌}
+use Rattle.std.proofs.Common.{◌≡◌, ◌↔◌, ◌⊎◌, ◌∷◌, sym, subst, ap, ◌∙◌}
+use Rattle.std.specs.Bool.{OnTrue}
 use Rattle.std.specs.Prelude.{Any}
+use Rattle.dsr_base.specs.Member.{In}
+use Rattle.dsr_envelope.specs.Envelope.{Carries}
 use Rattle.dsr_envelope.specs.declared.entry.Entry.TheVariants.{Post}
 use Rattle.dsr_run.specs.OwnStep.{KeepsOwn}
 use Rattle.dsr_run.specs.Step.{log_of}
@@ -17,12 +20,17 @@ returns-clause-next c run are forges =
     let held = c.args.held in
     let plays = plays_at a.shape run a.parties.items a.boxes a.notary.items a.keys.items a.known.signatures a.firsts.items are from c.index_mut.result.now c.place-poster.result
     c.place-poster.ensures c.requires.from c.index_mut.ensures.value in
+    let posts : OnTrue c.in_ok-next.next
+    (KeepsOwn a.shape from (log_of run from) (Post to held.envelope) × Plays a.shape from (Post to held.envelope ∷ log_of run from) c.post.new.self) =
+    subst (λ e. OnTrue c.in_ok-next.next (KeepsOwn a.shape from (log_of run from) (Post to e) × Plays a.shape from (Post to e ∷ log_of run from) c.post.new.self))
+    c.envelope.ensures (c.in_ok-next.ensures.posts a.shape (log_of run from) plays c.requires.to) in
     let posted = where_true c.in_ok-next.next
     (KeepsOwn a.shape from (log_of run from) (Post to held.envelope) × Plays a.shape from (Post to held.envelope ∷ log_of run from) c.post.new.self)
-    c.if-not-next.false (c.in_ok-next.ensures.posts a.shape (log_of run from) plays c.requires.to) in
+    c.if-not-next.false posts in
     let knows = knows_after a.shape run a.parties.items a.boxes a.notary.items a.keys.items a.known.signatures a.firsts.items are from to held.envelope c.learn.new.known.signatures
     c.requires.from
-    (λ loyal holder is s. c.in_ok-learn.ensures.learned loyal holder (subst (Any (λ h. h ≡ holder)) (sym c.as_slice.ensures.value) is) s)
+    (λ loyal holder is s. subst (λ e. In s c.learn.new.known.signatures ↔ (In s a.known.signatures ⊎ Carries e s)) c.envelope-2.ensures
+    (c.in_ok-learn.ensures.learned loyal holder (subst (Any (λ h. h ≡ holder)) (sym c.as_slice.ensures.value) is) s))
     (λ bad. c.in_ok-learn.ensures.stays bad) in
     let kept = subst (AreFirsts a.shape (log_of ((from, Post to held.envelope) ∷ run)))
     (ap (λ k. with_first a.firsts.items k c.in_ok-first.first) (sym c.place-poster.ensures) ∙ sym c.keep_first.ensures)
