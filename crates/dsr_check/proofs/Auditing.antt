@@ -10,7 +10,7 @@ use Rattle.dsr_base.specs.Member.{In, here}
 use Rattle.dsr_base.specs.declared.boxes.MailBox.{MailBox}
 use Rattle.dsr_base.proofs.MemberLemmas.{In-append_right}
 use Rattle.dsr_names.specs.Places.{place_of}
-use Rattle.dsr_names.specs.Shape.{Shape, is_traitor, IsActor, IsLoyal}
+use Rattle.dsr_names.specs.Shape.{Shape, is_traitor, IsActor, IsAllowed, IsLoyal}
 use Rattle.dsr_names.specs.declared.actor.Actor.{Actor}
 use Rattle.dsr_names.specs.declared.actor.Actor.TheVariants.{Replica, Client}
 use Rattle.dsr_names.proofs.PlaceLemmas.{place_below}
@@ -28,11 +28,13 @@ use Rattle.dsr_run.specs.Known.{KnowsAll}
 use Rattle.dsr_run.specs.OwnStep.{KeepsOwn}
 use Rattle.dsr_run.specs.Run.{HasPosted, IsMadeOrPosted, IsNextStep, IsRun, IsTraitor, KeepsConduct}
 use Rattle.dsr_run.specs.Step.{Step, Logs, log_of}
-use Rattle.dsr_run.proofs.Lemmas.{actors_within, all_made, step_made, known_posted, known_still, posted_entry, posted_within}
-use Rattle.dsr_check.specs.Support.Audit.{AreFirsts, AreParts, ForgesNone, Holds, IsBoxOf, IsFirstOf, IsOpen, held_in}
-use Rattle.dsr_check.specs.Support.Party.{CanGet, Plays}
+use Rattle.dsr_run.proofs.Lemmas.{loyal_next_within, actors_within, all_made, step_made, known_posted, known_still, posted_entry, posted_within}
+use Rattle.dsr_check.specs.declared.audit.Audit.{Audit}
+use Rattle.dsr_check.specs.Support.Audit.{AreFirsts, AreParts, ForgesNone, IsPosted, Holds, IsBoxOf, IsFirstOf, IsOpen, held_in}
+use Rattle.dsr_check.specs.Support.Party.{CanGet, Plays, PostsWithin}
 use Rattle.dsr_check.specs.declared.held.Held.{Held}
 use Rattle.dsr_check.specs.declared.party.Party.{Party}
+use Rattle.dsr_check.specs.declared.party.Party.TheVariants as party
 use Rattle.dsr_check.proofs.Repeating.{firsts_posted, firsts_taken, posts_again}
 use Rattle.dsr_check.proofs.Stepping.{played_step, boxes_posted, boxes_taken}
 
@@ -334,6 +336,21 @@ module _ (shape : Shape) (run : List Step) (parties : List Party) (rows : List (
       (subst (λ i. AreParts shape ((at, Take from h.envelope) ∷ run) (slice_set parties (place_of shape at) party)
       (with_box rows i (place_of shape at) (without_item (box_at rows i (place_of shape at)))) notary keys known firsts) (sym from_at) taken)))
 
+  -- what a loyal replica posts next by the plain choice is within the limits
+  pub posts_within : IsAllowed shape → (p q : ℕ) → p < shape.n → (party : Party) → Plays shape (Replica p) (log_of run (Replica p)) party → PostsWithin party q
+  posts_within allowed p q inside (party.Loyal r) plays = record {
+    log = log_of run (Replica p);
+    stands = plays.stands;
+    within = λ x e. loyal_next_within shape allowed run are.is_run p (inside, plays.honest) (Replica q) x (
+      Plain,
+      tt,
+      subst (λ m. envelope_to shape m (log_of run (Replica p)) q Plain ≡ Some x) plays.me
+          (subst (λ s. envelope_to s r.me (log_of run (Replica p)) q Plain ≡ Some x) plays.shape_is e),
+    );
+  }
+  posts_within allowed p q inside party.Traitor plays = tt
+  posts_within allowed p q inside (party.Client x) plays = elim plays [ ]
+
   -- what is known after a post
   pub knows_after : (from to : Actor) (x : Envelope) (new : List Signature) → IsActor shape from
       → (IsLoyal shape from → (holder : Actor) → Any (λ h. h ≡ holder) keys → (s : Signature) → In s new ↔ (In s known ⊎ Carries x s))
@@ -399,3 +416,25 @@ module _ (shape : Shape) (run : List Step) (parties : List Party) (rows : List (
       no_first : (q : ℕ) (h : Held) → 0 < q → IsFirstOf (Replica q) h None
       no_first zero h after = absurd (omega (arith, after))
       no_first (suc q) h after = refl
+
+-- what an actor's party has posted
+pub is_posted : (a : Audit) (run : List Step) (parties : List Party) (from to : Actor) (h : Held) (party : Party) (k : ℕ)
+    → AreParts a.shape run parties a.boxes a.notary.items a.keys.items a.known.signatures a.firsts.items → k ≡ place_of a.shape from
+    → a.parties.items ≡ slice_set parties k party → IsActor a.shape from → IsActor a.shape to
+    → IsOpen (box_at a.boxes (place_of a.shape from) (place_of a.shape to)) → h.draft.now ≡ h.envelope → IsEnvelope h.envelope
+    → ForgesNone a.shape (log_of run) from h.envelope
+    → KeepsOwn a.shape from (log_of run from) (Post to h.envelope) × Plays a.shape from (Post to h.envelope ∷ log_of run from) party
+    → IsPosted a run parties from to h
+is_posted a run parties from to h party k are at after actor other opened recorded within unforged posted = record {
+  before = are;
+  party = party;
+  after = after ∙ ap (λ i. slice_set parties i party) at;
+  actor = actor;
+  other = other;
+  opened = opened;
+  recorded = recorded;
+  within = within;
+  unforged = unforged;
+  keeps = posted.0;
+  plays = posted.1;
+}

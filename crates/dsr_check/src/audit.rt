@@ -14,7 +14,8 @@ ghost use Rattle.dsr_script.specs.Held.{IsUnforged};
 ghost use Rattle.dsr_run.specs.OwnStep.{KeepsOwn};
 ghost use Rattle.dsr_run.specs.Run.{IsNextStep};
 ghost use Rattle.dsr_run.specs.Step.{Step, log_of};
-ghost use Rattle.dsr_check.specs.Support.Audit.{ForgesNone, Holds, IsFirstOf, IsOpen, with_first, Stands, StandsFor, box_of};
+ghost use Rattle.dsr_check.specs.declared.party.Party.{Party as AParty};
+ghost use Rattle.dsr_check.specs.Support.Audit.{ForgesNone, IsPosted, Holds, IsFirstOf, IsOpen, with_first, Stands, StandsFor, box_of};
 
 use crate::casting::all_parties;
 use crate::held::Held;
@@ -105,8 +106,8 @@ impl<'a> Audit<'a> {
         if !self.shape.has(*from) || !self.shape.has(*to) || !self.is_open(from, to) {
             return Ok(false);
         }
-        let again = self.post_again(alloc, from, to, draft)?;
-        if again {
+        let plain = self.post_plain(alloc, from, to, draft)?;
+        if plain {
             return Ok(true);
         }
         let Some(envelope) = self.unforged(alloc, from, draft)? else {
@@ -143,9 +144,9 @@ impl<'a> Audit<'a> {
         Ok(next)
     }
 
-    /// Tells whether a loyal replica may post next, to a replica other than 0, what it last posted to replica 0, recorded like this. If so,
-    /// follows that, else changes nothing.
-    fn post_again(
+    /// Tells whether a loyal replica may post next by the plain choice, to a replica, what is recorded like this; it may say no. If it says
+    /// yes, follows that, else changes nothing.
+    fn post_plain(
         &mut self,
         alloc: Global,
         from: &Actor,
@@ -157,28 +158,27 @@ impl<'a> Audit<'a> {
         requires to { IsActor self.old.shape to.now }
         requires open { IsOpen (box_of self.old from.now to.now) }
         ensures next { (run : List Step) → StandsFor self.old run
-            → IfOk result (λ again. OnTrue again (StandsFor self.new ((from.now, Post to.now draft.now) ∷ run))) }
+            → IfOk result (λ plain. OnTrue plain (StandsFor self.new ((from.now, Post to.now draft.now) ∷ run))) }
         ensures shape { self.new.shape ≡ self.old.shape }
         ensures stays { IfOk result (λ again. OnFalse again (self.new ≡ self.old)) }
         ensures refusal { IsOkUnless result Refusal.NoMemory }
     {
         match (from, to) {
             (Actor::Replica(poster), Actor::Replica(taker)) if taker.number() > 0 => {
-                let again = self.repeat(alloc, *poster, *taker, draft)?;
+                let again = self.repeat(*poster, *taker, draft)?;
                 Ok(again)
+            }
+            (Actor::Replica(poster), Actor::Replica(taker)) => {
+                let plain = self.plain(alloc, *poster, *taker, draft)?;
+                Ok(plain)
             }
             _ => Ok(false),
         }
     }
 
-    /// Does the same, from one replica to another.
-    fn repeat(
-        &mut self,
-        alloc: Global,
-        from: ReplicaId,
-        to: ReplicaId,
-        draft: &'a Draft,
-    ) -> Result<bool, Refusal>
+    /// Tells whether a loyal replica may post next, to a replica other than 0, what it last posted to replica 0, recorded like this. If so,
+    /// follows that, else changes nothing.
+    fn repeat(&mut self, from: ReplicaId, to: ReplicaId, draft: &'a Draft) -> Result<bool, Refusal>
         requires stands { Stands self.old }
         requires from { from < self.old.shape.n }
         requires to { to < self.old.shape.n }
@@ -199,6 +199,38 @@ impl<'a> Audit<'a> {
         }
         self.parties[poster].repeat(to);
         self.boxes.put(poster, taker, Held { envelope, draft });
+        Ok(true)
+    }
+
+    /// Tells whether a loyal replica may post to this replica next, by the plain choice, what is recorded like this. If so, follows that, else
+    /// changes nothing. A sender's first post of its slot is by another choice.
+    fn plain(
+        &mut self,
+        alloc: Global,
+        from: ReplicaId,
+        to: ReplicaId,
+        draft: &'a Draft,
+    ) -> Result<bool, Refusal>
+        requires stands { Stands self.old }
+        requires from { from < self.old.shape.n }
+        requires to { to < self.old.shape.n }
+        requires open { IsOpen (box_at self.old.boxes from to) }
+        ensures next { (run : List Step) → StandsFor self.old run
+            → IfOk result (λ plain. OnTrue plain (StandsFor self.new ((ReplicaNumber from, Post (ReplicaNumber to) draft.now) ∷ run))) }
+        ensures shape { self.new.shape ≡ self.old.shape }
+        ensures stays { IfOk result (λ plain. OnFalse plain (self.new ≡ self.old)) }
+        ensures refusal { IsOkUnless result Refusal.NoMemory }
+    {
+        // For the proof: the limits of the shape.
+        let _n = self.shape.n();
+        let poster = from.number() as usize;
+        let Some(envelope) = self.parties[poster].plain(alloc, to, draft)? else {
+            return Ok(false);
+        };
+        let envelope = Letter::of(alloc, envelope)?;
+        self.parties[poster].repeat(to);
+        let held = Held { envelope, draft };
+        self.deliver(&Actor::Replica(from), &Actor::Replica(to), held)?;
         Ok(true)
     }
 
@@ -269,18 +301,33 @@ impl<'a> Audit<'a> {
         requires open { IsOpen (box_of self.old from.now to.now) }
         requires within { IsEnvelope held.envelope }
         requires recorded { held.draft.now ≡ held.envelope }
+        requires unforged { (run : List Step) → StandsFor self.old run → ForgesNone self.old.shape (log_of run) from.now held.envelope }
         ensures shape { self.new.shape ≡ self.old.shape }
-        ensures next { (run : List Step) → StandsFor self.old run → ForgesNone self.old.shape (log_of run) from.now held.entry.envelope
+        ensures next { (run : List Step) → StandsFor self.old run
             → IfOk result (λ next. OnTrue next (StandsFor self.new ((from.now, Post to.now held.entry.envelope) ∷ run))) }
         ensures not { (run : List Step) → StandsFor self.old run
             → IfOk result (λ next. OnFalse next (¬ KeepsOwn self.old.shape from.now (log_of run from.now) (Post to.now held.entry.envelope))) }
         ensures refusal { IsOkUnless result Refusal.NoMemory }
     {
-        let (poster, taker) = (self.shape.place(from), self.shape.place(to));
+        let poster = self.shape.place(from);
         let next = self.parties[poster].post(alloc, from, to, held.envelope.envelope())?;
         if !next {
             return Ok(false);
         }
+        self.deliver(from, to, held)?;
+        Ok(true)
+    }
+
+    /// Puts what an actor's party has posted into its box. Notes its signatures as known, if traitors can send them on, and stores a post to
+    /// replica 0. `NoMemory` if memory runs out or one more handle is refused.
+    fn deliver(&mut self, from: &Actor, to: &Actor, held: Held<'a>) -> Result<(), Refusal>
+        requires { (run : List Step) × (parties : List AParty) × IsPosted self.old run parties from.now to.now held }
+        ensures shape { self.new.shape ≡ self.old.shape }
+        ensures next { (run : List Step) (parties : List AParty) → IsPosted self.old run parties from.now to.now held.entry
+            → OnOk result (StandsFor self.new ((from.now, Post to.now held.entry.envelope) ∷ run)) }
+        ensures refusal { IsOkUnless result Refusal.NoMemory }
+    {
+        let (poster, taker) = (self.shape.place(from), self.shape.place(to));
         learn(
             &mut self.known,
             self.keys.as_slice(),
@@ -291,7 +338,7 @@ impl<'a> Audit<'a> {
         let first = first_of(to, &held)?;
         keep_first(&mut self.firsts, poster, first);
         self.boxes.put(poster, taker, held);
-        Ok(true)
+        Ok(())
     }
 }
 

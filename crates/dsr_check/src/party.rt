@@ -1,5 +1,5 @@
 ghost use Rattle.std.specs.Bool.{OnFalse, OnTrue};
-ghost use Rattle.std.specs.Prelude.{Some, ◌↔◌, IsTrue, ◌≡◌, ◌∷◌, ◌<◌, ◌^◌, ℕ, List, IfOk, IsOkUnless};
+ghost use Rattle.std.specs.Prelude.{Some, IfSome, OnSome, ◌↔◌, IsTrue, ◌≡◌, ◌∷◌, ◌<◌, ◌^◌, ℕ, List, IfOk, IsOkUnless};
 ghost use Rattle.dsr_names.specs.Shape.{Shape, IsActor};
 ghost use Rattle.dsr_names.specs.declared.actor.Actor.TheVariants.{Replica as ReplicaNumber, Client as ClientNumber};
 ghost use Rattle.dsr_envelope.specs.Limits.{IsEnvelope};
@@ -10,16 +10,17 @@ ghost use Rattle.dsr_envelope.specs.declared.entry.Entry.TheVariants.{Post, Take
 ghost use Rattle.dsr_replica.specs.Conduct.{IsNext, envelope_to, reply_to};
 ghost use Rattle.dsr_envelope.specs.declared.envelope.Envelope.{Envelope as AnEnvelope};
 ghost use Rattle.dsr_envelope.specs.declared.pick.Pick.TheVariants.{Plain};
-ghost use Rattle.dsr_replica.specs.Replica.{StandsFor};
+ghost use Rattle.dsr_replica.specs.Replica.{Allows, StandsFor};
 ghost use Rattle.dsr_run.specs.OwnStep.{KeepsOwn};
 ghost use Rattle.dsr_run.specs.Run.{KeepsRounds};
-ghost use Rattle.dsr_check.specs.Support.Party.{CanGet, CanRepeat, Plays, PlaysClient};
+ghost use Rattle.dsr_check.specs.Support.Party.{CanGet, CanRepeat, HasWithin, Plays, PlaysClient, PostsWithin};
 
 use crate::customer::Customer;
 use crate::shown::{pick_of, shown_clients};
 use dsr_envelope::{Due, Envelope, Pick};
 use dsr_names::{Actor, ClientId, Refusal, ReplicaId};
 use dsr_replica::Replica;
+use dsr_script::Draft;
 use std::alloc::Global;
 
 /// A party repeats an actor's steps. A loyal actor is a real replica or client; a traitor may do anything but forge, so it needs no
@@ -65,6 +66,27 @@ impl Party {
         match self {
             Party::Loyal(replica) => replica.allows(to, Pick::Plain),
             Party::Traitor | Party::Client(_) => false,
+        }
+    }
+
+    /// Makes the envelope that the actor may post to this replica next by the plain choice, if it is a loyal replica that may post so, and
+    /// the draft records that envelope; else returns `None`. `NoMemory` if memory runs out or one more handle is refused.
+    pub(crate) fn plain(
+        &self,
+        alloc: Global,
+        to: ReplicaId,
+        draft: &Draft,
+    ) -> Result<Option<Envelope>, Refusal>
+        requires { PostsWithin self.now to }
+        ensures can { IfOk result (λ made. OnSome made (CanRepeat self.now to)) }
+        ensures recorded { IfOk result (λ made. IfSome made (λ envelope. envelope ≡ draft.now)) }
+        ensures given { (shape : Shape) (p : ℕ) (log : List Entry) → Plays shape (ReplicaNumber p) log self.now
+            → IfOk result (λ made. IfSome made (λ envelope. envelope_to shape (ReplicaNumber p) log to Plain ≡ Some envelope)) }
+        ensures refusal { IsOkUnless result Refusal.NoMemory }
+    {
+        match self {
+            Party::Loyal(replica) => plain_post(alloc, replica, to, draft),
+            Party::Traitor | Party::Client(_) => Ok(None),
         }
     }
 
@@ -176,6 +198,35 @@ fn sends(
     }
     replica.posted(to, pick_of(&clients));
     Ok(true)
+}
+
+/// Makes the envelope that a loyal replica may post to this replica next by the plain choice, if it may post so, and the draft records that
+/// envelope; else returns `None`.
+fn plain_post(
+    alloc: Global,
+    replica: &Replica,
+    to: ReplicaId,
+    draft: &Draft,
+) -> Result<Option<Envelope>, Refusal>
+    requires { HasWithin replica.now to }
+    ensures can { IfOk result (λ made. OnSome made (Allows replica.now to Plain)) }
+    ensures recorded { IfOk result (λ made. IfSome made (λ envelope. envelope ≡ draft.now)) }
+    ensures given { (log : List Entry) → StandsFor replica.now log
+        → IfOk result (λ made. IfSome made (λ envelope. envelope_to replica.now.shape replica.now.me log to Plain ≡ Some envelope)) }
+    ensures refusal { IsOkUnless result Refusal.NoMemory }
+{
+    if !replica.allows(to, Pick::Plain) {
+        return Ok(None);
+    }
+    let Ok(envelope) = replica.envelope_for(alloc, to, Pick::Plain) else {
+        return Err(Refusal::NoMemory);
+    };
+    let made = Draft::of(alloc, &envelope)?;
+    if made.same(draft) {
+        Ok(Some(envelope))
+    } else {
+        Ok(None)
+    }
 }
 
 /// Tells whether the envelope is a loyal replica's reply to this client.

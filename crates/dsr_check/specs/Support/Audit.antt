@@ -9,8 +9,11 @@ use Rattle.dsr_names.specs.declared.actor.Actor.TheVariants.{Replica, Client}
 use Rattle.dsr_desk.specs.Signature.{Signature}
 use Rattle.dsr_envelope.specs.declared.envelope.Envelope.{Envelope}
 use Rattle.dsr_envelope.specs.Envelope.{Carries}
+use Rattle.dsr_envelope.specs.declared.entry.Entry.TheVariants.{Post}
+use Rattle.dsr_envelope.specs.Limits.{IsEnvelope}
 use Rattle.dsr_envelope.specs.Log.{posted_to, taken_from}
 use Rattle.dsr_run.specs.Known.{AreKeys, KnowsAll}
+use Rattle.dsr_run.specs.OwnStep.{KeepsOwn}
 use Rattle.dsr_run.specs.Run.{IsMadeOrPosted, IsRun, IsTraitor}
 use Rattle.dsr_run.specs.Step.{Step, Logs, log_of}
 use Rattle.dsr_record.specs.Keys.{HasAllKeys}
@@ -84,6 +87,20 @@ pub record AreParts (shape : Shape) (run : List Step) (parties : List Party) (ro
   pub held : AreKeys shape keys
   pub knows : KnowsAll shape (log_of run) known
   pub kept : AreFirsts shape (log_of run) firsts
+
+-- an actor's party has posted what is held, which may be the next step of this run; all else in the audit is as before that
+pub record IsPosted (a : Audit) (run : List Step) (parties : List Party) (from to : Actor) (h : Held) : Type 0 where
+  pub before : AreParts a.shape run parties a.boxes a.notary.items a.keys.items a.known.signatures a.firsts.items
+  pub party : Party
+  pub after : a.parties.items ≡ slice_set parties (place_of a.shape from) party
+  pub actor : IsActor a.shape from
+  pub other : IsActor a.shape to
+  pub opened : IsOpen (box_of a from to)
+  pub recorded : h.draft.now ≡ h.envelope
+  pub within : IsEnvelope h.envelope
+  pub unforged : ForgesNone a.shape (log_of run) from h.envelope
+  pub keeps : KeepsOwn a.shape from (log_of run from) (Post to h.envelope)
+  pub plays : Plays a.shape from (Post to h.envelope ∷ log_of run from) party
 
 -- the audit has followed this run
 abbrev pub StandsFor : Audit → List Step → Type 0

@@ -8,6 +8,7 @@ use Rattle.dsr_envelope.specs.declared.envelope.Envelope.{Envelope}
 use Rattle.dsr_envelope.specs.declared.pick.Pick.{Pick}
 use Rattle.dsr_envelope.specs.declared.pick.Pick.TheVariants.{Plain, From}
 use Rattle.dsr_envelope.specs.Limits.{IsEnvelope}
+use Rattle.dsr_replica.specs.Conduct.{envelope_to}
 use Rattle.dsr_replica.specs.Replica.{Allows, Replica, StandsFor}
 use Rattle.dsr_client.specs.Client.{StandsFor as StandsForClient}
 use Rattle.dsr_client.specs.State.{accepted}
@@ -51,6 +52,18 @@ pub record CanGet (party : Party) (me from : Actor) (envelope : Envelope) : Type
   pub plays : Plays shape me log party
   pub other : IsActor shape from
   pub within : IsEnvelope envelope
+
+-- what the replica posts to this replica next by the plain choice is within the limits
+pub record HasWithin (r : Replica) (q : ℕ) : Type 0 where
+  pub log : List Entry
+  pub stands : StandsFor r log
+  pub within : (x : Envelope) → envelope_to r.shape r.me log q Plain ≡ Some x → IsEnvelope x
+
+-- so is what the party posts to this replica next by the plain choice, if it is a loyal replica
+abbrev pub PostsWithin : Party → ℕ → Type 0
+PostsWithin (Loyal r) q = HasWithin r q
+PostsWithin Traitor q = Unit {0}
+PostsWithin (Client x) q = Unit {0}
 
 -- the party is a loyal replica that may post to this replica by the plain choice
 abbrev pub CanRepeat : Party → ℕ → Type 0

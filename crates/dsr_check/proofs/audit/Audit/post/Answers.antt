@@ -14,23 +14,26 @@ returns-in_default-clause-not c run are =
     let from = c.args.from.now in
     let to = c.args.to.now in
     let x = c.args.draft.now in
-    let b = c.post_again.new.self in
-    let same : b ≡ c.args.self.now = where_false c.in_ok-again.again (b ≡ c.args.self.now) c.if-again.false c.in_ok-again.ensures.stays in
+    let b = c.post_plain.new.self in
+    let same : b ≡ c.args.self.now = where_false c.in_ok-plain.plain (b ≡ c.args.self.now) c.if-plain.false c.in_ok-plain.ensures.stays in
     let none = where_none c.in_ok-envelope.field-0 (¬ IsNextStep b.shape (log_of run) (from, Post to x)) c.in_default.is
     (c.in_ok-envelope.ensures.forged run to (subst (λ z. StandsFor z run) (sym same) are)) in
     subst (λ (z : Audit). ¬ IsNextStep z.shape (log_of run) (from, Post to x)) same none
 
-pub returns-clause-next : goal.returns-clause-next
-returns-clause-next c run are =
-    let from = c.args.from.now in
-    let to = c.args.to.now in
+pub put-requires-clause-unforged : goal.put-requires-clause-unforged
+put-requires-clause-unforged c run are =
     let x = c.args.draft.now in
     let made = c.in-Some.envelope in
-    let b = c.post_again.new.self in
-    let unchanged : b ≡ c.args.self.now = where_false c.in_ok-again.again (b ≡ c.args.self.now) c.if-again.false c.in_ok-again.ensures.stays in
-    let still = subst (λ z. StandsFor z run) (sym unchanged) are in
+    let b = c.post_plain.new.self in
     let same : made ≡ x = subst (λ o. IfSome o (λ e. e ≡ x)) c.in-Some.is c.in_ok-envelope.ensures.same in
-    let forges = where_some c.in_ok-envelope.field-0 made (ForgesNone b.shape (log_of run) from x) c.in-Some.is (c.in_ok-envelope.ensures.unforged run still) in
-    let letter = c.in_ok-envelope-2.ensures.made in
-    subst (λ e. OnTrue c.in_ok-next.next (StandsFor c.put.new.self ((from, Post to e) ∷ run))) (letter ∙ same)
-    (c.in_ok-next.ensures.next run still (subst (ForgesNone b.shape (log_of run) from) (sym (letter ∙ same)) forges))
+    let forges = where_some c.in_ok-envelope.field-0 made (ForgesNone b.shape (log_of run) c.args.from.now x) c.in-Some.is (c.in_ok-envelope.ensures.unforged run are) in
+    subst (ForgesNone b.shape (log_of run) c.args.from.now) (sym (c.in_ok-envelope-2.ensures.made ∙ same)) forges
+
+pub returns-clause-next : goal.returns-clause-next
+returns-clause-next c run are =
+    let x = c.args.draft.now in
+    let b = c.post_plain.new.self in
+    let unchanged : b ≡ c.args.self.now = where_false c.in_ok-plain.plain (b ≡ c.args.self.now) c.if-plain.false c.in_ok-plain.ensures.stays in
+    let same : c.in-Some.envelope ≡ x = subst (λ o. IfSome o (λ e. e ≡ x)) c.in-Some.is c.in_ok-envelope.ensures.same in
+    subst (λ e. OnTrue c.in_ok-next.next (StandsFor c.put.new.self ((c.args.from.now, Post c.args.to.now e) ∷ run))) (c.in_ok-envelope-2.ensures.made ∙ same)
+    (c.in_ok-next.ensures.next run (subst (λ z. StandsFor z run) (sym unchanged) are))

@@ -1,40 +1,58 @@
-use Rattle.std.proofs.Common.{◌≡◌, ◌↔◌, ◌⊎◌, ◌∷◌, sym, subst, ap, ◌∙◌}
+use Rattle.std.proofs.Common.{◌≡◌, ℕ, true, Bool, List, ◌∷◌, refl, subst}
 use Rattle.std.specs.Bool.{OnTrue}
-use Rattle.std.specs.Prelude.{Any}
-use Rattle.dsr_base.specs.Member.{In}
-use Rattle.dsr_envelope.specs.Envelope.{Carries}
+use Rattle.std.specs.Prelude.{slice_index_or}
+use Rattle.std.specs.Vec.{with_item}
+use Rattle.dsr_names.specs.Places.{place_of}
+use Rattle.dsr_names.specs.Shape.{Shape, IsActor}
+use Rattle.dsr_names.specs.declared.actor.Actor.{Actor}
+use Rattle.dsr_envelope.specs.Limits.{IsEnvelope}
+use Rattle.dsr_envelope.specs.declared.entry.Entry.{Entry}
 use Rattle.dsr_envelope.specs.declared.entry.Entry.TheVariants.{Post}
+use Rattle.dsr_envelope.specs.declared.envelope.Envelope.{Envelope}
 use Rattle.dsr_run.specs.OwnStep.{KeepsOwn}
-use Rattle.dsr_run.specs.Step.{log_of}
-use Rattle.dsr_check.specs.Support.Audit.{AreFirsts, with_first}
+use Rattle.dsr_run.specs.Step.{Step, log_of}
+use Rattle.dsr_check.specs.Support.Audit.{ForgesNone, IsOpen, IsPosted, StandsFor, box_of}
 use Rattle.dsr_check.specs.Support.Party.{Plays}
-use Rattle.dsr_check.proofs.Auditing.{where_true, knows_after, parts_posted_at, plays_at}
-use Rattle.dsr_check.proofs.Repeating.{firsts_posted}
+use Rattle.dsr_check.specs.declared.audit.Audit.{Audit}
+use Rattle.dsr_check.specs.declared.held.Held.{Held}
+use Rattle.dsr_check.specs.declared.party.Party.{Party}
+use Rattle.dsr_check.proofs.Auditing.{is_posted, plays_at, where_true}
 use Rattle.dsr_check.proofs.audit.Audit.put.Goals as goal
 
+posted_by : (a : Audit) (run : List Step) (from to : Actor) (held : Held) (found party : Party) (k : ℕ) (next : Bool) (x : Envelope) → StandsFor a run
+    → k ≡ place_of a.shape from → found ≡ slice_index_or a.parties.items k found → IsActor a.shape from → IsActor a.shape to → IsOpen (box_of a from to)
+    → held.draft.now ≡ held.envelope → IsEnvelope held.envelope → ForgesNone a.shape (log_of run) from held.envelope → x ≡ held.envelope → next ≡ true
+    → ((shape : Shape) (log : List Entry) → Plays shape from log found → IsActor shape to
+    → OnTrue next (KeepsOwn shape from log (Post to x) × Plays shape from (Post to x ∷ log) party))
+    → IsPosted (record {
+      shape = a.shape;
+      parties = with_item a.parties k party;
+      boxes = a.boxes;
+      notary = a.notary;
+      keys = a.keys;
+      known = a.known;
+      firsts = a.firsts;
+    }) run a.parties.items from to held
+posted_by a run from to held found party k next x are at is actor other opened recorded within unforged same can posts =
+    let log = log_of run from in
+    let plays = plays_at a.shape run a.parties.items a.boxes a.notary.items a.keys.items a.known.signatures a.firsts.items are from found k at actor is in
+    let posted = where_true next (KeepsOwn a.shape from log (Post to x) × Plays a.shape from (Post to x ∷ log) party) can (posts a.shape log plays other) in
+    is_posted _ run a.parties.items from to held party k are at refl actor other opened recorded within unforged
+    (subst (λ e. KeepsOwn a.shape from log (Post to e) × Plays a.shape from (Post to e ∷ log) party) same posted)
+
+pub deliver-requires : goal.deliver-requires
+deliver-requires c =
+    let run = c.requires.stands.0 in (
+      run,
+      c.args.self.now.parties.items,
+      posted_by c.args.self.now run c.args.from.now c.args.to.now c.args.held c.index_mut.result.now c.post.new.self c.place-poster.result c.in_ok-next.next c.envelope.result.now
+          c.requires.stands.1 c.place-poster.ensures c.index_mut.ensures.value c.requires.from c.requires.to c.requires.open c.requires.recorded c.requires.within
+          (c.requires.unforged run c.requires.stands.1) c.envelope.ensures c.if-not-next.false c.in_ok-next.ensures.posts,
+    )
+
 pub returns-clause-next : goal.returns-clause-next
-returns-clause-next c run are forges =
-    let a = c.args.self.now in
-    let from = c.args.from.now in
-    let to = c.args.to.now in
-    let held = c.args.held in
-    let plays = plays_at a.shape run a.parties.items a.boxes a.notary.items a.keys.items a.known.signatures a.firsts.items are from c.index_mut.result.now c.place-poster.result
-    c.place-poster.ensures c.requires.from c.index_mut.ensures.value in
-    let posts : OnTrue c.in_ok-next.next
-    (KeepsOwn a.shape from (log_of run from) (Post to held.envelope) × Plays a.shape from (Post to held.envelope ∷ log_of run from) c.post.new.self) =
-    subst (λ e. OnTrue c.in_ok-next.next (KeepsOwn a.shape from (log_of run from) (Post to e) × Plays a.shape from (Post to e ∷ log_of run from) c.post.new.self))
-    c.envelope.ensures (c.in_ok-next.ensures.posts a.shape (log_of run from) plays c.requires.to) in
-    let posted = where_true c.in_ok-next.next
-    (KeepsOwn a.shape from (log_of run from) (Post to held.envelope) × Plays a.shape from (Post to held.envelope ∷ log_of run from) c.post.new.self)
-    c.if-not-next.false posts in
-    let knows = knows_after a.shape run a.parties.items a.boxes a.notary.items a.keys.items a.known.signatures a.firsts.items are from to held.envelope c.learn.new.known.signatures
-    c.requires.from
-    (λ loyal holder is s. subst (λ e. In s c.learn.new.known.signatures ↔ (In s a.known.signatures ⊎ Carries e s)) c.envelope-2.ensures
-    (c.in_ok-learn.ensures.learned loyal holder (subst (Any (λ h. h ≡ holder)) (sym c.as_slice.ensures.value) is) s))
-    (λ bad. c.in_ok-learn.ensures.stays bad) in
-    let kept = subst (AreFirsts a.shape (log_of ((from, Post to held.envelope) ∷ run)))
-    (ap (λ k. with_first a.firsts.items k c.in_ok-first.first) (sym c.place-poster.ensures) ∙ sym c.keep_first.ensures)
-    (firsts_posted a.shape run a.firsts.items are.kept from to held c.in_ok-first.first c.requires.recorded c.requires.from c.in_ok-first.ensures.first) in
-    parts_posted_at a.shape run a.parties.items a.boxes a.notary.items a.keys.items a.known.signatures a.firsts.items are from to held c.post.new.self
-    c.learn.new.known.signatures c.keep_first.new.firsts.items c.place-poster.result c.place-taker.result c.put.new.self c.place-poster.ensures c.place-taker.ensures c.requires.from c.requires.to
-    c.requires.open c.requires.recorded c.requires.within forges c.put.ensures posted knows kept
+returns-clause-next c run are =
+    c.in_ok-deliver.ensures.next run c.args.self.now.parties.items
+    (posted_by c.args.self.now run c.args.from.now c.args.to.now c.args.held c.index_mut.result.now c.post.new.self c.place-poster.result c.in_ok-next.next c.envelope.result.now
+    are c.place-poster.ensures c.index_mut.ensures.value c.requires.from c.requires.to c.requires.open c.requires.recorded c.requires.within
+    (c.requires.unforged run are) c.envelope.ensures c.if-not-next.false c.in_ok-next.ensures.posts)
