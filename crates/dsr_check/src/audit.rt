@@ -25,7 +25,7 @@ use dsr_desk::Key;
 use dsr_envelope::{Envelope, Letter};
 use dsr_names::{Actor, NUMBER_END, Refusal, ReplicaId, Shape};
 use dsr_record::{NotedEntry, NotedStep, all_keys};
-use dsr_script::{Draft, Known, build};
+use dsr_script::{Draft, Known, build, each_draft_has_a_text, spelled_is_within_limits};
 use std::alloc::Global;
 
 /// All actors of a shape and the boxes between them, after the steps that the audit followed so far. These steps are a run.
@@ -113,7 +113,6 @@ impl<'a> Audit<'a> {
         let Some(envelope) = self.unforged(alloc, from, draft)? else {
             return Ok(false);
         };
-        let envelope = Letter::of(alloc, envelope)?;
         let held = Held { envelope, draft };
         let next = self.put(alloc, from, to, held)?;
         Ok(next)
@@ -261,15 +260,16 @@ impl<'a> Audit<'a> {
         }
     }
 
-    /// Makes the envelope that the draft records; `None` if an actor of the shape that posts it would forge a signature.
-    /// `NoMemory` if memory runs out.
+    /// Makes the envelope that the draft records; `None` if an actor of the shape that posts it would forge a signature. A loyal actor's
+    /// envelope is the one that is stored, if that was recorded so. `NoMemory` if memory runs out or one more handle is refused.
     fn unforged(
         &self,
         alloc: Global,
         from: &Actor,
         draft: &Draft,
-    ) -> Result<Option<Envelope>, Refusal>
-        requires { IsActor self.now.shape from.now }
+    ) -> Result<Option<Letter>, Refusal>
+        requires stands { Stands self.now }
+        requires from { IsActor self.now.shape from.now }
         ensures same { IfOk result (λ made. IfSome made (λ envelope. envelope ≡ draft.now)) }
         ensures within { IsEnvelope draft.now }
         ensures unforged { (run : List Step) → StandsFor self.now run
@@ -278,7 +278,13 @@ impl<'a> Audit<'a> {
             → IfOk result (λ made. IfNone made (¬ IsNextStep self.now.shape (log_of run) (from.now, Post to draft.now))) }
         ensures refusal { IsOkUnless result Refusal.NoMemory }
     {
+        // For the proof: what a draft records is within the limits.
+        each_draft_has_a_text(draft);
+        spelled_is_within_limits();
         if self.shape.is_loyal(*from) {
+            if let Some(envelope) = copy_of(&self.firsts[self.shape.place(from)], draft)? {
+                return Ok(Some(envelope));
+            }
             let made = made_by(alloc, draft, self.notary.as_slice(), &Known::new(alloc))?;
             return Ok(made);
         }
@@ -348,7 +354,7 @@ fn made_by(
     draft: &Draft,
     keys: &[Key],
     known: &Known,
-) -> Result<Option<Envelope>, Refusal>
+) -> Result<Option<Letter>, Refusal>
     ensures same { IfOk result (λ made. IfSome made (λ envelope. envelope ≡ draft.now)) }
     ensures within { IsEnvelope draft.now }
     ensures unforged { IfOk result (λ made. OnSome made (IsUnforged keys.now known.now.signatures draft.now)) }
@@ -356,7 +362,7 @@ fn made_by(
     ensures refusal { IsOkUnless result Refusal.NoMemory }
 {
     match build(alloc, draft, keys, known) {
-        Ok(envelope) => Ok(Some(envelope)),
+        Ok(envelope) => Ok(Some(Letter::of(alloc, envelope)?)),
         Err(Refusal::Forged) => Ok(None),
         Err(_) => Err(Refusal::NoMemory),
     }

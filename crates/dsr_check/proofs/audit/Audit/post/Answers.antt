@@ -1,4 +1,4 @@
-use Rattle.std.proofs.Common.{◌≡◌, ◌∷◌, ◌∙◌, sym, subst}
+use Rattle.std.proofs.Common.{◌≡◌, ◌∷◌, sym, subst}
 use Rattle.std.specs.Bool.{OnTrue}
 use Rattle.std.specs.Prelude.{IfSome}
 use Rattle.dsr_envelope.specs.declared.entry.Entry.TheVariants.{Post}
@@ -27,7 +27,7 @@ put-requires-clause-unforged c run are =
     let b = c.post_plain.new.self in
     let same : made ≡ x = subst (λ o. IfSome o (λ e. e ≡ x)) c.in-Some.is c.in_ok-envelope.ensures.same in
     let forges = where_some c.in_ok-envelope.field-0 made (ForgesNone b.shape (log_of run) c.args.from.now x) c.in-Some.is (c.in_ok-envelope.ensures.unforged run are) in
-    subst (ForgesNone b.shape (log_of run) c.args.from.now) (sym (c.in_ok-envelope-2.ensures.made ∙ same)) forges
+    subst (ForgesNone b.shape (log_of run) c.args.from.now) (sym same) forges
 
 pub returns-clause-next : goal.returns-clause-next
 returns-clause-next c run are =
@@ -35,5 +35,5 @@ returns-clause-next c run are =
     let b = c.post_plain.new.self in
     let unchanged : b ≡ c.args.self.now = where_false c.in_ok-plain.plain (b ≡ c.args.self.now) c.if-plain.false c.in_ok-plain.ensures.stays in
     let same : c.in-Some.envelope ≡ x = subst (λ o. IfSome o (λ e. e ≡ x)) c.in-Some.is c.in_ok-envelope.ensures.same in
-    subst (λ e. OnTrue c.in_ok-next.next (StandsFor c.put.new.self ((c.args.from.now, Post c.args.to.now e) ∷ run))) (c.in_ok-envelope-2.ensures.made ∙ same)
+    subst (λ e. OnTrue c.in_ok-next.next (StandsFor c.put.new.self ((c.args.from.now, Post c.args.to.now e) ∷ run))) same
     (c.in_ok-next.ensures.next run (subst (λ z. StandsFor z run) (sym unchanged) are))
