@@ -3,7 +3,7 @@
 examples/why/ anew, and with `pictures --write` the pictures of the attacks.
 
 explanations: what `dsr explain` tells. Of each play of examples/, and of random plays, the lines of data are those of tests/models/explain_model.py, but for
-what a replica keeps, holds, drops or does not propose, which the model does not tell; and so are, in words, all lines that say why an event is refused or why a
+what a replica keeps, holds or does not propose, which the model does not tell; and so are, in words, all lines that say why an event is refused or why a
 reply is no vote. Each reason why an event is refused, but a counter at its limit, is that of a play by hand. Of each attack there are lines that name what
 stopped it. Of each play of examples/why/, which is wrong in one line, the first refused event is of that line, and the explanation beside it is what the
 program writes. Of texts that are no play the line, the column, and what was expected there are named; of 2,000 texts that are nearly plays the line and the
@@ -59,7 +59,7 @@ NEARLY_OTHERS = 600
 # How many times the processor time of a play it may take to tell what was refused.
 MOST_TIMES = 3
 # Lines that the model does not make.
-BESIDE = ("silence ", "kept ", "hold ", "drop ", "unproposed ")
+BESIDE = ("silence ", "kept ", "hold ", "unproposed ")
 # How lines begin that have a reason in words.
 SENTENCES = ("    because ", "    no vote of ")
 TABLES = tables("explanations")

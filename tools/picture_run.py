@@ -16,7 +16,7 @@ FAULTS = ("wrong-count", "wrong-sender", "no-replica", "signed-twice", "misfit",
 NO_VOTES = {"no-reply": "it is no reply", "nothing-outstanding": "no request is outstanding", "other-number": "request {} is outstanding",
             "has-voted": "it has voted, and only its first reply counts"}
 # Notes that are not drawn, and how many parts each has.
-UNDRAWN = {"silence": 2, "kept": 5, "hold": 2, "drop": 2, "unproposed": 3}
+UNDRAWN = {"silence": 2, "kept": 5, "hold": 2, "unproposed": 3}
 MOST_LETTERS = 26
 MOST_SHOWN = 3
 

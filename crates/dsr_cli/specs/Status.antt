@@ -64,7 +64,7 @@ IsDone (Play false transcript) s = (refused : ℕ) × PlayedAll (form_of transcr
 IsDone (Play true transcript) s = PlayedAll (form_of transcript) 0 s
 IsDone (Serve transcript) s = ServedAll (service_form_of transcript) s
 IsDone Check s = CheckedAll s
-IsDone (Explain narrowing) s = ExplainedAll narrowing.as_data s
+IsDone (Explain narrowing) s = ExplainedAll narrowing s
 
 -- a play that was to be strict was played, and all of its output went out, but some of its events were refused, none because memory ran out
 abbrev pub IsUnmet : Task → Streams → Type 0
@@ -91,7 +91,7 @@ LeftAfter Apply refusal s = WrittenAfter refusal s
 LeftAfter (Play strict transcript) refusal s = LeftAfterPlay (form_of transcript) refusal s
 LeftAfter (Serve transcript) refusal s = LeftAfterService (service_form_of transcript) refusal s
 LeftAfter Check refusal s = LeftAfterCheck refusal s
-LeftAfter (Explain narrowing) refusal s = LeftAfterExplain narrowing.as_data refusal s
+LeftAfter (Explain narrowing) refusal s = LeftAfterExplain narrowing refusal s
 
 -- the status is that of an ending, nothing was written on the error stream, and what the ending means holds
 pub record EndedSo (named : Task) (status : ℕ) (run : Run) : Type 0 where

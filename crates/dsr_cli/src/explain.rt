@@ -1,11 +1,10 @@
 //! Reads a play or a transcript, and explains it.
 
-ghost use Rattle.std.specs.Prelude.{◌≡◌, ◌+◌, ◌≤◌, None, IfErr, IfOk, IfSome, OnOk, IsOkUnless, string_bytes};
+ghost use Rattle.std.specs.Prelude.{◌≡◌, ◌+◌, ◌≤◌, None, IfErr, IfOk, OnOk, IsOkUnless, string_bytes};
 ghost use Rattle.dsr_names.specs.Limits.{most_calls};
 ghost use Rattle.dsr_names.specs.Streams.{SentAll, streams};
-ghost use Rattle.dsr_play.specs.Play.{IsPlayRefusal};
 ghost use Rattle.dsr_transcripts.specs.Account.{TellsTranscript};
-ghost use Rattle.dsr_cli.specs.Explained.{ExplainedAll, IsExplained, LeftAfterExplain, is_transcript};
+ghost use Rattle.dsr_cli.specs.Explained.{ExplainedAll, IsExplained, LeftAfterExplain, TellsOfPlay, is_transcript, wanted_of};
 ghost use Rattle.dsr_cli.specs.Served.{IsAfterTelling};
 
 use crate::serve::ended_by;
@@ -36,8 +35,8 @@ pub(crate) fn run_explain<S: Source, K: Sink>(
     source: &mut S,
     sink: &mut K,
 ) -> Result<(), Refusal>
-    ensures done { OnOk result (ExplainedAll narrowing.now.as_data (streams (S.input source.old) (K.output sink.old) (K.output sink.new))) }
-    ensures refused { IfErr result (λ e. LeftAfterExplain narrowing.now.as_data e (streams (S.input source.old) (K.output sink.old) (K.output sink.new))) }
+    ensures done { OnOk result (ExplainedAll narrowing.now (streams (S.input source.old) (K.output sink.old) (K.output sink.new))) }
+    ensures refused { IfErr result (λ e. LeftAfterExplain narrowing.now e (streams (S.input source.old) (K.output sink.old) (K.output sink.new))) }
     ensures reads { (S.input source.new).calls ≤ (S.input source.old).calls + most_calls }
     ensures writes { (K.output sink.new).calls ≤ (K.output sink.old).calls + most_calls }
 {
@@ -49,7 +48,7 @@ pub(crate) fn run_explain<S: Source, K: Sink>(
 /// Explains the text: as a transcript if it begins like one, and otherwise as a play. `NoMemory` if memory runs out.
 fn explanation_of(alloc: Global, narrowing: &Narrowing, text: &[u8]) -> Result<Explanation, Refusal>
     ensures told { IfOk result (λ explanation.
-        IsExplained text.now narrowing.now.as_data explanation.refusal (string_bytes explanation.text)) }
+        IsExplained text.now narrowing.now explanation.refusal (string_bytes explanation.text)) }
     ensures refusal { IsOkUnless result Refusal.NoMemory }
 {
     if is_transcript(text) {
@@ -80,7 +79,7 @@ fn explain_steps(alloc: Global, as_data: bool, text: &[u8]) -> Result<Explanatio
 
 /// Explains the outcome of a play. `NoMemory` if memory runs out.
 fn explain_events(alloc: Global, narrowing: &Narrowing, text: &[u8]) -> Result<Explanation, Refusal>
-    ensures told { IfOk result (λ explanation. IfSome explanation.refusal (IsPlayRefusal text.now)) }
+    ensures told { IfOk result (λ explanation. TellsOfPlay text.now (wanted_of narrowing.now) explanation.refusal (string_bytes explanation.text)) }
     ensures refusal { IsOkUnless result Refusal.NoMemory }
 {
     let wanted = Wanted {

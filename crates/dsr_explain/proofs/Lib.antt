@@ -1,1 +1,7 @@
+mod DecidedLemmas
+mod MisfitLemmas
+mod NoteLemmas
 mod Refusing
+mod TextLemmas
+mod ToldLemmas
+mod WaitingLemmas

@@ -1,1 +1,5 @@
-pub mod Refused
+pub mod Lines
+pub mod Told
+pub mod Waiting
+pub mod Waits
+pub mod Wanted

@@ -1,55 +1,59 @@
 //! The end of an explanation: the outcome of each slot, who waits for whom, and which envelopes were not taken.
 
-use crate::pieces::name_of;
-use crate::standing::{content_of, in_box};
+ghost use Rattle.std.specs.Prelude.{◌≡◌, ℕ, ◌<◌, ◌++◌, [], true, List, IfOk, OnOk, string_bytes};
+ghost use Rattle.dsr_run.specs.Step.{log_of};
+ghost use Rattle.dsr_explain.specs.Waits.{AreBelow, IsWaitOfClient, IsWaitOfReplica, TellsWaits};
+
+use crate::nothing::write_nothing;
+use crate::pieces::put_name;
+use crate::standing::content_of;
 use crate::story::{KeptBy, Story};
+use crate::waiting::{write_next, write_waits};
 use crate::wanted::Wanted;
 use dsr_desk::Content;
-use dsr_envelope::{Due, Envelope};
 use dsr_names::{Actor, ClientId, Refusal, ReplicaId};
-use dsr_replica::Replica;
+use dsr_notes::next_of;
 use dsr_request::Requests;
 use dsr_world::World;
 use std::alloc::Global;
 use std::fmt::Write;
 
 impl Story {
-    /// Writes the outcome of each slot, who waits for whom, and which envelopes were not taken. If the text is empty even then, writes that no event
-    /// is what was wanted. `NoMemory` if memory runs out.
-    pub(crate) fn end(&mut self, alloc: Global) -> Result<(), Refusal> {
-        if !self.wanted.data {
-            self.tell_refused()?;
-            self.tell_slots()?;
-        }
-        for number in 0..self.world.shape().n() {
-            self.tell_wait_of_replica(number)?;
-        }
-        for number in 0..self.world.shape().m() {
-            self.tell_wait_of_client(number)?;
-        }
-        if !self.wanted.data {
-            self.tell_boxes(alloc)?;
-            self.tell_nothing()?;
-        }
+    /// Writes who waits for whom, in words after the outcome of each slot and before which envelopes were not taken. If the text of words is empty even
+    /// then, writes that no event is what was wanted. `NoMemory` if memory runs out.
+    pub(crate) fn end(&mut self, alloc: Global, events: usize) -> Result<(), Refusal>
+        ensures told { OnOk result ((slots : List ℕ) × (waits : List ℕ) × (boxes : List ℕ)
+            × TellsWaits self.old.wanted self.old.world.shape (log_of self.old.world.run) waits
+            × (self.old.wanted.data ≡ true → (slots ≡ []) × (boxes ≡ []))
+            × (string_bytes self.new.out ≡ string_bytes self.old.out ++ (slots ++ (waits ++ boxes)))) }
+    {
+        let slots = self.tell_slots(alloc)?;
+        self.out.push_str(slots.as_str())?;
+        write_all_waits(&mut self.out, &self.world, &self.wanted)?;
+        let boxes = self.tell_boxes(alloc, events)?;
+        self.out.push_str(boxes.as_str())?;
         Ok(())
     }
 
-    /// Writes for each actor who has not taken what it posted.
-    fn tell_boxes(&mut self, alloc: Global) -> Result<(), Refusal> {
-        let shape = *self.world.shape();
-        for place in 0..shape.size() {
-            let poster = shape.actor_at(place);
-            write_untaken(&mut self.out, alloc, &self.world, &self.wanted, poster)?;
+    /// Returns, in words, how many events were refused, and the outcome of each slot.
+    fn tell_slots(&self, alloc: Global) -> Result<String, Refusal>
+        ensures as_data { self.now.wanted.data ≡ true → IfOk result (λ text. string_bytes text ≡ []) }
+    {
+        let mut out = String::new(alloc);
+        if self.wanted.data {
+            return Ok(out);
         }
-        Ok(())
+        self.write_refused(&mut out)?;
+        self.write_slots(&mut out)?;
+        Ok(out)
     }
 
     /// Writes how many events were refused, and the line of the first.
-    fn tell_refused(&mut self) -> Result<(), Refusal> {
+    fn write_refused(&self, out: &mut String) -> Result<(), Refusal> {
         let (refused, line) = (self.refused, self.first_refused);
         if refused > 0 && self.wanted.is_of_all() {
             writeln!(
-                self.out,
+                out,
                 "refused: {refused}, the first in line {line}; those after it may follow from it"
             )?;
         }
@@ -57,75 +61,104 @@ impl Story {
     }
 
     /// Writes the outcome of each slot.
-    fn tell_slots(&mut self) -> Result<(), Refusal> {
+    fn write_slots(&self, out: &mut String) -> Result<(), Refusal> {
         for slot in 0..self.kept.len() {
             if !self.wanted.has_end_of(slot as u64) {
                 continue;
             }
             if let Some(kept) = self.kept.get(slot) {
-                write_slot(&mut self.out, &self.world, slot, kept)?;
+                write_slot(out, &self.world, slot, kept)?;
             }
         }
         Ok(())
     }
 
-    /// Writes what the loyal replica with this number does next.
-    fn tell_wait_of_replica(&mut self, number: u8) -> Result<(), Refusal> {
-        let Ok(replica) = ReplicaId::new(number) else {
-            return Ok(());
-        };
-        if !self.wanted.has_wait_of(Actor::Replica(replica)) {
-            return Ok(());
-        }
-        let Some(next) = next_of(&self.world, replica) else {
-            return Ok(());
-        };
+    /// Returns, in words, for each actor who has not taken what it posted; and, if there is no other text, that no event is what was wanted.
+    fn tell_boxes(&self, alloc: Global, events: usize) -> Result<String, Refusal>
+        ensures as_data { self.now.wanted.data ≡ true → IfOk result (λ text. string_bytes text ≡ []) }
+    {
+        let mut out = String::new(alloc);
         if self.wanted.data {
-            write_next_data(&mut self.out, replica, &next)
-        } else {
-            write_next(&mut self.out, replica, &next)
+            return Ok(out);
         }
-    }
-
-    /// Writes what the client with this number waits for.
-    fn tell_wait_of_client(&mut self, number: u8) -> Result<(), Refusal> {
-        let Ok(id) = ClientId::new(number) else {
-            return Ok(());
-        };
-        if self.wanted.data || !self.wanted.has_wait_of(Actor::Client(id)) {
-            return Ok(());
+        let shape = *self.world.shape();
+        for place in 0..shape.size() {
+            let poster = shape.actor_at(place);
+            write_untaken(&mut out, alloc, &self.world, &self.wanted, poster)?;
         }
-        let Ok(client) = self.world.client(id) else {
-            return Ok(());
-        };
-        if let Some(number) = client.outstanding() {
-            let needed = self.world.shape().f().saturating_add(1);
-            write!(
-                self.out,
-                "{id}: waits for {needed} matching replies to request {number}"
-            )?;
-            write_standing(&mut self.out, &self.world, id, number)?;
+        if self.out.is_empty() && out.is_empty() {
+            write_nothing(&mut out, &self.world, &self.wanted, events, self.refused)?;
         }
-        Ok(())
+        Ok(out)
     }
 }
 
-/// Writes how far each replica is with the client's outstanding request, which has this number.
-fn write_standing(
+/// Writes what each loyal replica does next, and what each client waits for, as far as the filter wants it.
+fn write_all_waits(out: &mut String, world: &World, wanted: &Wanted) -> Result<(), Refusal>
+    ensures told { OnOk result ((waits : List ℕ) × TellsWaits wanted.now world.now.shape (log_of world.now.run) waits
+        × (string_bytes out.new ≡ string_bytes out.old ++ waits)) }
+{
+    write_waits_of_replicas(out, world, wanted)?;
+    write_waits_of_clients(out, world, wanted)
+}
+
+/// Writes what each loyal replica does next.
+fn write_waits_of_replicas(out: &mut String, world: &World, wanted: &Wanted) -> Result<(), Refusal>
+    ensures told { OnOk result ((waits : List ℕ) × AreBelow (IsWaitOfReplica wanted.now world.now.shape (log_of world.now.run)) world.now.shape.n waits
+        × (string_bytes out.new ≡ string_bytes out.old ++ waits)) }
+{
+    for number in 0..world.shape().n() {
+        write_wait_of_replica(out, world, wanted, ReplicaId::of(number))?;
+    }
+    Ok(())
+}
+
+/// Writes what the replica does next, if it is loyal.
+fn write_wait_of_replica(
     out: &mut String,
     world: &World,
-    client: ClientId,
-    number: u64,
-) -> Result<(), Refusal> {
-    for place in 0..world.shape().n() {
-        let Ok(replica) = ReplicaId::new(place) else {
-            continue;
-        };
-        let standing = standing_at(world, replica, client, number);
-        write!(out, "; {replica} {standing}")?;
+    wanted: &Wanted,
+    replica: ReplicaId,
+) -> Result<(), Refusal>
+    requires { replica < world.now.shape.n }
+    ensures told { OnOk result ((wait : List ℕ) × IsWaitOfReplica wanted.now world.now.shape (log_of world.now.run) replica wait
+        × (string_bytes out.new ≡ string_bytes out.old ++ wait)) }
+{
+    if !wanted.has_wait_of(Actor::Replica(replica)) {
+        return Ok(());
     }
-    writeln!(out)?;
+    match next_of(world, replica) {
+        Some(next) => write_next(out, wanted.data, replica, &next),
+        None => Ok(()),
+    }
+}
+
+/// Writes what each client waits for, in words.
+fn write_waits_of_clients(out: &mut String, world: &World, wanted: &Wanted) -> Result<(), Refusal>
+    ensures told { OnOk result ((waits : List ℕ) × AreBelow (IsWaitOfClient wanted.now world.now.shape (log_of world.now.run)) world.now.shape.m waits
+        × (string_bytes out.new ≡ string_bytes out.old ++ waits)) }
+{
+    for number in 0..world.shape().m() {
+        write_wait_of_client(out, world, wanted, ClientId::of(number))?;
+    }
     Ok(())
+}
+
+/// Writes what the client waits for, in words.
+fn write_wait_of_client(
+    out: &mut String,
+    world: &World,
+    wanted: &Wanted,
+    client: ClientId,
+) -> Result<(), Refusal>
+    requires { client < world.now.shape.m }
+    ensures told { OnOk result ((wait : List ℕ) × IsWaitOfClient wanted.now world.now.shape (log_of world.now.run) client wait
+        × (string_bytes out.new ≡ string_bytes out.old ++ wait)) }
+{
+    if wanted.data || !wanted.has_wait_of(Actor::Client(client)) {
+        return Ok(());
+    }
+    write_waits(out, world, client)
 }
 
 /// Writes who has not taken what this actor posted, if the filter wants the poster or one of these takers.
@@ -172,141 +205,19 @@ fn add_taker(
     poster: &Actor,
     taker: &Actor,
 ) -> Result<bool, Refusal> {
-    if in_box(world, *poster, *taker).is_none() {
+    if !is_full(world, poster, taker) {
         return Ok(false);
     }
     if !takers.is_empty() {
         takers.push_str(", ")?;
     }
-    takers.push_str(name_of(*taker))?;
+    put_name(takers, *taker)?;
     Ok(wanted.has_wait_of(*taker))
 }
 
-/// Returns the words for how far the replica is with the request.
-fn standing_at(world: &World, replica: ReplicaId, client: ClientId, number: u64) -> &'static str {
-    if has_voted(world, replica, client) {
-        return "has replied";
-    }
-    let Ok(loyal) = world.replica(replica) else {
-        return "is a traitor";
-    };
-    if has_acted(loyal, client, number) {
-        return reply_at(world, replica, client, number);
-    }
-    match loyal.held(client) {
-        Some(request) if request.number() == number =>
-            "holds it, and no slot that it decided has it",
-        _ => ask_at(world, replica, client, number),
-    }
-}
-
-/// Returns the words for how far the reply is from a replica at which the request acted.
-fn reply_at(world: &World, replica: ReplicaId, client: ClientId, number: u64) -> &'static str {
-    match in_box(world, Actor::Replica(replica), Actor::Client(client)) {
-        None => "can reply",
-        Some(Envelope::Reply(reply)) if reply.number == number =>
-            "has replied, and its reply has not been taken",
-        Some(_) => "can reply once what it posted before has been taken",
-    }
-}
-
-/// Returns the words for how far the ask is on its way to a replica that does not hold the request.
-fn ask_at(world: &World, replica: ReplicaId, client: ClientId, number: u64) -> &'static str {
-    match in_box(world, Actor::Client(client), Actor::Replica(replica)) {
-        None => "was not asked",
-        Some(Envelope::Ask(ask)) if ask.signed().request.number() == number =>
-            "has not taken the ask",
-        Some(_) => "has not taken an older ask, which is in the way",
-    }
-}
-
-/// Tells whether the client has counted a reply of the replica to the outstanding request.
-fn has_voted(world: &World, replica: ReplicaId, client: ClientId) -> bool {
-    match world.client(client) {
-        Ok(client) if replica.number() < world.shape().n() => {
-            client.tally().vote_of(replica).is_some()
-        }
-        _ => false,
-    }
-}
-
-/// Tells whether the client's last request that acted at the replica has this number.
-fn has_acted(loyal: &Replica, client: ClientId, number: u64) -> bool {
-    match loyal.reply_for(client) {
-        Some(Envelope::Reply(reply)) => reply.number == number,
-        _ => false,
-    }
-}
-
-/// The next step of a loyal replica with the other replicas.
-#[derive(Clone, Copy)]
-struct Next {
-    due: Due,
-    /// The round in progress.
-    round: u64,
-    /// Whether there is an envelope in the box from which it takes, or to which it posts.
-    is_there: bool,
-}
-
-/// Returns what the replica does next; `None` if it is a traitor.
-fn next_of(world: &World, replica: ReplicaId) -> Option<Next> {
-    let Ok(loyal) = world.replica(replica) else {
-        return None;
-    };
-    let me = Actor::Replica(replica);
-    let is_there = match loyal.due() {
-        Due::Take(from) => in_box(world, Actor::Replica(from), me).is_some(),
-        Due::Post(to) => in_box(world, me, Actor::Replica(to)).is_some(),
-    };
-    Some(Next {
-        due: loyal.due(),
-        round: loyal.round(),
-        is_there,
-    })
-}
-
-/// Writes what a replica does next.
-fn write_next(out: &mut String, replica: ReplicaId, next: &Next) -> Result<(), Refusal> {
-    let round = next.round;
-    match next.due {
-        Due::Post(to) => {
-            if next.is_there {
-                writeln!(
-                    out,
-                    "{replica}: posts its envelope of round {round} to {to} once {to} has taken the one before"
-                )?;
-            } else {
-                writeln!(
-                    out,
-                    "{replica}: next it posts its envelope of round {round} to {to}"
-                )?;
-            }
-        }
-        Due::Take(from) => {
-            if next.is_there {
-                writeln!(
-                    out,
-                    "{replica}: next it takes {from}'s envelope of round {round}, which is there"
-                )?;
-            } else {
-                writeln!(
-                    out,
-                    "{replica}: waits for {from}'s envelope of round {round}"
-                )?;
-            }
-        }
-    }
-    Ok(())
-}
-
-/// Writes a line of data that says what a replica does next.
-fn write_next_data(out: &mut String, replica: ReplicaId, next: &Next) -> Result<(), Refusal> {
-    let round = next.round;
-    match next.due {
-        Due::Post(to) => writeln!(out, "waits {replica} post {to} {round}")?,
-        Due::Take(from) => writeln!(out, "waits {replica} take {from} {round}")?,
-    }
-    Ok(())
+/// Tells whether the box from one actor to another holds an envelope; false if one of them is not in the shape.
+fn is_full(world: &World, from: &Actor, to: &Actor) -> bool {
+    world.shape().has(*from) && world.shape().has(*to) && world.in_box(from, to).is_some()
 }
 
 /// Writes the outcome of a slot.
@@ -349,7 +260,7 @@ fn decided_content(world: &World, slot: usize) -> Option<Requests> {
         let Ok(replica) = ReplicaId::new(number) else {
             continue;
         };
-        let content = content_of(world, replica, slot as u64);
+        let content = content_of(world, &Actor::Replica(replica), slot as u64);
         if content.is_some() {
             return content;
         }

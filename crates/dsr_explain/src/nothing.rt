@@ -1,36 +1,36 @@
 //! What an explanation says if no event is what was wanted.
 
-use crate::story::Story;
 use crate::wanted::Wanted;
 use dsr_names::{Refusal, ReplicaId, Shape};
 use dsr_world::World;
 use std::fmt::Write;
 
-impl Story {
-    /// If the text is empty, writes that no event is what was wanted, and which events, actors and slots there are. `NoMemory` if memory runs out.
-    pub(crate) fn tell_nothing(&mut self) -> Result<(), Refusal> {
-        if !self.out.is_empty() {
-            return Ok(());
-        }
-        let (events, refused) = (self.events, self.refused);
-        if events == 0 {
-            self.out.push_str("the play has no events\n")?;
-            return Ok(());
-        }
-        if self.wanted.refused && refused == 0 {
-            writeln!(self.out, "no event was refused: all {events} were done")?;
-            return Ok(());
-        }
-        if self.wanted.refused {
-            write!(self.out, "none of the {refused} refused events is")?;
-        } else {
-            write!(self.out, "none of the {events} events is")?;
-        }
-        write_wanted(&mut self.out, &self.wanted)?;
-        write_existing(&mut self.out, &self.world, &self.wanted)?;
-        self.out.push_str("\n")?;
-        Ok(())
+/// Writes that no event is what was wanted, and which events, actors and slots there are: `events`, of which `refused` were refused. `NoMemory` if memory
+/// runs out.
+pub(crate) fn write_nothing(
+    out: &mut String,
+    world: &World,
+    wanted: &Wanted,
+    events: usize,
+    refused: u64,
+) -> Result<(), Refusal> {
+    if events == 0 {
+        out.push_str("the play has no events\n")?;
+        return Ok(());
     }
+    if wanted.refused && refused == 0 {
+        writeln!(out, "no event was refused: all {events} were done")?;
+        return Ok(());
+    }
+    if wanted.refused {
+        write!(out, "none of the {refused} refused events is")?;
+    } else {
+        write!(out, "none of the {events} events is")?;
+    }
+    write_wanted(out, wanted)?;
+    write_existing(out, world, wanted)?;
+    out.push_str("\n")?;
+    Ok(())
 }
 
 /// Writes which actor and which slot were wanted.

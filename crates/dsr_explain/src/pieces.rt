@@ -1,36 +1,21 @@
 //! Pieces of lines, appended to a text one after another: `write!` takes several times as long for the same line.
 
-use dsr_names::{Actor, Refusal, ReplicaId};
+ghost use Rattle.std.specs.Prelude.{◌≡◌, ◌++◌, OnOk, IsOkUnless, string_bytes};
+ghost use Rattle.std.specs.Fmt.{decimal};
+ghost use Rattle.dsr_names.specs.Actor.{actor_text};
+ghost use Rattle.dsr_desk.specs.ContentText.{content_text};
+ghost use Rattle.dsr_desk.specs.SignersText.{signers_text};
+ghost use Rattle.dsr_chain.specs.Chain.{signers_of};
+ghost use Rattle.dsr_chain.specs.Content.{content};
+
+use dsr_chain::Chain;
+use dsr_desk::Content;
+use dsr_names::{Actor, Refusal};
 use itoa::Buffer;
+use std::fmt::Write;
 
 /// The maximum number of actors: 16 replicas and 32 clients.
 pub(crate) const MOST_ACTORS: usize = 48;
-
-/// The names of replicas, by their numbers.
-static REPLICAS: [&str; 16] = [
-    "r0", "r1", "r2", "r3", "r4", "r5", "r6", "r7", "r8", "r9", "r10", "r11", "r12", "r13", "r14",
-    "r15",
-];
-
-/// The names of clients, by their numbers.
-static CLIENTS: [&str; 32] = [
-    "c0", "c1", "c2", "c3", "c4", "c5", "c6", "c7", "c8", "c9", "c10", "c11", "c12", "c13", "c14",
-    "c15", "c16", "c17", "c18", "c19", "c20", "c21", "c22", "c23", "c24", "c25", "c26", "c27",
-    "c28", "c29", "c30", "c31",
-];
-
-/// Returns the actor's name.
-pub(crate) fn name_of(actor: Actor) -> &'static str {
-    match actor {
-        Actor::Replica(replica) => replica_name(replica),
-        Actor::Client(client) => CLIENTS[client.number() as usize],
-    }
-}
-
-/// Returns the replica's name.
-pub(crate) fn replica_name(replica: ReplicaId) -> &'static str {
-    REPLICAS[replica.number() as usize]
-}
 
 /// Returns the place of an actor, the same for every shape: the clients come after 16 replicas.
 pub(crate) fn place_of(actor: Actor) -> usize {
@@ -40,8 +25,58 @@ pub(crate) fn place_of(actor: Actor) -> usize {
     }
 }
 
+/// Appends the actor's name.
+pub(crate) fn put_name(out: &mut String, actor: Actor) -> Result<(), Refusal>
+    ensures text { OnOk result (string_bytes out.new ≡ string_bytes out.old ++ actor_text actor) }
+    ensures refusal { IsOkUnless result Refusal.NoMemory }
+{
+    match actor {
+        Actor::Replica(replica) => {
+            out.push_str("r")?;
+            put_number(out, replica.number() as u64)
+        }
+        Actor::Client(client) => {
+            out.push_str("c")?;
+            put_number(out, client.number() as u64)
+        }
+    }
+}
+
 /// Appends the number.
-pub(crate) fn put_number(out: &mut String, number: u64) -> Result<(), Refusal> {
+pub(crate) fn put_number(out: &mut String, number: u64) -> Result<(), Refusal>
+    ensures text { OnOk result (string_bytes out.new ≡ string_bytes out.old ++ decimal number) }
+    ensures refusal { IsOkUnless result Refusal.NoMemory }
+{
     out.push_str(Buffer::new().format(number))?;
+    Ok(())
+}
+
+/// Appends the content of the chain: its requests, joined by commas, or that it is idle.
+pub(crate) fn put_content(out: &mut String, chain: &Chain) -> Result<(), Refusal>
+    ensures text { OnOk result (string_bytes out.new ≡ string_bytes out.old ++ content_text (content chain.now.value)) }
+    ensures refusal { IsOkUnless result Refusal.NoMemory }
+{
+    // Most contents have one request, and it is written alone: a content copies room for eight.
+    match chain.signed() {
+        [] => out.push_str("idle")?,
+        [only] => {
+            let request = only.request;
+            write!(out, "{request}")?;
+        }
+        _ => {
+            let content = Content(chain.content());
+            write!(out, "{content}")?;
+        }
+    }
+    Ok(())
+}
+
+/// Appends who signed the chain.
+pub(crate) fn put_signers(out: &mut String, chain: &Chain) -> Result<(), Refusal>
+    ensures text { OnOk result (string_bytes out.new ≡ string_bytes out.old ++ signers_text (signers_of chain.now.signatures)) }
+    ensures refusal { IsOkUnless result Refusal.NoMemory }
+{
+    let signers = chain.signers();
+    write!(out, "{signers}")?;
     Ok(())
 }

@@ -1,12 +1,12 @@
-ghost use Rattle.std.specs.Prelude.{◌≡◌, None, IfOk, IfErr, IfSome, IsOkUnless};
+ghost use Rattle.std.specs.Prelude.{◌≡◌, None, IfOk, IfErr, IfNone, IfSome, IsOkUnless, string_bytes};
 ghost use Rattle.dsr_play.specs.Play.{IsPlayRefusal};
+ghost use Rattle.dsr_explain.specs.Told.{Explains, TellsPlay};
 
 use crate::story::Story;
 use crate::wanted::Wanted;
-use dsr_base::split_once;
 use dsr_names::Refusal;
-use dsr_trouble::{Counts, trouble_of};
-use dsr_world::{Event, Play};
+use dsr_trouble::trouble_of;
+use dsr_world::Play;
 use std::alloc::Global;
 use std::mem;
 
@@ -31,8 +31,8 @@ struct Spent {
 /// why; then the outcome of each slot, and who waits for whom. If the text is not a play, the explanation names the line, the column and what was
 /// expected there. `NoMemory` if memory runs out.
 pub fn explain(alloc: Global, text: &[u8], wanted: &Wanted) -> Result<Explained, Refusal>
-    ensures told { IfOk result (λ explained. IfSome explained.refusal (IsPlayRefusal text.now)) }
-    ensures refused { IfErr result (IsPlayRefusal text.now) }
+    ensures told { IfOk result (λ explained. IfNone explained.refusal (Explains text.now wanted.now (string_bytes explained.text))) }
+    ensures refused { IfOk result (λ explained. IfSome explained.refusal (IsPlayRefusal text.now)) }
     ensures refusal { IsOkUnless result Refusal.NoMemory }
 {
     match Play::read(alloc, text) {
@@ -52,73 +52,18 @@ pub fn explain(alloc: Global, text: &[u8], wanted: &Wanted) -> Result<Explained,
     }
 }
 
-/// Explains the play.
+/// Explains the play with this text.
 fn tell_all(alloc: Global, text: &[u8], play: Play, wanted: &Wanted) -> Result<Explained, Refusal>
-    ensures { IfOk result (λ explained. explained.refusal ≡ None) }
+    ensures none { IfOk result (λ explained. explained.refusal ≡ None) }
+    ensures told { IfOk result (λ explained. TellsPlay wanted.now play (string_bytes explained.text)) }
 {
     let mut story = Story::begin(alloc, play.shape(), wanted)?;
-    tell_story(alloc, text, play.events(), &mut story)?;
+    story.tell_events(alloc, text, play.events())?;
+    story.end(alloc, play.events().len())?;
     let told = mem::replace(&mut story.out, String::new(alloc));
     Ok(Explained {
         text: told,
         refusal: None,
         spent: Some(Spent { play, story }),
     })
-}
-
-/// Explains the events of the play's text, and the end.
-fn tell_story(
-    alloc: Global,
-    text: &[u8],
-    events: &[Event],
-    story: &mut Story,
-) -> Result<(), Refusal> {
-    story.make_room(events.len());
-    if let Some((header, lines)) = split_once(text, b'\n') {
-        tell_lines(alloc, header, lines, events, story)?;
-    }
-    story.end(alloc)
-}
-
-/// Explains the events of these lines, line by line.
-fn tell_lines(
-    alloc: Global,
-    header: &[u8],
-    lines: &[u8],
-    events: &[Event],
-    story: &mut Story,
-) -> Result<(), Refusal> {
-    let mut counts = Counts::new(header);
-    let mut told: usize = 0;
-    let mut rest = lines;
-    let mut number: u64 = 1;
-    // A text has no more lines than bytes.
-    for _ in 0..lines.len() {
-        let Some((line, after)) = split_once(rest, b'\n') else {
-            return Ok(());
-        };
-        number = number.saturating_add(1);
-        let next = told.saturating_add(counts.count(alloc, line)?);
-        tell_line(alloc, number, events, told, next, story)?;
-        told = next;
-        rest = after;
-    }
-    Ok(())
-}
-
-/// Explains the line's events: those from the place `first` to before the place `end`.
-fn tell_line(
-    alloc: Global,
-    number: u64,
-    events: &[Event],
-    first: usize,
-    end: usize,
-    story: &mut Story,
-) -> Result<(), Refusal> {
-    for place in first..end {
-        if let Some(event) = events.get(place) {
-            story.tell(alloc, number, event)?;
-        }
-    }
-    Ok(())
 }

@@ -1,10 +1,10 @@
 //! The texts about envelopes, written once for all events that post or take one.
 
-use crate::pieces::{MOST_ACTORS, place_of};
-use crate::{data, words};
+use crate::chain_lines::{write_shown_data, write_shown_words};
+use crate::pieces::{MOST_ACTORS, place_of, put_name};
 use dsr_chain::Chain;
 use dsr_envelope::{Envelope, Pick};
-use dsr_names::{Actor, Refusal};
+use dsr_names::{Actor, ClientId, Refusal};
 use dsr_reasons::{actor_of, other_of};
 use dsr_script::Draft;
 use dsr_world::Event;
@@ -32,7 +32,7 @@ impl Told {
             let draft = Draft::of(alloc, envelope)?;
             write_draft(&mut end, &draft, as_data)?;
         } else {
-            write_none(&mut end, as_data)?;
+            end.push_str(end_of_none(as_data))?;
         }
         let chains = tell_chains(alloc, envelope, as_data)?;
         Ok(Told { end, chains })
@@ -43,25 +43,59 @@ impl Told {
         self.end.as_str()
     }
 
-    /// Returns the text about the chain at this place of the envelope, which does not depend on the chain's fate.
-    pub(crate) fn chain(&self, place: usize) -> &str {
-        match self.chains.get(place) {
-            Some(chain) => chain.as_str(),
-            None => "",
-        }
+    /// Returns the text about each of its chains, which does not depend on the chain's fate.
+    pub(crate) fn chains(&self) -> &[String] {
+        self.chains.as_slice()
     }
 }
 
+/// Returns the end of the line of an event that was refused: what it was to post, if the event says so.
+pub(crate) fn end_of_refused(
+    alloc: Global,
+    event: &Event,
+    as_data: bool,
+) -> Result<String, Refusal> {
+    let mut end = String::new(alloc);
+    match event {
+        Event::Plant { draft, .. } => write_draft(&mut end, draft, as_data)?,
+        Event::Post { pick, .. } if !as_data => write_choice(&mut end, &pick.pick())?,
+        _ => end.push_str(end_of_none(as_data))?,
+    }
+    Ok(end)
+}
+
+/// Returns the end of an event's line that shows no envelope.
+pub(crate) fn end_of_none(as_data: bool) -> &'static str {
+    if as_data { " -\n" } else { "\n" }
+}
+
 /// Writes the end of an event's line: the envelope of this draft.
-pub(crate) fn write_draft(out: &mut String, draft: &Draft, as_data: bool) -> Result<(), Refusal> {
+fn write_draft(out: &mut String, draft: &Draft, as_data: bool) -> Result<(), Refusal> {
     out.push_str(if as_data { " " } else { ": " })?;
     writeln!(out, "{draft}")?;
     Ok(())
 }
 
-/// Writes the end of an event's line that shows no envelope.
-pub(crate) fn write_none(out: &mut String, as_data: bool) -> Result<(), Refusal> {
-    out.push_str(if as_data { " -\n" } else { "\n" })?;
+/// Writes the end of the line of a post that was refused: the post's choice.
+fn write_choice(out: &mut String, pick: &Pick) -> Result<(), Refusal> {
+    match pick {
+        Pick::Plain => {}
+        Pick::From(clients) => write_asks(out, clients.as_slice())?,
+        Pick::Begin(op) => write!(out, ", to begin the request {op}")?,
+    }
+    out.push_str("\n")?;
+    Ok(())
+}
+
+/// Writes that the replica was to propose the asks of these clients.
+fn write_asks(out: &mut String, clients: &[ClientId]) -> Result<(), Refusal> {
+    out.push_str(", to propose what it holds of ")?;
+    for place in 0..clients.len() {
+        if place > 0 {
+            out.push_str("+")?;
+        }
+        put_name(out, Actor::Client(clients[place]))?;
+    }
     Ok(())
 }
 
@@ -80,9 +114,9 @@ fn tell_chains(alloc: Global, envelope: &Envelope, as_data: bool) -> Result<Vec<
 fn tell_chain(alloc: Global, chain: &Chain, as_data: bool) -> Result<String, Refusal> {
     let mut text = String::with_capacity(alloc, ROOM)?;
     if as_data {
-        data::write_chain(&mut text, chain)?;
+        write_shown_data(&mut text, chain)?;
     } else {
-        words::write_chain(&mut text, chain)?;
+        write_shown_words(&mut text, chain)?;
     }
     Ok(text)
 }
@@ -168,7 +202,7 @@ impl Texts {
         }
         if let Event::Take { .. } = event {
             // The box may still hold an ask from before the client's last two requests; its texts have to be written anew.
-            if self.told(event, true).is_some() {
+            if self.told(event).is_some() {
                 return Ok(());
             }
         }
@@ -198,11 +232,8 @@ impl Texts {
         Ok(())
     }
 
-    /// Returns the texts about the envelope that this event posted or took; `None` if it was refused, or they were not written.
-    pub(crate) fn told(&self, event: &Event, was_done: bool) -> Option<&Told> {
-        if !was_done {
-            return None;
-        }
+    /// Returns the texts about the envelope that this event, which was done, posted or took; `None` if they were not written.
+    pub(crate) fn told(&self, event: &Event) -> Option<&Told> {
         match self.boxes.get(box_of(event))? {
             Lying::Nothing => None,
             Lying::Posted(number) => self.posted.get(poster_of(event))?.told(*number),

@@ -1,11 +1,10 @@
 -- What a loyal replica could propose, and does not (this project: to propose nothing is allowed).
-use Rattle.std.specs.Prelude.{◌≡◌, ◌⊎◌, ℕ, zero, suc, ◌-◌, not, nat_lt, Bool, true, false, List, [], ◌∷◌, ◌++◌, Option, None, Some, if◌then◌else◌}
+use Rattle.std.specs.Prelude.{◌≡◌, ◌⊎◌, ℕ, zero, suc, ◌-◌, not, nat_lt, Bool, true, false, List, [], ◌∷◌, ◌++◌, Option, None, Some}
 use Rattle.std.specs.Option.{option_map}
 use Rattle.dsr_base.specs.Member.{In}
 use Rattle.dsr_names.specs.Shape.{Shape}
 use Rattle.dsr_names.specs.Support.ActorEquality.{actor_eq}
 use Rattle.dsr_names.specs.declared.actor.Actor.{Actor}
-use Rattle.dsr_names.specs.declared.actor.Actor.TheVariants.{Replica}
 use Rattle.dsr_request.specs.Request.{Request}
 use Rattle.dsr_ledger.specs.declared.reply.Reply.{Reply as AReply}
 use Rattle.dsr_history.specs.History.{reply}

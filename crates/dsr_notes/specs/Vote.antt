@@ -1,6 +1,6 @@
 -- What a client does with what it takes from a replica (Schneider 1990: a reply that f+1 replicas give alike is accepted).
-use Rattle.std.specs.Prelude.{◌≡◌, ℕ, suc, ◌==◌, not, List, [], ◌∷◌, Option, None, Some, map, if◌then◌else◌}
-use Rattle.std.specs.Option.{option_to_list, is_some}
+use Rattle.std.specs.Prelude.{◌≡◌, ℕ, suc, ◌==◌, List, ◌∷◌, Option, None, Some, map, if◌then◌else◌}
+use Rattle.std.specs.Option.{option_to_list}
 use Rattle.dsr_names.specs.Shape.{Shape}
 use Rattle.dsr_names.specs.declared.actor.Actor.TheVariants.{Replica}
 use Rattle.dsr_ledger.specs.declared.reply.Reply.{Reply as AReply}

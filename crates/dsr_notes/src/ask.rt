@@ -14,8 +14,8 @@ use dsr_envelope::Envelope;
 use dsr_names::{Actor, ClientId, Refusal, ReplicaId};
 use dsr_world::World;
 
-/// Notes the request that a loyal replica is about to take from a client: it will hold it. Requires that the box holds an envelope. `NoMemory` if memory
-/// runs out.
+/// Notes the request that a loyal replica is about to take from a client: it will hold it. Notes nothing if the box is empty. `NoMemory` if
+/// memory runs out.
 pub(crate) fn note_ask(
     world: &World,
     replica: ReplicaId,

@@ -1,0 +1,11 @@
+use Rattle.std.proofs.Common.{◌≡◌, ◌++◌, ℕ, List}
+use Rattle.std.specs.Prelude.{string_bytes}
+use Rattle.dsr_run.specs.Step.{log_of}
+use Rattle.dsr_explain.specs.Waits.{AreBelow, IsWaitOfReplica}
+use Rattle.dsr_explain.proofs.ending.write_waits_of_replicas.Given as goal
+
+-- those below this number are told
+abbrev pub invariant-loop-number : goal.invariant-loop-number
+invariant-loop-number l =
+    (waits : List ℕ) × AreBelow (IsWaitOfReplica l.wanted l.world.shape (log_of l.world.run)) l.number waits
+    × (string_bytes l.out ≡ string_bytes l.initial.out ++ waits)

@@ -1,0 +1,26 @@
+use Rattle.std.proofs.Common.{◌≡◌, ◌++◌, ◌∙◌, ℕ, List, ap, refl, subst}
+use Rattle.std.specs.Prelude.{OnOk, string_bytes}
+use Rattle.dsr_explain.specs.Told.{TellsRefusal}
+use Rattle.dsr_explain.proofs.ToldLemmas.{brief_told, refused_told}
+use Rattle.dsr_explain.proofs.story.Story.tell_briefly.Goals as goal
+
+pub returns-in-Ok-clause-told : goal.returns-in-Ok-clause-told
+returns-in-Ok-clause-told c =
+    let s = c.args.self.now in
+    brief_told s.wanted c.args.number s.world.shape c.step.new.self.run s.world.run c.args.event.now c.in-Ok.field-0 (string_bytes s.out)
+    c.requires c.in-Ok.ensures.done
+
+pub returns-in-Err : goal.returns-in-Err
+returns-in-Err c =
+    let s = c.args.self.now in
+    let new = c.tell_refusal.new.self in
+    let stays = c.in-Err.ensures.unchanged in
+    let same = c.tell_refusal.ensures.world ∙ stays in
+    record {
+      told = refused_told c.tell_refusal.result s.wanted c.args.number s.world.shape new.world.run s.world.run c.args.event.now c.in-Err.refusal
+          (string_bytes s.out) (string_bytes new.out) (c.in-Err.ensures.last c.in-Err.refusal refl) (ap (λ w. w.run) same)
+          (subst (λ w. OnOk c.tell_refusal.result ((text : List ℕ) × TellsRefusal s.wanted c.args.number w.shape w.run c.args.event.now c.in-Err.refusal text
+          × (string_bytes new.out ≡ string_bytes s.out ++ text))) stays c.tell_refusal.ensures.told);
+      wanted = c.tell_refusal.ensures.wanted;
+      shape = ap (λ w. w.shape) same;
+    }
