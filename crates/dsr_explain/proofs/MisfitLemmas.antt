@@ -12,7 +12,7 @@ use Rattle.dsr_chain.specs.Chain.{link_after, signers_of}
 use Rattle.dsr_chain.specs.declared.slot_value.SlotValue.{SlotValue}
 use Rattle.dsr_explain.specs.Lines.{misfit_text, misfit_told}
 
--- a statement that does not fit is told
+-- the text names a statement that does not fit
 told : (slot : ℕ) (value : SlotValue) (before : List Actor) (s : Signature) (more : List Signature) → s.statement ≢ link_after slot value before
     → misfit_text slot value before (s ∷ more)
     ≡ misfit_told s (link_after slot value before)

@@ -106,7 +106,7 @@ refusal_told wanted number line shape run event refusal old new wants cause =
       cause.1.told ∙ append_assoc old head said,
     )
 
--- nothing is told of an event that was done, if only refused events are wanted
+-- an event that was done has no text if the filter wants only refused events
 pub brief_told : (wanted : Wanted) (number : ℕ) (shape : Shape) (later earlier : List Step) (event : Event) (reply : Option AReply) (out : List ℕ)
     → wanted.refused ≡ true → HasDone shape later earlier event reply
     → (text : List ℕ) × TellsEvent wanted number shape later earlier event text × (out ≡ out ++ text)
@@ -122,7 +122,7 @@ refused_told (Ok x) wanted number shape later earlier event refusal old new refu
     (told.0, inr (record { refusal = refusal; refused = refused; same = same; tells = told.1 }), told.2)
 refused_told (Err e) wanted number shape later earlier event refusal old new refused same told = tt
 
--- one event more is told
+-- the text of one event more
 pub told_next : (wanted : Wanted) (shape : Shape) (later mid earlier : List Step) (events : List Event) (i : ℕ) (event : Event) (first middle last : List ℕ)
     → i < length events → event ≡ get_or events i event
     → (text : List ℕ) × TellsEvents wanted 0 shape mid earlier (take i events) text × (middle ≡ first ++ text)

@@ -141,7 +141,7 @@ chain_data at shown slot fate =
 abbrev pub chain_words : Shape → Option Chain → List ℕ → ℕ → ChainFate → List ℕ
 chain_words shape chain shown slot fate = codes "    chain of slot " ++ (decimal slot ++ (shown ++ (chain_end shape chain fate ++ codes "\n")))
 
--- what becomes of a chain of this slot; `shown` is a text that describes the chain, of which nothing is said here
+-- what becomes of a chain of this slot; `shown` is a text that describes the chain, about which this definition claims nothing
 abbrev pub chain_line : Bool → Shape → Actor → Option Chain → List ℕ → ℕ → ChainFate → List ℕ
 chain_line is_data shape at chain shown slot fate = if is_data then chain_data at shown slot fate else chain_words shape chain shown slot fate
 
@@ -276,7 +276,7 @@ abbrev pub shown_at : List (List ℕ) → ℕ → List ℕ
 shown_at texts place = or_empty (slice_get texts place)
 
 -- the line of a note: the logs are those after the event, `chains` are the chains of the envelope that was posted or taken, and `texts` are texts that
--- describe them, of which nothing is said here
+-- describe them, about which this definition claims nothing
 abbrev pub note_line : Bool → Shape → Logs → Actor → Actor → List Chain → List (List ℕ) → Note → List ℕ
 note_line is_data shape logs at other chains texts (OtherRound round) = other_round_line is_data at round
 note_line is_data shape logs at other chains texts (ChainNote place slot fate) =

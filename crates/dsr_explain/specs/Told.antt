@@ -96,7 +96,7 @@ pub record TellsNotes (wanted : Wanted) (number : ℕ) (shape : Shape) (later : 
       text ≡ done_line wanted.data number line event shown
       ++ note_lines wanted.data shape (log_of later) (actor_of event) (other_of event) (last_chains later) texts (filter (wants_note wanted) notes)
 
--- they are told if the filter wants the event, and otherwise nothing is
+-- the text has them if the filter wants the event, and otherwise is empty
 pub record TellsWanted (wanted : Wanted) (number : ℕ) (shape : Shape) (later : List Step) (event : Event) (notes : List Note) (text : List ℕ) : Type 0 where
   pub told : WantsDone wanted event notes → TellsNotes wanted number shape later event notes text
   pub other : ¬ WantsDone wanted event notes → text ≡ []

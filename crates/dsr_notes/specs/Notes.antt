@@ -1,4 +1,4 @@
--- What came of an event that was done (this project). What is said here is all that there is to say: the notes are exactly these, in this order.
+-- What came of an event that was done (this project). The notes are exactly these, in this order.
 use Rattle.std.specs.Prelude.{◌≡◌, ℕ, zero, suc, true, false, List, [], Some}
 use Rattle.dsr_names.specs.Shape.{Shape, is_traitor}
 use Rattle.dsr_names.specs.declared.actor.Actor.{Actor}

@@ -4,7 +4,7 @@ use Rattle.dsr_run.specs.Step.{log_of}
 use Rattle.dsr_explain.specs.Waits.{AreBelow, IsWaitOfClient}
 use Rattle.dsr_explain.proofs.ending.write_waits_of_clients.Given as goal
 
--- those below this number are told
+-- the text has the lines of those below this number
 abbrev pub invariant-loop-number : goal.invariant-loop-number
 invariant-loop-number l =
     (waits : List ℕ) × AreBelow (IsWaitOfClient l.wanted l.world.shape (log_of l.world.run)) l.number waits

@@ -3,7 +3,7 @@ use Rattle.std.specs.Prelude.{string_bytes, take}
 use Rattle.dsr_explain.specs.Told.{TellsEvents}
 use Rattle.dsr_explain.proofs.story.Story.tell_events.Given as goal
 
--- the events before this one are told
+-- the text has the events before this one
 abbrev pub invariant-loop-place : goal.invariant-loop-place
 invariant-loop-place l =
     ((told : List ℕ) × TellsEvents l.initial.self.wanted 0 l.initial.self.world.shape l.self.world.run l.initial.self.world.run (take l.place l.events) told
