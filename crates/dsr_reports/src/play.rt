@@ -8,15 +8,15 @@ ghost use Rattle.dsr_reports.specs.Played.{HasPlayed, HasRun, IsReport, LeftAfte
 
 use crate::report::report_of;
 use dsr_names::{Refusal, Sink, Source, read_input, write_output};
-use dsr_world::{Play, RunEnd, World};
+use dsr_world::{Play, RunEnd, Stage};
 use std::alloc::Global;
 use std::mem::forget;
 
-/// The world after a play, and how the play's events ended.
+/// The stage after a play, and how the play's events ended.
 #[derive(Drop)]
-pub(crate) struct Played {
-    pub(crate) world: World,
-    pub(crate) end: RunEnd,
+struct Played {
+    stage: Stage,
+    end: RunEnd,
 }
 
 /// The report of a play, the number of its refused events, and the number of those refused because memory ran out.
@@ -27,22 +27,22 @@ struct Outcome {
     starved: u64,
 }
 
-/// Plays the play that the text encodes, in a new world.
-pub(crate) fn play_out(alloc: Global, text: &[u8]) -> Result<Played, Refusal>
-    ensures played { IfOk result (λ played. HasRun text.now played.world.shape played.world.run played.end) }
+/// Plays the play that the text encodes, on a new stage: the report tells no step.
+fn play_out(alloc: Global, text: &[u8]) -> Result<Played, Refusal>
+    ensures played { IfOk result (λ played. HasRun text.now played.stage.shape played.stage.run played.end) }
     ensures refused { IfErr result (IsPlayRefusal text.now) }
 {
     let play = match Play::read(alloc, text) {
         Ok(play) => play,
         Err(refusal) => return Err(refusal),
     };
-    let Ok(mut world) = World::open(alloc, play.shape()) else {
+    let Ok(mut stage) = Stage::open(alloc, play.shape()) else {
         return Err(Refusal::NoMemory);
     };
-    let end = world.run(alloc, play.events());
-    // The program ends soon, and to free a world letter by letter takes a tenth of the time of a long play.
+    let end = stage.run(alloc, play.events());
+    // The program ends soon, and to free the events one by one would only take time.
     forget(play);
-    Ok(Played { world, end })
+    Ok(Played { stage, end })
 }
 
 /// Plays the play that the text encodes, and makes its report.
@@ -54,7 +54,7 @@ fn outcome_of(alloc: Global, text: &[u8]) -> Result<Outcome, Refusal>
         Ok(played) => played,
         Err(refusal) => return Err(refusal),
     };
-    let Ok(report) = report_of(alloc, &played.world, &played.end) else {
+    let Ok(report) = report_of(alloc, &played.stage, &played.end) else {
         return Err(Refusal::NoMemory);
     };
     let (refused, starved) = (played.end.refused, played.end.starved);
@@ -66,7 +66,7 @@ fn outcome_of(alloc: Global, text: &[u8]) -> Result<Outcome, Refusal>
     })
 }
 
-/// Reads a play, plays it in a new world, writes the report of its outcome, and returns how many of its events were refused.
+/// Reads a play, plays it on a new stage, writes the report of its outcome, and returns how many of its events were refused.
 /// Plays nothing before the end of the text, and writes nothing before the end of the play.
 ///
 /// `BadShape` and `BadText` say what is wrong with the text; after them, and after `ReadFailed`, nothing was written. After

@@ -9,22 +9,22 @@ use dsr_ledger::Reply;
 use dsr_names::{ClientId, Refusal, ReplicaId};
 use dsr_request::Request;
 use dsr_slot::Decision;
-use dsr_world::{RunEnd, World};
+use dsr_world::{RunEnd, Stage};
 use std::alloc::Global;
 use std::fmt::Write;
 
-/// Returns the report of a world whose events ended as `end` says: how many were done and refused, what each client accepted, each
+/// Returns the report of a stage whose events ended as `end` says: how many were done and refused, what each client accepted, each
 /// client's seen front, what each loyal replica decided, and the history. `NoMemory` if memory runs out.
-pub(crate) fn report_of(alloc: Global, world: &World, end: &RunEnd) -> Result<String, Refusal>
-    ensures text { IfOk result (λ report. string_bytes report ≡ report_text world.now.shape (log_of world.now.run) end.now) }
+pub(crate) fn report_of(alloc: Global, stage: &Stage, end: &RunEnd) -> Result<String, Refusal>
+    ensures text { IfOk result (λ report. string_bytes report ≡ report_text stage.now.shape (log_of stage.now.run) end.now) }
     ensures refusal { IsOkUnless result Refusal.NoMemory }
 {
     let mut report = String::new(alloc);
     write_end(&mut report, end)?;
-    write_accepted(&mut report, world)?;
-    write_seen(&mut report, world)?;
-    write_decided(&mut report, world)?;
-    write_history(&mut report, world.history())?;
+    write_accepted(&mut report, stage)?;
+    write_seen(&mut report, stage)?;
+    write_decided(&mut report, stage)?;
+    write_history(&mut report, stage.history())?;
     Ok(report)
 }
 
@@ -43,13 +43,13 @@ fn write_end(out: &mut String, end: &RunEnd) -> Result<(), Refusal>
 }
 
 /// Writes the replies that each client accepted.
-fn write_accepted(out: &mut String, world: &World) -> Result<(), Refusal>
-    ensures text { OnOk result (string_bytes out.new ≡ string_bytes out.old ++ accepted_text world.now.shape (log_of world.now.run)) }
+fn write_accepted(out: &mut String, stage: &Stage) -> Result<(), Refusal>
+    ensures text { OnOk result (string_bytes out.new ≡ string_bytes out.old ++ accepted_text stage.now.shape (log_of stage.now.run)) }
     ensures refusal { IsOkUnless result Refusal.NoMemory }
 {
-    for number in 0..world.shape().m() {
+    for number in 0..stage.shape().m() {
         let client = client(number);
-        let Ok(replies) = world.accepted(client) else {
+        let Ok(replies) = stage.accepted(client) else {
             unreachable!()
         };
         write_replies(out, client, replies)?;
@@ -79,13 +79,13 @@ pub(crate) fn write_reply(out: &mut String, client: ClientId, reply: &Reply) -> 
 }
 
 /// Writes the seen front of each client.
-fn write_seen(out: &mut String, world: &World) -> Result<(), Refusal>
-    ensures text { OnOk result (string_bytes out.new ≡ string_bytes out.old ++ seen_text world.now.shape (log_of world.now.run)) }
+fn write_seen(out: &mut String, stage: &Stage) -> Result<(), Refusal>
+    ensures text { OnOk result (string_bytes out.new ≡ string_bytes out.old ++ seen_text stage.now.shape (log_of stage.now.run)) }
     ensures refusal { IsOkUnless result Refusal.NoMemory }
 {
-    for number in 0..world.shape().m() {
+    for number in 0..stage.shape().m() {
         let client = client(number);
-        let Ok(seen) = world.seen(client) else {
+        let Ok(seen) = stage.seen(client) else {
             unreachable!()
         };
         writeln!(out, "seen {client} {seen}")?;
@@ -94,14 +94,14 @@ fn write_seen(out: &mut String, world: &World) -> Result<(), Refusal>
 }
 
 /// Writes what each loyal replica decided.
-fn write_decided(out: &mut String, world: &World) -> Result<(), Refusal>
-    ensures text { OnOk result (string_bytes out.new ≡ string_bytes out.old ++ decided_text world.now.shape (log_of world.now.run)) }
+fn write_decided(out: &mut String, stage: &Stage) -> Result<(), Refusal>
+    ensures text { OnOk result (string_bytes out.new ≡ string_bytes out.old ++ decided_text stage.now.shape (log_of stage.now.run)) }
     ensures refusal { IsOkUnless result Refusal.NoMemory }
 {
-    for number in 0..world.shape().n() {
+    for number in 0..stage.shape().n() {
         let replica = replica(number);
         // A traitor is asked for nothing.
-        if let Ok(decisions) = world.decided(replica) {
+        if let Ok(decisions) = stage.decided(replica) {
             write_decisions(out, replica, decisions)?;
         }
     }

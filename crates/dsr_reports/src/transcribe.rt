@@ -5,13 +5,20 @@ ghost use Rattle.dsr_names.specs.Limits.{most_calls};
 ghost use Rattle.dsr_names.specs.Streams.{CanFailToTake, SentAll, SentPrefix, streams};
 ghost use Rattle.dsr_play.specs.Play.{IsPlayRefusal};
 ghost use Rattle.dsr_record.specs.RecordText.{Fits, record_text};
-ghost use Rattle.dsr_reports.specs.Played.{HasPlayed, IsTranscript, LeftAfterPlay, PlayedAll};
+ghost use Rattle.dsr_reports.specs.Played.{HasPlayed, HasRun, IsTranscript, LeftAfterPlay, PlayedAll};
 
-use crate::play::play_out;
 use dsr_names::{Refusal, Sink, Source, read_input};
 use dsr_record::{Record, transcripts_spell_their_records, write};
+use dsr_world::{Play, RunEnd, World};
 use std::alloc::Global;
 use std::mem::forget;
+
+/// The world after a play, and how the play's events ended.
+#[derive(Drop)]
+struct Played {
+    world: World,
+    end: RunEnd,
+}
 
 /// The steps of a play's actors, the number of its refused events, and the number of those refused because memory ran out.
 #[derive(Drop)]
@@ -19,6 +26,23 @@ struct Recording {
     recorded: Record,
     refused: u64,
     starved: u64,
+}
+
+/// Plays the play that the text encodes, in a new world, which keeps the steps.
+fn play_out(alloc: Global, text: &[u8]) -> Result<Played, Refusal>
+    ensures played { IfOk result (λ played. HasRun text.now played.world.shape played.world.run played.end) }
+    ensures refused { IfErr result (IsPlayRefusal text.now) }
+{
+    let play = match Play::read(alloc, text) {
+        Ok(play) => play,
+        Err(refusal) => return Err(refusal),
+    };
+    let Ok(mut world) = World::open(alloc, play.shape()) else {
+        return Err(Refusal::NoMemory);
+    };
+    let end = world.run(alloc, play.events());
+    forget(play);
+    Ok(Played { world, end })
 }
 
 /// Plays the play that the text encodes, and records all steps.
@@ -36,7 +60,7 @@ fn recording_of(alloc: Global, text: &[u8]) -> Result<Recording, Refusal>
     };
     transcripts_spell_their_records(&recorded);
     let (refused, starved) = (played.end.refused, played.end.starved);
-    // As in a play that is reported, the world is not freed.
+    // As the stage of a play that is reported, the world is not freed.
     forget(played);
     Ok(Recording {
         recorded,

@@ -1,5 +1,6 @@
 mod Blindness
 mod Ending
+mod Keeping
 pub mod NextSteps
 mod Opening
 mod Repeating

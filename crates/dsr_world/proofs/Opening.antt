@@ -17,7 +17,7 @@ use Rattle.dsr_base.specs.Boxes.{AreSquare, empty_box, box_at}
 use Rattle.dsr_world.specs.Support.Boxes.{held_in}
 use Rattle.dsr_node.specs.Node.{Plays}
 use Rattle.dsr_names.specs.Places.{place_of}
-use Rattle.dsr_world.specs.Support.WorldFields.{AreParts, AreOpened, IsTraitorBelow, AreKeysBelow}
+use Rattle.dsr_world.specs.Support.StageFields.{AreParts, AreOpened, IsTraitorBelow, AreKeysBelow}
 use Rattle.dsr_base.specs.declared.boxes.MailBox.{MailBox}
 use Rattle.dsr_node.specs.declared.node.Node.{Node}
 use Rattle.dsr_names.proofs.PlaceLemmas.{same_place, place_below}

@@ -30,7 +30,7 @@ use Rattle.dsr_run.specs.Run.{IsRun}
 use Rattle.dsr_run.specs.Step.{Step, log_of}
 use Rattle.dsr_node.specs.Node.{IsOutstandingAsk}
 use Rattle.dsr_names.specs.Places.{place_of}
-use Rattle.dsr_world.specs.Support.WorldFields.{AreLetters, kept_of, with_letter}
+use Rattle.dsr_world.specs.Support.StageFields.{AreLetters, kept_of, with_letter}
 use Rattle.dsr_client.proofs.Lemmas.{was_posted}
 use Rattle.dsr_run.proofs.Lemmas.{posted_entry}
 use Rattle.dsr_names.proofs.PlaceLemmas.{place_below, same_place}

@@ -16,7 +16,7 @@ use Rattle.dsr_base.specs.Boxes.{box_at, with_box, with_item, without_item}
 use Rattle.dsr_world.specs.Support.Boxes.{held_in, IsBoxOf}
 use Rattle.dsr_node.specs.Node.{Plays}
 use Rattle.dsr_names.specs.Places.{place_of}
-use Rattle.dsr_world.specs.Support.WorldFields.{ArePlayed, AreBoxes}
+use Rattle.dsr_world.specs.Support.StageFields.{ArePlayed, AreBoxes}
 use Rattle.dsr_base.specs.declared.boxes.MailBox.{MailBox}
 use Rattle.dsr_node.specs.declared.node.Node.{Node}
 use Rattle.dsr_run.proofs.Lemmas.{posted_cases, posted_still, taken_cases, taken_still}

@@ -24,7 +24,7 @@ use Rattle.dsr_run.specs.Step.{Step, Logs, log_of}
 use Rattle.dsr_base.specs.Boxes.{box_at, with_box, with_item}
 use Rattle.dsr_node.specs.Node.{Plays}
 use Rattle.dsr_names.specs.Places.{place_of}
-use Rattle.dsr_world.specs.Support.WorldFields.{AreParts}
+use Rattle.dsr_world.specs.Support.StageFields.{AreParts}
 use Rattle.dsr_run.specs.Known.{KnowsAll}
 use Rattle.dsr_base.specs.declared.boxes.MailBox.{MailBox}
 use Rattle.dsr_node.specs.declared.node.Node.{Node}

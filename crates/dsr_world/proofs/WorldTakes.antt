@@ -22,7 +22,7 @@ use Rattle.dsr_base.specs.Boxes.{box_at, with_box}
 use Rattle.dsr_world.specs.Support.Boxes.{held_in}
 use Rattle.dsr_node.specs.Node.{Plays}
 use Rattle.dsr_names.specs.Places.{place_of}
-use Rattle.dsr_world.specs.Support.WorldFields.{AreParts}
+use Rattle.dsr_world.specs.Support.StageFields.{AreParts}
 use Rattle.dsr_base.specs.declared.boxes.MailBox.{MailBox}
 use Rattle.dsr_node.specs.declared.node.Node.{Node}
 use Rattle.dsr_run.proofs.Lemmas.{known_still}

@@ -33,7 +33,7 @@ use Rattle.dsr_world.specs.Support.Boxes.{held_in, IsBoxOf}
 use Rattle.dsr_node.proofs.Lemmas.{honest_plays}
 use Rattle.dsr_node.specs.Node.{CanPost, Plays, post_refusal}
 use Rattle.dsr_names.specs.Places.{place_of}
-use Rattle.dsr_world.specs.Support.WorldFields.{AreParts}
+use Rattle.dsr_world.specs.Support.StageFields.{AreParts}
 use Rattle.dsr_run.specs.Known.{KnowsAll}
 use Rattle.dsr_node.specs.Conduct.{HasSpelledOp}
 use Rattle.dsr_base.specs.declared.boxes.MailBox.{MailBox}

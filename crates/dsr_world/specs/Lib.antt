@@ -1,4 +1,5 @@
 pub mod Event
 pub mod Outcome
+pub mod Stage
 pub mod Support
 pub mod World

@@ -1,44 +1,17 @@
-ghost use Rattle.std.specs.Prelude.{◌≡◌, ℕ, ◌<◌, None, Some, IfOk, IsOkUnless, IsSome, length, slice_index_or};
+ghost use Rattle.std.specs.Prelude.{◌≡◌, ◌↔◌, ◌⊎◌, ℕ, ◌<◌, None, Some, Any, IfOk, OnOk, OnErr, IsOkUnless, IsSome, length, slice_index_or};
+ghost use Rattle.dsr_base.specs.Member.{In};
 ghost use Rattle.dsr_base.specs.Boxes.{box_at, row_of};
-ghost use Rattle.dsr_world.specs.Support.WorldFields.{kept_of, with_letter};
+ghost use Rattle.dsr_names.specs.declared.actor.Actor.{Actor};
+ghost use Rattle.dsr_desk.specs.Signature.{Signature};
+ghost use Rattle.dsr_envelope.specs.Envelope.{Carries};
+ghost use Rattle.dsr_world.specs.Support.StageFields.{kept_of, with_letter};
 
 use dsr_base::Boxes;
+use dsr_desk::Key;
 use dsr_envelope::{Envelope, Letter};
 use dsr_names::{Actor, Refusal};
+use dsr_script::Known;
 use std::alloc::Global;
-
-/// Two letters that share one envelope: one for the poster's entry, one for the box.
-#[derive(Drop)]
-pub(crate) struct Letters {
-    /// The letter for the entry in the poster's log.
-    pub(crate) kept: Letter,
-    /// The letter for the box.
-    pub(crate) sent: Letter,
-}
-
-impl Letters {
-    /// Makes two letters that share the envelope. `NoMemory` if memory runs out.
-    pub(crate) fn of(alloc: Global, envelope: Envelope) -> Result<Letters, Refusal>
-        ensures kept { IfOk result (λ letters. letters.kept ≡ envelope) }
-        ensures sent { IfOk result (λ letters. letters.sent ≡ envelope) }
-        ensures refusal { IsOkUnless result Refusal.NoMemory }
-    {
-        let kept = Letter::of(alloc, envelope)?;
-        let sent = kept.try_copy()?;
-        Ok(Letters { kept, sent })
-    }
-
-    /// Makes two letters from a letter that was posted already. `NoMemory` if one more handle is refused.
-    pub(crate) fn again(letter: &Letter) -> Result<Letters, Refusal>
-        ensures kept { IfOk result (λ letters. letters.kept ≡ letter.now) }
-        ensures sent { IfOk result (λ letters. letters.sent ≡ letter.now) }
-        ensures refusal { IsOkUnless result Refusal.NoMemory }
-    {
-        let kept = letter.try_copy()?;
-        let sent = letter.try_copy()?;
-        Ok(Letters { kept, sent })
-    }
-}
 
 /// Returns `count` entries, all `None`: no letter is stored. `NoMemory` if memory runs out.
 pub(crate) fn no_letters(alloc: Global, count: usize) -> Result<Vec<Option<Letter>>, Refusal>
@@ -85,5 +58,20 @@ pub(crate) fn lent(boxes: &Boxes<Letter>, from: usize, to: usize) -> &Envelope
     match boxes.item(from, to) {
         Some(letter) => letter.envelope(),
         None => unreachable!(),
+    }
+}
+
+/// Notes the signatures of a loyal actor's post as known. Without a traitor's key it notes nothing, because nobody could send them
+/// on. `NoMemory` if memory runs out: then nothing changes.
+pub(crate) fn learn(known: &mut Known, keys: &[Key], envelope: &Envelope) -> Result<(), Refusal>
+    ensures learned { (holder : Actor) → Any (λ h. h ≡ holder) keys.now → (s : Signature)
+        → OnOk result (In s known.new.signatures ↔ (In s known.old.signatures ⊎ Carries envelope.now s)) }
+    ensures stays { OnErr result (known.new.signatures ≡ known.old.signatures) }
+    ensures refusal { IsOkUnless result Refusal.NoMemory }
+{
+    if keys.is_empty() {
+        Ok(())
+    } else {
+        known.learn(envelope)
     }
 }

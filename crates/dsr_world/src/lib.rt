@@ -1,10 +1,16 @@
-//! A world: a node for each actor of a shape, a box from each to each, and the steps that events make, which are a run.
+//! A stage: a node for each actor of a shape, a box from each to each, and the steps that events make, which are a run. A world keeps
+//! the run too.
 #![tactic(auto)]
 
 mod blind;
+mod entries;
+mod first_nodes;
 mod letters;
 mod replies;
+mod roles;
 mod run_end;
+mod stage;
+mod steps;
 mod world;
 
 pub use blind::events_are_blind;
@@ -17,4 +23,5 @@ pub use dsr_run::{
     runs_are_right, runs_go_on, runs_keep_conduct, traitors_may_be_loyal,
 };
 pub use run_end::RunEnd;
+pub use stage::Stage;
 pub use world::World;

@@ -1,7 +1,7 @@
 ghost use Rattle.std.specs.Prelude.{◌≡◌, IfOk, IfSome, IsOk, IsOkUnless};
 ghost use Rattle.dsr_node.specs.Node.{IsReplicaNumber};
 
-use crate::letters::{Letters, no_letters};
+use crate::letters::no_letters;
 use dsr_envelope::{Envelope, Letter};
 use dsr_names::{Actor, Refusal};
 use std::alloc::Global;
@@ -22,21 +22,20 @@ impl Replies {
         Ok(Replies { last })
     }
 
-    /// Makes two letters for this actor: copies of the last one to it, if that holds the same envelope. `NoMemory` if memory runs
-    /// out or one more handle is refused.
-    pub(crate) fn letters_of(
+    /// Makes the letter to this actor: a copy of the last one, if that holds the same envelope. `NoMemory` if memory runs out or one
+    /// more handle is refused.
+    pub(crate) fn letter_of(
         &self,
         alloc: Global,
         to: &Actor,
         envelope: Envelope,
-    ) -> Result<Letters, Refusal>
-        ensures kept { IfOk result (λ letters. letters.kept ≡ envelope) }
-        ensures sent { IfOk result (λ letters. letters.sent ≡ letters.kept) }
+    ) -> Result<Letter, Refusal>
+        ensures same { IfOk result (λ letter. letter ≡ envelope) }
         ensures refusal { IsOkUnless result Refusal.NoMemory }
     {
         match self.same_before(to, &envelope) {
-            Some(letter) => Letters::again(letter),
-            None => Letters::of(alloc, envelope),
+            Some(letter) => letter.try_copy(),
+            None => Letter::of(alloc, envelope),
         }
     }
 

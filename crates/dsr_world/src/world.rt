@@ -1,53 +1,38 @@
-ghost use Rattle.std.specs.Prelude.{true, false, ◌++◌, IfSome, IfNone, IsSome, ◌⊎◌, Any, OnOk, vec_len, vec_capacity, ◌≡◌, ◌≢◌, ◌↔◌, ◌&&◌, ℕ, ◌<◌, ◌≤◌, ◌+◌, [], ◌∷◌, List, Option, None, Some, Err, length, reverse, slice_index_or, IfOk, IsOk, OnErr, IsTrue, IsOkUnless};
-ghost use Rattle.std.specs.Option.{option_map, option_to_list};
-ghost use Rattle.dsr_names.specs.Shape.{IsActor, IsLoyal, is_traitor};
+ghost use Rattle.std.specs.Prelude.{IfSome, IfNone, ◌⊎◌, ◌≡◌, ◌↔◌, ℕ, ◌<◌, ◌≤◌, ◌+◌, [], List, Option, Some, Err, length, reverse, IfOk, IsOk, OnErr, IsOkUnless};
+ghost use Rattle.std.specs.Option.{option_map};
+ghost use Rattle.dsr_names.specs.Shape.{IsActor, IsLoyal};
 ghost use Rattle.dsr_names.specs.declared.actor.Actor.TheVariants.{Replica as ReplicaNumber, Client as ClientNumber};
-ghost use Rattle.dsr_node.specs.Node.{Plays, PlaysReplica};
+ghost use Rattle.dsr_node.specs.Node.{PlaysReplica};
 ghost use Rattle.dsr_client.specs.Client.{StandsFor as StandsForClient};
-ghost use Rattle.dsr_names.specs.declared.refusal.Refusal.TheVariants.{NoActor, WrongRole};
-ghost use Rattle.dsr_envelope.specs.declared.envelope.Envelope.{Envelope};
-ghost use Rattle.dsr_envelope.specs.Limits.{IsEnvelope};
 ghost use Rattle.dsr_envelope.specs.Log.{posted_to};
-ghost use Rattle.dsr_envelope.specs.Pick.{IsPick};
-ghost use Rattle.dsr_play.specs.declared.event.Event.TheVariants.{Post, Plant, Take, Tell};
 ghost use Rattle.dsr_base.specs.Growth.{Extends};
 ghost use Rattle.dsr_base.specs.Member.{In};
 ghost use Rattle.dsr_history.specs.History.{IsLegal};
-ghost use Rattle.dsr_desk.specs.Keys.{is_taken};
 ghost use Rattle.dsr_desk.specs.Signature.{Signature, signed};
 ghost use Rattle.dsr_envelope.specs.Envelope.{Carries};
 ghost use Rattle.dsr_names.specs.declared.actor.Actor.{Actor};
 ghost use Rattle.dsr_names.specs.declared.refusal.Refusal.{Refusal};
-ghost use Rattle.dsr_world.specs.Event.{in_box, HasDone, IsRefusedBy, IsForgedAtLast, is_full, is_used_up, refusal_of, first_of};
-ghost use Rattle.dsr_node.specs.Conduct.{is_actor, is_traitor_of, are_clients, is_own_client, are_two_clients, post_of};
-ghost use Rattle.dsr_envelope.specs.declared.entry.Entry.TheVariants.{Post as PostEntry};
-ghost use Rattle.dsr_envelope.specs.declared.pick.Pick.TheVariants.{Plain};
-ghost use Rattle.dsr_client.specs.Conduct.{ask_to};
+ghost use Rattle.dsr_world.specs.Event.{in_box, HasDone, IsRefusedBy, IsForgedAtLast, refusal_of};
 ghost use Rattle.dsr_run.specs.History.{accepted_by, decided_at, history, seen_by};
 ghost use Rattle.dsr_world.specs.Outcome.{HasEnded};
 ghost use Rattle.dsr_run.specs.Agreement.{HasAgreement};
 ghost use Rattle.dsr_run.specs.Linearizable.{IsLinearization, IsLinearizable};
 ghost use Rattle.dsr_run.specs.Right.{IsRight, IsRightReply, TookAllReplies, HasReplyTo};
 ghost use Rattle.dsr_ledger.specs.declared.reply.Reply.{Reply as AReply};
-ghost use Rattle.dsr_run.specs.Run.{IsRun, IsTraitor, IsMadeOrPosted, ForgesNothing};
+ghost use Rattle.dsr_run.specs.Run.{IsRun, IsTraitor, IsMadeOrPosted};
 ghost use Rattle.dsr_run.specs.Step.{Step, log_of};
-ghost use Rattle.dsr_world.specs.Support.WorldFields.{box_refusal};
-ghost use Rattle.dsr_node.specs.Conduct.{HasSpelledOp};
 
-use crate::letters::{Letters, keep_letter, kept_of, lent, no_letters};
-use crate::replies::Replies;
+use crate::entries::Entries;
 use crate::run_end::RunEnd;
-use dsr_base::Boxes;
+use crate::stage::Stage;
 use dsr_client::Client;
-use dsr_desk::{Key, Keys};
-use dsr_envelope::{Entry, Envelope, Letter, Pick};
+use dsr_envelope::{Entry, Letter};
 use dsr_ledger::Reply;
-use dsr_names::{Actor, ClientId, NUMBER_END, Refusal, ReplicaId, Shape};
-use dsr_node::{Customer, Node};
+use dsr_names::{Actor, ClientId, Refusal, ReplicaId, Shape};
 use dsr_play::Event;
 use dsr_replica::Replica;
 use dsr_request::Request;
-use dsr_script::{Draft, Forged, Known, build, forged_in};
+use dsr_script::{Draft, Forged};
 use dsr_slot::Decision;
 use std::alloc::Global;
 use std::marker::Model;
@@ -56,15 +41,8 @@ use std::marker::Model;
 /// client; a traitor posts anything that forges nothing.
 #[derive(Drop)]
 pub struct World {
-    shape: Shape,
-    nodes: Vec<Node>,
-    boxes: Boxes<Letter>,
-    keys: Vec<Key>,
-    known: Known,
-    /// The letter that each loyal actor last posted to replica 0, at the actor's place; `None` if no such letter is stored.
-    letters: Vec<Option<Letter>>,
-    replies: Replies,
-    entries: Vec<(Actor, Entry)>,
+    stage: Stage,
+    entries: Entries,
 }
 
 impl Model for World {
@@ -85,27 +63,10 @@ impl World {
         ensures empty { IfOk result (λ world. world.run ≡ []) }
         ensures refusal { IsOkUnless result Refusal.NoMemory }
     {
-        let count = shape.n() as usize + shape.m() as usize;
-        let mut keys = Keys::new(alloc, shape)?;
-        let mut nodes = Vec::with_capacity(alloc, count)?;
-        let mut traitors = Vec::new(alloc);
-        for number in 0..shape.n() {
-            let (node, key) = replica_node(alloc, &shape, &mut keys, number)?;
-            nodes.push(node)?;
-            keep(&mut traitors, key)?;
-        }
-        for number in 0..shape.m() {
-            nodes.push(client_node(alloc, &shape, &mut keys, number))?;
-        }
+        let stage = Stage::open(alloc, shape)?;
         Ok(World {
-            shape,
-            nodes,
-            boxes: Boxes::new(alloc, count)?,
-            keys: traitors,
-            known: Known::new(alloc),
-            letters: no_letters(alloc, count)?,
-            replies: Replies::for_clients(alloc, shape.m())?,
-            entries: Vec::new(alloc),
+            stage,
+            entries: Entries::kept(alloc),
         })
     }
 
@@ -113,7 +74,7 @@ impl World {
     pub fn shape(&self) -> &Shape
         ensures { result.now ≡ self.now.shape }
     {
-        &self.shape
+        self.stage.shape()
     }
 
     /// Returns the steps of its run, in order: who took each, and the entry of that actor's log.
@@ -121,6 +82,8 @@ impl World {
         ensures same { result.now ≡ reverse self.now.run }
         ensures run { IsRun self.now.shape self.now.run }
     {
+        // For the proof: the steps are a run.
+        self.stage.steps_are_a_run();
         self.entries.as_slice()
     }
 
@@ -134,10 +97,7 @@ impl World {
         ensures answered { (number : ℕ) → TookAllReplies self.now.shape (log_of self.now.run (ClientNumber client)) number
             → IfOk result (λ replies. HasReplyTo number replies.now) }
     {
-        if client.number() >= self.shape.m() {
-            return Err(Refusal::NoActor);
-        }
-        Ok(self.nodes[self.shape.place(&Actor::Client(client))].accepted())
+        self.stage.accepted(client)
     }
 
     /// Returns a client's seen front, which is at most the length of the history. `NoActor` if it is not a client of the shape.
@@ -147,10 +107,7 @@ impl World {
         ensures when { IsOk result ↔ client < self.now.shape.m }
         ensures refusal { IsOkUnless result Refusal.NoActor }
     {
-        if client.number() >= self.shape.m() {
-            return Err(Refusal::NoActor);
-        }
-        Ok(self.nodes[self.shape.place(&Actor::Client(client))].seen())
+        self.stage.seen(client)
     }
 
     /// Returns a loyal replica. `NoActor` if it is not a replica of the shape, `WrongRole` if it is a traitor.
@@ -160,13 +117,7 @@ impl World {
         ensures outside { (result ≡ Err Refusal.NoActor) ↔ self.now.shape.n ≤ replica }
         ensures refusal { OnErr result (result ≡ Err Refusal.NoActor ⊎ result ≡ Err Refusal.WrongRole) }
     {
-        if replica.number() >= self.shape.n() {
-            return Err(Refusal::NoActor);
-        }
-        match self.nodes[replica.number() as usize].replica() {
-            Some(loyal) => Ok(loyal),
-            None => Err(Refusal::WrongRole),
-        }
+        self.stage.replica(replica)
     }
 
     /// Returns a client. `NoActor` if it is not a client of the shape.
@@ -177,10 +128,7 @@ impl World {
         ensures when { IsOk result ↔ client < self.now.shape.m }
         ensures refusal { IsOkUnless result Refusal.NoActor }
     {
-        if client.number() >= self.shape.m() {
-            return Err(Refusal::NoActor);
-        }
-        Ok(self.nodes[self.shape.place(&Actor::Client(client))].client())
+        self.stage.client(client)
     }
 
     /// Returns the letter in the box from one actor to another: the first that was posted there and not taken. Requires two actors of the shape.
@@ -189,8 +137,7 @@ impl World {
         requires to { IsActor self.now.shape to.now }
         ensures { option_map (λ letter. letter.now) result ≡ in_box (log_of self.now.run) from.now to.now }
     {
-        let (poster, taker) = (self.shape.place(from), self.shape.place(to));
-        self.boxes.item(poster, taker)
+        self.stage.in_box(from, to)
     }
 
     /// Returns how many envelopes were posted into the box from one actor to another. Requires two actors of the shape.
@@ -199,8 +146,7 @@ impl World {
         requires to { IsActor self.now.shape to.now }
         ensures { result ≡ length (posted_to to.now (log_of self.now.run from.now)) }
     {
-        let (poster, taker) = (self.shape.place(from), self.shape.place(to));
-        self.boxes.posts(poster, taker)
+        self.stage.posts(from, to)
     }
 
     /// Returns a signature in the draft for which the world would refuse a traitor's post of it as forged now: the signature is not a
@@ -213,7 +159,7 @@ impl World {
         ensures none { (p : ℕ) → IsTraitor self.now.shape (ReplicaNumber p)
             → IfNone result ((s : Signature) → Carries draft.now s → IsMadeOrPosted self.now.shape (log_of self.now.run) s) }
     {
-        forged_in(draft, self.keys.as_slice(), &self.known)
+        self.stage.forged_in(draft)
     }
 
     /// Returns what a loyal replica decided for its closed slots, in the order of the slots. `NoActor` if it is not a replica of the
@@ -224,10 +170,7 @@ impl World {
         ensures outside { (result ≡ Err Refusal.NoActor) ↔ self.now.shape.n ≤ replica }
         ensures refusal { OnErr result (result ≡ Err Refusal.NoActor ⊎ result ≡ Err Refusal.WrongRole) }
     {
-        match self.replica(replica) {
-            Ok(loyal) => Ok(loyal.decided()),
-            Err(refusal) => Err(refusal),
-        }
+        self.stage.decided(replica)
     }
 
     /// Returns the history: the requests that acted, in order, at the loyal replica with the most closed slots.
@@ -238,18 +181,7 @@ impl World {
         ensures grew { (earlier : List Step) → Extends self.now.run earlier
             → Extends (history self.now.shape (log_of self.now.run)) (history self.now.shape (log_of earlier)) }
     {
-        let mut history: &[Request] = &[];
-        let mut closed = 0;
-        for number in 0..self.shape.n() {
-            if let Some(replica) = self.nodes[number as usize].replica() {
-                let decided = replica.decided();
-                if decided.len() > closed {
-                    closed = decided.len();
-                    history = replica.history();
-                }
-            }
-        }
-        history
+        self.stage.history()
     }
 
     /// Makes the event happen, and returns the reply that a client accepts with it, if any.
@@ -266,12 +198,7 @@ impl World {
         ensures unchanged { OnErr result (self.new ≡ self.old) }
         ensures shape { self.new.shape ≡ self.old.shape }
     {
-        match event {
-            Event::Post { from, to, pick } => self.post(alloc, from, to, &pick.pick()),
-            Event::Plant { from, to, draft } => self.plant(alloc, from, to, draft),
-            Event::Take { at, from } => self.take(alloc, at, from),
-            Event::Tell { from, to } => self.tell(alloc, from, to),
-        }
+        self.stage.step_in(alloc, event, &mut self.entries)
     }
 
     /// Makes each of the events happen in turn, skipping refused ones, and returns how many were done and refused. If memory runs out
@@ -287,474 +214,6 @@ impl World {
         ensures right { IsRight self.new.shape self.new.run }
         ensures linearizable { IsLinearizable self.new.shape self.new.run }
     {
-        let mut end = RunEnd::new();
-        for event in events {
-            let outcome = self.step(alloc, event).err();
-            end = end.with(outcome);
-        }
-        // For the proof: at most f replicas are traitors.
-        let _n = self.shape.n();
-        end
-    }
-
-    /// Makes a loyal actor post.
-    fn post(
-        &mut self,
-        alloc: Global,
-        from: &Actor,
-        to: &Actor,
-        pick: &Pick,
-    ) -> Result<Option<Reply>, Refusal>
-        ensures done { IfOk result (HasDone self.old.shape self.new.run self.old.run (Post from.now to.now pick.now)) }
-        ensures refused { (refusal : Refusal)
-            → refusal_of self.old.shape (log_of self.old.run) (Post from.now to.now pick.now) ≡ Some refusal → result ≡ Err refusal }
-        ensures last { (refusal : Refusal) → result ≡ Err refusal
-            → IsRefusedBy self.old.shape (log_of self.old.run) (Post from.now to.now pick.now) refusal }
-        ensures unchanged { OnErr result (self.new ≡ self.old) }
-        ensures shape { self.new.shape ≡ self.old.shape }
-    {
-        if let Some(refusal) = self.post_refusal(from, to, pick) {
-            return Err(refusal);
-        }
-        look_at(pick);
-        // For the proof: at most f replicas are traitors.
-        let _n = self.shape.n();
-        let (poster, taker) = (self.shape.place(from), self.shape.place(to));
-        let Ok(letters) = self.letters_for(alloc, from, to, pick) else {
-            return Err(Refusal::NoMemory);
-        };
-        let again = kept_of(to, &letters.kept)?;
-        self.replies.note(to, &letters.kept)?;
-        make_room(&mut self.entries)?;
-        learn(
-            &mut self.known,
-            self.keys.as_slice(),
-            letters.kept.envelope(),
-        )?;
-        self.nodes[poster].posted(*to, *pick);
-        keep_letter(&mut self.letters, poster, again);
-        self.boxes.put(poster, taker, letters.sent);
-        log_post(&mut self.entries, from, to, letters.kept);
-        Ok(None)
-    }
-
-    /// Makes the letters of a loyal actor's post, which nothing refuses. What a replica posts to replica 0 it posts as the same letter
-    /// to the others in that round, and a client's ask of replica 0 goes to the others as the same letter. `NoMemory` if memory runs
-    /// out or one more handle is refused.
-    fn letters_for(
-        &self,
-        alloc: Global,
-        from: &Actor,
-        to: &Actor,
-        pick: &Pick,
-    ) -> Result<Letters, Refusal>
-        requires { refusal_of self.now.shape (log_of self.now.run) (Post from.now to.now pick.now) ≡ None }
-        ensures given { IfOk result (λ letters. post_of self.now.shape (log_of self.now.run from.now) from.now to.now pick.now ≡ Some letters.kept) }
-        ensures sent { IfOk result (λ letters. letters.sent ≡ letters.kept) }
-        ensures refusal { IsOkUnless result Refusal.NoMemory }
-    {
-        if let Some(letter) = self.posted_before(from, to, pick) {
-            return Letters::again(letter);
-        }
-        let poster = self.shape.place(from);
-        let Ok(envelope) = self.nodes[poster].envelope_for(alloc, *to, *pick) else {
-            return Err(Refusal::NoMemory);
-        };
-        self.replies.letters_of(alloc, to, envelope)
-    }
-
-    /// Returns the letter that a loyal actor posted to replica 0 and now posts again: a replica's of the round in progress, to another
-    /// replica, or a client's ask with the outstanding request. `None` for any other post, and if no such letter is stored.
-    fn posted_before(&self, from: &Actor, to: &Actor, pick: &Pick) -> Option<&Letter>
-        requires { refusal_of self.now.shape (log_of self.now.run) (Post from.now to.now pick.now) ≡ None }
-        ensures { IfSome result (λ letter. post_of self.now.shape (log_of self.now.run from.now) from.now to.now pick.now ≡ Some letter.now) }
-    {
-        match (from, to, pick) {
-            (Actor::Replica(poster), Actor::Replica(taker), Pick::Plain) if taker.number() > 0 => {
-                self.letters[poster.number() as usize].as_ref()
-            }
-            (Actor::Client(client), Actor::Replica(_), Pick::Plain) => self.asked_before(*client),
-            _ => None,
-        }
-    }
-
-    /// Returns the stored ask that a client posted to replica 0; `None` if the client does not have its request outstanding.
-    fn asked_before(&self, client: ClientId) -> Option<&Letter>
-        requires { client < self.now.shape.m }
-        ensures { IfSome result (λ letter. ask_to self.now.shape client (log_of self.now.run (ClientNumber client)) Plain ≡ Some letter.now) }
-    {
-        let place = self.shape.place(&Actor::Client(client));
-        let letter = self.letters[place].as_ref()?;
-        if self.nodes[place].has_outstanding(letter.envelope()) {
-            Some(letter)
-        } else {
-            None
-        }
-    }
-
-    /// Makes an actor take.
-    fn take(&mut self, alloc: Global, at: &Actor, from: &Actor) -> Result<Option<Reply>, Refusal>
-        ensures done { IfOk result (HasDone self.old.shape self.new.run self.old.run (Take at.now from.now)) }
-        ensures refused { (refusal : Refusal)
-            → refusal_of self.old.shape (log_of self.old.run) (Take at.now from.now) ≡ Some refusal → result ≡ Err refusal }
-        ensures last { (refusal : Refusal) → result ≡ Err refusal
-            → IsRefusedBy self.old.shape (log_of self.old.run) (Take at.now from.now) refusal }
-        ensures unchanged { OnErr result (self.new ≡ self.old) }
-        ensures shape { self.new.shape ≡ self.old.shape }
-    {
-        if let Some(refusal) = self.take_refusal(at, from) {
-            return Err(refusal);
-        }
-        // For the proof: at most f replicas are traitors.
-        let _n = self.shape.n();
-        let (poster, taker) = (self.shape.place(from), self.shape.place(at));
-        make_room(&mut self.entries)?;
-        let envelope = lent(&self.boxes, poster, taker);
-        let Ok(reply) = self.nodes[taker].take(alloc, from, envelope) else {
-            return Err(Refusal::NoMemory);
-        };
-        let letter = self.boxes.take(poster, taker);
-        self.entries.push_reserved((
-            *at,
-            Entry::Take {
-                from: *from,
-                envelope: letter,
-            },
-        ));
-        Ok(reply)
-    }
-
-    /// Makes a client post its seen front to another.
-    fn tell(&mut self, alloc: Global, from: &Actor, to: &Actor) -> Result<Option<Reply>, Refusal>
-        ensures done { IfOk result (HasDone self.old.shape self.new.run self.old.run (Tell from.now to.now)) }
-        ensures refused { (refusal : Refusal)
-            → refusal_of self.old.shape (log_of self.old.run) (Tell from.now to.now) ≡ Some refusal → result ≡ Err refusal }
-        ensures last { (refusal : Refusal) → result ≡ Err refusal
-            → IsRefusedBy self.old.shape (log_of self.old.run) (Tell from.now to.now) refusal }
-        ensures unchanged { OnErr result (self.new ≡ self.old) }
-        ensures shape { self.new.shape ≡ self.old.shape }
-    {
-        if let Some(refusal) = self.tell_refusal(from, to) {
-            return Err(refusal);
-        }
-        // For the proof: at most f replicas are traitors.
-        let _n = self.shape.n();
-        let (poster, taker) = (self.shape.place(from), self.shape.place(to));
-        let envelope = Envelope::Seen(self.nodes[poster].seen());
-        let letters = Letters::of(alloc, envelope)?;
-        make_room(&mut self.entries)?;
-        learn(
-            &mut self.known,
-            self.keys.as_slice(),
-            letters.kept.envelope(),
-        )?;
-        self.boxes.put(poster, taker, letters.sent);
-        log_post(&mut self.entries, from, to, letters.kept);
-        Ok(None)
-    }
-
-    /// Makes a traitor post. It is separate from `step`, whose frame it would make ten times as large.
-    #[inline(never)]
-    fn plant(
-        &mut self,
-        alloc: Global,
-        from: &Actor,
-        to: &Actor,
-        draft: &Draft,
-    ) -> Result<Option<Reply>, Refusal>
-        ensures done { IfOk result (HasDone self.old.shape self.new.run self.old.run (Plant from.now to.now draft.now)) }
-        ensures refused { (refusal : Refusal)
-            → refusal_of self.old.shape (log_of self.old.run) (Plant from.now to.now draft.now) ≡ Some refusal → result ≡ Err refusal }
-        ensures last { (refusal : Refusal) → result ≡ Err refusal
-            → IsRefusedBy self.old.shape (log_of self.old.run) (Plant from.now to.now draft.now) refusal }
-        ensures unchanged { OnErr result (self.new ≡ self.old) }
-        ensures shape { self.new.shape ≡ self.old.shape }
-        ensures forged { IsForgedAtLast self.old.shape (log_of self.old.run) (Plant from.now to.now draft.now) → result ≡ Err Refusal.Forged }
-    {
-        let envelope = match self.unforged(alloc, from, to, draft) {
-            Ok(envelope) => envelope,
-            Err(refusal) => return Err(refusal),
-        };
-        // For the proof: at most f replicas are traitors.
-        let _n = self.shape.n();
-        let (poster, taker) = (self.shape.place(from), self.shape.place(to));
-        let letters = Letters::of(alloc, envelope)?;
-        make_room(&mut self.entries)?;
-        self.boxes.put(poster, taker, letters.sent);
-        log_post(&mut self.entries, from, to, letters.kept);
-        Ok(None)
-    }
-
-    /// Makes the envelope that a traitor is to post. The refusals are those of `step`.
-    fn unforged(
-        &self,
-        alloc: Global,
-        from: &Actor,
-        to: &Actor,
-        draft: &Draft,
-    ) -> Result<Envelope, Refusal>
-        ensures same { IfOk result (λ envelope. envelope ≡ draft.now) }
-        ensures within { OnOk result (IsEnvelope draft.now) }
-        ensures none { OnOk result (refusal_of self.now.shape (log_of self.now.run) (Plant from.now to.now draft.now) ≡ None) }
-        ensures made { OnOk result (ForgesNothing self.now.shape (log_of self.now.run) (PostEntry to.now draft.now)) }
-        ensures refused { (refusal : Refusal)
-            → refusal_of self.now.shape (log_of self.now.run) (Plant from.now to.now draft.now) ≡ Some refusal → result ≡ Err refusal }
-        ensures last { (refusal : Refusal) → result ≡ Err refusal
-            → IsRefusedBy self.now.shape (log_of self.now.run) (Plant from.now to.now draft.now) refusal }
-        ensures forged { IsForgedAtLast self.now.shape (log_of self.now.run) (Plant from.now to.now draft.now) → result ≡ Err Refusal.Forged }
-    {
-        if let Some(refusal) = self.plant_refusal(from, to, draft) {
-            return Err(refusal);
-        }
-        match build(alloc, draft, self.keys.as_slice(), &self.known) {
-            Ok(envelope) => Ok(envelope),
-            Err(refusal) => Err(refusal),
-        }
-    }
-
-    /// Returns the refusal of a loyal actor's post; `None` if the post is allowed.
-    fn post_refusal(&self, from: &Actor, to: &Actor, pick: &Pick) -> Option<Refusal>
-        ensures { result ≡ refusal_of self.now.shape (log_of self.now.run) (Post from.now to.now pick.now) }
-    {
-        if !self.are_actors(from, to) {
-            return Some(Refusal::NoActor);
-        }
-        if is_traitor(&self.shape, from) || are_clients(from, to) {
-            return Some(Refusal::WrongRole);
-        }
-        let place = self.shape.place(from);
-        match self.nodes[place].refusal(*to, *pick) {
-            Some(refusal) => Some(refusal),
-            None => self.box_refusal(from, to),
-        }
-    }
-
-    /// Returns the refusal of a traitor's post for any reason but its signatures; `None` if only they, or a lack of memory, can refuse it.
-    fn plant_refusal(&self, from: &Actor, to: &Actor, _draft: &Draft) -> Option<Refusal>
-        ensures { result ≡ refusal_of self.now.shape (log_of self.now.run) (Plant from.now to.now _draft.now) }
-    {
-        if !self.are_actors(from, to) {
-            return Some(Refusal::NoActor);
-        }
-        if !is_traitor(&self.shape, from) {
-            return Some(Refusal::WrongRole);
-        }
-        self.box_refusal(from, to)
-    }
-
-    /// Returns the refusal of a take; `None` if the take is allowed.
-    fn take_refusal(&self, at: &Actor, from: &Actor) -> Option<Refusal>
-        ensures { result ≡ refusal_of self.now.shape (log_of self.now.run) (Take at.now from.now) }
-    {
-        if !self.are_actors(at, from) {
-            return Some(Refusal::NoActor);
-        }
-        if is_own_client(at, from) {
-            return Some(Refusal::WrongRole);
-        }
-        let place = self.shape.place(at);
-        if self.nodes[place].is_undue(*from) {
-            return Some(Refusal::NotDue);
-        }
-        if !self.is_full(from, at) {
-            return Some(Refusal::BoxEmpty);
-        }
-        None
-    }
-
-    /// Returns the refusal of an actor's post of its seen front to another; `None` if the post is allowed.
-    fn tell_refusal(&self, from: &Actor, to: &Actor) -> Option<Refusal>
-        ensures { result ≡ refusal_of self.now.shape (log_of self.now.run) (Tell from.now to.now) }
-    {
-        if !self.are_actors(from, to) {
-            return Some(Refusal::NoActor);
-        }
-        if !are_clients(from, to) || is_own_client(from, to) {
-            return Some(Refusal::WrongRole);
-        }
-        self.box_refusal(from, to)
-    }
-
-    /// Returns why the box from one actor to another refuses a post; `None` if it does not.
-    fn box_refusal(&self, from: &Actor, to: &Actor) -> Option<Refusal>
-        requires from { IsActor self.now.shape from.now }
-        requires to { IsActor self.now.shape to.now }
-        ensures { result ≡ box_refusal (log_of self.now.run) from.now to.now }
-    {
-        let posts = self
-            .boxes
-            .posts(self.shape.place(from), self.shape.place(to));
-        if posts >= NUMBER_END - 1 {
-            return Some(Refusal::Exhausted);
-        }
-        if self.is_full(from, to) {
-            return Some(Refusal::BoxFull);
-        }
-        None
-    }
-
-    /// Tells whether the box from one actor to another holds an envelope.
-    fn is_full(&self, from: &Actor, to: &Actor) -> bool
-        requires from { IsActor self.now.shape from.now }
-        requires to { IsActor self.now.shape to.now }
-        ensures { result ≡ is_full (log_of self.now.run) from.now to.now }
-    {
-        self.boxes
-            .item(self.shape.place(from), self.shape.place(to))
-            .is_some()
-    }
-
-    /// Tells whether both are actors of the shape.
-    fn are_actors(&self, one: &Actor, other: &Actor) -> bool
-        ensures same { result ≡ (is_actor self.now.shape one.now && is_actor self.now.shape other.now) }
-        ensures one { IsTrue result → IsActor self.now.shape one.now }
-        ensures other { IsTrue result → IsActor self.now.shape other.now }
-    {
-        self.shape.has(*one) && self.shape.has(*other)
-    }
-}
-
-/// Tells whether an actor of the shape is a traitor.
-fn is_traitor(shape: &Shape, actor: &Actor) -> bool
-    requires { IsActor shape.now actor.now }
-    ensures { result ≡ is_traitor_of shape.now actor.now }
-{
-    !shape.is_loyal(*actor)
-}
-
-/// Tells whether both are clients.
-fn are_clients(one: &Actor, other: &Actor) -> bool
-    ensures { result ≡ are_clients one.now other.now }
-{
-    match (one, other) {
-        (Actor::Client(_), Actor::Client(_)) => true,
-        _ => false,
-    }
-}
-
-/// Tells whether both are one client.
-fn is_own_client(one: &Actor, other: &Actor) -> bool
-    ensures { result ≡ is_own_client one.now other.now }
-{
-    match (one, other) {
-        (Actor::Client(client), Actor::Client(another)) => client.number() == another.number(),
-        _ => false,
-    }
-}
-
-/// Looks at the choice, so that the prover knows it to be an allowed one.
-fn look_at(pick: &Pick)
-    ensures pick { IsPick pick.now }
-    ensures spelled { HasSpelledOp pick.now }
-{
-    match pick {
-        Pick::Plain => {}
-        Pick::From(clients) => {
-            let _clients = clients.as_slice();
-        }
-        Pick::Begin(op) => {
-            let _name = op.name();
-        }
-    }
-}
-
-/// Makes room for one more entry. `NoMemory` if that is refused; if there is room already, it cannot fail.
-fn make_room(entries: &mut Vec<(Actor, Entry)>) -> Result<(), Refusal>
-    ensures same { entries.new.items ≡ entries.old.items }
-    ensures room { OnOk result (vec_len entries.new < vec_capacity entries.new) }
-    ensures has { vec_len entries.old < vec_capacity entries.old → IsOk result }
-    ensures refusal { IsOkUnless result Refusal.NoMemory }
-{
-    if entries.len() < entries.capacity() {
-        return Ok(());
-    }
-    match entries.reserve(1) {
-        Ok(()) => Ok(()),
-        Err(_) => Err(Refusal::NoMemory),
-    }
-}
-
-/// Adds a post to the entries. Requires room for it.
-fn log_post(entries: &mut Vec<(Actor, Entry)>, from: &Actor, to: &Actor, envelope: Letter)
-    requires { vec_len entries.old < vec_capacity entries.old }
-    ensures { reverse entries.new.items ≡ (from.now, PostEntry to.now envelope) ∷ reverse entries.old.items }
-{
-    entries.push_reserved((*from, Entry::Post { to: *to, envelope }));
-}
-
-/// Notes the signatures of a loyal actor's post as known. Without a traitor's key it notes nothing, because nobody could send them
-/// on. `NoMemory` if memory runs out: then nothing changes.
-fn learn(known: &mut Known, keys: &[Key], envelope: &Envelope) -> Result<(), Refusal>
-    ensures learned { (holder : Actor) → Any (λ h. h ≡ holder) keys.now → (s : Signature)
-        → OnOk result (In s known.new.signatures ↔ (In s known.old.signatures ⊎ Carries envelope.now s)) }
-    ensures stays { OnErr result (known.new.signatures ≡ known.old.signatures) }
-    ensures refusal { IsOkUnless result Refusal.NoMemory }
-{
-    if keys.is_empty() {
-        Ok(())
-    } else {
-        known.learn(envelope)
-    }
-}
-
-/// Makes the node of a replica of the shape, and its key if it is a traitor. `NoMemory` if memory runs out. Requires that its key was not taken.
-fn replica_node(
-    alloc: Global,
-    shape: &Shape,
-    keys: &mut Keys,
-    number: u8,
-) -> Result<(Node, Option<Key>), Refusal>
-    requires inside { number < shape.now.n }
-    requires keys { keys.old.shape ≡ shape.now }
-    requires untaken { is_taken keys.old (ReplicaNumber number) ≡ false }
-    ensures keys { keys.new.shape ≡ keys.old.shape }
-    ensures others { (other : Actor) → other ≢ ReplicaNumber number → is_taken keys.new other ≡ is_taken keys.old other }
-    ensures plays { IfOk result (λ made. Plays shape.now (ReplicaNumber number) [] made.0) }
-    ensures held { IfOk result (λ made. IfSome made.1 (λ key. key ≡ ReplicaNumber number)) }
-    ensures traitor { IfOk result (λ made. IsSome made.1 ↔ (is_traitor shape.now number ≡ true)) }
-    ensures refusal { IsOkUnless result Refusal.NoMemory }
-{
-    // For the proof: n is at most 16.
-    let _n = shape.n();
-    let actor = Actor::Replica(ReplicaId::of(number));
-    let Some(key) = keys.take(actor) else {
-        unreachable!()
-    };
-    if shape.is_loyal(key.signer()) {
-        Ok((Node::Loyal(Replica::new(alloc, key, shape)?), None))
-    } else {
-        Ok((Node::Traitor, Some(key)))
-    }
-}
-
-/// Makes the node of a client of the shape. Requires that its key was not taken.
-fn client_node(alloc: Global, shape: &Shape, keys: &mut Keys, number: u8) -> Node
-    requires inside { number < shape.now.m }
-    requires keys { keys.old.shape ≡ shape.now }
-    requires untaken { is_taken keys.old (ClientNumber number) ≡ false }
-    ensures keys { keys.new.shape ≡ keys.old.shape }
-    ensures others { (other : Actor) → other ≢ ClientNumber number → is_taken keys.new other ≡ is_taken keys.old other }
-    ensures plays { Plays shape.now (ClientNumber number) [] result }
-{
-    // For the proof: m is at most 32.
-    let _m = shape.m();
-    let actor = Actor::Client(ClientId::of(number));
-    let Some(key) = keys.take(actor) else {
-        unreachable!()
-    };
-    Node::Client(Customer::new(alloc, Client::new(key, shape)))
-}
-
-/// Adds the key; does nothing for `None`. `NoMemory` if memory runs out.
-fn keep(keys: &mut Vec<Key>, key: Option<Key>) -> Result<(), Refusal>
-    ensures kept { OnOk result (keys.new.items ≡ keys.old.items ++ option_to_list key) }
-    ensures refusal { IsOkUnless result Refusal.NoMemory }
-{
-    match key {
-        Some(key) => match keys.push(key) {
-            Ok(()) => Ok(()),
-            Err(_) => Err(Refusal::NoMemory),
-        },
-        None => Ok(()),
+        self.stage.run_in(alloc, events, &mut self.entries)
     }
 }

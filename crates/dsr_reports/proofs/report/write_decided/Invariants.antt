@@ -4,4 +4,4 @@ use Rattle.dsr_reports.specs.Report.{decided_of, texts_below}
 use Rattle.dsr_reports.proofs.report.write_decided.Given as goal
 
 abbrev pub invariant-loop-number : goal.invariant-loop-number
-invariant-loop-number l = string_bytes l.out ≡ string_bytes l.initial.out ++ texts_below l.number (λ p. decided_of l.world.shape (log_of l.world.run) p)
+invariant-loop-number l = string_bytes l.out ≡ string_bytes l.initial.out ++ texts_below l.number (λ p. decided_of l.stage.shape (log_of l.stage.run) p)

@@ -1,73 +1,22 @@
-use Rattle.std.proofs.Common.{◌≡◌, ◌*◌, ◌<◌, reverse, ap, sym, ◌∙◌, subst, arith}
-use Rattle.std.specs.Prelude.{slice_index_or}
-use Rattle.dsr_names.specs.Shape.{HasFewTraitors}
-use Rattle.dsr_names.specs.declared.actor.Actor.TheVariants.{Client}
-use Rattle.dsr_run.specs.History.{accepted_by}
-use Rattle.dsr_run.specs.Run.{IsRun}
+use Rattle.std.proofs.Common.{subst}
+use Rattle.dsr_base.specs.Member.{In}
+use Rattle.dsr_ledger.specs.declared.reply.Reply.{Reply as AReply}
+use Rattle.dsr_names.specs.declared.actor.Actor.TheVariants.{Client as ClientNumber}
+use Rattle.dsr_run.specs.History.{accepted_by, history}
+use Rattle.dsr_run.specs.Right.{HasReplyTo, IsRightReply, TookAllReplies}
 use Rattle.dsr_run.specs.Step.{log_of}
-use Rattle.dsr_node.specs.Node.{Plays}
+use Rattle.std.specs.Prelude.{IfOk, IsOk, reverse, ℕ, ◌<◌, ◌↔◌, ◌≡◌}
 use Rattle.dsr_world.specs.World.{World}
-use Rattle.dsr_run.proofs.Lemmas.{lent_right, lent_answered}
 use Rattle.dsr_world.proofs.world.World.accepted.Goals as goal
-use Rattle.dsr_node.proofs.Lemmas.{client_plays}
-
-pub accepted-requires : goal.accepted-requires
-accepted-requires c =
-    let a = c.self.inside in
-    let log = log_of (reverse a.entries.items) (Client c.args.client) in
-    let below = c.if-number-m.false in
-    let number = c.number.ensures.same in
-    let size = c.m.ensures.same in
-    let inside : c.args.client < a.shape.m = omega (arith, below, number, size) in
-    let plays : Plays a.shape (Client c.args.client) log c.index.result.now =
-    subst (Plays a.shape (Client c.args.client) log) (sym (c.index.ensures ∙ ap (λ k. slice_index_or a.nodes.items k c.index.result.now) c.place.ensures))
-    (c.self.invariant.0.played.each (Client c.args.client) inside c.index.result.now) in
-    client_plays a.shape c.args.client log c.index.result.now plays
 
 pub returns-clause-same : goal.returns-clause-same
-returns-clause-same c =
-    let a = c.self.inside in
-    let log = log_of (reverse a.entries.items) (Client c.args.client) in
-    let below = c.if-number-m.false in
-    let number = c.number.ensures.same in
-    let size = c.m.ensures.same in
-    let inside : c.args.client < a.shape.m = omega (arith, below, number, size) in
-    let plays : Plays a.shape (Client c.args.client) log c.index.result.now =
-    subst (Plays a.shape (Client c.args.client) log) (sym (c.index.ensures ∙ ap (λ k. slice_index_or a.nodes.items k c.index.result.now) c.place.ensures))
-    (c.self.invariant.0.played.each (Client c.args.client) inside c.index.result.now) in
-    subst (λ (w : World). c.accepted.result.now ≡ reverse (accepted_by w.shape (log_of w.run) c.args.client)) c.self.view_is (c.accepted.ensures a.shape c.args.client log plays)
+returns-clause-same c = subst (λ (w : World). IfOk c.accepted.result (λ replies. replies.now ≡ reverse (accepted_by w.shape (log_of w.run) c.args.client))) c.self.view_is c.accepted.ensures.same
+
+pub returns-clause-when : goal.returns-clause-when
+returns-clause-when c = subst (λ (w : World). IsOk c.accepted.result ↔ c.args.client < w.shape.m) c.self.view_is c.accepted.ensures.when
 
 pub returns-clause-right : goal.returns-clause-right
-returns-clause-right c reply =
-    let a = c.self.inside in
-    let log = log_of (reverse a.entries.items) (Client c.args.client) in
-    let below = c.if-number-m.false in
-    let number = c.number.ensures.same in
-    let size = c.m.ensures.same in
-    let inside : c.args.client < a.shape.m = omega (arith, below, number, size) in
-    let plays : Plays a.shape (Client c.args.client) log c.index.result.now =
-    subst (Plays a.shape (Client c.args.client) log) (sym (c.index.ensures ∙ ap (λ k. slice_index_or a.nodes.items k c.index.result.now) c.place.ensures))
-    (c.self.invariant.0.played.each (Client c.args.client) inside c.index.result.now) in
-    let same = subst (λ (w : World). c.accepted.result.now ≡ reverse (accepted_by w.shape (log_of w.run) c.args.client)) c.self.view_is (c.accepted.ensures a.shape c.args.client log plays) in
-    let world = c.args.self.now in
-    let few = subst (λ (w : World). HasFewTraitors w.shape) c.self.view_is c.m.ensures.allowed.few_traitors in
-    let is = subst (λ (w : World). IsRun w.shape w.run) c.self.view_is c.self.invariant.0.is_run in
-    lent_right world.shape few world.run is c.args.client c.accepted.result.now same reply
+returns-clause-right c = subst (λ (w : World). (reply : AReply) → IfOk c.accepted.result (λ replies. In reply replies.now → IsRightReply w.shape (history w.shape (log_of w.run)) (log_of w.run (ClientNumber c.args.client)) reply)) c.self.view_is c.accepted.ensures.right
 
 pub returns-clause-answered : goal.returns-clause-answered
-returns-clause-answered c wanted =
-    let a = c.self.inside in
-    let log = log_of (reverse a.entries.items) (Client c.args.client) in
-    let below = c.if-number-m.false in
-    let number = c.number.ensures.same in
-    let size = c.m.ensures.same in
-    let inside : c.args.client < a.shape.m = omega (arith, below, number, size) in
-    let plays : Plays a.shape (Client c.args.client) log c.index.result.now =
-    subst (Plays a.shape (Client c.args.client) log) (sym (c.index.ensures ∙ ap (λ k. slice_index_or a.nodes.items k c.index.result.now) c.place.ensures))
-    (c.self.invariant.0.played.each (Client c.args.client) inside c.index.result.now) in
-    let same = subst (λ (w : World). c.accepted.result.now ≡ reverse (accepted_by w.shape (log_of w.run) c.args.client)) c.self.view_is (c.accepted.ensures a.shape c.args.client log plays) in
-    let world = c.args.self.now in
-    let few = subst (λ (w : World). HasFewTraitors w.shape) c.self.view_is c.m.ensures.allowed.few_traitors in
-    let most = subst (λ (w : World). 2 * w.shape.f < w.shape.n) c.self.view_is c.m.ensures.allowed.most_loyal in
-    let is = subst (λ (w : World). IsRun w.shape w.run) c.self.view_is c.self.invariant.0.is_run in
-    lent_answered world.shape few world.run is c.args.client c.accepted.result.now same most wanted
+returns-clause-answered c = subst (λ (w : World). (number : ℕ) → TookAllReplies w.shape (log_of w.run (ClientNumber c.args.client)) number → IfOk c.accepted.result (λ replies. HasReplyTo number replies.now)) c.self.view_is c.accepted.ensures.answered

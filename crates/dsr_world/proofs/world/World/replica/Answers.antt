@@ -1,54 +1,18 @@
-use Rattle.std.proofs.Common.{◌≡◌, ◌<◌, true, reverse, refl, ap, sym, ◌∙◌, subst, arith}
-use Rattle.std.specs.Prelude.{slice_index_or}
-use Rattle.std.proofs.lemmas.Bool.{true≢false, false≢true}
-use Rattle.dsr_names.specs.Shape.{is_traitor, IsLoyal}
-use Rattle.dsr_names.specs.declared.actor.Actor.TheVariants.{Replica}
+use Rattle.std.proofs.Common.{subst}
+use Rattle.dsr_names.specs.Shape.{IsLoyal}
+use Rattle.dsr_names.specs.declared.actor.Actor.TheVariants.{Replica as ReplicaNumber}
+use Rattle.dsr_names.specs.declared.refusal.Refusal.TheVariants.{NoActor}
+use Rattle.dsr_node.specs.Node.{PlaysReplica}
 use Rattle.dsr_run.specs.Step.{log_of}
-use Rattle.dsr_node.specs.Node.{Plays, PlaysReplica}
+use Rattle.std.specs.Prelude.{Err, IfOk, IsOk, ◌↔◌, ◌≡◌, ◌≤◌}
 use Rattle.dsr_world.specs.World.{World}
 use Rattle.dsr_world.proofs.world.World.replica.Goals as goal
 
-pub returns-in-Some-clause-plays : goal.returns-in-Some-clause-plays
-returns-in-Some-clause-plays c =
-    let a = c.self.inside in
-    let p = c.args.replica in
-    let log = log_of (reverse a.entries.items) (Replica p) in
-    let outside = c.if-number-n.false in
-    let number = c.number.ensures.same in
-    let size = c.n.ensures.same in
-    let inside : p < a.shape.n = omega (arith, outside, number, size) in
-    let plays : Plays a.shape (Replica p) log c.index.result.now =
-    subst (Plays a.shape (Replica p) log) (sym (c.index.ensures ∙ ap (λ k. slice_index_or a.nodes.items k c.index.result.now) c.number-2.ensures.same))
-    (c.self.invariant.0.played.each (Replica p) inside c.index.result.now) in
-    subst (λ (w : World). PlaysReplica w.shape p (log_of w.run (Replica p)) c.in-Some.loyal.now) c.self.view_is
-    (c.in-Some.ensures.loyal a.shape p log plays)
+pub returns-clause-plays : goal.returns-clause-plays
+returns-clause-plays c = subst (λ (w : World). IfOk c.replica.result (λ loyal. PlaysReplica w.shape c.args.replica (log_of w.run (ReplicaNumber c.args.replica)) loyal.now)) c.self.view_is c.replica.ensures.plays
 
-pub returns-in-Some-clause-when : goal.returns-in-Some-clause-when
-returns-in-Some-clause-when c =
-    let a = c.self.inside in
-    let p = c.args.replica in
-    let log = log_of (reverse a.entries.items) (Replica p) in
-    let outside = c.if-number-n.false in
-    let number = c.number.ensures.same in
-    let size = c.n.ensures.same in
-    let inside : p < a.shape.n = omega (arith, outside, number, size) in
-    let plays : Plays a.shape (Replica p) log c.index.result.now =
-    subst (Plays a.shape (Replica p) log) (sym (c.index.ensures ∙ ap (λ k. slice_index_or a.nodes.items k c.index.result.now) c.number-2.ensures.same))
-    (c.self.invariant.0.played.each (Replica p) inside c.index.result.now) in
-    let is = c.in-Some.ensures.loyal a.shape p log plays in
-    (λ e. subst (λ (w : World). IsLoyal w.shape (Replica p)) c.self.view_is (inside, is.honest), λ loyal. refl)
+pub returns-clause-when : goal.returns-clause-when
+returns-clause-when c = subst (λ (w : World). IsOk c.replica.result ↔ IsLoyal w.shape (ReplicaNumber c.args.replica)) c.self.view_is c.replica.ensures.when
 
-pub returns-in-None-clause-when : goal.returns-in-None-clause-when
-returns-in-None-clause-when c =
-    let a = c.self.inside in
-    let p = c.args.replica in
-    let log = log_of (reverse a.entries.items) (Replica p) in
-    let outside = c.if-number-n.false in
-    let number = c.number.ensures.same in
-    let size = c.n.ensures.same in
-    let inside : p < a.shape.n = omega (arith, outside, number, size) in
-    let plays : Plays a.shape (Replica p) log c.index.result.now =
-    subst (Plays a.shape (Replica p) log) (sym (c.index.ensures ∙ ap (λ k. slice_index_or a.nodes.items k c.index.result.now) c.number-2.ensures.same))
-    (c.self.invariant.0.played.each (Replica p) inside c.index.result.now) in
-    let traitor = subst (λ (w : World). is_traitor w.shape p ≡ true) c.self.view_is (c.in-None.ensures.traitor a.shape p log plays) in
-    (λ e. absurd (false≢true e), λ loyal. absurd (true≢false (sym traitor ∙ loyal.1)))
+pub returns-clause-outside : goal.returns-clause-outside
+returns-clause-outside c = subst (λ (w : World). (c.replica.result ≡ Err NoActor) ↔ w.shape.n ≤ c.args.replica) c.self.view_is c.replica.ensures.outside

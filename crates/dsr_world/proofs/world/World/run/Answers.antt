@@ -1,82 +1,21 @@
-use Rattle.dsr_names.specs.Shape.{HasFewTraitors}
-use Rattle.std.proofs.Common.{◌≤◌, rules, length, ◌∙◌, subst, arith}
-use Rattle.dsr_world.specs.Outcome.{IsOutcome}
-use Rattle.dsr_run.specs.Run.{IsRun}
+use Rattle.std.proofs.Common.{◌∙◌, subst}
+use Rattle.dsr_base.specs.Growth.{Extends}
+use Rattle.dsr_world.specs.Outcome.{HasEnded}
+use Rattle.std.specs.Prelude.{length, ◌+◌, ◌≡◌}
 use Rattle.dsr_world.specs.World.{World}
-use Rattle.dsr_run.proofs.Lemmas.{all_agree}
-use Rattle.dsr_world.proofs.Ending.{step_outcome, ended_next, ended_few, ended_last, ended_all, ended_grew}
-use Rattle.dsr_run.specs.History.{history}
-use Rattle.dsr_run.specs.Step.{log_of}
-use Rattle.dsr_run.proofs.Lemmas.{all_right, linearized}
 use Rattle.dsr_world.proofs.world.World.run.Goals as goal
 
-pub with-end-requires-clause-few : goal.with-end-requires-clause-few
-with-end-requires-clause-few c =
-    let world = c.args.self.now in
-    let inside = c.loop-event-test.true in
-    let few : length c.args.events.now ≤ 18446744073709551615 = search rules in
-    let count = ended_few world.shape world.run c.args.events.now c.loop-event.self.run c.loop-event.event-index c.loop-event.end c.loop-event.auto.event-index-end
-    c.loop-event.invariant.0 in
-    omega (arith, count, inside, few)
-
-pub loop-event-preserved : goal.loop-event-preserved
-loop-event-preserved c =
-    let world = c.args.self.now in
-    let shape_is = c.loop-event.invariant.1 in
-    let outcome : IsOutcome world.shape c.step.new.self.run c.loop-event.self.run c.event-item.result c.err-outcome.result =
-    subst (λ s. IsOutcome s c.step.new.self.run c.loop-event.self.run c.event-item.result c.err-outcome.result) shape_is
-    (step_outcome c.loop-event.self.shape c.step.new.self.run c.loop-event.self.run c.event-item.result c.step.result c.err-outcome.result
-    (record {
-      done = c.step.ensures.done;
-      refused = c.step.ensures.refused;
-      forged = c.step.ensures.forged;
-      why = c.step.ensures.last;
-      unchanged = search rules;
-    }) c.err-outcome.ensures.value) in (
-      ended_next world.shape world.run c.args.events.now c.step.new.self.run c.loop-event.self.run c.loop-event.event-index c.event-item.result c.err-outcome.result
-          c.loop-event.end c.with-end.result c.loop-event-test.true c.event-item.is c.loop-event.invariant.0 outcome c.with-end.ensures.counts,
-      c.step.ensures.shape ∙ shape_is,
-      c.with-end.ensures.starved,
-    )
-
-pub returns-clause-all : goal.returns-clause-all
-returns-clause-all c =
-    let world = c.args.self.now in
-    ended_all world.shape c.loop-event.self.run world.run c.args.events.now c.loop-event.end
-    (ended_last world.shape world.run c.args.events.now c.loop-event.self.run c.loop-event.event-index c.loop-event.end c.loop-event.auto.event-index-end
-    c.loop-event-test.false c.loop-event.invariant.0)
+pub returns-clause-ended : goal.returns-clause-ended
+returns-clause-ended c = subst (λ (w : World). HasEnded w.shape c.run_in.new.self.run w.run c.args.events.now c.run_in.result) c.self.view_is c.run_in.ensures.ended
 
 pub returns-clause-grew : goal.returns-clause-grew
-returns-clause-grew c =
-    let world = c.args.self.now in
-    let ended = ended_last world.shape world.run c.args.events.now c.loop-event.self.run c.loop-event.event-index c.loop-event.end c.loop-event.auto.event-index-end
-    c.loop-event-test.false c.loop-event.invariant.0 in
-    (ended_grew world.shape c.loop-event.self.run world.run c.args.events.now c.loop-event.end ended).grew
+returns-clause-grew c = subst (λ (w : World). Extends c.run_in.new.self.run w.run) c.self.view_is c.run_in.ensures.grew
 
 pub returns-clause-done : goal.returns-clause-done
-returns-clause-done c =
-    let world = c.args.self.now in
-    let ended = ended_last world.shape world.run c.args.events.now c.loop-event.self.run c.loop-event.event-index c.loop-event.end c.loop-event.auto.event-index-end
-    c.loop-event-test.false c.loop-event.invariant.0 in
-    (ended_grew world.shape c.loop-event.self.run world.run c.args.events.now c.loop-event.end ended).size
+returns-clause-done c = subst (λ (w : World). length c.run_in.new.self.run ≡ c.run_in.result.done + length w.run) c.self.view_is c.run_in.ensures.done
 
-pub returns-clause-agreement : goal.returns-clause-agreement
-returns-clause-agreement c =
-    let world = c.loop-event.self in
-    let few = subst (λ (w : World). HasFewTraitors w.shape) c.self.view_is c.n-n.ensures.allowed.few_traitors in
-    let is = subst (λ (w : World). IsRun w.shape w.run) c.self.view_is c.self.invariant.0.is_run in
-    all_agree world.shape world.run few is
+pub returns-clause-shape : goal.returns-clause-shape
+returns-clause-shape c = subst (λ (w : World). c.run_in.new.self.shape ≡ w.shape) c.self.view_is c.run_in.ensures.shape
 
-pub returns-clause-right : goal.returns-clause-right
-returns-clause-right c =
-    let world = c.loop-event.self in
-    let few = subst (λ (w : World). HasFewTraitors w.shape) c.self.view_is c.n-n.ensures.allowed.few_traitors in
-    let is = subst (λ (w : World). IsRun w.shape w.run) c.self.view_is c.self.invariant.0.is_run in
-    all_right world.shape few world.run is
-
-pub returns-clause-linearizable : goal.returns-clause-linearizable
-returns-clause-linearizable c =
-    let world = c.loop-event.self in
-    let few = subst (λ (w : World). HasFewTraitors w.shape) c.self.view_is c.n-n.ensures.allowed.few_traitors in
-    let is = subst (λ (w : World). IsRun w.shape w.run) c.self.view_is c.self.invariant.0.is_run in
-    (history world.shape (log_of world.run), linearized world.shape few world.run is)
+pub invariant_of-self : goal.invariant_of-self
+invariant_of-self c = (c.run_in.ensures.kept ∙ c.self.invariant.0, c.run_in.ensures.added c.self.invariant.1)

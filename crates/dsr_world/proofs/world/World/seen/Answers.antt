@@ -1,55 +1,15 @@
-use Rattle.std.proofs.Common.{◌≡◌, ◌<◌, ◌≤◌, length, reverse, ap, sym, ◌∙◌, subst, arith}
-use Rattle.std.specs.Prelude.{slice_index_or}
-use Rattle.dsr_names.specs.Shape.{HasFewTraitors}
-use Rattle.dsr_names.specs.declared.actor.Actor.TheVariants.{Client}
-use Rattle.dsr_run.specs.History.{seen_by, history}
-use Rattle.dsr_run.specs.Run.{IsRun}
-use Rattle.dsr_run.proofs.Lemmas.{seen_within}
+use Rattle.std.proofs.Common.{subst}
+use Rattle.dsr_run.specs.History.{history, seen_by}
 use Rattle.dsr_run.specs.Step.{log_of}
-use Rattle.dsr_node.specs.Node.{Plays}
+use Rattle.std.specs.Prelude.{IfOk, IsOk, length, ◌<◌, ◌↔◌, ◌≡◌, ◌≤◌}
 use Rattle.dsr_world.specs.World.{World}
 use Rattle.dsr_world.proofs.world.World.seen.Goals as goal
-use Rattle.dsr_node.proofs.Lemmas.{client_plays}
-
-pub seen-requires : goal.seen-requires
-seen-requires c =
-    let a = c.self.inside in
-    let log = log_of (reverse a.entries.items) (Client c.args.client) in
-    let below = c.if-number-m.false in
-    let number = c.number.ensures.same in
-    let size = c.m.ensures.same in
-    let inside : c.args.client < a.shape.m = omega (arith, below, number, size) in
-    let plays : Plays a.shape (Client c.args.client) log c.index.result.now =
-    subst (Plays a.shape (Client c.args.client) log) (sym (c.index.ensures ∙ ap (λ k. slice_index_or a.nodes.items k c.index.result.now) c.place.ensures))
-    (c.self.invariant.0.played.each (Client c.args.client) inside c.index.result.now) in
-    client_plays a.shape c.args.client log c.index.result.now plays
 
 pub returns-clause-same : goal.returns-clause-same
-returns-clause-same c =
-    let a = c.self.inside in
-    let log = log_of (reverse a.entries.items) (Client c.args.client) in
-    let below = c.if-number-m.false in
-    let number = c.number.ensures.same in
-    let size = c.m.ensures.same in
-    let inside : c.args.client < a.shape.m = omega (arith, below, number, size) in
-    let plays : Plays a.shape (Client c.args.client) log c.index.result.now =
-    subst (Plays a.shape (Client c.args.client) log) (sym (c.index.ensures ∙ ap (λ k. slice_index_or a.nodes.items k c.index.result.now) c.place.ensures))
-    (c.self.invariant.0.played.each (Client c.args.client) inside c.index.result.now) in
-    subst (λ (w : World). c.seen.result ≡ seen_by w.shape (log_of w.run) c.args.client) c.self.view_is (c.seen.ensures a.shape c.args.client log plays)
+returns-clause-same c = subst (λ (w : World). IfOk c.seen.result (λ front. front ≡ seen_by w.shape (log_of w.run) c.args.client)) c.self.view_is c.seen.ensures.same
 
 pub returns-clause-within : goal.returns-clause-within
-returns-clause-within c =
-    let a = c.self.inside in
-    let log = log_of (reverse a.entries.items) (Client c.args.client) in
-    let below = c.if-number-m.false in
-    let number = c.number.ensures.same in
-    let size = c.m.ensures.same in
-    let inside : c.args.client < a.shape.m = omega (arith, below, number, size) in
-    let plays : Plays a.shape (Client c.args.client) log c.index.result.now =
-    subst (Plays a.shape (Client c.args.client) log) (sym (c.index.ensures ∙ ap (λ k. slice_index_or a.nodes.items k c.index.result.now) c.place.ensures))
-    (c.self.invariant.0.played.each (Client c.args.client) inside c.index.result.now) in
-    let same = subst (λ (w : World). c.seen.result ≡ seen_by w.shape (log_of w.run) c.args.client) c.self.view_is (c.seen.ensures a.shape c.args.client log plays) in
-    let world = c.args.self.now in
-    let few = subst (λ (w : World). HasFewTraitors w.shape) c.self.view_is c.m.ensures.allowed.few_traitors in
-    let is = subst (λ (w : World). IsRun w.shape w.run) c.self.view_is c.self.invariant.0.is_run in
-    subst (λ k. k ≤ length (history world.shape (log_of world.run))) (sym same) (seen_within world.shape few world.run is c.args.client)
+returns-clause-within c = subst (λ (w : World). IfOk c.seen.result (λ front. front ≤ length (history w.shape (log_of w.run)))) c.self.view_is c.seen.ensures.within
+
+pub returns-clause-when : goal.returns-clause-when
+returns-clause-when c = subst (λ (w : World). IsOk c.seen.result ↔ c.args.client < w.shape.m) c.self.view_is c.seen.ensures.when

@@ -1,9 +1,0 @@
-use Rattle.std.proofs.Common.{◌≡◌, ◌≤◌}
-use Rattle.std.specs.Prelude.{take}
-use Rattle.dsr_world.specs.Outcome.{HasEnded}
-use Rattle.dsr_world.proofs.world.World.run.Given as goal
-
--- `end` counts the outcomes of the events before this one
-abbrev pub invariant-loop-event : goal.invariant-loop-event
-invariant-loop-event l =
-    HasEnded l.initial.self.shape l.self.run l.initial.self.run (take l.event-index l.events) l.end × (l.self.shape ≡ l.initial.self.shape) × (l.end.starved ≤ l.end.refused)

@@ -1,0 +1,61 @@
+ghost use Rattle.std.specs.Prelude.{◌≡◌, [], ◌∷◌};
+ghost use Rattle.dsr_envelope.specs.declared.entry.Entry.TheVariants.{Post as PostEntry, Take as TakeEntry};
+
+use dsr_envelope::Letter;
+use dsr_names::Actor;
+use http_server::Log;
+use std::marker::Model;
+
+/// What an actor does with a letter: it posts it to another, or takes it that came from another.
+#[derive(Drop)]
+pub(crate) enum Act {
+    Post { from: Actor, to: Actor },
+    Take { at: Actor, from: Actor },
+}
+
+/// The steps so far, as proofs read them: nothing is stored, and to add a step does nothing.
+#[derive(Drop)]
+pub(crate) struct Steps {
+    log: Log<Act, Letter>,
+}
+
+impl Model for Steps {
+    ghost use Rattle.std.specs.Prelude.{List};
+    ghost use Rattle.dsr_run.specs.Step.{Step};
+    ghost use Rattle.dsr_world.specs.Support.StepsFields.{steps_of};
+
+    ghost Value = { List Step };
+
+    ghost view = { steps_of };
+}
+
+impl Steps {
+    /// Makes the list without a step.
+    pub(crate) fn new() -> Steps
+        ensures { result ≡ [] }
+    {
+        Steps { log: Log::new() }
+    }
+
+    /// Adds the post of a letter.
+    pub(crate) fn add_post(&mut self, from: &Actor, to: &Actor, letter: &Letter)
+        ensures { self.new ≡ (from.now, PostEntry to.now letter.now) ∷ self.old }
+    {
+        let act = Act::Post {
+            from: *from,
+            to: *to,
+        };
+        self.log = self.log.and(&act, letter);
+    }
+
+    /// Adds the take of a letter.
+    pub(crate) fn add_take(&mut self, at: &Actor, from: &Actor, letter: &Letter)
+        ensures { self.new ≡ (at.now, TakeEntry from.now letter.now) ∷ self.old }
+    {
+        let act = Act::Take {
+            at: *at,
+            from: *from,
+        };
+        self.log = self.log.and(&act, letter);
+    }
+}
