@@ -27,7 +27,7 @@ use dsr_envelope::{Due, Pick};
 use dsr_names::{Actor, ClientId, NUMBER_END, Refusal, ReplicaId, Shape};
 use dsr_replica::Replica;
 use dsr_script::{Draft, Forged};
-use dsr_world::{Event, World};
+use dsr_world::{Event, Stage};
 
 /// Why an event is not its actor's part.
 #[derive(Clone, Copy, Debug, PartialEq, Eq)]
@@ -74,151 +74,151 @@ pub enum Cause {
     Forged(Forged),
 }
 
-/// Returns why this world refuses the event. `None` exactly if only a lack of memory can refuse it. Allocates nothing.
-pub fn why_refused(world: &World, event: &Event) -> Option<Cause>
-    ensures some { IfSome result (HoldsCause world.now.shape (log_of world.now.run) event.now) }
-    ensures none { IfNone result (MayBeDone world.now.shape (log_of world.now.run) event.now) }
+/// Returns why this stage refuses the event. `None` exactly if only a lack of memory can refuse it. Allocates nothing.
+pub fn why_refused(stage: &Stage, event: &Event) -> Option<Cause>
+    ensures some { IfSome result (HoldsCause stage.now.shape (log_of stage.now.run) event.now) }
+    ensures none { IfNone result (MayBeDone stage.now.shape (log_of stage.now.run) event.now) }
 {
     match event {
-        Event::Post { from, to, pick } => post_cause(world, from, to, &pick.pick()),
-        Event::Plant { from, to, draft } => plant_cause(world, from, to, draft),
-        Event::Take { at, from } => take_cause(world, at, from),
-        Event::Tell { from, to } => tell_cause(world, from, to),
+        Event::Post { from, to, pick } => post_cause(stage, from, to, &pick.pick()),
+        Event::Plant { from, to, draft } => plant_cause(stage, from, to, draft),
+        Event::Take { at, from } => take_cause(stage, at, from),
+        Event::Tell { from, to } => tell_cause(stage, from, to),
     }
 }
 
 /// Returns why a loyal actor's post is refused; `None` if it is not.
-pub(crate) fn post_cause(world: &World, from: &Actor, to: &Actor, pick: &Pick) -> Option<Cause>
-    ensures some { IfSome result (HoldsCause world.now.shape (log_of world.now.run) (Post from.now to.now pick.now)) }
-    ensures none { IfNone result (refusal_of world.now.shape (log_of world.now.run) (Post from.now to.now pick.now) ≡ None) }
+pub(crate) fn post_cause(stage: &Stage, from: &Actor, to: &Actor, pick: &Pick) -> Option<Cause>
+    ensures some { IfSome result (HoldsCause stage.now.shape (log_of stage.now.run) (Post from.now to.now pick.now)) }
+    ensures none { IfNone result (refusal_of stage.now.shape (log_of stage.now.run) (Post from.now to.now pick.now) ≡ None) }
 {
-    if let Some(actor) = outsider(world.shape(), from, to) {
+    if let Some(actor) = outsider(stage.shape(), from, to) {
         return Some(Cause::NoActor(actor));
     }
-    if is_traitor(world.shape(), from) {
+    if is_traitor(stage.shape(), from) {
         return Some(Cause::WrongRole(Part::Traitor));
     }
     if are_clients(from, to) {
         return Some(Cause::WrongRole(Part::BothClients));
     }
-    if let Some(why) = undue_post(world, from, to, pick) {
+    if let Some(why) = undue_post(stage, from, to, pick) {
         return Some(Cause::NotDue(why));
     }
-    if let Some(limit) = spent_by_post(world, from, to, pick) {
+    if let Some(limit) = spent_by_post(stage, from, to, pick) {
         return Some(Cause::Exhausted(limit));
     }
-    if is_full(world, from, to) {
+    if is_full(stage, from, to) {
         return Some(Cause::BoxFull);
     }
     None
 }
 
 /// Returns why a traitor's post is refused; `None` if it is not.
-fn plant_cause(world: &World, from: &Actor, to: &Actor, draft: &Draft) -> Option<Cause>
-    ensures some { IfSome result (HoldsCause world.now.shape (log_of world.now.run) (Plant from.now to.now draft.now)) }
-    ensures none { IfNone result (refusal_of world.now.shape (log_of world.now.run) (Plant from.now to.now draft.now) ≡ None) }
-    ensures forges { IfNone result (ForgesNothing world.now.shape (log_of world.now.run) (PostEntry to.now draft.now)) }
+fn plant_cause(stage: &Stage, from: &Actor, to: &Actor, draft: &Draft) -> Option<Cause>
+    ensures some { IfSome result (HoldsCause stage.now.shape (log_of stage.now.run) (Plant from.now to.now draft.now)) }
+    ensures none { IfNone result (refusal_of stage.now.shape (log_of stage.now.run) (Plant from.now to.now draft.now) ≡ None) }
+    ensures forges { IfNone result (ForgesNothing stage.now.shape (log_of stage.now.run) (PostEntry to.now draft.now)) }
 {
-    if let Some(actor) = outsider(world.shape(), from, to) {
+    if let Some(actor) = outsider(stage.shape(), from, to) {
         return Some(Cause::NoActor(actor));
     }
-    if !is_traitor(world.shape(), from) {
+    if !is_traitor(stage.shape(), from) {
         return Some(Cause::WrongRole(Part::Loyal));
     }
-    if is_used_up(world, from, to) {
+    if is_used_up(stage, from, to) {
         return Some(Cause::Exhausted(Limit::Posts));
     }
-    if is_full(world, from, to) {
+    if is_full(stage, from, to) {
         return Some(Cause::BoxFull);
     }
-    let forged = forged_by(world, from, draft)?;
+    let forged = forged_by(stage, from, draft)?;
     Some(Cause::Forged(forged))
 }
 
 /// Returns a signature that a traitor who posts the draft would forge; `None` if the traitor forges nothing.
-fn forged_by(world: &World, from: &Actor, draft: &Draft) -> Option<Forged>
-    requires inside { IsActor world.now.shape from.now }
-    requires traitor { is_traitor_of world.now.shape from.now ≡ true }
+fn forged_by(stage: &Stage, from: &Actor, draft: &Draft) -> Option<Forged>
+    requires inside { IsActor stage.now.shape from.now }
+    requires traitor { is_traitor_of stage.now.shape from.now ≡ true }
     ensures carried { IfSome result (λ forged. Carries draft.now (signed forged.signer forged.statement)) }
-    ensures forged { IfSome result (λ forged. IsMadeOrPosted world.now.shape (log_of world.now.run) (signed forged.signer forged.statement) → ⊥) }
-    ensures none { IfNone result ((s : Signature) → Carries draft.now s → IsMadeOrPosted world.now.shape (log_of world.now.run) s) }
+    ensures forged { IfSome result (λ forged. IsMadeOrPosted stage.now.shape (log_of stage.now.run) (signed forged.signer forged.statement) → ⊥) }
+    ensures none { IfNone result ((s : Signature) → Carries draft.now s → IsMadeOrPosted stage.now.shape (log_of stage.now.run) s) }
 {
-    world.forged_in(draft)
+    stage.forged_in(draft)
 }
 
 /// Returns why a take is refused; `None` if it is not.
-pub(crate) fn take_cause(world: &World, at: &Actor, from: &Actor) -> Option<Cause>
-    ensures some { IfSome result (HoldsCause world.now.shape (log_of world.now.run) (Take at.now from.now)) }
-    ensures none { IfNone result (refusal_of world.now.shape (log_of world.now.run) (Take at.now from.now) ≡ None) }
-    ensures at { IfNone result (IsActor world.now.shape at.now) }
-    ensures from { IfNone result (IsActor world.now.shape from.now) }
-    ensures full { IfNone result (is_full (log_of world.now.run) from.now at.now ≡ true) }
+pub(crate) fn take_cause(stage: &Stage, at: &Actor, from: &Actor) -> Option<Cause>
+    ensures some { IfSome result (HoldsCause stage.now.shape (log_of stage.now.run) (Take at.now from.now)) }
+    ensures none { IfNone result (refusal_of stage.now.shape (log_of stage.now.run) (Take at.now from.now) ≡ None) }
+    ensures at { IfNone result (IsActor stage.now.shape at.now) }
+    ensures from { IfNone result (IsActor stage.now.shape from.now) }
+    ensures full { IfNone result (is_full (log_of stage.now.run) from.now at.now ≡ true) }
 {
-    if let Some(actor) = outsider(world.shape(), at, from) {
+    if let Some(actor) = outsider(stage.shape(), at, from) {
         return Some(Cause::NoActor(actor));
     }
     if is_own_client(at, from) {
         return Some(Cause::WrongRole(Part::FromItself));
     }
-    if let Some(why) = undue_take(world, at, from) {
+    if let Some(why) = undue_take(stage, at, from) {
         return Some(Cause::NotDue(why));
     }
-    if !is_full(world, from, at) {
+    if !is_full(stage, from, at) {
         return Some(Cause::BoxEmpty);
     }
     None
 }
 
 /// Returns why an actor's post of its seen front to another is refused; `None` if it is not.
-fn tell_cause(world: &World, from: &Actor, to: &Actor) -> Option<Cause>
-    ensures some { IfSome result (HoldsCause world.now.shape (log_of world.now.run) (Tell from.now to.now)) }
-    ensures none { IfNone result (refusal_of world.now.shape (log_of world.now.run) (Tell from.now to.now) ≡ None) }
+fn tell_cause(stage: &Stage, from: &Actor, to: &Actor) -> Option<Cause>
+    ensures some { IfSome result (HoldsCause stage.now.shape (log_of stage.now.run) (Tell from.now to.now)) }
+    ensures none { IfNone result (refusal_of stage.now.shape (log_of stage.now.run) (Tell from.now to.now) ≡ None) }
 {
-    if let Some(actor) = outsider(world.shape(), from, to) {
+    if let Some(actor) = outsider(stage.shape(), from, to) {
         return Some(Cause::NoActor(actor));
     }
     if !are_clients(from, to) || is_own_client(from, to) {
         return Some(Cause::WrongRole(Part::NotTwoClients));
     }
-    if is_used_up(world, from, to) {
+    if is_used_up(stage, from, to) {
         return Some(Cause::Exhausted(Limit::Posts));
     }
-    if is_full(world, from, to) {
+    if is_full(stage, from, to) {
         return Some(Cause::BoxFull);
     }
     None
 }
 
 /// Returns why a loyal actor has no such post; `None` if it has one.
-fn undue_post(world: &World, from: &Actor, to: &Actor, pick: &Pick) -> Option<Undue>
-    requires from { IsActor world.now.shape from.now }
-    requires to { IsActor world.now.shape to.now }
-    requires loyal { is_traitor_of world.now.shape from.now ≡ false }
+fn undue_post(stage: &Stage, from: &Actor, to: &Actor, pick: &Pick) -> Option<Undue>
+    requires from { IsActor stage.now.shape from.now }
+    requires to { IsActor stage.now.shape to.now }
+    requires loyal { is_traitor_of stage.now.shape from.now ≡ false }
     requires apart { are_clients from.now to.now ≡ false }
-    ensures some { IfSome result (IsUndue world.now.shape (log_of world.now.run) (Post from.now to.now pick.now)) }
-    ensures refused { IfSome result (λ why. is_none (post_of world.now.shape (log_of world.now.run from.now) from.now to.now pick.now) ≡ true) }
-    ensures none { IfNone result (is_none (post_of world.now.shape (log_of world.now.run from.now) from.now to.now pick.now) ≡ false) }
+    ensures some { IfSome result (IsUndue stage.now.shape (log_of stage.now.run) (Post from.now to.now pick.now)) }
+    ensures refused { IfSome result (λ why. is_none (post_of stage.now.shape (log_of stage.now.run from.now) from.now to.now pick.now) ≡ true) }
+    ensures none { IfNone result (is_none (post_of stage.now.shape (log_of stage.now.run from.now) from.now to.now pick.now) ≡ false) }
 {
     match (from, to) {
-        (Actor::Replica(poster), Actor::Replica(taker)) => undue_at(world, *poster, *taker, pick),
+        (Actor::Replica(poster), Actor::Replica(taker)) => undue_at(stage, *poster, *taker, pick),
         (Actor::Replica(poster), Actor::Client(client)) => {
-            undue_reply(loyal_of(world, *poster), *client, pick)
+            undue_reply(loyal_of(stage, *poster), *client, pick)
         }
-        (Actor::Client(client), Actor::Replica(_)) => undue_ask(client_of(world, *client), pick),
+        (Actor::Client(client), Actor::Replica(_)) => undue_ask(client_of(stage, *client), pick),
         (Actor::Client(_), Actor::Client(_)) => unreachable!(),
     }
 }
 
 /// Returns why a loyal replica does not post to this replica by this choice; `None` if it has an envelope for it.
-fn undue_at(world: &World, poster: ReplicaId, to: ReplicaId, pick: &Pick) -> Option<Undue>
-    requires loyal { IsLoyal world.now.shape (ReplicaNumber poster) }
-    requires to { IsActor world.now.shape (ReplicaNumber to) }
-    ensures some { IfSome result (IsUndueRound world.now.shape (ReplicaNumber poster) (log_of world.now.run (ReplicaNumber poster)) to pick.now) }
-    ensures none { IfNone result (IsSome (envelope_to world.now.shape (ReplicaNumber poster) (log_of world.now.run (ReplicaNumber poster)) to pick.now)) }
+fn undue_at(stage: &Stage, poster: ReplicaId, to: ReplicaId, pick: &Pick) -> Option<Undue>
+    requires loyal { IsLoyal stage.now.shape (ReplicaNumber poster) }
+    requires to { IsActor stage.now.shape (ReplicaNumber to) }
+    ensures some { IfSome result (IsUndueRound stage.now.shape (ReplicaNumber poster) (log_of stage.now.run (ReplicaNumber poster)) to pick.now) }
+    ensures none { IfNone result (IsSome (envelope_to stage.now.shape (ReplicaNumber poster) (log_of stage.now.run (ReplicaNumber poster)) to pick.now)) }
 {
-    let loyal = loyal_of(world, poster);
+    let loyal = loyal_of(stage, poster);
     // if the post is due, it has posted there in each closed round
-    let round = world.posts(&Actor::Replica(poster), &Actor::Replica(to));
+    let round = stage.posts(&Actor::Replica(poster), &Actor::Replica(to));
     undue_round(loyal, &Actor::Replica(poster), round, to, pick)
 }
 
@@ -252,14 +252,14 @@ fn undue_ask(client: &Client, pick: &Pick) -> Option<Undue>
 }
 
 /// Returns why a take is not due; `None` if it is due.
-fn undue_take(world: &World, at: &Actor, from: &Actor) -> Option<Undue>
-    requires at { IsActor world.now.shape at.now }
-    ensures some { IfSome result (IsUndue world.now.shape (log_of world.now.run) (Take at.now from.now)) }
-    ensures refused { IfSome result (λ why. is_undue world.now.shape (log_of world.now.run at.now) at.now from.now ≡ true) }
-    ensures none { IfNone result (is_undue world.now.shape (log_of world.now.run at.now) at.now from.now ≡ false) }
+fn undue_take(stage: &Stage, at: &Actor, from: &Actor) -> Option<Undue>
+    requires at { IsActor stage.now.shape at.now }
+    ensures some { IfSome result (IsUndue stage.now.shape (log_of stage.now.run) (Take at.now from.now)) }
+    ensures refused { IfSome result (λ why. is_undue stage.now.shape (log_of stage.now.run at.now) at.now from.now ≡ true) }
+    ensures none { IfNone result (is_undue stage.now.shape (log_of stage.now.run at.now) at.now from.now ≡ false) }
 {
     match (at, from) {
-        (Actor::Replica(taker), Actor::Replica(poster)) => match world.replica(*taker) {
+        (Actor::Replica(taker), Actor::Replica(poster)) => match stage.replica(*taker) {
             Ok(loyal) => {
                 if loyal.due() == Due::Take(*poster) {
                     None
@@ -274,31 +274,31 @@ fn undue_take(world: &World, at: &Actor, from: &Actor) -> Option<Undue>
 }
 
 /// Returns which counter a loyal actor's post would take past its limit; `None` if no counter. Requires that the protocol has such a post.
-fn spent_by_post(world: &World, from: &Actor, to: &Actor, pick: &Pick) -> Option<Limit>
-    requires from { IsActor world.now.shape from.now }
-    requires to { IsActor world.now.shape to.now }
-    requires loyal { is_traitor_of world.now.shape from.now ≡ false }
-    requires given { is_none (post_of world.now.shape (log_of world.now.run from.now) from.now to.now pick.now) ≡ false }
-    ensures some { IfSome result (IsSpent world.now.shape (log_of world.now.run) (Post from.now to.now pick.now)) }
-    ensures refused { IfSome result (λ limit. (is_exhausted world.now.shape (log_of world.now.run from.now) from.now to.now pick.now
-        || is_used_up (log_of world.now.run) from.now to.now) ≡ true) }
-    ensures none { IfNone result ((is_exhausted world.now.shape (log_of world.now.run from.now) from.now to.now pick.now
-        || is_used_up (log_of world.now.run) from.now to.now) ≡ false) }
+fn spent_by_post(stage: &Stage, from: &Actor, to: &Actor, pick: &Pick) -> Option<Limit>
+    requires from { IsActor stage.now.shape from.now }
+    requires to { IsActor stage.now.shape to.now }
+    requires loyal { is_traitor_of stage.now.shape from.now ≡ false }
+    requires given { is_none (post_of stage.now.shape (log_of stage.now.run from.now) from.now to.now pick.now) ≡ false }
+    ensures some { IfSome result (IsSpent stage.now.shape (log_of stage.now.run) (Post from.now to.now pick.now)) }
+    ensures refused { IfSome result (λ limit. (is_exhausted stage.now.shape (log_of stage.now.run from.now) from.now to.now pick.now
+        || is_used_up (log_of stage.now.run) from.now to.now) ≡ true) }
+    ensures none { IfNone result ((is_exhausted stage.now.shape (log_of stage.now.run from.now) from.now to.now pick.now
+        || is_used_up (log_of stage.now.run) from.now to.now) ≡ false) }
 {
     match (from, to) {
         (Actor::Replica(poster), Actor::Replica(taker)) => {
-            if has_no_round(loyal_of(world, *poster), *taker, pick) {
+            if has_no_round(loyal_of(stage, *poster), *taker, pick) {
                 return Some(Limit::Rounds);
             }
         }
         (Actor::Client(client), _) => {
-            if has_no_number(client_of(world, *client), pick) {
+            if has_no_number(client_of(stage, *client), pick) {
                 return Some(Limit::Numbers);
             }
         }
         (Actor::Replica(_), Actor::Client(_)) => {}
     }
-    if is_used_up(world, from, to) {
+    if is_used_up(stage, from, to) {
         Some(Limit::Posts)
     } else {
         None
@@ -330,24 +330,24 @@ fn has_no_number(client: &Client, pick: &Pick) -> bool
 }
 
 /// Returns the loyal replica with this number. Requires that the shape has it, and that it is no traitor.
-pub fn loyal_of(world: &World, number: ReplicaId) -> &Replica
-    requires { IsLoyal world.now.shape (ReplicaNumber number) }
-    ensures { PlaysReplica world.now.shape number (log_of world.now.run (ReplicaNumber number)) result.now }
+pub fn loyal_of(stage: &Stage, number: ReplicaId) -> &Replica
+    requires { IsLoyal stage.now.shape (ReplicaNumber number) }
+    ensures { PlaysReplica stage.now.shape number (log_of stage.now.run (ReplicaNumber number)) result.now }
 {
-    match world.replica(number) {
+    match stage.replica(number) {
         Ok(loyal) => loyal,
         Err(_) => unreachable!(),
     }
 }
 
 /// Returns the client with this number. Requires that the shape has it.
-pub fn client_of(world: &World, number: ClientId) -> &Client
-    requires { number < world.now.shape.m }
-    ensures stands { StandsForClient result.now (log_of world.now.run (ClientNumber number)) }
+pub fn client_of(stage: &Stage, number: ClientId) -> &Client
+    requires { number < stage.now.shape.m }
+    ensures stands { StandsForClient result.now (log_of stage.now.run (ClientNumber number)) }
     ensures me { result.now.me ≡ number }
-    ensures shape { result.now.shape ≡ world.now.shape }
+    ensures shape { result.now.shape ≡ stage.now.shape }
 {
-    match world.client(number) {
+    match stage.client(number) {
         Ok(client) => client,
         Err(_) => unreachable!(),
     }
@@ -407,21 +407,21 @@ fn is_own_client(one: &Actor, other: &Actor) -> bool
 }
 
 /// Tells whether the box from one actor to another holds an envelope.
-fn is_full(world: &World, from: &Actor, to: &Actor) -> bool
-    requires from { IsActor world.now.shape from.now }
-    requires to { IsActor world.now.shape to.now }
-    ensures { result ≡ is_full (log_of world.now.run) from.now to.now }
+fn is_full(stage: &Stage, from: &Actor, to: &Actor) -> bool
+    requires from { IsActor stage.now.shape from.now }
+    requires to { IsActor stage.now.shape to.now }
+    ensures { result ≡ is_full (log_of stage.now.run) from.now to.now }
 {
-    world.in_box(from, to).is_some()
+    stage.in_box(from, to).is_some()
 }
 
 /// Tells whether the posts into the box from one actor to another have reached their limit.
-fn is_used_up(world: &World, from: &Actor, to: &Actor) -> bool
-    requires from { IsActor world.now.shape from.now }
-    requires to { IsActor world.now.shape to.now }
-    ensures { result ≡ is_used_up (log_of world.now.run) from.now to.now }
+fn is_used_up(stage: &Stage, from: &Actor, to: &Actor) -> bool
+    requires from { IsActor stage.now.shape from.now }
+    requires to { IsActor stage.now.shape to.now }
+    ensures { result ≡ is_used_up (log_of stage.now.run) from.now to.now }
 {
-    world.posts(from, to) >= NUMBER_END - 1
+    stage.posts(from, to) >= NUMBER_END - 1
 }
 
 /// An event that has a cause is refused, with the refusal of that cause.

@@ -14,37 +14,37 @@ use crate::fault::Fault;
 use crate::shown::{pick_of, shown_clients};
 use dsr_envelope::Envelope;
 use dsr_names::{Actor, Refusal, ReplicaId};
-use dsr_world::World;
+use dsr_world::Stage;
 use std::alloc::Global;
 
-/// Returns why a loyal replica's recorded post of this envelope to a replica may not follow in this world. `None` exactly if it may.
+/// Returns why a loyal replica's recorded post of this envelope to a replica may not follow in this stage. `None` exactly if it may.
 /// `NoMemory` if memory runs out.
 pub fn post_fault(
     alloc: Global,
-    world: &World,
+    stage: &Stage,
     from: ReplicaId,
     to: ReplicaId,
     found: &Envelope,
 ) -> Result<Option<Fault>, Refusal>
-    requires { IsLoyal world.now.shape (ReplicaNumber from) }
-    ensures some { IfOk result (λ fault. IfSome fault (HoldsPostFault world.now.shape (log_of world.now.run) from to found.now)) }
+    requires { IsLoyal stage.now.shape (ReplicaNumber from) }
+    ensures some { IfOk result (λ fault. IfSome fault (HoldsPostFault stage.now.shape (log_of stage.now.run) from to found.now)) }
     ensures none { IfOk result (λ fault. IfNone fault
-        (IsNextStep world.now.shape (log_of world.now.run) (ReplicaNumber from, Post (ReplicaNumber to) found.now))) }
+        (IsNextStep stage.now.shape (log_of stage.now.run) (ReplicaNumber from, Post (ReplicaNumber to) found.now))) }
     ensures refusal { IsOkUnless result Refusal.NoMemory }
 {
     // For the proof: the limits of the shape, and that the logs are those of a run.
-    let _n = world.shape().n();
-    let _entries = world.entries();
-    let clients = shown_clients(alloc, world.shape(), &Actor::Replica(from), to, found)?;
+    let _n = stage.shape().n();
+    stage.steps_are_a_run();
+    let clients = shown_clients(alloc, stage.shape(), &Actor::Replica(from), to, found)?;
     if let Some(cause) = post_cause(
-        world,
+        stage,
         &Actor::Replica(from),
         &Actor::Replica(to),
         &pick_of(&clients),
     ) {
         return Ok(Some(Fault::Refused(cause)));
     }
-    let Ok(wanted) = loyal_of(world, from).envelope_for(alloc, to, pick_of(&clients)) else {
+    let Ok(wanted) = loyal_of(stage, from).envelope_for(alloc, to, pick_of(&clients)) else {
         return Err(Refusal::NoMemory);
     };
     match how_differs(&wanted, found) {

@@ -13,28 +13,28 @@ use crate::cause::take_cause;
 use crate::fault::Fault;
 use dsr_names::{Actor, Refusal};
 use dsr_script::Draft;
-use dsr_world::World;
+use dsr_world::Stage;
 use std::alloc::Global;
 
-/// Returns why the recorded take of this envelope may not follow in this world. `None` exactly if it may. `NoMemory` if memory runs out.
+/// Returns why the recorded take of this envelope may not follow in this stage. `None` exactly if it may. `NoMemory` if memory runs out.
 pub fn take_fault(
     alloc: Global,
-    world: &World,
+    stage: &Stage,
     at: &Actor,
     from: &Actor,
     found: &Draft,
 ) -> Result<Option<Fault>, Refusal>
-    ensures some { IfOk result (λ fault. IfSome fault (HoldsTakeFault world.now.shape (log_of world.now.run) at.now from.now found.now)) }
-    ensures none { IfOk result (λ fault. IfNone fault (IsNextStep world.now.shape (log_of world.now.run) (at.now, Take from.now found.now))) }
+    ensures some { IfOk result (λ fault. IfSome fault (HoldsTakeFault stage.now.shape (log_of stage.now.run) at.now from.now found.now)) }
+    ensures none { IfOk result (λ fault. IfNone fault (IsNextStep stage.now.shape (log_of stage.now.run) (at.now, Take from.now found.now))) }
     ensures refusal { IsOkUnless result Refusal.NoMemory }
 {
-    if let Some(cause) = take_cause(world, at, from) {
+    if let Some(cause) = take_cause(stage, at, from) {
         return Ok(Some(Fault::Refused(cause)));
     }
     // For the proof: the limits of the shape, and that the logs are those of a run.
-    let _n = world.shape().n();
-    let _entries = world.entries();
-    let held = held_in(alloc, world, from, at)?;
+    let _n = stage.shape().n();
+    stage.steps_are_a_run();
+    let held = held_in(alloc, stage, from, at)?;
     if held.same(found) {
         Ok(None)
     } else {
@@ -43,16 +43,16 @@ pub fn take_fault(
 }
 
 /// Returns a draft of the envelope in the box from one actor to another. Requires that the box holds one. `NoMemory` if memory runs out.
-fn held_in(alloc: Global, world: &World, from: &Actor, to: &Actor) -> Result<Draft, Refusal>
-    requires from { IsActor world.now.shape from.now }
-    requires to { IsActor world.now.shape to.now }
-    requires full { is_full (log_of world.now.run) from.now to.now ≡ true }
-    ensures same { IfOk result (λ held. in_box (log_of world.now.run) from.now to.now ≡ Some held) }
+fn held_in(alloc: Global, stage: &Stage, from: &Actor, to: &Actor) -> Result<Draft, Refusal>
+    requires from { IsActor stage.now.shape from.now }
+    requires to { IsActor stage.now.shape to.now }
+    requires full { is_full (log_of stage.now.run) from.now to.now ≡ true }
+    ensures same { IfOk result (λ held. in_box (log_of stage.now.run) from.now to.now ≡ Some held) }
     ensures refusal { IsOkUnless result Refusal.NoMemory }
 {
     // For the proof: the logs are those of a run.
-    let _entries = world.entries();
-    let Some(letter) = world.in_box(from, to) else {
+    stage.steps_are_a_run();
+    let Some(letter) = stage.in_box(from, to) else {
         unreachable!()
     };
     let held = Draft::of(alloc, letter.envelope())?;

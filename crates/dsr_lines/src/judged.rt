@@ -25,10 +25,10 @@ use dsr_names::{Actor, ClientId, Refusal, ReplicaId, Shape};
 use dsr_play::Choice;
 use dsr_record::{NotedEntry, NotedStep};
 use dsr_script::Draft;
-use dsr_world::{Event, World};
+use dsr_world::{Event, Stage};
 use std::alloc::Global;
 
-/// What is found out about a recorded step before the world goes on by it.
+/// What is found out about a recorded step before the stage goes on by it.
 #[derive(Drop)]
 pub(crate) enum Judged {
     /// It is the step of this event, which nothing refuses.
@@ -37,21 +37,21 @@ pub(crate) enum Judged {
     Not(LineFault),
 }
 
-/// Finds out whether the step may follow in this world. `NoMemory` if memory runs out.
+/// Finds out whether the step may follow in this stage. `NoMemory` if memory runs out.
 pub(crate) fn judge(
     alloc: Global,
-    world: &World,
+    stage: &Stage,
     notary: &Notary,
     step: &NotedStep,
 ) -> Result<Judged, Refusal>
-    requires { notary.now ≡ world.now.shape }
-    ensures judged { IfOk result (IsJudged world.now.shape (log_of world.now.run) step.now) }
+    requires { notary.now ≡ stage.now.shape }
+    ensures judged { IfOk result (IsJudged stage.now.shape (log_of stage.now.run) step.now) }
     ensures refusal { IsOkUnless result Refusal.NoMemory }
 {
     let actor = step.actor();
     match step.entry() {
-        NotedEntry::Post { to, envelope } => judge_post(alloc, world, notary, &actor, to, envelope),
-        NotedEntry::Take { from, envelope } => judge_take(alloc, world, &actor, from, envelope),
+        NotedEntry::Post { to, envelope } => judge_post(alloc, stage, notary, &actor, to, envelope),
+        NotedEntry::Take { from, envelope } => judge_take(alloc, stage, &actor, from, envelope),
     }
 }
 
@@ -59,15 +59,15 @@ pub(crate) fn judge(
 #[tactic(auto, using(crate::proofs::JudgedLemmas::take_other, crate::proofs::JudgedLemmas::take_step))]
 fn judge_take(
     alloc: Global,
-    world: &World,
+    stage: &Stage,
     at: &Actor,
     from: &Actor,
     found: &Draft,
 ) -> Result<Judged, Refusal>
-    ensures judged { IfOk result (IsJudged world.now.shape (log_of world.now.run) (at.now, TakeEntry from.now found.now)) }
+    ensures judged { IfOk result (IsJudged stage.now.shape (log_of stage.now.run) (at.now, TakeEntry from.now found.now)) }
     ensures refusal { IsOkUnless result Refusal.NoMemory }
 {
-    let fault = take_fault(alloc, world, at, from, found)?;
+    let fault = take_fault(alloc, stage, at, from, found)?;
     let event = Event::Take {
         at: *at,
         from: *from,
@@ -87,30 +87,30 @@ fn judge_take(
 #[tactic(auto, using(crate::proofs::JudgedLemmas::outside_told))]
 fn judge_post(
     alloc: Global,
-    world: &World,
+    stage: &Stage,
     notary: &Notary,
     from: &Actor,
     to: &Actor,
     found: &Draft,
 ) -> Result<Judged, Refusal>
-    requires { notary.now ≡ world.now.shape }
-    ensures judged { IfOk result (IsJudged world.now.shape (log_of world.now.run) (from.now, PostEntry to.now found.now)) }
+    requires { notary.now ≡ stage.now.shape }
+    ensures judged { IfOk result (IsJudged stage.now.shape (log_of stage.now.run) (from.now, PostEntry to.now found.now)) }
     ensures refusal { IsOkUnless result Refusal.NoMemory }
 {
-    if is_traitor(world.shape(), from) {
-        return judge_plant(world, from, to, found);
+    if is_traitor(stage.shape(), from) {
+        return judge_plant(stage, from, to, found);
     }
     match notary.made(alloc, found)? {
-        Made::Whole(envelope) => judge_loyal(alloc, world, from, to, envelope),
+        Made::Whole(envelope) => judge_loyal(alloc, stage, from, to, envelope),
         Made::Outside(forged) => Ok(Judged::Not(LineFault::SignedOutside(forged))),
     }
 }
 
 /// Finds out whether a traitor may post this envelope next. `NoMemory` if one more handle is refused.
 #[tactic(auto, using(crate::proofs::JudgedLemmas::plant_told, crate::proofs::JudgedLemmas::plant_step))]
-fn judge_plant(world: &World, from: &Actor, to: &Actor, found: &Draft) -> Result<Judged, Refusal>
-    requires { IsTraitor world.now.shape from.now }
-    ensures judged { IfOk result (IsJudged world.now.shape (log_of world.now.run) (from.now, PostEntry to.now found.now)) }
+fn judge_plant(stage: &Stage, from: &Actor, to: &Actor, found: &Draft) -> Result<Judged, Refusal>
+    requires { IsTraitor stage.now.shape from.now }
+    ensures judged { IfOk result (IsJudged stage.now.shape (log_of stage.now.run) (from.now, PostEntry to.now found.now)) }
     ensures refusal { IsOkUnless result Refusal.NoMemory }
 {
     let event = Event::Plant {
@@ -118,7 +118,7 @@ fn judge_plant(world: &World, from: &Actor, to: &Actor, found: &Draft) -> Result
         to: *to,
         draft: found.try_copy()?,
     };
-    match why_refused(world, &event) {
+    match why_refused(stage, &event) {
         Some(cause) => Ok(Judged::Not(LineFault::Refused { event, cause })),
         None => Ok(Judged::May(event)),
     }
@@ -127,28 +127,28 @@ fn judge_plant(world: &World, from: &Actor, to: &Actor, found: &Draft) -> Result
 /// Finds out whether an actor that is not a traitor may post this envelope next. `NoMemory` if memory runs out.
 fn judge_loyal(
     alloc: Global,
-    world: &World,
+    stage: &Stage,
     from: &Actor,
     to: &Actor,
     found: Envelope,
 ) -> Result<Judged, Refusal>
-    requires { IsTraitor world.now.shape from.now → ⊥ }
-    ensures judged { IfOk result (IsJudged world.now.shape (log_of world.now.run) (from.now, PostEntry to.now found)) }
+    requires { IsTraitor stage.now.shape from.now → ⊥ }
+    ensures judged { IfOk result (IsJudged stage.now.shape (log_of stage.now.run) (from.now, PostEntry to.now found)) }
     ensures refusal { IsOkUnless result Refusal.NoMemory }
 {
     match (from, to) {
         (Actor::Replica(poster), Actor::Replica(taker)) => {
-            judge_round(alloc, world, *poster, *taker, found)
+            judge_round(alloc, stage, *poster, *taker, found)
         }
         (Actor::Replica(_), Actor::Client(_)) => {
-            judge_pick(alloc, world, from, to, &Pick::Plain, found)
+            judge_pick(alloc, stage, from, to, &Pick::Plain, found)
         }
         (Actor::Client(client), Actor::Replica(_)) => {
-            let pick = shown_pick(world, *client, &found);
-            judge_pick(alloc, world, from, to, &pick, found)
+            let pick = shown_pick(stage, *client, &found);
+            judge_pick(alloc, stage, from, to, &pick, found)
         }
         (Actor::Client(client), Actor::Client(other)) => {
-            Ok(judge_tell(world, *client, *other, found))
+            Ok(judge_tell(stage, *client, *other, found))
         }
     }
 }
@@ -156,22 +156,22 @@ fn judge_loyal(
 /// Finds out whether a loyal replica may post this envelope to a replica next. `NoMemory` if memory runs out.
 fn judge_round(
     alloc: Global,
-    world: &World,
+    stage: &Stage,
     from: ReplicaId,
     to: ReplicaId,
     found: Envelope,
 ) -> Result<Judged, Refusal>
-    requires { IsTraitor world.now.shape (ReplicaNumber from) → ⊥ }
-    ensures judged { IfOk result (IsJudged world.now.shape (log_of world.now.run) (ReplicaNumber from, PostEntry (ReplicaNumber to) found)) }
+    requires { IsTraitor stage.now.shape (ReplicaNumber from) → ⊥ }
+    ensures judged { IfOk result (IsJudged stage.now.shape (log_of stage.now.run) (ReplicaNumber from, PostEntry (ReplicaNumber to) found)) }
     ensures refusal { IsOkUnless result Refusal.NoMemory }
 {
     let (from, taker) = (Actor::Replica(from), Actor::Replica(to));
-    let clients = clients_begun(alloc, world.shape(), &from, to, &found)?;
+    let clients = clients_begun(alloc, stage.shape(), &from, to, &found)?;
     match client_twice(clients.as_slice()) {
-        Some(client) => judge_twice(alloc, world, from, taker, client),
+        Some(client) => judge_twice(alloc, stage, from, taker, client),
         None => {
             let pick = choice_of(clients.as_slice());
-            judge_pick(alloc, world, &from, &taker, &pick, found)
+            judge_pick(alloc, stage, &from, &taker, &pick, found)
         }
     }
 }
@@ -180,14 +180,14 @@ fn judge_round(
 /// memory runs out.
 fn judge_twice(
     alloc: Global,
-    world: &World,
+    stage: &Stage,
     from: Actor,
     to: Actor,
     client: ClientId,
 ) -> Result<Judged, Refusal>
-    ensures judged { (found : AnEnvelope) → IsEventOf world.now.shape (log_of world.now.run) (from, PostEntry to found) (Post from to Plain)
-        → BeginsTwice world.now.shape (from, PostEntry to found) client
-        → IfOk result (IsJudged world.now.shape (log_of world.now.run) (from, PostEntry to found)) }
+    ensures judged { (found : AnEnvelope) → IsEventOf stage.now.shape (log_of stage.now.run) (from, PostEntry to found) (Post from to Plain)
+        → BeginsTwice stage.now.shape (from, PostEntry to found) client
+        → IfOk result (IsJudged stage.now.shape (log_of stage.now.run) (from, PostEntry to found)) }
     ensures refusal { IsOkUnless result Refusal.NoMemory }
 {
     let event = Event::Post {
@@ -195,7 +195,7 @@ fn judge_twice(
         to,
         pick: Choice::of(alloc, Pick::Plain)?,
     };
-    let fault = match why_refused(world, &event) {
+    let fault = match why_refused(stage, &event) {
         Some(cause) => LineFault::Refused { event, cause },
         None => LineFault::ClientTwice(client),
     };
@@ -205,15 +205,15 @@ fn judge_twice(
 /// Finds out whether a loyal actor may post this envelope by this choice next. `NoMemory` if memory runs out.
 fn judge_pick(
     alloc: Global,
-    world: &World,
+    stage: &Stage,
     from: &Actor,
     to: &Actor,
     pick: &Pick,
     found: Envelope,
 ) -> Result<Judged, Refusal>
-    ensures judged { IsEventOf world.now.shape (log_of world.now.run) (from.now, PostEntry to.now found) (Post from.now to.now pick.now)
-        → ((c : ℕ) → BeginsTwice world.now.shape (from.now, PostEntry to.now found) c → ⊥)
-        → IfOk result (IsJudged world.now.shape (log_of world.now.run) (from.now, PostEntry to.now found)) }
+    ensures judged { IsEventOf stage.now.shape (log_of stage.now.run) (from.now, PostEntry to.now found) (Post from.now to.now pick.now)
+        → ((c : ℕ) → BeginsTwice stage.now.shape (from.now, PostEntry to.now found) c → ⊥)
+        → IfOk result (IsJudged stage.now.shape (log_of stage.now.run) (from.now, PostEntry to.now found)) }
     ensures refusal { IsOkUnless result Refusal.NoMemory }
 {
     let event = Event::Post {
@@ -221,25 +221,25 @@ fn judge_pick(
         to: *to,
         pick: Choice::of(alloc, *pick)?,
     };
-    if let Some(cause) = why_refused(world, &event) {
+    if let Some(cause) = why_refused(stage, &event) {
         return Ok(Judged::Not(LineFault::Refused { event, cause }));
     }
-    let wanted = wanted_post(alloc, world, from, to, pick)?;
+    let wanted = wanted_post(alloc, stage, from, to, pick)?;
     Ok(judged_by(event, wanted, found))
 }
 
 /// Finds out whether a client may post this envelope to another client next.
-fn judge_tell(world: &World, from: ClientId, to: ClientId, found: Envelope) -> Judged
-    ensures { IsJudged world.now.shape (log_of world.now.run) (ClientNumber from, PostEntry (ClientNumber to) found) result }
+fn judge_tell(stage: &Stage, from: ClientId, to: ClientId, found: Envelope) -> Judged
+    ensures { IsJudged stage.now.shape (log_of stage.now.run) (ClientNumber from, PostEntry (ClientNumber to) found) result }
 {
     let event = Event::Tell {
         from: Actor::Client(from),
         to: Actor::Client(to),
     };
-    if let Some(cause) = why_refused(world, &event) {
+    if let Some(cause) = why_refused(stage, &event) {
         return Judged::Not(LineFault::Refused { event, cause });
     }
-    match world.seen(from) {
+    match stage.seen(from) {
         Ok(front) => judged_by(event, Envelope::Seen(front), found),
         Err(_) => unreachable!(),
     }

@@ -1,4 +1,4 @@
-//! Why a recorded step may not follow those before it, as data: each step is judged as the event that it would be in a play, over a world
+//! Why a recorded step may not follow those before it, as data: each step is judged as the event that it would be in a play, over a stage
 //! that goes on with the steps before it.
 #![tactic(auto)]
 

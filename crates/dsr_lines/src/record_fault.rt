@@ -10,7 +10,7 @@ use crate::line_fault::LineFault;
 use crate::notary::Notary;
 use dsr_names::Refusal;
 use dsr_record::Record;
-use dsr_world::World;
+use dsr_world::Stage;
 use std::alloc::Global;
 
 /// The line of a transcript's header; the first step is in the next one.
@@ -25,45 +25,45 @@ pub struct Stop {
     pub fault: LineFault,
 }
 
-/// A world that has gone on with recorded steps, up to the first that may not follow.
+/// A stage that has gone on with recorded steps, up to the first that may not follow.
 #[derive(Drop)]
 pub struct Followed {
-    /// The world: its run has the steps before that one, or all of them.
-    pub world: World,
+    /// The stage: its run has the steps before that one, or all of them.
+    pub stage: Stage,
     /// Where the steps stop being a run, if they do.
     pub stop: Option<Stop>,
 }
 
-/// Lets a new world go on with the recorded steps, and tells where and why they stop being a run. They are a run exactly if there is no such
+/// Lets a new stage go on with the recorded steps, and tells where and why they stop being a run. They are a run exactly if there is no such
 /// line. `NoMemory` if memory runs out.
 pub fn follow_all(alloc: Global, recorded: &Record) -> Result<Followed, Refusal>
-    ensures shape { IfOk result (λ followed. followed.world.shape ≡ recorded.now.shape) }
-    ensures run { IfOk result (λ followed. IfNone followed.stop (followed.world.run ≡ recorded.now.run)) }
+    ensures shape { IfOk result (λ followed. followed.stage.shape ≡ recorded.now.shape) }
+    ensures run { IfOk result (λ followed. IfNone followed.stop (followed.stage.run ≡ recorded.now.run)) }
     ensures none { IfOk result (λ followed. IfNone followed.stop (IsRun recorded.now.shape recorded.now.run)) }
     ensures line { IfOk result (λ followed. IfSome followed.stop (λ stop. IsFirstBad recorded.now.shape recorded.now.run stop.line)) }
     ensures fault { IfOk result (λ followed. IfSome followed.stop (λ stop.
-        IsFaultAt recorded.now.shape recorded.now.run followed.world.run stop.line stop.fault)) }
+        IsFaultAt recorded.now.shape recorded.now.run followed.stage.run stop.line stop.fault)) }
     ensures cause { IfOk result (λ followed. IfSome followed.stop (λ stop.
-        HoldsItsCause followed.world.shape (log_of followed.world.run) stop.fault)) }
+        HoldsItsCause followed.stage.shape (log_of followed.stage.run) stop.fault)) }
     ensures refusal { IsOkUnless result Refusal.NoMemory }
 {
     let shape = recorded.shape();
-    let mut world = World::open(alloc, shape)?;
+    let mut stage = Stage::open(alloc, shape)?;
     let notary = Notary::new(alloc, &shape)?;
     let mut line = HEADER_LINE;
     for step in recorded.entries() {
         line += 1;
         // For the proof: the steps before this one are a run.
-        let _earlier = world.entries();
-        let fault = follow(alloc, &mut world, &notary, step)?;
+        stage.steps_are_a_run();
+        let fault = follow(alloc, &mut stage, &notary, step)?;
         if let Some(fault) = fault {
             return Ok(Followed {
-                world,
+                stage,
                 stop: Some(Stop { line, fault }),
             });
         }
     }
     // For the proof: all the steps are a run.
-    let _entries = world.entries();
-    Ok(Followed { world, stop: None })
+    stage.steps_are_a_run();
+    Ok(Followed { stage, stop: None })
 }

@@ -21,30 +21,30 @@ use dsr_envelope::{Envelope, Pick};
 use dsr_facts::{client_of, loyal_of};
 use dsr_names::{Actor, ClientId, Refusal, ReplicaId};
 use dsr_replica::Replica;
-use dsr_world::World;
+use dsr_world::Stage;
 use std::alloc::Global;
 
 /// Makes what a loyal actor posts by this choice. Requires that nothing refuses the post. `NoMemory` if memory runs out.
 pub(crate) fn wanted_post(
     alloc: Global,
-    world: &World,
+    stage: &Stage,
     from: &Actor,
     to: &Actor,
     pick: &Pick,
 ) -> Result<Envelope, Refusal>
-    requires { refusal_of world.now.shape (log_of world.now.run) (Post from.now to.now pick.now) ≡ None }
-    ensures given { IfOk result (λ wanted. post_of world.now.shape (log_of world.now.run from.now) from.now to.now pick.now ≡ Some wanted) }
+    requires { refusal_of stage.now.shape (log_of stage.now.run) (Post from.now to.now pick.now) ≡ None }
+    ensures given { IfOk result (λ wanted. post_of stage.now.shape (log_of stage.now.run from.now) from.now to.now pick.now ≡ Some wanted) }
     ensures refusal { IsOkUnless result Refusal.NoMemory }
 {
     match (from, to) {
         (Actor::Replica(poster), Actor::Replica(taker)) => {
-            wanted_round(alloc, world, *poster, *taker, pick)
+            wanted_round(alloc, stage, *poster, *taker, pick)
         }
         (Actor::Replica(poster), Actor::Client(client)) => {
-            Ok(wanted_reply(world, *poster, *client, pick))
+            Ok(wanted_reply(stage, *poster, *client, pick))
         }
         (Actor::Client(client), Actor::Replica(taker)) => {
-            wanted_ask(alloc, world, *client, *taker, pick)
+            wanted_ask(alloc, stage, *client, *taker, pick)
         }
         (Actor::Client(_), Actor::Client(_)) => unreachable!(),
     }
@@ -53,17 +53,17 @@ pub(crate) fn wanted_post(
 /// Makes what a loyal replica posts to a replica by this choice. Requires that nothing refuses the post. `NoMemory` if memory runs out.
 fn wanted_round(
     alloc: Global,
-    world: &World,
+    stage: &Stage,
     from: ReplicaId,
     to: ReplicaId,
     pick: &Pick,
 ) -> Result<Envelope, Refusal>
-    requires { refusal_of world.now.shape (log_of world.now.run) (Post (ReplicaNumber from) (ReplicaNumber to) pick.now) ≡ None }
+    requires { refusal_of stage.now.shape (log_of stage.now.run) (Post (ReplicaNumber from) (ReplicaNumber to) pick.now) ≡ None }
     ensures given { IfOk result (λ wanted.
-        post_of world.now.shape (log_of world.now.run (ReplicaNumber from)) (ReplicaNumber from) (ReplicaNumber to) pick.now ≡ Some wanted) }
+        post_of stage.now.shape (log_of stage.now.run (ReplicaNumber from)) (ReplicaNumber from) (ReplicaNumber to) pick.now ≡ Some wanted) }
     ensures refusal { IsOkUnless result Refusal.NoMemory }
 {
-    match loyal_of(world, from).envelope_for(alloc, to, *pick) {
+    match loyal_of(stage, from).envelope_for(alloc, to, *pick) {
         Ok(wanted) => Ok(wanted),
         Err(Refusal::NoMemory) => Err(Refusal::NoMemory),
         Err(_) => unreachable!(),
@@ -71,11 +71,11 @@ fn wanted_round(
 }
 
 /// Returns what a loyal replica posts to a client by this choice. Requires that nothing refuses the post.
-fn wanted_reply(world: &World, from: ReplicaId, to: ClientId, pick: &Pick) -> Envelope
-    requires { refusal_of world.now.shape (log_of world.now.run) (Post (ReplicaNumber from) (ClientNumber to) pick.now) ≡ None }
-    ensures { post_of world.now.shape (log_of world.now.run (ReplicaNumber from)) (ReplicaNumber from) (ClientNumber to) pick.now ≡ Some result }
+fn wanted_reply(stage: &Stage, from: ReplicaId, to: ClientId, pick: &Pick) -> Envelope
+    requires { refusal_of stage.now.shape (log_of stage.now.run) (Post (ReplicaNumber from) (ClientNumber to) pick.now) ≡ None }
+    ensures { post_of stage.now.shape (log_of stage.now.run (ReplicaNumber from)) (ReplicaNumber from) (ClientNumber to) pick.now ≡ Some result }
 {
-    match reply_by(loyal_of(world, from), to, pick) {
+    match reply_by(loyal_of(stage, from), to, pick) {
         Some(wanted) => wanted,
         None => unreachable!(),
     }
@@ -95,17 +95,17 @@ fn reply_by(replica: &Replica, to: ClientId, pick: &Pick) -> Option<Envelope>
 /// Makes what a client posts to a replica by this choice. Requires that nothing refuses the post. `NoMemory` if memory runs out.
 fn wanted_ask(
     alloc: Global,
-    world: &World,
+    stage: &Stage,
     from: ClientId,
     to: ReplicaId,
     pick: &Pick,
 ) -> Result<Envelope, Refusal>
-    requires { refusal_of world.now.shape (log_of world.now.run) (Post (ClientNumber from) (ReplicaNumber to) pick.now) ≡ None }
+    requires { refusal_of stage.now.shape (log_of stage.now.run) (Post (ClientNumber from) (ReplicaNumber to) pick.now) ≡ None }
     ensures given { IfOk result (λ wanted.
-        post_of world.now.shape (log_of world.now.run (ClientNumber from)) (ClientNumber from) (ReplicaNumber to) pick.now ≡ Some wanted) }
+        post_of stage.now.shape (log_of stage.now.run (ClientNumber from)) (ClientNumber from) (ReplicaNumber to) pick.now ≡ Some wanted) }
     ensures refusal { IsOkUnless result Refusal.NoMemory }
 {
-    match ask_by(client_of(world, from), to, pick) {
+    match ask_by(client_of(stage, from), to, pick) {
         Some(ask) => Envelope::ask(alloc, ask),
         None => unreachable!(),
     }
@@ -128,11 +128,11 @@ fn ask_by(client: &Client, to: ReplicaId, pick: &Pick) -> Option<SignedRequest>
 }
 
 /// Returns the choice that a client's post of this envelope to a replica shows.
-pub(crate) fn shown_pick(world: &World, client: ClientId, found: &Envelope) -> Pick
-    ensures { client < world.now.shape.m
-        → result ≡ begun_by found.now (outstanding world.now.shape (log_of world.now.run (ClientNumber client))) }
+pub(crate) fn shown_pick(stage: &Stage, client: ClientId, found: &Envelope) -> Pick
+    ensures { client < stage.now.shape.m
+        → result ≡ begun_by found.now (outstanding stage.now.shape (log_of stage.now.run (ClientNumber client))) }
 {
-    match world.client(client) {
+    match stage.client(client) {
         Ok(asking) => pick_beside(asking, found),
         Err(_) => Pick::Plain,
     }

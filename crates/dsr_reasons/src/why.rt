@@ -12,22 +12,22 @@ use dsr_envelope::Due;
 use dsr_facts::{Cause, Limit, Part, Undue, why_refused};
 use dsr_names::{Actor, Refusal, ReplicaId};
 use dsr_script::Forged;
-use dsr_world::{Event, World};
+use dsr_world::{Event, Stage};
 use std::fmt::Write;
 
-/// Writes the line that says why this world refuses the event: a line of data if `as_data`, otherwise of words. Requires that the world refuses it.
+/// Writes the line that says why this stage refuses the event: a line of data if `as_data`, otherwise of words. Requires that the stage refuses it.
 /// `NoMemory` if memory runs out.
 pub fn write_why(
     out: &mut String,
     as_data: bool,
-    world: &World,
+    stage: &Stage,
     event: &Event,
 ) -> Result<(), Refusal>
-    requires { ¬ MayBeDone world.now.shape (log_of world.now.run) event.now }
-    ensures told { OnOk result (TellsCause world.now.shape (log_of world.now.run) event.now as_data (string_bytes out.old) (string_bytes out.new)) }
+    requires { ¬ MayBeDone stage.now.shape (log_of stage.now.run) event.now }
+    ensures told { OnOk result (TellsCause stage.now.shape (log_of stage.now.run) event.now as_data (string_bytes out.old) (string_bytes out.new)) }
     ensures refusal { IsOkUnless result Refusal.NoMemory }
 {
-    let Some(cause) = why_refused(world, event) else {
+    let Some(cause) = why_refused(stage, event) else {
         unreachable!()
     };
     write_line(out, as_data, actor_of(event), other_of(event), &cause)?;

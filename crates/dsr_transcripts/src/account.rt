@@ -11,7 +11,7 @@ use dsr_names::{Refusal, Shape};
 use dsr_reasons::put;
 use dsr_record::{NotedStep, Record};
 use dsr_trouble::trouble_of;
-use dsr_world::World;
+use dsr_world::Stage;
 use std::alloc::Global;
 use std::fmt::Write;
 
@@ -60,23 +60,23 @@ fn tell_record(alloc: Global, recorded: &Record, as_data: bool) -> Result<Accoun
     tell_followed(alloc, recorded, &followed, as_data)
 }
 
-/// Tells this by how far `follow_all` led a world through the recorded steps.
+/// Tells this by how far `follow_all` led a stage through the recorded steps.
 fn tell_followed(
     alloc: Global,
     recorded: &Record,
     followed: &Followed,
     as_data: bool,
 ) -> Result<Account, Refusal>
-    requires shape { followed.now.world.shape ≡ recorded.now.shape }
+    requires shape { followed.now.stage.shape ≡ recorded.now.shape }
     requires none { IfNone followed.now.stop (IsRun recorded.now.shape recorded.now.run) }
     requires line { IfSome followed.now.stop (λ stop. IsFirstBad recorded.now.shape recorded.now.run stop.line) }
     requires fault { IfSome followed.now.stop (λ stop.
-        IsFaultAt recorded.now.shape recorded.now.run followed.now.world.run stop.line stop.fault) }
+        IsFaultAt recorded.now.shape recorded.now.run followed.now.stage.run stop.line stop.fault) }
     ensures told { IfOk result (λ account. TellsRecord as_data recorded.now account.refusal (string_bytes account.text)) }
     ensures refusal { IsOkUnless result Refusal.NoMemory }
 {
     match &followed.stop {
-        Some(stop) => tell_stopped(alloc, recorded, &followed.world, stop, as_data),
+        Some(stop) => tell_stopped(alloc, recorded, &followed.stage, stop, as_data),
         None => tell_run(alloc, recorded, as_data),
     }
 }
@@ -99,18 +99,18 @@ fn tell_run(alloc: Global, recorded: &Record, as_data: bool) -> Result<Account, 
 fn tell_stopped(
     alloc: Global,
     recorded: &Record,
-    world: &World,
+    stage: &Stage,
     stop: &Stop,
     as_data: bool,
 ) -> Result<Account, Refusal>
-    requires shape { world.now.shape ≡ recorded.now.shape }
+    requires shape { stage.now.shape ≡ recorded.now.shape }
     requires line { IsFirstBad recorded.now.shape recorded.now.run stop.now.line }
-    requires fault { IsFaultAt recorded.now.shape recorded.now.run world.now.run stop.now.line stop.now.fault }
+    requires fault { IsFaultAt recorded.now.shape recorded.now.run stage.now.run stop.now.line stop.now.fault }
     ensures told { IfOk result (λ account. TellsRecord as_data recorded.now account.refusal (string_bytes account.text)) }
     ensures refusal { IsOkUnless result Refusal.NoMemory }
 {
     let step = step_at(recorded, stop.line);
-    let rest = tell_stop(alloc, as_data, world, step, stop.line, &stop.fault)?;
+    let rest = tell_stop(alloc, as_data, stage, step, stop.line, &stop.fault)?;
     let mut out = String::new(alloc);
     write_first(&mut out, as_data, recorded.shape())?;
     out.push_str(rest.as_str())?;

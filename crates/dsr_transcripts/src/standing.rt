@@ -18,7 +18,7 @@ use dsr_names::{Actor, ClientId, Refusal, ReplicaId, Shape};
 use dsr_reasons::put;
 use dsr_record::{NotedEntry, NotedStep};
 use dsr_script::Draft;
-use dsr_world::World;
+use dsr_world::Stage;
 use std::alloc::Global;
 use std::fmt::Write;
 
@@ -26,18 +26,18 @@ use std::fmt::Write;
 pub(crate) fn write_standing(
     out: &mut String,
     as_data: bool,
-    world: &World,
+    stage: &Stage,
     actor: &Actor,
 ) -> Result<(), Refusal>
-    ensures text { OnOk result (string_bytes out.new ≡ string_bytes out.old ++ standing_line as_data world.now.shape (log_of world.now.run) actor.now) }
+    ensures text { OnOk result (string_bytes out.new ≡ string_bytes out.old ++ standing_line as_data stage.now.shape (log_of stage.now.run) actor.now) }
     ensures refusal { IsOkUnless result Refusal.NoMemory }
 {
-    if !is_inside(world.shape(), actor) {
+    if !is_inside(stage.shape(), actor) {
         return Ok(());
     }
     match actor {
-        Actor::Replica(replica) => write_due(out, as_data, world, *replica),
-        Actor::Client(client) => write_outstanding(out, as_data, world, *client),
+        Actor::Replica(replica) => write_due(out, as_data, stage, *replica),
+        Actor::Client(client) => write_outstanding(out, as_data, stage, *client),
     }
 }
 
@@ -53,19 +53,19 @@ fn is_inside(shape: &Shape, actor: &Actor) -> bool
 fn write_due(
     out: &mut String,
     as_data: bool,
-    world: &World,
+    stage: &Stage,
     replica: ReplicaId,
 ) -> Result<(), Refusal>
-    requires { replica < world.now.shape.n }
+    requires { replica < stage.now.shape.n }
     ensures text { OnOk result (string_bytes out.new ≡ string_bytes out.old
-        ++ due_line as_data world.now.shape (log_of world.now.run) (ReplicaNumber replica)) }
+        ++ due_line as_data stage.now.shape (log_of stage.now.run) (ReplicaNumber replica)) }
     ensures refusal { IsOkUnless result Refusal.NoMemory }
 {
     put_actor(out, as_data, "due ", "    due at ", Actor::Replica(replica))?;
-    if is_traitor(world.shape(), replica) {
+    if is_traitor(stage.shape(), replica) {
         return put(out, as_data, " -\n", ": nothing, since it is a traitor\n");
     }
-    write_next(out, as_data, due_of(world, replica))
+    write_next(out, as_data, due_of(stage, replica))
 }
 
 /// Tells whether a replica of the shape is a traitor.
@@ -77,12 +77,12 @@ fn is_traitor(shape: &Shape, replica: ReplicaId) -> bool
 }
 
 /// Returns what a loyal replica does next with the replicas.
-fn due_of(world: &World, replica: ReplicaId) -> Due
-    requires inside { replica < world.now.shape.n }
-    requires loyal { is_traitor world.now.shape replica ≡ false }
-    ensures { result ≡ due world.now.shape (log_of world.now.run (ReplicaNumber replica)) }
+fn due_of(stage: &Stage, replica: ReplicaId) -> Due
+    requires inside { replica < stage.now.shape.n }
+    requires loyal { is_traitor stage.now.shape replica ≡ false }
+    ensures { result ≡ due stage.now.shape (log_of stage.now.run (ReplicaNumber replica)) }
 {
-    loyal_of(world, replica).due()
+    loyal_of(stage, replica).due()
 }
 
 /// Writes what a loyal replica does next with the replicas.
@@ -117,12 +117,12 @@ fn put_replica(
 fn write_outstanding(
     out: &mut String,
     as_data: bool,
-    world: &World,
+    stage: &Stage,
     client: ClientId,
 ) -> Result<(), Refusal>
-    requires { client < world.now.shape.m }
+    requires { client < stage.now.shape.m }
     ensures text { OnOk result (string_bytes out.new ≡ string_bytes out.old
-        ++ due_line as_data world.now.shape (log_of world.now.run) (ClientNumber client)) }
+        ++ due_line as_data stage.now.shape (log_of stage.now.run) (ClientNumber client)) }
     ensures refusal { IsOkUnless result Refusal.NoMemory }
 {
     put_actor(
@@ -132,27 +132,27 @@ fn write_outstanding(
         "    outstanding at ",
         Actor::Client(client),
     )?;
-    write_number(out, as_data, outstanding_of(world, client))
+    write_number(out, as_data, outstanding_of(stage, client))
 }
 
 /// Returns the number of the outstanding request of a client of the shape.
-fn outstanding_of(world: &World, client: ClientId) -> Option<u64>
-    requires { client < world.now.shape.m }
-    ensures { result ≡ own_number world.now.shape (log_of world.now.run) (ClientNumber client) }
+fn outstanding_of(stage: &Stage, client: ClientId) -> Option<u64>
+    requires { client < stage.now.shape.m }
+    ensures { result ≡ own_number stage.now.shape (log_of stage.now.run) (ClientNumber client) }
 {
-    client_of(world, client).outstanding()
+    client_of(stage, client).outstanding()
 }
 
 /// Returns the number of the actor's outstanding request; `None` for a replica, and for an actor that is not of the shape.
-pub(crate) fn current_of(world: &World, actor: &Actor) -> Option<u64>
-    ensures { result ≡ current_number world.now.shape (log_of world.now.run) actor.now }
+pub(crate) fn current_of(stage: &Stage, actor: &Actor) -> Option<u64>
+    ensures { result ≡ current_number stage.now.shape (log_of stage.now.run) actor.now }
 {
-    if !is_inside(world.shape(), actor) {
+    if !is_inside(stage.shape(), actor) {
         return None;
     }
     match actor {
         Actor::Replica(_) => None,
-        Actor::Client(client) => outstanding_of(world, *client),
+        Actor::Client(client) => outstanding_of(stage, *client),
     }
 }
 
@@ -174,17 +174,17 @@ pub(crate) fn write_box(
     alloc: Global,
     out: &mut String,
     as_data: bool,
-    world: &World,
+    stage: &Stage,
     step: &NotedStep,
 ) -> Result<(), Refusal>
     ensures text { OnOk result (string_bytes out.new ≡ string_bytes out.old
-        ++ entry_box_line as_data world.now.shape (log_of world.now.run) step.now.0 step.now.1) }
+        ++ entry_box_line as_data stage.now.shape (log_of stage.now.run) step.now.0 step.now.1) }
     ensures refusal { IsOkUnless result Refusal.NoMemory }
 {
     let actor = step.actor();
     match step.entry() {
-        NotedEntry::Post { to, .. } => write_between(alloc, out, as_data, world, &actor, to),
-        NotedEntry::Take { from, .. } => write_between(alloc, out, as_data, world, from, &actor),
+        NotedEntry::Post { to, .. } => write_between(alloc, out, as_data, stage, &actor, to),
+        NotedEntry::Take { from, .. } => write_between(alloc, out, as_data, stage, from, &actor),
     }
 }
 
@@ -193,36 +193,36 @@ fn write_between(
     alloc: Global,
     out: &mut String,
     as_data: bool,
-    world: &World,
+    stage: &Stage,
     from: &Actor,
     to: &Actor,
 ) -> Result<(), Refusal>
     ensures text { OnOk result (string_bytes out.new ≡ string_bytes out.old
-        ++ box_line as_data world.now.shape (log_of world.now.run) from.now to.now) }
+        ++ box_line as_data stage.now.shape (log_of stage.now.run) from.now to.now) }
     ensures refusal { IsOkUnless result Refusal.NoMemory }
 {
-    if !is_inside(world.shape(), from) {
+    if !is_inside(stage.shape(), from) {
         return Ok(());
     }
-    if !is_inside(world.shape(), to) {
+    if !is_inside(stage.shape(), to) {
         return Ok(());
     }
-    let held = held_in(alloc, world, from, to)?;
+    let held = held_in(alloc, stage, from, to)?;
     put_actor(out, as_data, "box ", "    in the box from ", *from)?;
     put_actor(out, as_data, " ", " to ", *to)?;
     write_held(out, as_data, &held)
 }
 
 /// Returns a draft of the envelope in the box from one actor of the shape to another; `None` if the box is empty.
-fn held_in(alloc: Global, world: &World, from: &Actor, to: &Actor) -> Result<Option<Draft>, Refusal>
-    requires from { IsActor world.now.shape from.now }
-    requires to { IsActor world.now.shape to.now }
-    ensures same { IfOk result (λ held. held ≡ in_box (log_of world.now.run) from.now to.now) }
+fn held_in(alloc: Global, stage: &Stage, from: &Actor, to: &Actor) -> Result<Option<Draft>, Refusal>
+    requires from { IsActor stage.now.shape from.now }
+    requires to { IsActor stage.now.shape to.now }
+    ensures same { IfOk result (λ held. held ≡ in_box (log_of stage.now.run) from.now to.now) }
     ensures refusal { IsOkUnless result Refusal.NoMemory }
 {
     // For the proof: the logs are those of a run.
-    let _entries = world.entries();
-    let Some(letter) = world.in_box(from, to) else {
+    stage.steps_are_a_run();
+    let Some(letter) = stage.in_box(from, to) else {
         return Ok(None);
     };
     let held = Draft::of(alloc, letter.envelope())?;

@@ -12,26 +12,26 @@ use dsr_lines::LineFault;
 use dsr_names::Refusal;
 use dsr_reasons::put;
 use dsr_record::NotedStep;
-use dsr_world::World;
+use dsr_world::Stage;
 use std::alloc::Global;
 use std::fmt::Write;
 
-/// Returns the text about a step that may not follow in this world: its line, why, what its actor's log has due, and what the box holds.
+/// Returns the text about a step that may not follow in this stage: its line, why, what its actor's log has due, and what the box holds.
 pub(crate) fn tell_stop(
     alloc: Global,
     as_data: bool,
-    world: &World,
+    stage: &Stage,
     step: &NotedStep,
     line: u64,
     fault: &LineFault,
 ) -> Result<String, Refusal>
-    requires { HoldsFault world.now.shape (log_of world.now.run) step.now fault.now }
-    ensures told { IfOk result (λ told. TellsStep as_data world.now.shape (log_of world.now.run) line step.now fault.now (string_bytes told)) }
+    requires { HoldsFault stage.now.shape (log_of stage.now.run) step.now fault.now }
+    ensures told { IfOk result (λ told. TellsStep as_data stage.now.shape (log_of stage.now.run) line step.now fault.now (string_bytes told)) }
     ensures refusal { IsOkUnless result Refusal.NoMemory }
 {
-    let why = why_of(alloc, as_data, world, step, fault)?;
+    let why = why_of(alloc, as_data, stage, step, fault)?;
     let mut out = String::new(alloc);
-    write_lines(alloc, &mut out, as_data, world, step, line, why.as_str())?;
+    write_lines(alloc, &mut out, as_data, stage, step, line, why.as_str())?;
     Ok(out)
 }
 
@@ -40,20 +40,20 @@ fn write_lines(
     alloc: Global,
     out: &mut String,
     as_data: bool,
-    world: &World,
+    stage: &Stage,
     step: &NotedStep,
     line: u64,
     why: &str,
 ) -> Result<(), Refusal>
     ensures text { OnOk result (string_bytes out.new ≡ string_bytes out.old
-        ++ (stop_line as_data line step.now ++ (why.now ++ (standing_line as_data world.now.shape (log_of world.now.run) step.now.0
-        ++ entry_box_line as_data world.now.shape (log_of world.now.run) step.now.0 step.now.1)))) }
+        ++ (stop_line as_data line step.now ++ (why.now ++ (standing_line as_data stage.now.shape (log_of stage.now.run) step.now.0
+        ++ entry_box_line as_data stage.now.shape (log_of stage.now.run) step.now.0 step.now.1)))) }
     ensures refusal { IsOkUnless result Refusal.NoMemory }
 {
     write_stop(out, as_data, line, step)?;
     out.push_str(why)?;
-    write_standing(out, as_data, world, &step.actor())?;
-    write_box(alloc, out, as_data, world, step)
+    write_standing(out, as_data, stage, &step.actor())?;
+    write_box(alloc, out, as_data, stage, step)
 }
 
 /// Writes which step may not follow, and its line.

@@ -18,31 +18,31 @@ use dsr_names::{Actor, ClientId, Refusal};
 use dsr_reasons::{put, write_why};
 use dsr_record::NotedStep;
 use dsr_script::Forged;
-use dsr_world::{Event, World};
+use dsr_world::{Event, Stage};
 use std::alloc::Global;
 use std::fmt::Write;
 
-/// Returns the text that says why the step may not follow in this world. Requires that this is wrong with it.
+/// Returns the text that says why the step may not follow in this stage. Requires that this is wrong with it.
 pub(crate) fn why_of(
     alloc: Global,
     as_data: bool,
-    world: &World,
+    stage: &Stage,
     step: &NotedStep,
     fault: &LineFault,
 ) -> Result<String, Refusal>
-    requires { HoldsFault world.now.shape (log_of world.now.run) step.now fault.now }
-    ensures says { IfOk result (λ why. IsWhy as_data world.now.shape (log_of world.now.run) step.now.0 fault.now (string_bytes why)) }
+    requires { HoldsFault stage.now.shape (log_of stage.now.run) step.now fault.now }
+    ensures says { IfOk result (λ why. IsWhy as_data stage.now.shape (log_of stage.now.run) step.now.0 fault.now (string_bytes why)) }
     ensures refusal { IsOkUnless result Refusal.NoMemory }
 {
     match fault {
-        LineFault::Refused { event, cause } => why_refused(alloc, as_data, world, event, cause),
+        LineFault::Refused { event, cause } => why_refused(alloc, as_data, stage, event, cause),
         LineFault::OtherHeld => why_held(alloc, as_data),
         LineFault::OtherPosted {
             wanted,
             posted,
             how,
         } => {
-            let current = current_of(world, &step.actor());
+            let current = current_of(stage, &step.actor());
             why_posted(alloc, as_data, current, wanted, posted, how)
         }
         LineFault::SignedOutside(forged) => why_signed(alloc, as_data, forged),
@@ -54,16 +54,16 @@ pub(crate) fn why_of(
 fn why_refused(
     alloc: Global,
     as_data: bool,
-    world: &World,
+    stage: &Stage,
     event: &Event,
     cause: &Cause,
 ) -> Result<String, Refusal>
-    requires { HoldsCause world.now.shape (log_of world.now.run) event.now cause.now }
-    ensures says { IfOk result (λ why. TellsCause world.now.shape (log_of world.now.run) event.now as_data [] (string_bytes why)) }
+    requires { HoldsCause stage.now.shape (log_of stage.now.run) event.now cause.now }
+    ensures says { IfOk result (λ why. TellsCause stage.now.shape (log_of stage.now.run) event.now as_data [] (string_bytes why)) }
     ensures refusal { IsOkUnless result Refusal.NoMemory }
 {
     let mut out = String::new(alloc);
-    write_why(&mut out, as_data, world, event)?;
+    write_why(&mut out, as_data, stage, event)?;
     Ok(out)
 }
 

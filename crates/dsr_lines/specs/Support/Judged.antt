@@ -1,4 +1,4 @@
--- What is found out about a step before the world goes on by it.
+-- What is found out about a step before the stage goes on by it.
 use Rattle.std.specs.Prelude.{◌≡◌, ◌≢◌, Some}
 use Rattle.dsr_names.specs.Shape.{Shape, IsActor}
 use Rattle.dsr_desk.specs.Signature.{signed}

@@ -9,8 +9,8 @@ use Rattle.dsr_facts.proofs.cause.undue_post.Goals as goal
 
 pub returns-in-Replica-Replica-clause-refused : goal.returns-in-Replica-Replica-clause-refused
 returns-in-Replica-Replica-clause-refused c =
-    let shape = c.args.world.now.shape in
-    let run = c.args.world.now.run in
+    let shape = c.args.stage.now.shape in
+    let run = c.args.stage.now.run in
     let pick = c.args.pick.now in
     let p = c.in-Replica-Replica.poster in
     let q = c.in-Replica-Replica.taker in
@@ -22,8 +22,8 @@ returns-in-Replica-Replica-clause-refused c =
 
 pub returns-in-Replica-Client-clause-none : goal.returns-in-Replica-Client-clause-none
 returns-in-Replica-Client-clause-none c =
-    let shape = c.args.world.now.shape in
-    let run = c.args.world.now.run in
+    let shape = c.args.stage.now.shape in
+    let run = c.args.stage.now.run in
     let pick = c.args.pick.now in
     let p = c.in-Replica-Client.poster in
     let d = c.in-Replica-Client.client in
@@ -36,8 +36,8 @@ returns-in-Replica-Client-clause-none c =
 
 pub returns-in-Client-Replica-clause-none : goal.returns-in-Client-Replica-clause-none
 returns-in-Client-Replica-clause-none c =
-    let shape = c.args.world.now.shape in
-    let run = c.args.world.now.run in
+    let shape = c.args.stage.now.shape in
+    let run = c.args.stage.now.run in
     let pick = c.args.pick.now in
     let d = c.in-Client-Replica.client in
     let q = c.in-Client-Replica.field-0-1 in

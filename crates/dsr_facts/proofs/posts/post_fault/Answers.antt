@@ -12,7 +12,7 @@ use Rattle.dsr_facts.proofs.posts.post_fault.Goals as goal
 
 pub returns-in-None-clause-none : goal.returns-in-None-clause-none
 returns-in-None-clause-none c =
-    let w = c.args.world.now in
+    let w = c.args.stage.now in
     let p = c.args.from in
     let q = c.args.to in
     let pick = c.pick_of-2.result in
@@ -25,5 +25,5 @@ returns-in-None-clause-none c =
     (subst (λ s. envelope_to s r.me log q pick ≡ Some c.in-Ok.wanted) c.loyal_of.ensures.shape_is (c.in-Ok.ensures.given log c.loyal_of.ensures.stands)) in
     let same = where_none c.how_differs.result (c.in-Ok.wanted ≡ c.args.found.now) c.in-None.is c.how_differs.ensures.none in
     let spelled = subst HasSpelledOp (sym c.pick_of-2.ensures) (spelled_choice c.in_ok-clients.clients) in
-    post_may w.shape w.run (subst IsAllowed c.shape.ensures c.n-n.ensures.allowed) c.entries-entries.ensures.run p q pick c.args.found.now
+    post_may w.shape w.run (subst IsAllowed c.shape.ensures c.n-n.ensures.allowed) c.steps_are_a_run.ensures p q pick c.args.found.now
     c.in-Ok.ensures.pick spelled none (given ∙ ap Some same)

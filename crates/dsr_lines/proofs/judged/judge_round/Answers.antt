@@ -11,7 +11,7 @@ use Rattle.dsr_lines.proofs.judged.judge_round.Goals as goal
 
 pub returns-in-Some-clause-judged : goal.returns-in-Some-clause-judged
 returns-in-Some-clause-judged c =
-    let w = c.args.world.now in
+    let w = c.args.stage.now in
     let p = c.args.from in
     let q = c.args.to in
     let x = c.args.found in
@@ -25,7 +25,7 @@ returns-in-Some-clause-judged c =
 
 pub returns-in-None-clause-judged : goal.returns-in-None-clause-judged
 returns-in-None-clause-judged c =
-    let w = c.args.world.now in
+    let w = c.args.stage.now in
     let p = c.args.from in
     let q = c.args.to in
     let x = c.args.found in

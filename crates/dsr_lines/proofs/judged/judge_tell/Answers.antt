@@ -9,7 +9,7 @@ use Rattle.dsr_lines.proofs.judged.judge_tell.Goals as goal
 
 pub returns : goal.returns
 returns c =
-    let w = c.args.world.now in
+    let w = c.args.stage.now in
     let from = c.args.from in
     let to = c.args.to in
     let may = where_none c.why_refused.result (MayBeDone w.shape (log_of w.run) (Tell (Client from) (Client to))) c.in_default.is c.why_refused.ensures.none in

@@ -10,7 +10,7 @@ use Rattle.dsr_lines.proofs.wanted.wanted_ask.Goals as goal
 
 pub unreachable-requires : goal.unreachable-requires
 unreachable-requires c =
-    let w = c.args.world.now in
+    let w = c.args.stage.now in
     let pick = c.args.pick.now in
     let from = c.args.from in
     let to = c.args.to in

@@ -7,7 +7,7 @@ use Rattle.dsr_lines.proofs.wanted.wanted_reply.Goals as goal
 
 pub unreachable-requires : goal.unreachable-requires
 unreachable-requires c =
-    let w = c.args.world.now in
+    let w = c.args.stage.now in
     let log = log_of w.run (Replica c.args.from) in
     let is = c.loyal_of.ensures in
     let same = subst (λ s. c.reply_by.result ≡ post_of s log (Replica c.args.from) (Client c.args.to) c.args.pick.now) is.shape_is
@@ -16,7 +16,7 @@ unreachable-requires c =
 
 pub returns : goal.returns
 returns c =
-    let w = c.args.world.now in
+    let w = c.args.stage.now in
     let log = log_of w.run (Replica c.args.from) in
     let is = c.loyal_of.ensures in
     let same = subst (λ s. c.reply_by.result ≡ post_of s log (Replica c.args.from) (Client c.args.to) c.args.pick.now) is.shape_is

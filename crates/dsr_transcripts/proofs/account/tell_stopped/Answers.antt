@@ -8,7 +8,7 @@ use Rattle.dsr_transcripts.proofs.account.tell_stopped.Goals as goal
 
 pub tell_stop-requires : goal.tell_stop-requires
 tell_stop-requires c =
-    let w = c.args.world.now in
+    let w = c.args.stage.now in
     let fault = c.args.stop.now.fault in
     let at = c.requires.fault in
     let found = c.step_at-step.ensures w.run at.later at.step at.parts at.counted in
@@ -17,7 +17,7 @@ tell_stop-requires c =
 
 pub returns-clause-told : goal.returns-clause-told
 returns-clause-told c =
-    let w = c.args.world.now in
+    let w = c.args.stage.now in
     let r = c.args.recorded.now in
     let d = c.args.as_data in
     let line = c.args.stop.now.line in

@@ -6,5 +6,5 @@ use Rattle.dsr_transcripts.proofs.standing.due_of.Goals as goal
 
 pub returns : goal.returns
 returns c =
-    let log = log_of c.args.world.now.run (Replica c.args.replica) in
+    let log = log_of c.args.stage.now.run (Replica c.args.replica) in
     subst (λ s. c.due.result ≡ due s log) c.loyal_of.ensures.shape_is (c.due.ensures.stands log c.loyal_of.ensures.stands)

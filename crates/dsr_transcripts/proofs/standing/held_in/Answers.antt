@@ -5,6 +5,6 @@ use Rattle.dsr_transcripts.proofs.standing.held_in.Goals as goal
 
 pub of-requires : goal.of-requires
 of-requires c =
-    let w = c.args.world.now in
+    let w = c.args.stage.now in
     subst IsEnvelope (sym c.envelope.ensures)
-    (in_box_within w.shape w.run c.entries-entries.ensures.run c.args.from.now c.args.to.now c.in-Some.letter.now (sym c.in-Some.ensures))
+    (in_box_within w.shape w.run c.steps_are_a_run.ensures c.args.from.now c.args.to.now c.in-Some.letter.now (sym c.in-Some.ensures))

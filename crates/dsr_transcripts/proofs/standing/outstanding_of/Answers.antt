@@ -7,6 +7,6 @@ use Rattle.dsr_transcripts.proofs.standing.outstanding_of.Goals as goal
 
 pub returns : goal.returns
 returns c =
-    let log = log_of c.args.world.now.run (Client c.args.client) in
+    let log = log_of c.args.stage.now.run (Client c.args.client) in
     subst (λ s. c.outstanding.result ≡ option_map (λ ask. ask.request.number) (outstanding s log)) c.client_of.ensures.shape
     (c.outstanding.ensures.stands log c.client_of.ensures.stands)

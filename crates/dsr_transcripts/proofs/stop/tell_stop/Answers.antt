@@ -8,7 +8,7 @@ use Rattle.dsr_transcripts.proofs.stop.tell_stop.Goals as goal
 
 pub returns-clause-told : goal.returns-clause-told
 returns-clause-told c =
-    let w = c.args.world.now in
+    let w = c.args.stage.now in
     let d = c.args.as_data in
     let step = c.args.step.now in
     let new = string_bytes c.write_lines.new.out in
