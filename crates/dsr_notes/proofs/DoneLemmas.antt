@@ -14,6 +14,7 @@ use Rattle.std.proofs.lemmas.Option.{none-some}
 use Rattle.dsr_names.specs.Shape.{Shape, IsLoyal, is_traitor}
 use Rattle.dsr_names.specs.declared.actor.Actor.TheVariants.{Replica}
 use Rattle.dsr_names.specs.declared.refusal.Refusal.{Refusal}
+use Rattle.dsr_names.specs.declared.refusal.Refusal.TheVariants.{Forged}
 use Rattle.dsr_history.specs.History.{acting, acted, requests_of}
 use Rattle.dsr_ledger.specs.declared.reply.Reply.{Reply as AReply}
 use Rattle.dsr_rotation.specs.Calendar.{closed_slots, last_round}
@@ -24,6 +25,7 @@ use Rattle.dsr_envelope.specs.declared.due.Due.TheVariants.{Post as PostTo, Take
 use Rattle.dsr_envelope.specs.declared.entry.Entry.{Entry}
 use Rattle.dsr_envelope.specs.declared.entry.Entry.TheVariants.{Take as TakeEntry}
 use Rattle.dsr_envelope.specs.declared.envelope.Envelope.{Envelope}
+use Rattle.dsr_play.specs.declared.event.Event.{Event}
 use Rattle.dsr_play.specs.declared.event.Event.TheVariants.{Take}
 use Rattle.dsr_replica.specs.Decided.{slot_kept, slot_decided, decided_requests, values}
 use Rattle.dsr_replica.proofs.Lemmas.{HasTaken, all_taken, values_same, decided_same}
@@ -31,8 +33,8 @@ use Rattle.dsr_rotation.proofs.Lemmas.{closed_below}
 use Rattle.dsr_node.specs.Conduct.{is_undue, takes_from}
 use Rattle.dsr_run.proofs.Lemmas.{log_cases, log_loyal}
 use Rattle.dsr_run.specs.Run.{IsRun, envelope_of}
-use Rattle.dsr_run.specs.Step.{Step, log_of}
-use Rattle.dsr_world.specs.Event.{HasDone, in_box, refusal_of, step_of}
+use Rattle.dsr_run.specs.Step.{Logs, Step, log_of}
+use Rattle.dsr_world.specs.Event.{HasDone, IsForgedAtLast, MayBeDone, in_box, refusal_of, step_of}
 use Rattle.dsr_world.proofs.WorldTakes.{IsTaken, cleared_take}
 use Rattle.dsr_notes.specs.Closing.{AreTakeNotes, closes, closing, decision_notes, kept_notes, requests_before}
 use Rattle.dsr_notes.specs.Notes.{IsNoted}
@@ -45,6 +47,15 @@ not_refused : (found : Option Refusal) (result : Result (Option AReply) Refusal)
     → ((refusal : Refusal) → found ≡ Some refusal → result ≡ Err refusal) → found ≡ None
 not_refused None result reply ok given = refl
 not_refused (Some refusal) result reply ok given = absurd (none-some refusal (ap result_err (sym ok ∙ given refusal refl)))
+
+-- what was done may be done
+pub may_be_done : (shape : Shape) (logs : Logs) (event : Event) (result : Result (Option AReply) Refusal)
+    → ((refusal : Refusal) → refusal_of shape logs event ≡ Some refusal → result ≡ Err refusal)
+    → (IsForgedAtLast shape logs event → result ≡ Err Forged) → OnOk result (MayBeDone shape logs event)
+may_be_done shape logs event (Err refusal) given forged = tt
+may_be_done shape logs event (Ok reply) given forged =
+    let none = not_refused (refusal_of shape logs event) (Ok reply) reply refl given in
+    (none, λ is. absurd (none-some Forged (ap result_err (forged (none, is)))))
 
 -- what is due if the take from this replica is
 takes_is : (next : Due) (q : ℕ) → takes_from next q ≡ true → next ≡ TakeFrom q
@@ -80,13 +91,13 @@ requests_stay shape run p entry some is loyal =
 
 -- there is nothing to note if the replica is a traitor, and otherwise its take is due
 pub unnoted : (shape : Shape) (later run : List Step) (p q : ℕ) (result : Result (Option AReply) Refusal)
-    → ((refusal : Refusal) → refusal_of shape (log_of run) (Take (Replica p) (Replica q)) ≡ Some refusal → result ≡ Err refusal)
+    → OnOk result (MayBeDone shape (log_of run) (Take (Replica p) (Replica q)))
     → IfOk result (HasDone shape later run (Take (Replica p) (Replica q)))
     → ¬ (IsLoyal shape (Replica p) × (due shape (log_of run (Replica p)) ≡ TakeFrom q))
     → OnOk result (IsNoted shape run (Take (Replica p) (Replica q)) [])
-unnoted shape later run p q (Err refusal) given done idle = tt
-unnoted shape later run p q (Ok reply) given done idle =
-    elim (taker_cases shape run p q (not_refused (refusal_of shape (log_of run) (Take (Replica p) (Replica q))) (Ok reply) reply refl given)) [
+unnoted shape later run p q (Err refusal) may done idle = tt
+unnoted shape later run p q (Ok reply) may done idle =
+    elim (taker_cases shape run p q may.0) [
       | inl traitor ↦ record {
         step = done.step;
         is_event = done.is_event;

@@ -1,6 +1,6 @@
 mod AskLemmas
 mod ClosingLemmas
-mod DoneLemmas
+pub mod DoneLemmas
 mod ReadingLemmas
 mod ReadingLemmasOfTakes
 mod UnproposedLemmas

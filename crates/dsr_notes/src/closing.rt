@@ -19,32 +19,32 @@ use dsr_names::{Refusal, ReplicaId};
 use dsr_replica::Replica;
 use dsr_request::Request;
 use dsr_slot::Decision;
-use dsr_world::World;
+use dsr_world::Stage;
 
 /// Notes the round that a loyal replica closed last, and, if a slot closed with it, what the replica decided and which of the requests acted. Requires that
 /// it closed a round; and if a slot closed with it, the number of chains that the replica kept for that slot, and of requests that acted before it.
 /// `NoMemory` if memory runs out.
 pub(crate) fn note_closing(
-    world: &World,
+    stage: &Stage,
     replica: ReplicaId,
     kept: u8,
     acted: usize,
     notes: &mut Vec<Note>,
 ) -> Result<(), Refusal>
-    requires loyal { IsLoyal world.now.shape (ReplicaNumber replica) }
-    requires closed { 0 < rounds world.now.shape (log_of world.now.run (ReplicaNumber replica)) }
-    requires kept { (t : ℕ) → rounds world.now.shape (log_of world.now.run (ReplicaNumber replica)) ≡ suc t → closes world.now.shape t ≡ true
-        → kept ≡ length (slot_kept world.now.shape (log_of world.now.run (ReplicaNumber replica)) (closed_slots world.now.shape t) (suc world.now.shape.f)) }
-    requires acted { (t : ℕ) → rounds world.now.shape (log_of world.now.run (ReplicaNumber replica)) ≡ suc t → closes world.now.shape t ≡ true
-        → acted ≡ length (acting (requests_before world.now.shape (log_of world.now.run (ReplicaNumber replica)) (closed_slots world.now.shape t))) }
-    ensures closed { (t : ℕ) → rounds world.now.shape (log_of world.now.run (ReplicaNumber replica)) ≡ suc t
+    requires loyal { IsLoyal stage.now.shape (ReplicaNumber replica) }
+    requires closed { 0 < rounds stage.now.shape (log_of stage.now.run (ReplicaNumber replica)) }
+    requires kept { (t : ℕ) → rounds stage.now.shape (log_of stage.now.run (ReplicaNumber replica)) ≡ suc t → closes stage.now.shape t ≡ true
+        → kept ≡ length (slot_kept stage.now.shape (log_of stage.now.run (ReplicaNumber replica)) (closed_slots stage.now.shape t) (suc stage.now.shape.f)) }
+    requires acted { (t : ℕ) → rounds stage.now.shape (log_of stage.now.run (ReplicaNumber replica)) ≡ suc t → closes stage.now.shape t ≡ true
+        → acted ≡ length (acting (requests_before stage.now.shape (log_of stage.now.run (ReplicaNumber replica)) (closed_slots stage.now.shape t))) }
+    ensures closed { (t : ℕ) → rounds stage.now.shape (log_of stage.now.run (ReplicaNumber replica)) ≡ suc t
         → OnOk result (notes.new.items ≡ notes.old.items ++ (ClosedNote t ∷
-        (if closes world.now.shape t
-        then decision_notes world.now.shape (log_of world.now.run (ReplicaNumber replica)) (closed_slots world.now.shape t)
+        (if closes stage.now.shape t
+        then decision_notes stage.now.shape (log_of stage.now.run (ReplicaNumber replica)) (closed_slots stage.now.shape t)
         else []))) }
     ensures refusal { IsOkUnless result Refusal.NoMemory }
 {
-    let Ok(loyal) = world.replica(replica) else {
+    let Ok(loyal) = stage.replica(replica) else {
         unreachable!()
     };
     notes.push(Note::Closed {

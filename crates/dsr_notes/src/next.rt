@@ -10,7 +10,7 @@ ghost use Rattle.dsr_notes.specs.End.{IsNextOf, is_there};
 
 use dsr_envelope::Due;
 use dsr_names::{Actor, ReplicaId};
-use dsr_world::World;
+use dsr_world::Stage;
 
 /// The next step of a loyal replica with the other replicas.
 #[derive(Clone, Copy, Debug)]
@@ -24,39 +24,39 @@ pub struct Next {
 }
 
 /// Returns what the replica does next with the other replicas; `None` exactly if it is no loyal replica of the shape.
-pub fn next_of(world: &World, replica: ReplicaId) -> Option<Next>
-    ensures next { IfSome result (IsNextOf world.now.shape (log_of world.now.run) replica) }
-    ensures some { IsSome result ↔ IsLoyal world.now.shape (ReplicaNumber replica) }
+pub fn next_of(stage: &Stage, replica: ReplicaId) -> Option<Next>
+    ensures next { IfSome result (IsNextOf stage.now.shape (log_of stage.now.run) replica) }
+    ensures some { IsSome result ↔ IsLoyal stage.now.shape (ReplicaNumber replica) }
 {
-    let Ok(loyal) = world.replica(replica) else {
+    let Ok(loyal) = stage.replica(replica) else {
         return None;
     };
     let due = loyal.due();
     Some(Next {
         due,
         round: loyal.round(),
-        is_there: is_there(world, replica, &due),
+        is_there: is_there(stage, replica, &due),
     })
 }
 
 /// Tells whether the box that this step of a replica needs holds an envelope. Requires that the step is with a replica of the shape.
-fn is_there(world: &World, replica: ReplicaId, due: &Due) -> bool
-    requires replica { replica < world.now.shape.n }
-    requires inside { IsInside world.now.shape.n due.now }
-    ensures { result ≡ is_there (log_of world.now.run) replica due.now }
+fn is_there(stage: &Stage, replica: ReplicaId, due: &Due) -> bool
+    requires replica { replica < stage.now.shape.n }
+    requires inside { IsInside stage.now.shape.n due.now }
+    ensures { result ≡ is_there (log_of stage.now.run) replica due.now }
 {
     let me = Actor::Replica(replica);
     match due {
-        Due::Post(to) => is_full(world, &me, &Actor::Replica(*to)),
-        Due::Take(from) => is_full(world, &Actor::Replica(*from), &me),
+        Due::Post(to) => is_full(stage, &me, &Actor::Replica(*to)),
+        Due::Take(from) => is_full(stage, &Actor::Replica(*from), &me),
     }
 }
 
 /// Tells whether the box from one actor to another holds an envelope.
-fn is_full(world: &World, from: &Actor, to: &Actor) -> bool
-    requires from { IsActor world.now.shape from.now }
-    requires to { IsActor world.now.shape to.now }
-    ensures { result ≡ is_full (log_of world.now.run) from.now to.now }
+fn is_full(stage: &Stage, from: &Actor, to: &Actor) -> bool
+    requires from { IsActor stage.now.shape from.now }
+    requires to { IsActor stage.now.shape to.now }
+    ensures { result ≡ is_full (log_of stage.now.run) from.now to.now }
 {
-    world.in_box(from, to).is_some()
+    stage.in_box(from, to).is_some()
 }

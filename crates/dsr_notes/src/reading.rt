@@ -32,37 +32,37 @@ use dsr_envelope::Envelope;
 use dsr_names::{Actor, Refusal, ReplicaId};
 use dsr_replica::Replica;
 use dsr_slot::{Fate, Kept, SlotState};
-use dsr_world::World;
+use dsr_world::Stage;
 
 /// Notes what a loyal replica makes of the envelope that it is about to take from another one, and, if the take closes a slot, which chains it will have
 /// kept for it; then it returns how many those are. Notes nothing if the box is empty. Requires that the take is due. `NoMemory` if memory runs out.
 pub(crate) fn note_reading(
-    world: &World,
+    stage: &Stage,
     replica: ReplicaId,
     from: ReplicaId,
     notes: &mut Vec<Note>,
 ) -> Result<u8, Refusal>
-    requires loyal { IsLoyal world.now.shape (ReplicaNumber replica) }
-    requires from { from < world.now.shape.n }
-    requires due { due world.now.shape (log_of world.now.run (ReplicaNumber replica)) ≡ TakeFrom from }
-    ensures read { (envelope : AnEnvelope) → in_box (log_of world.now.run) (ReplicaNumber from) (ReplicaNumber replica) ≡ Some envelope
-        → OnOk result ((read : List ANote) × IsRead world.now.shape (log_of world.now.run (ReplicaNumber replica)) envelope read
+    requires loyal { IsLoyal stage.now.shape (ReplicaNumber replica) }
+    requires from { from < stage.now.shape.n }
+    requires due { due stage.now.shape (log_of stage.now.run (ReplicaNumber replica)) ≡ TakeFrom from }
+    ensures read { (envelope : AnEnvelope) → in_box (log_of stage.now.run) (ReplicaNumber from) (ReplicaNumber replica) ≡ Some envelope
+        → OnOk result ((read : List ANote) × IsRead stage.now.shape (log_of stage.now.run (ReplicaNumber replica)) envelope read
         × (notes.new.items ≡ notes.old.items ++ (read ++
-        (if suc from == world.now.shape.n && closes world.now.shape (rounds world.now.shape (log_of world.now.run (ReplicaNumber replica)))
-        then kept_notes world.now.shape (Take (ReplicaNumber from) envelope ∷ log_of world.now.run (ReplicaNumber replica))
-        (closed_slots world.now.shape (rounds world.now.shape (log_of world.now.run (ReplicaNumber replica))))
+        (if suc from == stage.now.shape.n && closes stage.now.shape (rounds stage.now.shape (log_of stage.now.run (ReplicaNumber replica)))
+        then kept_notes stage.now.shape (Take (ReplicaNumber from) envelope ∷ log_of stage.now.run (ReplicaNumber replica))
+        (closed_slots stage.now.shape (rounds stage.now.shape (log_of stage.now.run (ReplicaNumber replica))))
         else [])))) }
-    ensures kept { (envelope : AnEnvelope) → in_box (log_of world.now.run) (ReplicaNumber from) (ReplicaNumber replica) ≡ Some envelope
-        → suc from ≡ world.now.shape.n → closes world.now.shape (rounds world.now.shape (log_of world.now.run (ReplicaNumber replica))) ≡ true
-        → IfOk result (λ kept. kept ≡ length (slot_kept world.now.shape (Take (ReplicaNumber from) envelope ∷ log_of world.now.run (ReplicaNumber replica))
-        (closed_slots world.now.shape (rounds world.now.shape (log_of world.now.run (ReplicaNumber replica)))) (suc world.now.shape.f))) }
+    ensures kept { (envelope : AnEnvelope) → in_box (log_of stage.now.run) (ReplicaNumber from) (ReplicaNumber replica) ≡ Some envelope
+        → suc from ≡ stage.now.shape.n → closes stage.now.shape (rounds stage.now.shape (log_of stage.now.run (ReplicaNumber replica))) ≡ true
+        → IfOk result (λ kept. kept ≡ length (slot_kept stage.now.shape (Take (ReplicaNumber from) envelope ∷ log_of stage.now.run (ReplicaNumber replica))
+        (closed_slots stage.now.shape (rounds stage.now.shape (log_of stage.now.run (ReplicaNumber replica)))) (suc stage.now.shape.f))) }
     ensures refusal { IsOkUnless result Refusal.NoMemory }
 {
     let (at, poster) = (Actor::Replica(replica), Actor::Replica(from));
-    let Ok(loyal) = world.replica(replica) else {
+    let Ok(loyal) = stage.replica(replica) else {
         unreachable!()
     };
-    match world.in_box(&poster, &at) {
+    match stage.in_box(&poster, &at) {
         Some(letter) => note_envelope(loyal, from, letter.envelope(), notes),
         None => Ok(0),
     }

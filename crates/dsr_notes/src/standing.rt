@@ -19,7 +19,7 @@ ghost use Rattle.dsr_notes.specs.End.{ask_standing, has_acted, has_ask, is_reply
 use dsr_envelope::Envelope;
 use dsr_names::{Actor, ClientId, ReplicaId};
 use dsr_replica::Replica;
-use dsr_world::World;
+use dsr_world::Stage;
 
 /// How far a replica is with a client's outstanding request: the first of these that holds.
 #[derive(Clone, Copy, Debug, PartialEq, Eq)]
@@ -45,33 +45,33 @@ pub enum Standing {
 }
 
 /// Returns how far the replica is with the client's outstanding request, which has this number.
-pub fn standing_of(world: &World, client: ClientId, number: u64, replica: ReplicaId) -> Standing
-    requires client { client < world.now.shape.m }
-    requires replica { replica < world.now.shape.n }
-    ensures { result ≡ standing world.now.shape (log_of world.now.run) client number replica }
+pub fn standing_of(stage: &Stage, client: ClientId, number: u64, replica: ReplicaId) -> Standing
+    requires client { client < stage.now.shape.m }
+    requires replica { replica < stage.now.shape.n }
+    ensures { result ≡ standing stage.now.shape (log_of stage.now.run) client number replica }
 {
-    if has_voted(world, client, replica) {
+    if has_voted(stage, client, replica) {
         return Standing::Voted;
     }
-    let Ok(loyal) = world.replica(replica) else {
+    let Ok(loyal) = stage.replica(replica) else {
         return Standing::IsTraitor;
     };
     if has_acted(loyal, client, number) {
-        return reply_standing(world, replica, client, number);
+        return reply_standing(stage, replica, client, number);
     }
     if holds(loyal, client, number) {
         return Standing::Holds;
     }
-    ask_standing(world, client, replica, number)
+    ask_standing(stage, client, replica, number)
 }
 
 /// Tells whether the client has counted a reply of the replica to its outstanding request.
-fn has_voted(world: &World, client: ClientId, replica: ReplicaId) -> bool
-    requires client { client < world.now.shape.m }
-    requires replica { replica < world.now.shape.n }
-    ensures { result ≡ is_some (first_of replica (state_after world.now.shape (log_of world.now.run (ClientNumber client))).notes) }
+fn has_voted(stage: &Stage, client: ClientId, replica: ReplicaId) -> bool
+    requires client { client < stage.now.shape.m }
+    requires replica { replica < stage.now.shape.n }
+    ensures { result ≡ is_some (first_of replica (state_after stage.now.shape (log_of stage.now.run (ClientNumber client))).notes) }
 {
-    match world.client(client) {
+    match stage.client(client) {
         Ok(asker) => asker.tally().vote_of(replica).is_some(),
         Err(_) => unreachable!(),
     }
@@ -99,12 +99,12 @@ fn holds(loyal: &Replica, client: ClientId, number: u64) -> bool
 }
 
 /// Returns how far the reply to the request with this number is, by what is in the box from the replica to the client.
-fn reply_standing(world: &World, replica: ReplicaId, client: ClientId, number: u64) -> Standing
-    requires replica { replica < world.now.shape.n }
-    requires client { client < world.now.shape.m }
-    ensures { result ≡ reply_standing number (in_box (log_of world.now.run) (ReplicaNumber replica) (ClientNumber client)) }
+fn reply_standing(stage: &Stage, replica: ReplicaId, client: ClientId, number: u64) -> Standing
+    requires replica { replica < stage.now.shape.n }
+    requires client { client < stage.now.shape.m }
+    ensures { result ≡ reply_standing number (in_box (log_of stage.now.run) (ReplicaNumber replica) (ClientNumber client)) }
 {
-    match world.in_box(&Actor::Replica(replica), &Actor::Client(client)) {
+    match stage.in_box(&Actor::Replica(replica), &Actor::Client(client)) {
         None => Standing::CanReply,
         Some(letter) => {
             if is_reply_to(letter.envelope(), number) {
@@ -127,12 +127,12 @@ fn is_reply_to(envelope: &Envelope, number: u64) -> bool
 }
 
 /// Returns how far the ask with this number is, by what is in the box from the client to the replica.
-fn ask_standing(world: &World, client: ClientId, replica: ReplicaId, number: u64) -> Standing
-    requires client { client < world.now.shape.m }
-    requires replica { replica < world.now.shape.n }
-    ensures { result ≡ ask_standing number (in_box (log_of world.now.run) (ClientNumber client) (ReplicaNumber replica)) }
+fn ask_standing(stage: &Stage, client: ClientId, replica: ReplicaId, number: u64) -> Standing
+    requires client { client < stage.now.shape.m }
+    requires replica { replica < stage.now.shape.n }
+    ensures { result ≡ ask_standing number (in_box (log_of stage.now.run) (ClientNumber client) (ReplicaNumber replica)) }
 {
-    match world.in_box(&Actor::Client(client), &Actor::Replica(replica)) {
+    match stage.in_box(&Actor::Client(client), &Actor::Replica(replica)) {
         None => Standing::Unasked,
         Some(letter) => {
             if asks_for(letter.envelope(), number) {

@@ -21,21 +21,21 @@ use dsr_names::{ClientId, Refusal, ReplicaId};
 use dsr_replica::Replica;
 use dsr_request::Request;
 use dsr_slot::{Kept, SlotState};
-use dsr_world::World;
+use dsr_world::Stage;
 
 /// Notes which requests a loyal replica could propose in the slot that begins, if that slot is its own. `NoMemory` if memory runs out.
 pub(crate) fn note_unproposed(
-    world: &World,
+    stage: &Stage,
     replica: ReplicaId,
     notes: &mut Vec<Note>,
 ) -> Result<(), Refusal>
-    requires loyal { IsLoyal world.now.shape (ReplicaNumber replica) }
+    requires loyal { IsLoyal stage.now.shape (ReplicaNumber replica) }
     ensures unproposed { OnOk result ((waiting : List ANote)
-        × AreUnproposed world.now.shape (ReplicaNumber replica) (log_of world.now.run (ReplicaNumber replica)) waiting
+        × AreUnproposed stage.now.shape (ReplicaNumber replica) (log_of stage.now.run (ReplicaNumber replica)) waiting
         × (notes.new.items ≡ notes.old.items ++ waiting)) }
     ensures refusal { IsOkUnless result Refusal.NoMemory }
 {
-    let Ok(loyal) = world.replica(replica) else {
+    let Ok(loyal) = stage.replica(replica) else {
         unreachable!()
     };
     let slot = loyal.round();

@@ -16,28 +16,28 @@ use dsr_client::Client;
 use dsr_envelope::Envelope;
 use dsr_ledger::Reply;
 use dsr_names::{Actor, ClientId, Refusal, ReplicaId, Shape};
-use dsr_world::World;
+use dsr_world::Stage;
 
 /// Notes whether the envelope that a client is about to take from a replica is a vote. Notes nothing if the box is empty. `NoMemory` if memory runs
 /// out.
 pub(crate) fn note_vote(
-    world: &World,
+    stage: &Stage,
     client: ClientId,
     replica: ReplicaId,
     notes: &mut Vec<Note>,
 ) -> Result<(), Refusal>
-    requires client { client < world.now.shape.m }
-    requires replica { replica < world.now.shape.n }
-    ensures vote { (envelope : AnEnvelope) → in_box (log_of world.now.run) (ReplicaNumber replica) (ClientNumber client) ≡ Some envelope
+    requires client { client < stage.now.shape.m }
+    requires replica { replica < stage.now.shape.n }
+    ensures vote { (envelope : AnEnvelope) → in_box (log_of stage.now.run) (ReplicaNumber replica) (ClientNumber client) ≡ Some envelope
         → OnOk result (notes.new.items ≡ notes.old.items
-        ++ (vote_note world.now.shape (state_after world.now.shape (log_of world.now.run (ClientNumber client))) replica envelope ∷ [])) }
+        ++ (vote_note stage.now.shape (state_after stage.now.shape (log_of stage.now.run (ClientNumber client))) replica envelope ∷ [])) }
     ensures refusal { IsOkUnless result Refusal.NoMemory }
 {
-    let Some(letter) = world.in_box(&Actor::Replica(replica), &Actor::Client(client)) else {
+    let Some(letter) = stage.in_box(&Actor::Replica(replica), &Actor::Client(client)) else {
         return Ok(());
     };
-    let note = match world.client(client) {
-        Ok(taker) => vote_in(world.shape(), taker, replica, letter.envelope()),
+    let note = match stage.client(client) {
+        Ok(taker) => vote_in(stage.shape(), taker, replica, letter.envelope()),
         Err(_) => unreachable!(),
     };
     notes.push(note)?;

@@ -8,14 +8,14 @@ use Rattle.dsr_notes.proofs.ask.note_ask.Goals as goal
 
 pub unreachable-requires : goal.unreachable-requires
 unreachable-requires c =
-    let w = c.args.world.now in
-    let found = box_will_hold w.shape w.run c.entries-entries.ensures.run c.args.client c.args.replica c.requires.client c.in-Some.letter.now (sym c.in-Some.ensures) in
+    let w = c.args.stage.now in
+    let found = box_will_hold w.shape w.run c.steps_are_a_run.ensures c.args.client c.args.replica c.requires.client c.in-Some.letter.now (sym c.in-Some.ensures) in
     c.in_default-envelope.not-Ask found.ask (c.envelope.ensures ∙ found.is_ask)
 
 pub returns-clause-held : goal.returns-clause-held
 returns-clause-held c envelope holds =
-    let w = c.args.world.now in
-    let found = box_will_hold w.shape w.run c.entries-entries.ensures.run c.args.client c.args.replica c.requires.client envelope holds in
+    let w = c.args.stage.now in
+    let found = box_will_hold w.shape w.run c.steps_are_a_run.ensures c.args.client c.args.replica c.requires.client envelope holds in
     let letter = same_Some c.in-Some.letter.now envelope (c.in-Some.ensures ∙ holds) in
     let asked : c.signed.result.now ≡ found.ask =
     c.signed.ensures ∙ same_ask c.in-Ask.ask found.ask (sym c.in-Ask.is ∙ (c.envelope.ensures ∙ (letter ∙ found.is_ask))) in (

@@ -7,8 +7,8 @@ use Rattle.dsr_notes.proofs.closing.note_closing.Goals as goal
 
 pub returns-in-Some-clause-closed : goal.returns-in-Some-clause-closed
 returns-in-Some-clause-closed c t closed =
-    let shape = c.args.world.now.shape in
-    let log = log_of c.args.world.now.run (Replica c.args.replica) in
+    let shape = c.args.stage.now.shape in
+    let log = log_of c.args.stage.now.run (Replica c.args.replica) in
     let loyal = c.in-Ok.loyal.now in
     let plays = c.in-Ok.ensures.plays in
     let round : c.round.result - 1 ≡ t =
@@ -21,8 +21,8 @@ returns-in-Some-clause-closed c t closed =
 
 pub returns-in-None-clause-closed : goal.returns-in-None-clause-closed
 returns-in-None-clause-closed c t closed =
-    let shape = c.args.world.now.shape in
-    let log = log_of c.args.world.now.run (Replica c.args.replica) in
+    let shape = c.args.stage.now.shape in
+    let log = log_of c.args.stage.now.run (Replica c.args.replica) in
     let loyal = c.in-Ok.loyal.now in
     let plays = c.in-Ok.ensures.plays in
     let round : c.round.result - 1 ≡ t =

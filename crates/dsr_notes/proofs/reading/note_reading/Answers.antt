@@ -16,7 +16,7 @@ use Rattle.dsr_notes.proofs.reading.note_reading.Goals as goal
 
 pub returns-in-Some-clause-read : goal.returns-in-Some-clause-read
 returns-in-Some-clause-read c envelope there =
-    let w = c.args.world.now in
+    let w = c.args.stage.now in
     let from = c.args.from in
     let log = log_of w.run (Replica c.args.replica) in
     let plays = c.in-Ok.ensures.plays in
@@ -30,7 +30,7 @@ returns-in-Some-clause-read c envelope there =
 
 pub returns-in-Some-clause-kept : goal.returns-in-Some-clause-kept
 returns-in-Some-clause-kept c envelope there =
-    let w = c.args.world.now in
+    let w = c.args.stage.now in
     let from = c.args.from in
     let log = log_of w.run (Replica c.args.replica) in
     let plays = c.in-Ok.ensures.plays in
