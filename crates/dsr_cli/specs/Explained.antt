@@ -3,12 +3,13 @@ use Rattle.std.specs.Prelude.{◌≡◌, ◌⊎◌, ◌≤◌, ◌==◌, Bool, t
 use Rattle.std.specs.Io.KnownBytes.{Keeps}
 use Rattle.std.specs.List.{starts_with}
 use Rattle.dsr_names.specs.Limits.{most_bytes}
-use Rattle.dsr_names.specs.Streams.{Streams, CanFailToGive, CanFailToTake, SentAll, SentPrefix}
+use Rattle.dsr_names.specs.Streams.{Output, Streams, CanFailToGive, CanFailToTake, SentAll, SentPrefix}
 use Rattle.dsr_names.specs.declared.refusal.Refusal.{Refusal}
 use Rattle.dsr_names.specs.declared.refusal.Refusal.TheVariants.{BadShape, BadText, NoMemory, NotARun, ReadFailed, WriteFailed}
 use Rattle.dsr_history.specs.Applied.{IsTextOf}
 use Rattle.dsr_command.specs.declared.narrowing.Narrowing.{Narrowing}
-use Rattle.dsr_explain.specs.Told.{Explains}
+use Rattle.dsr_cli.specs.Served.{IsAfterTelling}
+use Rattle.dsr_explain.specs.Told.{Begins, Explains}
 use Rattle.dsr_explain.specs.declared.wanted.Wanted.{Wanted}
 use Rattle.dsr_play.specs.Play.{IsPlayRefusal}
 use Rattle.dsr_transcripts.specs.Account.{TellsTranscript}
@@ -34,6 +35,10 @@ IsExplained text narrowing fault told =
     ((is_transcript text ≡ true) × TellsTranscript text narrowing.as_data fault told)
     ⊎ ((is_transcript text ≡ false) × TellsOfPlay text (wanted_of narrowing) fault told)
 
+-- `told` begins to explain the play that the text encodes
+abbrev pub IsBegun : List ℕ → Narrowing → List ℕ → Type 0
+IsBegun text narrowing told = (is_transcript text ≡ false) × Begins text (wanted_of narrowing) told
+
 -- all of an explanation of the text that the source gave went out
 pub record ExplainedTo (narrowing : Narrowing) (fault : Option Refusal) (s : Streams) : Type 0 where
   pub text : List ℕ
@@ -43,14 +48,22 @@ pub record ExplainedTo (narrowing : Narrowing) (fault : Option Refusal) (s : Str
   pub explained : IsExplained text narrowing fault told
   pub went_out : SentAll told s.output s.written
 
--- a prefix of an explanation of the text went out; the sink was one that may not take all of it
+-- the beginning of an explanation of the text went out, and no more
+pub record ExplainedSome (narrowing : Narrowing) (s : Streams) : Type 0 where
+  pub text : List ℕ
+  pub short : length text ≤ most_bytes
+  pub given : IsTextOf s.input.left text
+  pub told : List ℕ
+  pub begun : IsBegun text narrowing told
+  pub went_out : SentAll told s.output s.written
+
+-- a prefix of an explanation of the text, or of the beginning of one, went out; the sink was one that may not take all of that
 pub record ExplainedPart (narrowing : Narrowing) (s : Streams) : Type 0 where
   pub text : List ℕ
   pub short : length text ≤ most_bytes
   pub given : IsTextOf s.input.left text
-  pub fault : Option Refusal
   pub told : List ℕ
-  pub explained : IsExplained text narrowing fault told
+  pub explained : ((fault : Option Refusal) × IsExplained text narrowing fault told) ⊎ IsBegun text narrowing told
   pub too_many : CanFailToTake (length told) s.output
   pub went_out : SentPrefix told s.output s.written
 
@@ -59,13 +72,21 @@ abbrev pub ExplainedAll : Narrowing → Streams → Type 0
 ExplainedAll narrowing s = ExplainedTo narrowing None s
 
 -- what each refusal leaves: a text that is neither a play nor a transcript is refused by what is wrong with it, and a transcript whose steps are not a
--- run by the line at which they stop being one: an explanation was written; if memory ran out, so it was, or nothing was; if reading failed, which a
--- steady source does only for too many bytes, nothing was written; if writing failed, a prefix was; no other refusal occurs
+-- run by the line at which they stop being one: an explanation was written; if memory ran out, so it was, or its beginning, or nothing; if reading failed,
+-- which a steady source does only for too many bytes, nothing was written; if writing failed, a prefix was; no other refusal occurs
 abbrev pub LeftAfterExplain : Narrowing → Refusal → Streams → Type 0
 LeftAfterExplain narrowing BadShape s = ExplainedTo narrowing (Some BadShape) s
 LeftAfterExplain narrowing (BadText line) s = ExplainedTo narrowing (Some (BadText line)) s
 LeftAfterExplain narrowing (NotARun line) s = ExplainedTo narrowing (Some (NotARun line)) s
-LeftAfterExplain narrowing NoMemory s = Keeps s.output.contents s.written.contents ⊎ ExplainedTo narrowing (Some NoMemory) s
+LeftAfterExplain narrowing NoMemory s =
+    Keeps s.output.contents s.written.contents ⊎ (ExplainedTo narrowing (Some NoMemory) s ⊎ ExplainedSome narrowing s)
 LeftAfterExplain narrowing ReadFailed s = CanFailToGive s.input × Keeps s.output.contents s.written.contents
 LeftAfterExplain narrowing WriteFailed s = ExplainedPart narrowing s
 LeftAfterExplain narrowing other s = ⊥
+
+-- what each refusal leaves of an explanation of a transcript; no public contract cites this: if memory ran out, nothing; otherwise what is left after it
+-- was made, and written as far as it could be
+abbrev pub LeftAfterSteps : List ℕ → Bool → Refusal → (before after : Output) → Type 0
+LeftAfterSteps text is_data refusal before after =
+    ((refusal ≡ NoMemory) × Keeps before.contents after.contents)
+    ⊎ ((fault : Option Refusal) × (told : List ℕ) × TellsTranscript text is_data fault told × IsAfterTelling told fault before after refusal)

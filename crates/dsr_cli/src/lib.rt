@@ -21,6 +21,7 @@ use crate::explain::run_explain;
 use crate::serve::run_serve;
 use crate::transcribe_service::transcribe_service;
 use dsr_command::{Reading, Task, read_words};
+pub use dsr_explain::Outlet;
 use dsr_history::run_apply;
 use dsr_names::{Refusal, Sink, Source, tell, tell_refusal, write_output};
 use dsr_reports::{run_check, run_play, transcribe_play};
@@ -61,10 +62,13 @@ enum Ending {
 /// `NoMemory` on `errors`. A refusal that ends a service before all clients are served is treated alike: the report or the transcript of what
 /// was done until then is written, and then the refusal on `errors`; if memory ran out, perhaps only the refusal.
 ///
+/// The explanation of a long play goes to `output` in parts, if that takes parts: if memory runs out, only the text about some of the first events may have
+/// been written.
+///
 /// A service starts threads and waits for them; no other task does.
 ///
 /// A program should end after the call: the memory of a play is not freed.
-pub fn run<R: Threads + Wait + Sync, S: AsStr, I: Source, O: Sink, E: Sink>(
+pub fn run<R: Threads + Wait + Sync, S: AsStr, I: Source, O: Outlet, E: Sink>(
     rt: &R,
     alloc: Global,
     words: &[S],
@@ -86,7 +90,7 @@ pub fn run<R: Threads + Wait + Sync, S: AsStr, I: Source, O: Sink, E: Sink>(
 
 /// Does the task, and returns the status that `run` returns after words that ask for this task. Requires a task that starts no threads, so it is
 /// for callers that have none. The notes at `run` on strict plays, memory and calls hold here too.
-pub fn run_task<I: Source, O: Sink, E: Sink>(
+pub fn run_task<I: Source, O: Outlet, E: Sink>(
     alloc: Global,
     task: Task,
     input: &mut I,
@@ -106,7 +110,7 @@ pub fn run_task<I: Source, O: Sink, E: Sink>(
 }
 
 /// Does what the reading of the words says, and returns the status.
-fn obey<R: Threads + Wait + Sync, I: Source, O: Sink, E: Sink>(
+fn obey<R: Threads + Wait + Sync, I: Source, O: Outlet, E: Sink>(
     rt: &R,
     alloc: Global,
     reading: Reading,
@@ -147,7 +151,7 @@ fn obey<R: Threads + Wait + Sync, I: Source, O: Sink, E: Sink>(
 
 /// Does the task.
 #[tactic(auto, using(crate::proofs::StatusLemmas::endings))]
-fn perform<R: Threads + Wait + Sync, I: Source, O: Sink>(
+fn perform<R: Threads + Wait + Sync, I: Source, O: Outlet>(
     rt: &R,
     alloc: Global,
     task: Task,
@@ -170,7 +174,7 @@ fn perform<R: Threads + Wait + Sync, I: Source, O: Sink>(
 
 /// Does a task that starts no threads.
 #[tactic(auto, using(crate::proofs::StatusLemmas::endings))]
-fn perform_alone<I: Source, O: Sink>(
+fn perform_alone<I: Source, O: Outlet>(
     alloc: Global,
     task: Task,
     input: &mut I,

@@ -1,6 +1,10 @@
+mod BreakLemmas
 mod DecidedLemmas
+mod LetterLemmas
 mod MisfitLemmas
+mod NameLemmas
 mod NoteLemmas
+mod PartLemmas
 mod Refusing
 mod TextLemmas
 mod ToldLemmas

@@ -1,7 +1,7 @@
 -- How the text about events grows by the text about one more.
 use Rattle.std.proofs.Common.{◌≡◌, ℕ, suc, ◌+◌, List, [], ◌∷◌, ◌++◌, length, refl, ap, sym, ◌∙◌, subst, append_assoc, append-nil, arith}
 use Rattle.std.specs.Prelude.{Result, Ok, Err, OnOk}
-use Rattle.std.specs.Prelude.{filter, get_or, take}
+use Rattle.std.specs.Prelude.{◌≢◌, filter, get_or, take}
 use Rattle.std.proofs.Common.{◌<◌, ◌≤◌, Bool, true, false, if◌then◌else◌}
 use Rattle.std.proofs.lemmas.List.{length-take-le, take_more}
 use Rattle.dsr_names.specs.Shape.{Shape}
@@ -15,9 +15,10 @@ use Rattle.dsr_play.specs.declared.event.Event.{Event}
 use Rattle.dsr_run.specs.Step.{Step}
 use Rattle.dsr_ledger.specs.declared.reply.Reply.{Reply as AReply}
 use Rattle.dsr_names.specs.declared.refusal.Refusal.{Refusal}
+use Rattle.dsr_names.specs.declared.refusal.Refusal.TheVariants.{NoMemory}
 use Rattle.dsr_reasons.specs.Reason.{TellsCause, actor_of, other_of, reason_line}
 use Rattle.dsr_run.specs.Step.{log_of}
-use Rattle.dsr_world.specs.Event.{HasDone, IsRefusedBy}
+use Rattle.dsr_world.specs.Event.{HasDone, IsRefusedBy, MayBeDone}
 use Rattle.std.proofs.Common.{Option, inl, inr}
 use Rattle.std.proofs.lemmas.Bool.{true≢false}
 use Rattle.dsr_explain.specs.Waits.{AreBelow, TellsWaits}
@@ -108,19 +109,19 @@ refusal_told wanted number line shape run event refusal old new wants cause =
 
 -- an event that was done has no text if the filter wants only refused events
 pub brief_told : (wanted : Wanted) (number : ℕ) (shape : Shape) (later earlier : List Step) (event : Event) (reply : Option AReply) (out : List ℕ)
-    → wanted.refused ≡ true → HasDone shape later earlier event reply
+    → wanted.refused ≡ true → MayBeDone shape (log_of earlier) event → HasDone shape later earlier event reply
     → (text : List ℕ) × TellsEvent wanted number shape later earlier event text × (out ≡ out ++ text)
-brief_told wanted number shape later earlier event reply out refused done =
-    ([], inl (record { reply = reply; done = done; noted = λ all. absurd (true≢false (sym refused ∙ all)); unwanted = λ r. refl }), sym (append-nil out))
+brief_told wanted number shape later earlier event reply out refused may done =
+    ([], inl (record { reply = reply; may = may; done = done; noted = λ all. absurd (true≢false (sym refused ∙ all)); unwanted = λ r. refl }), sym (append-nil out))
 
 -- the text of an event that was refused
 pub refused_told : {T E : Type 0} (result : Result T E) (wanted : Wanted) (number : ℕ) (shape : Shape) (later earlier : List Step) (event : Event)
-    (refusal : Refusal) (old new : List ℕ) → IsRefusedBy shape (log_of earlier) event refusal → later ≡ earlier
+    (refusal : Refusal) (old new : List ℕ) → IsRefusedBy shape (log_of earlier) event refusal → refusal ≢ NoMemory → later ≡ earlier
     → OnOk result ((text : List ℕ) × TellsRefusal wanted number shape earlier event refusal text × (new ≡ old ++ text))
     → OnOk result ((text : List ℕ) × TellsEvent wanted number shape later earlier event text × (new ≡ old ++ text))
-refused_told (Ok x) wanted number shape later earlier event refusal old new refused same told =
-    (told.0, inr (record { refusal = refusal; refused = refused; same = same; tells = told.1 }), told.2)
-refused_told (Err e) wanted number shape later earlier event refusal old new refused same told = tt
+refused_told (Ok x) wanted number shape later earlier event refusal old new refused fed same told =
+    (told.0, inr (record { refusal = refusal; refused = refused; not_starved = fed; same = same; tells = told.1 }), told.2)
+refused_told (Err e) wanted number shape later earlier event refusal old new refused fed same told = tt
 
 -- the text of one event more
 pub told_next : (wanted : Wanted) (shape : Shape) (later mid earlier : List Step) (events : List Event) (i : ℕ) (event : Event) (first middle last : List ℕ)

@@ -1,4 +1,6 @@
+pub mod Letters
 pub mod Lines
+pub mod Outlet
 pub mod Told
 pub mod Waiting
 pub mod Waits

@@ -164,7 +164,7 @@ kept_data kept =
 -- the same in words
 abbrev pub kept_words : Kept → List ℕ
 kept_words kept =
-    codes ": " ++ (content_text (content kept.chain.value) ++ (codes ", read in round " ++ (decimal kept.round
+    codes ": " ++ (content_text (content kept.chain.value) ++ (codes ", read in the slot's round " ++ (decimal kept.round
     ++ (codes ", signed by " ++ signers_text (signers_of kept.chain.signatures)))))
 
 -- a chain that was kept

@@ -1,14 +1,17 @@
 -- What an explanation of a play says (this project). It is spelled here, but for the number of an event's line in the play, for how an envelope is spelled,
--- and for what words say of slots and boxes at the end: of these nothing is claimed but in tests.
-use Rattle.std.specs.Prelude.{◌≡◌, ◌⊎◌, ℕ, suc, Bool, true, false, List, [], ◌∷◌, ◌++◌, Option, None, Some, filter, codes, if◌then◌else◌}
+-- and for what words say of counts, slots and boxes at the end: of these nothing is claimed but in tests.
+use Rattle.std.specs.Prelude.{◌≡◌, ◌≢◌, ◌⊎◌, ℕ, suc, Bool, true, false, List, [], ◌∷◌, ◌++◌, Option, None, Some, filter, codes, length, if◌then◌else◌}
+use Rattle.std.specs.Io.KnownBytes.{Keeps}
 use Rattle.std.specs.Fmt.{decimal}
 use Rattle.dsr_names.specs.Actor.{actor_text}
 use Rattle.dsr_names.specs.Refusal.{code_of, word_of}
 use Rattle.dsr_names.specs.Shape.{Shape}
 use Rattle.dsr_names.specs.ShapeText.{shape_text}
+use Rattle.dsr_names.specs.Streams.{Output, CanFailToTake, SentAll, SentPrefix}
 use Rattle.dsr_names.specs.declared.refusal.Refusal.{Refusal}
+use Rattle.dsr_names.specs.declared.refusal.Refusal.TheVariants.{NoMemory, WriteFailed}
 use Rattle.dsr_ledger.specs.declared.reply.Reply.{Reply as AReply}
-use Rattle.dsr_play.specs.Play.{Play, Spells}
+use Rattle.dsr_play.specs.Play.{IsPlayRefusal, Play, Spells}
 use Rattle.dsr_play.specs.declared.event.Event.{Event}
 use Rattle.dsr_play.specs.declared.event.Event.TheVariants.{Post, Plant, Take, Tell}
 use Rattle.dsr_chain.specs.Chain.{Chain}
@@ -16,7 +19,7 @@ use Rattle.dsr_envelope.specs.declared.envelope.Envelope.{Envelope}
 use Rattle.dsr_envelope.specs.declared.envelope.Envelope.TheVariants.{Empty, Round, Ask, Reply, Seen}
 use Rattle.dsr_run.specs.Run.{envelope_of}
 use Rattle.dsr_run.specs.Step.{Step, log_of}
-use Rattle.dsr_world.specs.Event.{HasDone, IsRefusedBy}
+use Rattle.dsr_world.specs.Event.{HasDone, IsRefusedBy, MayBeDone}
 use Rattle.dsr_notes.specs.Notes.{IsNoted}
 use Rattle.dsr_notes.specs.declared.note.Note.{Note}
 use Rattle.dsr_reasons.specs.Reason.{TellsCause, actor_of, other_of, one_of}
@@ -107,9 +110,10 @@ pub record TellsNoted (wanted : Wanted) (number : ℕ) (shape : Shape) (later ea
   pub noted : IsNoted shape earlier event notes
   pub tells : TellsWanted wanted number shape later event notes text
 
--- an event that was done: what came of it, unless only refused events are wanted
+-- an event that nothing refuses, and that was done: what came of it, unless only refused events are wanted
 pub record TellsDone (wanted : Wanted) (number : ℕ) (shape : Shape) (later earlier : List Step) (event : Event) (text : List ℕ) : Type 0 where
   pub reply : Option AReply
+  pub may : MayBeDone shape (log_of earlier) event
   pub done : HasDone shape later earlier event reply
   pub noted : wanted.refused ≡ false → TellsNoted wanted number shape later earlier event text
   pub unwanted : wanted.refused ≡ true → text ≡ []
@@ -120,10 +124,11 @@ pub record TellsRefusal (wanted : Wanted) (number : ℕ) (shape : Shape) (run : 
       × TellsCause shape (log_of run) event wanted.data (refused_line wanted.data number line event refusal shown) text
   pub other : ¬ WantsRefused wanted event → text ≡ []
 
--- an event that was refused changes nothing
+-- an event that was refused, and not for want of memory, changes nothing
 pub record TellsRefused (wanted : Wanted) (number : ℕ) (shape : Shape) (later earlier : List Step) (event : Event) (text : List ℕ) : Type 0 where
   pub refusal : Refusal
   pub refused : IsRefusedBy shape (log_of earlier) event refusal
+  pub not_starved : refusal ≢ NoMemory
   pub same : later ≡ earlier
   pub tells : TellsRefusal wanted number shape earlier event refusal text
 
@@ -147,7 +152,7 @@ TellsEvents wanted number shape later earlier (event ∷ events) text =
 abbrev pub first_line : Bool → Shape → List ℕ
 first_line is_data shape = one_of is_data (codes "dsr-explain 1 " ++ (shape_text shape ++ codes "\n")) []
 
--- the text explains the play: each of its events in turn, in a world that begins with nothing done; and then who waits for whom, and in words what became
+-- the text explains the play: each of its events in turn, in a stage that begins with nothing done; and then who waits for whom, and in words what became
 -- of the slots, and what was not taken
 pub record TellsPlay (wanted : Wanted) (play : Play) (text : List ℕ) : Type 0 where
   pub run : List Step
@@ -163,3 +168,55 @@ pub record TellsPlay (wanted : Wanted) (play : Play) (text : List ℕ) : Type 0 
 -- the text encodes a play, which the other explains
 abbrev pub Explains : List ℕ → Wanted → List ℕ → Type 0
 Explains play_text wanted text = (play : Play) × Spells play_text play × TellsPlay wanted play text
+
+-- ---- explanations that break off
+
+-- the text tells some of these events, the first of them in turn
+pub record TellsSome (wanted : Wanted) (shape : Shape) (earlier : List Step) (events : List Event) (text : List ℕ) : Type 0 where
+  pub run : List Step
+  pub first : List Event
+  pub rest : List Event
+  pub of_events : events ≡ first ++ rest
+  pub each : TellsEvents wanted 0 shape run earlier first text
+
+-- what went out of a text, which begins so and then tells these events, when it broke off: if memory ran out, nothing, or all that it had told of some of
+-- them; if writing failed, a prefix of that; no other refusal breaks it off
+abbrev pub HasBrokenOff : Wanted → Shape → (earlier : List Step) → List Event → List ℕ → Refusal → (before after : Output) → Type 0
+HasBrokenOff wanted shape earlier events start NoMemory before after =
+    Keeps before.contents after.contents ⊎ ((text : List ℕ) × TellsSome wanted shape earlier events text × SentAll (start ++ text) before after)
+HasBrokenOff wanted shape earlier events start WriteFailed before after =
+    (text : List ℕ) × TellsSome wanted shape earlier events text × SentPrefix (start ++ text) before after
+HasBrokenOff wanted shape earlier events start other before after = ⊥
+
+-- the text begins to explain the play: it tells some of its events
+pub record BeginsPlay (wanted : Wanted) (play : Play) (text : List ℕ) : Type 0 where
+  pub events : List ℕ
+  pub some : TellsSome wanted play.shape [] play.events events
+  pub told : text ≡ first_line wanted.data play.shape ++ events
+
+-- the text encodes a play, which the other begins to explain
+abbrev pub Begins : List ℕ → Wanted → List ℕ → Type 0
+Begins play_text wanted text = (play : Play) × Spells play_text play × BeginsPlay wanted play text
+
+-- what each refusal leaves of an explanation of this play: if memory ran out, nothing, or its beginning; if writing failed, a prefix of it or of its
+-- beginning, and the sink was one that may not take all of that; no other refusal occurs
+abbrev pub LeftAfterPlay : Wanted → Play → Refusal → (before after : Output) → Type 0
+LeftAfterPlay wanted play NoMemory before after =
+    Keeps before.contents after.contents ⊎ ((text : List ℕ) × BeginsPlay wanted play text × SentAll text before after)
+LeftAfterPlay wanted play WriteFailed before after =
+    (text : List ℕ) × (TellsPlay wanted play text ⊎ BeginsPlay wanted play text) × CanFailToTake (length text) before × SentPrefix text before after
+LeftAfterPlay wanted play other before after = ⊥
+
+-- what each refusal leaves of a text that has this fault: its description went out, and the refusal is the fault; or a prefix of that went out, and the
+-- sink was one that may not take all of it; or memory ran out, and nothing did
+abbrev pub LeftAfterFault : Refusal → Refusal → (before after : Output) → Type 0
+LeftAfterFault fault refusal before after =
+    ((refusal ≡ fault) × ((text : List ℕ) × SentAll text before after))
+    ⊎ (((refusal ≡ WriteFailed) × ((text : List ℕ) × CanFailToTake (length text) before × SentPrefix text before after))
+    ⊎ ((refusal ≡ NoMemory) × Keeps before.contents after.contents))
+
+-- what each refusal leaves of an explanation of a text: what it leaves of that of the play, if it encodes one, and otherwise of its fault
+abbrev pub LeftAfterTelling : List ℕ → Wanted → Refusal → (before after : Output) → Type 0
+LeftAfterTelling play_text wanted refusal before after =
+    ((play : Play) × Spells play_text play × LeftAfterPlay wanted play refusal before after)
+    ⊎ ((fault : Refusal) × IsPlayRefusal play_text fault × LeftAfterFault fault refusal before after)

@@ -31,9 +31,9 @@ next_words p round is_there (PostTo to) =
     else replica_text p ++ (codes ": next it posts its envelope of round " ++ (decimal round ++ (codes " to " ++ (replica_text to ++ codes "\n"))))
 next_words p round is_there (TakeFrom from) =
     if is_there
-    then replica_text p ++ (codes ": next it takes " ++ (replica_text from ++ (codes "'s envelope of round " ++ (decimal round
-    ++ codes ", which is there\n"))))
-    else replica_text p ++ (codes ": waits for " ++ (replica_text from ++ (codes "'s envelope of round " ++ (decimal round ++ codes "\n"))))
+    then replica_text p ++ (codes ": in round " ++ (decimal round ++ (codes ", next it takes what " ++ (replica_text from
+    ++ codes " posted to it, which is there\n"))))
+    else replica_text p ++ (codes ": in round " ++ (decimal round ++ (codes ", it waits for " ++ (replica_text from ++ codes " to post to it\n"))))
 
 -- what a replica does next with the replicas
 abbrev pub next_line : Bool → ℕ → Next → List ℕ
@@ -43,7 +43,7 @@ next_line is_data p next = if is_data then next_data p next.round next.due else 
 
 -- how far a replica is with a request
 abbrev pub standing_text : Standing → List ℕ
-standing_text Voted = codes "has replied"
+standing_text Voted = codes "has replied, and its reply has been taken"
 standing_text IsTraitor = codes "is a traitor"
 standing_text ReplyLies = codes "has replied, and its reply has not been taken"
 standing_text CanReply = codes "can reply"

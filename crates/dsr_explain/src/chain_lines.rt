@@ -7,6 +7,7 @@ ghost use Rattle.dsr_explain.specs.Lines.{chain_line, chain_data, chain_words, c
 
 use crate::lines::put_about;
 use crate::pieces::{put_content, put_number, put_signers};
+use crate::requests::RequestTexts;
 use dsr_chain::{Chain, ChainFault};
 use dsr_desk::{Signature, Signers, Statement};
 use dsr_names::{Actor, Refusal, Shape};
@@ -19,6 +20,7 @@ use std::fmt::Write;
 /// `NoMemory` if memory runs out.
 pub(crate) fn write_chain(
     out: &mut String,
+    requests: &mut RequestTexts,
     as_data: bool,
     shape: &Shape,
     at: Actor,
@@ -34,18 +36,23 @@ pub(crate) fn write_chain(
     if as_data {
         write_data(out, at, shown, slot, fate)
     } else {
-        write_words(out, shape, chain, shown, slot, fate)
+        write_words(out, requests, shape, chain, shown, slot, fate)
     }
 }
 
 /// Writes a text that describes a chain, as data: its signers and its content. `NoMemory` if memory runs out.
-pub(crate) fn write_shown_data(out: &mut String, chain: &Chain) -> Result<(), Refusal>
+pub(crate) fn write_shown_data(
+    out: &mut String,
+    requests: &mut RequestTexts,
+    chain: &Chain,
+) -> Result<(), Refusal>
     ensures text { OnOk result (string_bytes out.new ≡ string_bytes out.old ++ shown_data chain.now) }
     ensures refusal { IsOkUnless result Refusal.NoMemory }
 {
-    let signers = chain.signers();
-    write!(out, " {signers} ")?;
-    put_content(out, chain)?;
+    out.push_str(" ")?;
+    put_signers(out, chain)?;
+    out.push_str(" ")?;
+    put_content(out, requests, chain)?;
     out.push_str(" ")?;
     Ok(())
 }
@@ -106,6 +113,7 @@ fn write_word(out: &mut String, fate: &ChainFate) -> Result<(), Refusal>
 /// Writes what becomes of a chain, in words.
 fn write_words(
     out: &mut String,
+    requests: &mut RequestTexts,
     shape: &Shape,
     chain: Option<&Chain>,
     shown: &str,
@@ -119,7 +127,7 @@ fn write_words(
     out.push_str("    chain of slot ")?;
     put_number(out, slot)?;
     out.push_str(shown)?;
-    write_end(out, shape, chain, fate)?;
+    write_end(out, requests, shape, chain, fate)?;
     out.push_str("\n")?;
     Ok(())
 }
@@ -127,6 +135,7 @@ fn write_words(
 /// Writes the end of a chain's line of words.
 fn write_end(
     out: &mut String,
+    requests: &mut RequestTexts,
     shape: &Shape,
     chain: Option<&Chain>,
     fate: &ChainFate,
@@ -140,13 +149,16 @@ fn write_end(
             out.push_str(": dropped, as the slot is not in flight")?;
             Ok(())
         }
-        ChainFate::Read { round, fate } => write_read_end(out, shape, chain, *round, fate),
+        ChainFate::Read { round, fate } => {
+            write_read_end(out, requests, shape, chain, *round, fate)
+        }
     }
 }
 
 /// Writes what becomes of a chain that is read in this round of its slot, in words.
 fn write_read_end(
     out: &mut String,
+    requests: &mut RequestTexts,
     shape: &Shape,
     chain: Option<&Chain>,
     round: u8,
@@ -156,7 +168,7 @@ fn write_read_end(
         ++ read_end shape.now (option_map (λ c. c.now) chain.entry) round fate.now) }
     ensures refusal { IsOkUnless result Refusal.NoMemory }
 {
-    write_fate_content(out, chain, fate)?;
+    write_fate_content(out, requests, chain, fate)?;
     out.push_str(", in its round ")?;
     put_number(out, round as u64)?;
     out.push_str(": ")?;
@@ -165,7 +177,12 @@ fn write_read_end(
 }
 
 /// Writes the content of a chain with this fate. Only the text of the envelope shows a content that is kept already.
-fn write_fate_content(out: &mut String, chain: Option<&Chain>, fate: &Fate) -> Result<(), Refusal>
+fn write_fate_content(
+    out: &mut String,
+    requests: &mut RequestTexts,
+    chain: Option<&Chain>,
+    fate: &Fate,
+) -> Result<(), Refusal>
     ensures text { OnOk result (string_bytes out.new ≡ string_bytes out.old ++ fate_content (option_map (λ c. c.now) chain.entry) fate.now) }
     ensures refusal { IsOkUnless result Refusal.NoMemory }
 {
@@ -176,7 +193,7 @@ fn write_fate_content(out: &mut String, chain: Option<&Chain>, fate: &Fate) -> R
         Fate::NotNew => Ok(()),
         Fate::First | Fate::Second | Fate::OneTooMany | Fate::Improper(_) => {
             out.push_str(", for ")?;
-            put_content(out, chain)
+            put_content(out, requests, chain)
         }
     }
 }

@@ -14,7 +14,7 @@ use dsr_desk::Content;
 use dsr_names::{Actor, ClientId, Refusal, ReplicaId};
 use dsr_notes::next_of;
 use dsr_request::Requests;
-use dsr_world::World;
+use dsr_world::Stage;
 use std::alloc::Global;
 use std::fmt::Write;
 
@@ -23,19 +23,20 @@ impl Story {
     /// then, writes that no event is what was wanted. `NoMemory` if memory runs out.
     pub(crate) fn end(&mut self, alloc: Global, events: usize) -> Result<(), Refusal>
         ensures told { OnOk result ((slots : List ℕ) × (waits : List ℕ) × (boxes : List ℕ)
-            × TellsWaits self.old.wanted self.old.world.shape (log_of self.old.world.run) waits
+            × TellsWaits self.old.wanted self.old.stage.shape (log_of self.old.stage.run) waits
             × (self.old.wanted.data ≡ true → (slots ≡ []) × (boxes ≡ []))
             × (string_bytes self.new.out ≡ string_bytes self.old.out ++ (slots ++ (waits ++ boxes)))) }
+        ensures outflow { self.new.outflow ≡ self.old.outflow }
     {
         let slots = self.tell_slots(alloc)?;
         self.out.push_str(slots.as_str())?;
-        write_all_waits(&mut self.out, &self.world, &self.wanted)?;
+        write_all_waits(&mut self.out, &self.stage, &self.wanted)?;
         let boxes = self.tell_boxes(alloc, events)?;
         self.out.push_str(boxes.as_str())?;
         Ok(())
     }
 
-    /// Returns, in words, how many events were refused, and the outcome of each slot.
+    /// Returns, in words, how many events were refused, what else mattered in all of them, and the outcome of each slot.
     fn tell_slots(&self, alloc: Global) -> Result<String, Refusal>
         ensures as_data { self.now.wanted.data ≡ true → IfOk result (λ text. string_bytes text ≡ []) }
     {
@@ -44,6 +45,7 @@ impl Story {
             return Ok(out);
         }
         self.write_refused(&mut out)?;
+        self.write_noticed(&mut out)?;
         self.write_slots(&mut out)?;
         Ok(out)
     }
@@ -60,6 +62,14 @@ impl Story {
         Ok(())
     }
 
+    /// Writes what mattered although it was not refused, if all events are wanted.
+    fn write_noticed(&self, out: &mut String) -> Result<(), Refusal> {
+        if self.wanted.is_of_all() {
+            self.counts.write(out)?;
+        }
+        Ok(())
+    }
+
     /// Writes the outcome of each slot.
     fn write_slots(&self, out: &mut String) -> Result<(), Refusal> {
         for slot in 0..self.kept.len() {
@@ -67,7 +77,7 @@ impl Story {
                 continue;
             }
             if let Some(kept) = self.kept.get(slot) {
-                write_slot(out, &self.world, slot, kept)?;
+                write_slot(out, &self.stage, slot, kept)?;
             }
         }
         Ok(())
@@ -81,34 +91,34 @@ impl Story {
         if self.wanted.data {
             return Ok(out);
         }
-        let shape = *self.world.shape();
+        let shape = *self.stage.shape();
         for place in 0..shape.size() {
             let poster = shape.actor_at(place);
-            write_untaken(&mut out, alloc, &self.world, &self.wanted, poster)?;
+            write_untaken(&mut out, alloc, &self.stage, &self.wanted, poster)?;
         }
-        if self.out.is_empty() && out.is_empty() {
-            write_nothing(&mut out, &self.world, &self.wanted, events, self.refused)?;
+        if !self.outflow.has_begun() && self.out.is_empty() && out.is_empty() {
+            write_nothing(&mut out, &self.stage, &self.wanted, events, self.refused)?;
         }
         Ok(out)
     }
 }
 
 /// Writes what each loyal replica does next, and what each client waits for, as far as the filter wants it.
-fn write_all_waits(out: &mut String, world: &World, wanted: &Wanted) -> Result<(), Refusal>
-    ensures told { OnOk result ((waits : List ℕ) × TellsWaits wanted.now world.now.shape (log_of world.now.run) waits
+fn write_all_waits(out: &mut String, stage: &Stage, wanted: &Wanted) -> Result<(), Refusal>
+    ensures told { OnOk result ((waits : List ℕ) × TellsWaits wanted.now stage.now.shape (log_of stage.now.run) waits
         × (string_bytes out.new ≡ string_bytes out.old ++ waits)) }
 {
-    write_waits_of_replicas(out, world, wanted)?;
-    write_waits_of_clients(out, world, wanted)
+    write_waits_of_replicas(out, stage, wanted)?;
+    write_waits_of_clients(out, stage, wanted)
 }
 
 /// Writes what each loyal replica does next.
-fn write_waits_of_replicas(out: &mut String, world: &World, wanted: &Wanted) -> Result<(), Refusal>
-    ensures told { OnOk result ((waits : List ℕ) × AreBelow (IsWaitOfReplica wanted.now world.now.shape (log_of world.now.run)) world.now.shape.n waits
+fn write_waits_of_replicas(out: &mut String, stage: &Stage, wanted: &Wanted) -> Result<(), Refusal>
+    ensures told { OnOk result ((waits : List ℕ) × AreBelow (IsWaitOfReplica wanted.now stage.now.shape (log_of stage.now.run)) stage.now.shape.n waits
         × (string_bytes out.new ≡ string_bytes out.old ++ waits)) }
 {
-    for number in 0..world.shape().n() {
-        write_wait_of_replica(out, world, wanted, ReplicaId::of(number))?;
+    for number in 0..stage.shape().n() {
+        write_wait_of_replica(out, stage, wanted, ReplicaId::of(number))?;
     }
     Ok(())
 }
@@ -116,30 +126,30 @@ fn write_waits_of_replicas(out: &mut String, world: &World, wanted: &Wanted) -> 
 /// Writes what the replica does next, if it is loyal.
 fn write_wait_of_replica(
     out: &mut String,
-    world: &World,
+    stage: &Stage,
     wanted: &Wanted,
     replica: ReplicaId,
 ) -> Result<(), Refusal>
-    requires { replica < world.now.shape.n }
-    ensures told { OnOk result ((wait : List ℕ) × IsWaitOfReplica wanted.now world.now.shape (log_of world.now.run) replica wait
+    requires { replica < stage.now.shape.n }
+    ensures told { OnOk result ((wait : List ℕ) × IsWaitOfReplica wanted.now stage.now.shape (log_of stage.now.run) replica wait
         × (string_bytes out.new ≡ string_bytes out.old ++ wait)) }
 {
     if !wanted.has_wait_of(Actor::Replica(replica)) {
         return Ok(());
     }
-    match next_of(world, replica) {
+    match next_of(stage, replica) {
         Some(next) => write_next(out, wanted.data, replica, &next),
         None => Ok(()),
     }
 }
 
 /// Writes what each client waits for, in words.
-fn write_waits_of_clients(out: &mut String, world: &World, wanted: &Wanted) -> Result<(), Refusal>
-    ensures told { OnOk result ((waits : List ℕ) × AreBelow (IsWaitOfClient wanted.now world.now.shape (log_of world.now.run)) world.now.shape.m waits
+fn write_waits_of_clients(out: &mut String, stage: &Stage, wanted: &Wanted) -> Result<(), Refusal>
+    ensures told { OnOk result ((waits : List ℕ) × AreBelow (IsWaitOfClient wanted.now stage.now.shape (log_of stage.now.run)) stage.now.shape.m waits
         × (string_bytes out.new ≡ string_bytes out.old ++ waits)) }
 {
-    for number in 0..world.shape().m() {
-        write_wait_of_client(out, world, wanted, ClientId::of(number))?;
+    for number in 0..stage.shape().m() {
+        write_wait_of_client(out, stage, wanted, ClientId::of(number))?;
     }
     Ok(())
 }
@@ -147,30 +157,30 @@ fn write_waits_of_clients(out: &mut String, world: &World, wanted: &Wanted) -> R
 /// Writes what the client waits for, in words.
 fn write_wait_of_client(
     out: &mut String,
-    world: &World,
+    stage: &Stage,
     wanted: &Wanted,
     client: ClientId,
 ) -> Result<(), Refusal>
-    requires { client < world.now.shape.m }
-    ensures told { OnOk result ((wait : List ℕ) × IsWaitOfClient wanted.now world.now.shape (log_of world.now.run) client wait
+    requires { client < stage.now.shape.m }
+    ensures told { OnOk result ((wait : List ℕ) × IsWaitOfClient wanted.now stage.now.shape (log_of stage.now.run) client wait
         × (string_bytes out.new ≡ string_bytes out.old ++ wait)) }
 {
     if wanted.data || !wanted.has_wait_of(Actor::Client(client)) {
         return Ok(());
     }
-    write_waits(out, world, client)
+    write_waits(out, stage, client)
 }
 
 /// Writes who has not taken what this actor posted, if the filter wants the poster or one of these takers.
 fn write_untaken(
     out: &mut String,
     alloc: Global,
-    world: &World,
+    stage: &Stage,
     wanted: &Wanted,
     poster: Actor,
 ) -> Result<(), Refusal> {
     let mut takers = String::new(alloc);
-    let is_wanted = list_takers(&mut takers, world, wanted, &poster)?;
+    let is_wanted = list_takers(&mut takers, stage, wanted, &poster)?;
     if is_wanted && !takers.is_empty() {
         writeln!(
             out,
@@ -183,15 +193,15 @@ fn write_untaken(
 /// Lists who has not taken what this actor posted. Tells whether the filter wants the poster or one of these takers.
 fn list_takers(
     takers: &mut String,
-    world: &World,
+    stage: &Stage,
     wanted: &Wanted,
     poster: &Actor,
 ) -> Result<bool, Refusal> {
     let mut is_wanted = wanted.has_wait_of(*poster);
-    let shape = world.shape();
+    let shape = stage.shape();
     for place in 0..shape.size() {
         let taker = shape.actor_at(place);
-        let has_wanted = add_taker(takers, world, wanted, poster, &taker)?;
+        let has_wanted = add_taker(takers, stage, wanted, poster, &taker)?;
         is_wanted = is_wanted || has_wanted;
     }
     Ok(is_wanted)
@@ -200,12 +210,12 @@ fn list_takers(
 /// Adds the taker to the list if it has not taken what the poster posted to it. Tells whether it was added and the filter wants it.
 fn add_taker(
     takers: &mut String,
-    world: &World,
+    stage: &Stage,
     wanted: &Wanted,
     poster: &Actor,
     taker: &Actor,
 ) -> Result<bool, Refusal> {
-    if !is_full(world, poster, taker) {
+    if !is_full(stage, poster, taker) {
         return Ok(false);
     }
     if !takers.is_empty() {
@@ -216,20 +226,20 @@ fn add_taker(
 }
 
 /// Tells whether the box from one actor to another holds an envelope; false if one of them is not in the shape.
-fn is_full(world: &World, from: &Actor, to: &Actor) -> bool {
-    world.shape().has(*from) && world.shape().has(*to) && world.in_box(from, to).is_some()
+pub(crate) fn is_full(stage: &Stage, from: &Actor, to: &Actor) -> bool {
+    stage.shape().has(*from) && stage.shape().has(*to) && stage.in_box(from, to).is_some()
 }
 
 /// Writes the outcome of a slot.
-fn write_slot(out: &mut String, world: &World, slot: usize, kept: &KeptBy) -> Result<(), Refusal> {
-    let sender = world.shape().sender(slot as u64);
+fn write_slot(out: &mut String, stage: &Stage, slot: usize, kept: &KeptBy) -> Result<(), Refusal> {
+    let sender = stage.shape().sender(slot as u64);
     write!(out, "slot {slot}, sent by {sender}")?;
-    if !world.shape().is_loyal(Actor::Replica(sender)) {
+    if !stage.shape().is_loyal(Actor::Replica(sender)) {
         write!(out, ", a traitor")?;
     }
-    let content = Content(decided_content(world, slot));
+    let content = Content(decided_content(stage, slot));
     write!(out, ": {content}")?;
-    write_counts(out, world.shape().n(), kept)?;
+    write_counts(out, stage.shape().n(), kept)?;
     out.push_str("\n")?;
     Ok(())
 }
@@ -255,12 +265,12 @@ fn kept_word(count: u8) -> &'static str {
 }
 
 /// Returns the requests that the first loyal replica with any decided for the slot; `None` if no loyal replica decided any.
-fn decided_content(world: &World, slot: usize) -> Option<Requests> {
-    for number in 0..world.shape().n() {
+fn decided_content(stage: &Stage, slot: usize) -> Option<Requests> {
+    for number in 0..stage.shape().n() {
         let Ok(replica) = ReplicaId::new(number) else {
             continue;
         };
-        let content = content_of(world, &Actor::Replica(replica), slot as u64);
+        let content = content_of(stage, &Actor::Replica(replica), slot as u64);
         if content.is_some() {
             return content;
         }

@@ -80,13 +80,13 @@ fn write_place(out: &mut String, as_data: bool, number: u64, line: u64) -> Resul
         out.push_str(" ")?;
         put_number(out, line)?;
         out.push_str(" ")?;
+        Ok(())
     } else {
         out.push_str("line ")?;
         put_number(out, line)?;
         out.push_str(", event ")?;
-        put_number(out, number)?;
+        put_number(out, number)
     }
-    Ok(())
 }
 
 /// Writes who does what to whom.

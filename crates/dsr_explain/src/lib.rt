@@ -2,16 +2,21 @@
 //! for which reply, why an event was refused, and who waits for whom at the end.
 //!
 //! Which facts are told is proved, and the lines that tell them, to the letter: `dsr_notes` and `dsr_facts` find them, this crate and `dsr_reasons` spell
-//! them. How an envelope is spelled, and what words say at the end of slots and boxes, is tested.
+//! them. How an envelope is spelled, and what words say at the end of counts, slots and boxes, is tested.
 #![tactic(auto)]
 
 mod chain_lines;
+mod counts;
 mod ending;
 mod heads;
 mod lines;
 mod nothing;
+mod outlet;
 mod pieces;
 mod places;
+mod posts;
+mod requests;
+mod short;
 mod standing;
 mod story;
 mod telling;
@@ -19,5 +24,6 @@ mod texts;
 mod waiting;
 mod wanted;
 
-pub use telling::{Explained, explain};
+pub use outlet::Outlet;
+pub use telling::explain;
 pub use wanted::Wanted;

@@ -1,38 +1,45 @@
 //! The line of each note: data if `as_data`, otherwise words. `specs/Lines` says which line; each kind of note has its words at one place.
 
-ghost use Rattle.std.specs.Prelude.{◌≡◌, ◌++◌, map, slice_get, OnOk, IsOkUnless, string_bytes};
+ghost use Rattle.std.specs.Prelude.{◌≡◌, ◌++◌, map, codes, slice_get, OnOk, IsOkUnless, string_bytes};
+ghost use Rattle.std.specs.Fmt.{decimal};
 ghost use Rattle.std.specs.Option.{option_map};
+ghost use Rattle.dsr_names.specs.Actor.{actor_text};
+ghost use Rattle.dsr_desk.specs.ContentText.{content_text};
+ghost use Rattle.dsr_desk.specs.SignersText.{signers_text};
+ghost use Rattle.dsr_chain.specs.Chain.{signers_of};
+ghost use Rattle.dsr_chain.specs.Content.{content};
 ghost use Rattle.dsr_run.specs.Step.{log_of};
 ghost use Rattle.dsr_reasons.specs.Reason.{actor_of, other_of};
 ghost use Rattle.dsr_explain.specs.Lines.{about, kept_data, kept_words, note_line, other_round_line, kept_line, closed_line, decided_content, decided_line, kept_text, acted_line, stale_line, held_line, unproposed_line, vote_line, no_vote_text, no_vote_line, accepted_line, shown_at};
 
 use crate::chain_lines::write_chain;
-use crate::pieces::{put_content, put_name, put_number, put_signers};
-use crate::standing::content_of;
+use crate::pieces::{put_content, put_decision, put_name, put_number, put_signers};
+use crate::requests::RequestTexts;
+use crate::standing::decision_of;
 use dsr_chain::Chain;
-use dsr_desk::Content;
 use dsr_ledger::Reply;
 use dsr_names::{Actor, Refusal};
 use dsr_notes::{NoVote, Note};
 use dsr_reasons::{actor_of, other_of, put};
 use dsr_request::Request;
 use dsr_slot::Kept;
-use dsr_world::{Event, World};
+use dsr_world::{Event, Stage};
 use std::fmt::Write;
 
 /// Writes the line of the note, which is one of the event. `chains` are those of the envelope that it posted or took, and `texts` describe them.
 /// `NoMemory` if memory runs out.
 pub(crate) fn write_note(
     out: &mut String,
+    requests: &mut RequestTexts,
     as_data: bool,
-    world: &World,
+    stage: &Stage,
     event: &Event,
     chains: &[Chain],
     texts: &[String],
     note: &Note,
 ) -> Result<(), Refusal>
     ensures text { OnOk result (string_bytes out.new ≡ string_bytes out.old
-        ++ note_line as_data world.now.shape (log_of world.now.run) (actor_of event.now) (other_of event.now) chains.now
+        ++ note_line as_data stage.now.shape (log_of stage.now.run) (actor_of event.now) (other_of event.now) chains.now
         (map (λ text. string_bytes text) texts.now) note.now) }
     ensures refusal { IsOkUnless result Refusal.NoMemory }
 {
@@ -42,14 +49,28 @@ pub(crate) fn write_note(
         Note::Chain { place, slot, fate } => {
             let chain = chain_at(chains, *place as usize);
             let shown = shown_at(texts, *place as usize);
-            write_chain(out, as_data, world.shape(), at, chain, shown, *slot, fate)
+            write_chain(
+                out,
+                requests,
+                as_data,
+                stage.shape(),
+                at,
+                chain,
+                shown,
+                *slot,
+                fate,
+            )
         }
-        Note::Kept(kept) => write_kept(out, as_data, at, kept),
+        Note::Kept(kept) => write_kept(out, requests, as_data, at, kept),
         Note::Closed { round } => write_closed(out, as_data, at, *round),
-        Note::Decided { slot, kept } => write_decided(out, as_data, world, at, *slot, *kept),
-        Note::Acted { place, request, .. } => write_acted(out, as_data, at, *place, request),
-        Note::Stale { request, .. } => write_stale(out, as_data, at, request),
-        Note::Held { request } => write_held(out, as_data, at, request),
+        Note::Decided { slot, kept } => {
+            write_decided(out, requests, as_data, stage, at, *slot, *kept)
+        }
+        Note::Acted { place, request, .. } => {
+            write_acted(out, requests, as_data, at, *place, request)
+        }
+        Note::Stale { request, .. } => write_stale(out, requests, as_data, at, request),
+        Note::Held { request } => write_held(out, requests, as_data, at, request),
         Note::Vote { count, needed } => write_vote(out, as_data, at, other, *count, *needed),
         Note::NoVote { why } => write_no_vote(out, as_data, at, other, *why),
         Note::Accepted { reply } => write_accepted(out, as_data, at, reply),
@@ -92,6 +113,27 @@ pub(crate) fn put_about(
     put_number(out, number)
 }
 
+/// Writes two actors between three texts.
+fn put_two(
+    out: &mut String,
+    before: &str,
+    one: Actor,
+    between: &str,
+    two: Actor,
+    after: &str,
+) -> Result<(), Refusal>
+    ensures text { OnOk result (string_bytes out.new ≡ string_bytes out.old
+        ++ (before.now ++ (actor_text one ++ (between.now ++ (actor_text two ++ after.now))))) }
+    ensures refusal { IsOkUnless result Refusal.NoMemory }
+{
+    out.push_str(before)?;
+    put_name(out, one)?;
+    out.push_str(between)?;
+    put_name(out, two)?;
+    out.push_str(after)?;
+    Ok(())
+}
+
 /// Writes that an envelope is not one of the round in progress.
 fn write_other_round(out: &mut String, as_data: bool, at: Actor, round: u64) -> Result<(), Refusal>
     ensures text { OnOk result (string_bytes out.new ≡ string_bytes out.old ++ other_round_line as_data at round) }
@@ -107,39 +149,65 @@ fn write_other_round(out: &mut String, as_data: bool, at: Actor, round: u64) -> 
 }
 
 /// Writes that a chain was kept.
-fn write_kept(out: &mut String, as_data: bool, at: Actor, kept: &Kept) -> Result<(), Refusal>
+fn write_kept(
+    out: &mut String,
+    requests: &mut RequestTexts,
+    as_data: bool,
+    at: Actor,
+    kept: &Kept,
+) -> Result<(), Refusal>
     ensures text { OnOk result (string_bytes out.new ≡ string_bytes out.old ++ kept_line as_data at kept.now) }
     ensures refusal { IsOkUnless result Refusal.NoMemory }
 {
     let slot = kept.chain.slot();
     put_about(out, as_data, "kept ", at, " has kept of slot ", slot)?;
     if as_data {
-        write_kept_data(out, kept)?;
+        write_kept_data(out, requests, kept)?;
     } else {
-        write_kept_words(out, kept)?;
+        write_kept_words(out, requests, kept)?;
     }
     out.push_str("\n")?;
     Ok(())
 }
 
 /// Writes how a chain was kept, as data: the round of its slot in which it was read, its signers and its content.
-fn write_kept_data(out: &mut String, kept: &Kept) -> Result<(), Refusal>
+fn write_kept_data(
+    out: &mut String,
+    requests: &mut RequestTexts,
+    kept: &Kept,
+) -> Result<(), Refusal>
     ensures text { OnOk result (string_bytes out.new ≡ string_bytes out.old ++ kept_data kept.now) }
     ensures refusal { IsOkUnless result Refusal.NoMemory }
 {
-    let (round, signers) = (kept.round, kept.chain.signers());
-    write!(out, " {round} {signers} ")?;
-    put_content(out, &kept.chain)
+    out.push_str(" ")?;
+    put_number(out, kept.round as u64)?;
+    write_signed(out, requests, &kept.chain)
+}
+
+/// Writes who signed a chain, and its content, as data.
+fn write_signed(out: &mut String, requests: &mut RequestTexts, chain: &Chain) -> Result<(), Refusal>
+    ensures text { OnOk result (string_bytes out.new ≡ string_bytes out.old
+        ++ (codes " " ++ (signers_text (signers_of chain.now.signatures) ++ (codes " " ++ content_text (content chain.now.value))))) }
+    ensures refusal { IsOkUnless result Refusal.NoMemory }
+{
+    out.push_str(" ")?;
+    put_signers(out, chain)?;
+    out.push_str(" ")?;
+    put_content(out, requests, chain)
 }
 
 /// Writes how a chain was kept, in words.
-fn write_kept_words(out: &mut String, kept: &Kept) -> Result<(), Refusal>
+fn write_kept_words(
+    out: &mut String,
+    requests: &mut RequestTexts,
+    kept: &Kept,
+) -> Result<(), Refusal>
     ensures text { OnOk result (string_bytes out.new ≡ string_bytes out.old ++ kept_words kept.now) }
     ensures refusal { IsOkUnless result Refusal.NoMemory }
 {
     out.push_str(": ")?;
-    put_content(out, &kept.chain)?;
-    out.push_str(", read in round ")?;
+    put_content(out, requests, &kept.chain)?;
+    out.push_str(", read in the slot's round ")?;
     put_number(out, kept.round as u64)?;
     out.push_str(", signed by ")?;
     put_signers(out, &kept.chain)
@@ -159,26 +227,85 @@ fn write_closed(out: &mut String, as_data: bool, at: Actor, round: u64) -> Resul
 /// Writes what was decided for a slot, for which this many chains were kept.
 fn write_decided(
     out: &mut String,
+    requests: &mut RequestTexts,
     as_data: bool,
-    world: &World,
+    stage: &Stage,
     at: Actor,
     slot: u64,
     kept: u8,
 ) -> Result<(), Refusal>
     ensures text { OnOk result (string_bytes out.new ≡ string_bytes out.old
-        ++ decided_line as_data at slot kept (decided_content world.now.shape (log_of world.now.run) at slot)) }
+        ++ decided_line as_data at slot kept (decided_content stage.now.shape (log_of stage.now.run) at slot)) }
     ensures refusal { IsOkUnless result Refusal.NoMemory }
 {
-    let content = Content(content_of(world, &at, slot));
     put_about(out, as_data, "decide ", at, " decides slot ", slot)?;
     if as_data {
-        writeln!(out, " {kept} {content}")?;
-        return Ok(());
+        write_decided_data(out, requests, stage, &at, slot, kept)
+    } else {
+        write_decided_words(out, requests, stage, &at, slot, kept)
     }
-    write!(out, ": {content}")?;
+}
+
+/// Writes what was decided for a slot, as data: for how many chains that were kept, and the content.
+fn write_decided_data(
+    out: &mut String,
+    requests: &mut RequestTexts,
+    stage: &Stage,
+    at: &Actor,
+    slot: u64,
+    kept: u8,
+) -> Result<(), Refusal>
+    ensures text { OnOk result (string_bytes out.new ≡ string_bytes out.old
+        ++ (codes " " ++ (decimal kept ++ (codes " " ++ (content_text (decided_content stage.now.shape (log_of stage.now.run) at.now slot) ++ codes "\n"))))) }
+    ensures refusal { IsOkUnless result Refusal.NoMemory }
+{
+    out.push_str(" ")?;
+    put_number(out, kept as u64)?;
+    out.push_str(" ")?;
+    put_decided(out, requests, stage, at, slot)?;
+    out.push_str("\n")?;
+    Ok(())
+}
+
+/// Writes what was decided for a slot, in words: the content, and why.
+fn write_decided_words(
+    out: &mut String,
+    requests: &mut RequestTexts,
+    stage: &Stage,
+    at: &Actor,
+    slot: u64,
+    kept: u8,
+) -> Result<(), Refusal>
+    ensures text { OnOk result (string_bytes out.new ≡ string_bytes out.old
+        ++ (codes ": " ++ (content_text (decided_content stage.now.shape (log_of stage.now.run) at.now slot) ++ (kept_text kept ++ codes "\n")))) }
+    ensures refusal { IsOkUnless result Refusal.NoMemory }
+{
+    out.push_str(": ")?;
+    put_decided(out, requests, stage, at, slot)?;
     out.push_str(reason_of(kept))?;
     out.push_str("\n")?;
     Ok(())
+}
+
+/// Appends the content that the actor decided for the slot.
+fn put_decided(
+    out: &mut String,
+    requests: &mut RequestTexts,
+    stage: &Stage,
+    at: &Actor,
+    slot: u64,
+) -> Result<(), Refusal>
+    ensures text { OnOk result (string_bytes out.new ≡ string_bytes out.old
+        ++ content_text (decided_content stage.now.shape (log_of stage.now.run) at.now slot)) }
+    ensures refusal { IsOkUnless result Refusal.NoMemory }
+{
+    match decision_of(stage, at, slot) {
+        Some(decision) => put_decision(out, requests, decision),
+        None => {
+            out.push_str("idle")?;
+            Ok(())
+        }
+    }
 }
 
 /// Returns the words for why a slot has its content, by how many chains were kept for it.
@@ -195,6 +322,7 @@ fn reason_of(kept: u8) -> &'static str
 /// Writes that a request acted, at this place of the history.
 fn write_acted(
     out: &mut String,
+    requests: &mut RequestTexts,
     as_data: bool,
     at: Actor,
     place: u64,
@@ -204,11 +332,25 @@ fn write_acted(
     ensures refusal { IsOkUnless result Refusal.NoMemory }
 {
     if as_data {
-        writeln!(out, "act {at} {place} {request}")?;
+        put_about(out, true, "act ", at, "", place)?;
+        out.push_str(" ")?;
+        requests.put(out, request)?;
+        out.push_str("\n")?;
         return Ok(());
     }
-    write!(out, "    {request} acts at ")?;
+    out.push_str("    ")?;
+    requests.put(out, request)?;
+    out.push_str(" acts at ")?;
     put_name(out, at)?;
+    write_history_place(out, place)
+}
+
+/// Writes the place of the history at which a request acted, in words.
+fn write_history_place(out: &mut String, place: u64) -> Result<(), Refusal>
+    ensures text { OnOk result (string_bytes out.new ≡ string_bytes out.old
+        ++ (codes ", at place " ++ (decimal place ++ codes " of the history\n"))) }
+    ensures refusal { IsOkUnless result Refusal.NoMemory }
+{
     out.push_str(", at place ")?;
     put_number(out, place)?;
     out.push_str(" of the history\n")?;
@@ -216,30 +358,50 @@ fn write_acted(
 }
 
 /// Writes that a request did not act.
-fn write_stale(out: &mut String, as_data: bool, at: Actor, request: &Request) -> Result<(), Refusal>
+fn write_stale(
+    out: &mut String,
+    requests: &mut RequestTexts,
+    as_data: bool,
+    at: Actor,
+    request: &Request,
+) -> Result<(), Refusal>
     ensures text { OnOk result (string_bytes out.new ≡ string_bytes out.old ++ stale_line as_data at request.now) }
     ensures refusal { IsOkUnless result Refusal.NoMemory }
 {
     if as_data {
-        writeln!(out, "stale {at} {request}")?;
+        out.push_str("stale ")?;
+        put_name(out, at)?;
+        out.push_str(" ")?;
+        requests.put(out, request)?;
+        out.push_str("\n")?;
         return Ok(());
     }
-    writeln!(
-        out,
-        "    {request} does not act at {at}: a request of its client with this number or a greater one has acted already"
+    out.push_str("    ")?;
+    requests.put(out, request)?;
+    out.push_str(" does not act at ")?;
+    put_name(out, at)?;
+    out.push_str(
+        ": a request of its client with this number or a greater one has acted already\n",
     )?;
     Ok(())
 }
 
 /// Writes that a replica holds a request.
-fn write_held(out: &mut String, as_data: bool, at: Actor, request: &Request) -> Result<(), Refusal>
+fn write_held(
+    out: &mut String,
+    requests: &mut RequestTexts,
+    as_data: bool,
+    at: Actor,
+    request: &Request,
+) -> Result<(), Refusal>
     ensures text { OnOk result (string_bytes out.new ≡ string_bytes out.old ++ held_line as_data at request.now) }
     ensures refusal { IsOkUnless result Refusal.NoMemory }
 {
     put(out, as_data, "hold ", "    ")?;
     put_name(out, at)?;
     put(out, as_data, " ", " holds the request ")?;
-    writeln!(out, "{request}")?;
+    requests.put(out, request)?;
+    out.push_str("\n")?;
     Ok(())
 }
 
@@ -274,13 +436,18 @@ fn write_vote(
     ensures refusal { IsOkUnless result Refusal.NoMemory }
 {
     if as_data {
-        writeln!(out, "vote {at} {other} {count} {needed}")?;
+        put_two(out, "vote ", at, " ", other, " ")?;
+        put_number(out, count as u64)?;
+        out.push_str(" ")?;
+        put_number(out, needed as u64)?;
+        out.push_str("\n")?;
         return Ok(());
     }
-    writeln!(
-        out,
-        "    a vote of {other} at {at}: {count} of {needed} needed"
-    )?;
+    put_two(out, "    a vote of ", other, " at ", at, ": ")?;
+    put_number(out, count as u64)?;
+    out.push_str(" of ")?;
+    put_number(out, needed as u64)?;
+    out.push_str(" needed\n")?;
     Ok(())
 }
 
@@ -296,9 +463,9 @@ fn write_no_vote(
     ensures refusal { IsOkUnless result Refusal.NoMemory }
 {
     if as_data {
-        write!(out, "no-vote {at} {other} ")?;
+        put_two(out, "no-vote ", at, " ", other, " ")?;
     } else {
-        write!(out, "    no vote of {other} at {at}: ")?;
+        put_two(out, "    no vote of ", other, " at ", at, ": ")?;
     }
     write_why_not(out, as_data, why)?;
     out.push_str("\n")?;

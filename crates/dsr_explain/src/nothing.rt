@@ -2,14 +2,14 @@
 
 use crate::wanted::Wanted;
 use dsr_names::{Refusal, ReplicaId, Shape};
-use dsr_world::World;
+use dsr_world::Stage;
 use std::fmt::Write;
 
 /// Writes that no event is what was wanted, and which events, actors and slots there are: `events`, of which `refused` were refused. `NoMemory` if memory
 /// runs out.
 pub(crate) fn write_nothing(
     out: &mut String,
-    world: &World,
+    stage: &Stage,
     wanted: &Wanted,
     events: usize,
     refused: u64,
@@ -28,7 +28,7 @@ pub(crate) fn write_nothing(
         write!(out, "none of the {events} events is")?;
     }
     write_wanted(out, wanted)?;
-    write_existing(out, world, wanted)?;
+    write_existing(out, stage, wanted)?;
     out.push_str("\n")?;
     Ok(())
 }
@@ -45,12 +45,12 @@ fn write_wanted(out: &mut String, wanted: &Wanted) -> Result<(), Refusal> {
 }
 
 /// Writes which actors there are, if the wanted one is not in the shape, and which slots, if a slot was wanted.
-fn write_existing(out: &mut String, world: &World, wanted: &Wanted) -> Result<(), Refusal> {
-    if is_outside(world.shape(), wanted) {
-        write_actors(out, world.shape())?;
+fn write_existing(out: &mut String, stage: &Stage, wanted: &Wanted) -> Result<(), Refusal> {
+    if is_outside(stage.shape(), wanted) {
+        write_actors(out, stage.shape())?;
     }
     if wanted.slot.is_some() {
-        let last = last_slot(world);
+        let last = last_slot(stage);
         write!(out, "; the slots that have begun are 0 to {last}")?;
     }
     Ok(())
@@ -76,11 +76,11 @@ fn write_actors(out: &mut String, shape: &Shape) -> Result<(), Refusal> {
 }
 
 /// Returns the newest slot that has begun at a loyal replica: one begins with each round.
-fn last_slot(world: &World) -> u64 {
+fn last_slot(stage: &Stage) -> u64 {
     let mut last: u64 = 0;
-    for number in 0..world.shape().n() {
+    for number in 0..stage.shape().n() {
         if let Ok(replica) = ReplicaId::new(number) {
-            if let Ok(loyal) = world.replica(replica) {
+            if let Ok(loyal) = stage.replica(replica) {
                 last = last.max(loyal.round());
             }
         }

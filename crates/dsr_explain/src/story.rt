@@ -1,102 +1,160 @@
-//! Explains a play event by event, in a new world.
+//! Explains a play event by event, in a new stage.
 
-ghost use Rattle.std.specs.Prelude.{◌≡◌, ◌≢◌, ◌++◌, ℕ, List, Err, IfOk, OnOk, string_bytes, filter, map, [], true, false, option_map};
+ghost use Rattle.std.specs.Prelude.{◌≡◌, ◌≢◌, ◌+◌, ◌≤◌, ◌++◌, ℕ, List, Err, IfErr, IfOk, OnErr, OnOk, IsOkUnless, string_bytes, filter, length, map, [], true, false, option_map};
 ghost use Rattle.dsr_reasons.specs.Reason.{TellsCause, actor_of, other_of};
 ghost use Rattle.dsr_run.specs.Step.{log_of};
 ghost use Rattle.dsr_world.specs.Event.{MayBeDone};
 ghost use Rattle.dsr_explain.specs.Lines.{note_line, note_lines};
-ghost use Rattle.dsr_explain.specs.Told.{TellsEvent, TellsEvents, TellsNotes, TellsRefusal, TellsWanted, first_line, last_chains, last_envelope, refused_line};
+ghost use Rattle.dsr_explain.specs.Letters.{box_of, handled, to_take};
+ghost use Rattle.dsr_names.specs.Streams.{CanFailToTake, SentAll, SentPrefix};
+ghost use Rattle.dsr_explain.specs.Outlet.{HasGoneOut};
+ghost use Rattle.dsr_explain.specs.Told.{HasBrokenOff, TellsEvent, TellsEvents, TellsNotes, TellsRefusal, TellsWanted, chains_in_some, first_line, last_chains, last_envelope, refused_line};
 ghost use Rattle.dsr_explain.specs.Wanted.{wants_note};
 
+use crate::counts::NoteCounts;
 use crate::heads::{write_done, write_refused};
 use crate::lines::write_note;
+use crate::outlet::Outflow;
 use crate::places::Places;
+use crate::posts::PostLines;
+use crate::requests::RequestTexts;
 use crate::texts::{Texts, end_of_none, end_of_refused};
 use crate::wanted::Wanted;
 use dsr_chain::Chain;
-use dsr_envelope::{Entry, Envelope};
-use dsr_names::{Actor, Refusal, Shape};
+use dsr_envelope::{Envelope, Letter};
+use dsr_names::{Actor, Refusal, Shape, Sink};
 use dsr_notes::{Note, step_noted};
 use dsr_reasons::{actor_of, write_why};
-use dsr_world::{Event, World};
+use dsr_world::{Event, Stage};
 use std::alloc::Global;
 use std::fmt::Write;
+use std::mem::replace;
 
 /// How many bytes `make_room` reserves for each event.
-const ROOM_OF_AN_EVENT: usize = 128;
+const ROOM_OF_AN_EVENT: usize = 176;
 
 /// For each replica, by its number, how many contents it kept for a slot before it decided the slot; `None` if it has not decided it.
 pub(crate) type KeptBy = [Option<u8>; 16];
 
-/// The explanation of a play so far, and the world in which its events happen.
+/// The explanation of a play so far, and the stage on which its events happen.
 #[derive(Drop)]
 pub(crate) struct Story {
-    pub(crate) world: World,
+    pub(crate) stage: Stage,
     pub(crate) wanted: Wanted,
-    /// The text so far.
+    /// The text so far, but for the parts that went out.
     pub(crate) out: String,
+    pub(crate) outflow: Outflow,
     /// The number of refused events, and the line of the first.
     pub(crate) refused: u64,
     pub(crate) first_refused: u64,
+    /// What else matters in the events so far, unless only refused events are wanted.
+    pub(crate) counts: NoteCounts,
     texts: Texts,
+    posts: PostLines,
+    requests: RequestTexts,
     /// The notes of the last event; the next event uses their room.
     notes: Vec<Note>,
+    /// The letter that the last event was to take, or, once it was done, that it posted or took.
+    letter: Option<Letter>,
     /// How many contents replicas kept, by slot, unless only refused events are wanted.
     pub(crate) kept: Vec<KeptBy>,
 }
 
 impl Story {
     /// Creates the story before any event. `NoMemory` if memory runs out.
-    pub(crate) fn begin(alloc: Global, shape: Shape, wanted: &Wanted) -> Result<Story, Refusal>
+    pub(crate) fn begin(
+        alloc: Global,
+        shape: Shape,
+        wanted: &Wanted,
+        outflow: Outflow,
+    ) -> Result<Story, Refusal>
         ensures out { IfOk result (λ story. string_bytes story.out ≡ first_line wanted.now.data shape) }
         ensures wanted { IfOk result (λ story. story.wanted ≡ wanted.now) }
-        ensures shape { IfOk result (λ story. story.world.shape ≡ shape) }
-        ensures empty { IfOk result (λ story. story.world.run ≡ []) }
+        ensures shape { IfOk result (λ story. story.stage.shape ≡ shape) }
+        ensures empty { IfOk result (λ story. story.stage.run ≡ []) }
+        ensures outflow { IfOk result (λ story. story.outflow ≡ outflow) }
     {
         let out = write_first_line(alloc, shape, wanted.data)?;
         let texts = Texts::new(alloc, wanted.data)?;
-        let world = World::open(alloc, shape)?;
+        let posts = PostLines::new(alloc)?;
+        let requests = RequestTexts::new(alloc)?;
+        let stage = Stage::open(alloc, shape)?;
         Ok(Story {
-            world,
+            stage,
             wanted: *wanted,
             out,
+            outflow,
             refused: 0,
             first_refused: 0,
+            counts: NoteCounts::new(),
             texts,
+            posts,
+            requests,
             notes: Vec::new(alloc),
+            letter: None,
             kept: Vec::new(alloc),
         })
     }
 
-    /// Explains the events of the play with this text, in turn. `NoMemory` if memory runs out; the story must not be used then.
-    pub(crate) fn tell_events(
+    /// Explains the events of the play with this text, in turn; a long text goes out in parts. `NoMemory` if memory runs out, and `WriteFailed` if
+    /// writing fails; the story must not be used then.
+    pub(crate) fn tell_events<K: Sink>(
         &mut self,
         alloc: Global,
         text: &[u8],
         events: &[Event],
+        sink: &mut K,
     ) -> Result<(), Refusal>
         ensures told { OnOk result ((told : List ℕ)
-            × TellsEvents self.old.wanted 0 self.old.world.shape self.new.world.run self.old.world.run events.now told
-            × (string_bytes self.new.out ≡ string_bytes self.old.out ++ told)) }
+            × TellsEvents self.old.wanted 0 self.old.stage.shape self.new.stage.run self.old.stage.run events.now told
+            × HasGoneOut self.old.outflow.in_parts (string_bytes self.old.out ++ told) (string_bytes self.new.out) (K.output sink.old) (K.output sink.new)) }
+        ensures so_far { OnOk result (HasBrokenOff self.old.wanted self.old.stage.shape self.old.stage.run events.now
+            (string_bytes self.old.out) Refusal.NoMemory (K.output sink.old) (K.output sink.new)) }
+        ensures broke_off { IfErr result (λ refusal. HasBrokenOff self.old.wanted self.old.stage.shape self.old.stage.run events.now
+            (string_bytes self.old.out) refusal (K.output sink.old) (K.output sink.new)) }
+        ensures at_once { self.old.outflow.in_parts ≡ false → IsOkUnless result Refusal.NoMemory × (sink.new ≡ sink.old) }
         ensures wanted { self.new.wanted ≡ self.old.wanted }
-        ensures shape { self.new.world.shape ≡ self.old.world.shape }
+        ensures shape { self.new.stage.shape ≡ self.old.stage.shape }
+        ensures parts { self.new.outflow.in_parts ≡ self.old.outflow.in_parts }
+        ensures calls { (K.output sink.new).calls + self.new.outflow.calls ≤ (K.output sink.old).calls + self.old.outflow.calls }
     {
         self.make_room(events.len());
         let mut places = Places::new(text);
         for place in 0..events.len() {
-            let line = places.line_of(alloc, place)?;
-            self.tell(alloc, place as u64, line, &events[place])?;
+            let Ok(line) = places.line_of(alloc, place) else {
+                return Err(Refusal::NoMemory);
+            };
+            let Ok(_) = self.tell(alloc, place as u64, line, &events[place]) else {
+                return Err(Refusal::NoMemory);
+            };
+            match self.outflow.pass_part(&mut self.out, sink) {
+                Ok(_) => {}
+                Err(refusal) => return Err(refusal),
+            }
         }
         Ok(())
     }
 
-    /// Reserves room for the text about `events` events, if all of it is wanted.
+    /// Lets the rest of the text go out. `WriteFailed` if writing fails: then a prefix of it went out.
+    pub(crate) fn pass_rest<K: Sink>(&mut self, sink: &mut K) -> Result<(), Refusal>
+        ensures all { OnOk result (SentAll (string_bytes self.old.out) (K.output sink.old) (K.output sink.new)) }
+        ensures prefix { SentPrefix (string_bytes self.old.out) (K.output sink.old) (K.output sink.new) }
+        ensures failed { OnErr result (self.old.outflow.in_parts ≡ false
+            → CanFailToTake (length (string_bytes self.old.out)) (K.output sink.old)) }
+        ensures refusal { IsOkUnless result Refusal.WriteFailed }
+        ensures calls { (K.output sink.new).calls ≤ (K.output sink.old).calls + self.old.outflow.calls }
+    {
+        self.outflow.pass_rest(self.out.as_str(), sink)
+    }
+
+    /// Reserves room for the text about `events` events, if all of it is wanted and it is to go out at once.
     fn make_room(&mut self, events: usize)
         ensures same { string_bytes self.new.out ≡ string_bytes self.old.out }
-        ensures world { self.new.world ≡ self.old.world }
+        ensures stage { self.new.stage ≡ self.old.stage }
         ensures wanted { self.new.wanted ≡ self.old.wanted }
+        ensures outflow { self.new.outflow ≡ self.old.outflow }
     {
-        if self.wanted.is_of_all() && !self.wanted.refused {
+        if self.wanted.is_of_all() && !self.wanted.refused && !self.outflow.is_in_parts() {
             // If memory is refused here, the text still grows as needed.
             let _ = self.out.reserve(events.saturating_mul(ROOM_OF_AN_EVENT));
         }
@@ -105,11 +163,13 @@ impl Story {
     /// Makes the event with this number, which this line represents, happen, and explains it. `NoMemory` if memory runs out.
     fn tell(&mut self, alloc: Global, number: u64, line: u64, event: &Event) -> Result<(), Refusal>
         ensures told { OnOk result ((told : List ℕ)
-            × TellsEvent self.old.wanted number self.old.world.shape self.new.world.run self.old.world.run event.now told
+            × TellsEvent self.old.wanted number self.old.stage.shape self.new.stage.run self.old.stage.run event.now told
             × (string_bytes self.new.out ≡ string_bytes self.old.out ++ told)) }
         ensures wanted { self.new.wanted ≡ self.old.wanted }
-        ensures shape { self.new.world.shape ≡ self.old.world.shape }
+        ensures outflow { self.new.outflow ≡ self.old.outflow }
+        ensures shape { self.new.stage.shape ≡ self.old.stage.shape }
     {
+        self.posts.note(&self.stage, event, line);
         if self.wanted.refused {
             self.tell_briefly(alloc, number, line, event)
         } else {
@@ -127,12 +187,13 @@ impl Story {
     ) -> Result<(), Refusal>
         requires { self.old.wanted.refused ≡ true }
         ensures told { OnOk result ((told : List ℕ)
-            × TellsEvent self.old.wanted number self.old.world.shape self.new.world.run self.old.world.run event.now told
+            × TellsEvent self.old.wanted number self.old.stage.shape self.new.stage.run self.old.stage.run event.now told
             × (string_bytes self.new.out ≡ string_bytes self.old.out ++ told)) }
         ensures wanted { self.new.wanted ≡ self.old.wanted }
-        ensures shape { self.new.world.shape ≡ self.old.world.shape }
+        ensures outflow { self.new.outflow ≡ self.old.outflow }
+        ensures shape { self.new.stage.shape ≡ self.old.stage.shape }
     {
-        match self.world.step(alloc, event) {
+        match self.stage.step(alloc, event) {
             Ok(_) => Ok(()),
             Err(Refusal::NoMemory) => Err(Refusal::NoMemory),
             Err(refusal) => self.tell_refusal(alloc, number, line, event, &refusal),
@@ -149,19 +210,46 @@ impl Story {
     ) -> Result<(), Refusal>
         requires { self.old.wanted.refused ≡ false }
         ensures told { OnOk result ((told : List ℕ)
-            × TellsEvent self.old.wanted number self.old.world.shape self.new.world.run self.old.world.run event.now told
+            × TellsEvent self.old.wanted number self.old.stage.shape self.new.stage.run self.old.stage.run event.now told
             × (string_bytes self.new.out ≡ string_bytes self.old.out ++ told)) }
         ensures wanted { self.new.wanted ≡ self.old.wanted }
-        ensures shape { self.new.world.shape ≡ self.old.world.shape }
+        ensures outflow { self.new.outflow ≡ self.old.outflow }
+        ensures shape { self.new.stage.shape ≡ self.old.stage.shape }
     {
-        match step_noted(alloc, &mut self.world, event, &mut self.notes) {
-            Ok(_) => self.tell_done(alloc, number, line, event),
+        self.letter = letter_to_take(&self.stage, event)?;
+        match step_noted(alloc, &mut self.stage, event, &mut self.notes) {
+            Ok(_) => {
+                // For the proof: the letter is that of the last step of a run.
+                self.stage.steps_are_a_run();
+                self.tell_step(alloc, number, line, event)
+            }
             Err(Refusal::NoMemory) => Err(Refusal::NoMemory),
             Err(refusal) => self.tell_refusal(alloc, number, line, event, &refusal),
         }
     }
 
-    /// Writes the event, which was done last, and its notes, if the filter wants them.
+    /// Writes the event, which was done last, and its notes, if the filter wants them. Requires that the letter is the one that the event took, if it took one.
+    fn tell_step(
+        &mut self,
+        alloc: Global,
+        number: u64,
+        line: u64,
+        event: &Event,
+    ) -> Result<(), Refusal>
+        requires { handled self.old.stage.shape (log_of self.old.stage.run) event.now self.old.letter ≡ last_envelope self.old.stage.run }
+        ensures told { OnOk result ((told : List ℕ)
+            × TellsWanted self.old.wanted number self.old.stage.shape self.old.stage.run event.now self.old.notes.items told
+            × (string_bytes self.new.out ≡ string_bytes self.old.out ++ told)) }
+        ensures wanted { self.new.wanted ≡ self.old.wanted }
+        ensures outflow { self.new.outflow ≡ self.old.outflow }
+        ensures stage { self.new.stage ≡ self.old.stage }
+    {
+        let taken = replace(&mut self.letter, None);
+        self.letter = letter_of(&self.stage, event, taken)?;
+        self.tell_done(alloc, number, line, event)
+    }
+
+    /// Writes the event, which was done last, and its notes, if the filter wants them. Requires that the letter is the one that the event posted or took.
     fn tell_done(
         &mut self,
         alloc: Global,
@@ -169,13 +257,18 @@ impl Story {
         line: u64,
         event: &Event,
     ) -> Result<(), Refusal>
+        requires { self.old.letter ≡ last_envelope self.old.stage.run }
         ensures told { OnOk result ((told : List ℕ)
-            × TellsWanted self.old.wanted number self.old.world.shape self.old.world.run event.now self.old.notes.items told
+            × TellsWanted self.old.wanted number self.old.stage.shape self.old.stage.run event.now self.old.notes.items told
             × (string_bytes self.new.out ≡ string_bytes self.old.out ++ told)) }
         ensures wanted { self.new.wanted ≡ self.old.wanted }
-        ensures world { self.new.world ≡ self.old.world }
+        ensures outflow { self.new.outflow ≡ self.old.outflow }
+        ensures stage { self.new.stage ≡ self.old.stage }
     {
-        count_kept(&mut self.kept, &actor_of(event), self.notes.as_slice())?;
+        let (actor, envelope) = (actor_of(event), envelope_of(&self.letter));
+        let notes = self.notes.as_slice();
+        self.counts.add(&self.stage, &actor, envelope, line, notes);
+        count_kept(&mut self.kept, &actor, notes)?;
         if self.wanted.has_done(event, self.notes.as_slice()) {
             self.write_event(alloc, number, line, event)
         } else {
@@ -192,14 +285,18 @@ impl Story {
         line: u64,
         event: &Event,
     ) -> Result<(), Refusal>
+        requires { self.old.letter ≡ last_envelope self.old.stage.run }
         ensures told { OnOk result ((told : List ℕ)
-            × TellsNotes self.old.wanted number self.old.world.shape self.old.world.run event.now self.old.notes.items told
+            × TellsNotes self.old.wanted number self.old.stage.shape self.old.stage.run event.now self.old.notes.items told
             × (string_bytes self.new.out ≡ string_bytes self.old.out ++ told)) }
         ensures wanted { self.new.wanted ≡ self.old.wanted }
-        ensures world { self.new.world ≡ self.old.world }
+        ensures outflow { self.new.outflow ≡ self.old.outflow }
+        ensures stage { self.new.stage ≡ self.old.stage }
     {
-        if let Some(envelope) = last_envelope(&self.world) {
-            self.texts.note_done(alloc, event, envelope)?;
+        let envelope = envelope_of(&self.letter);
+        if let Some(envelope) = envelope {
+            self.texts
+                .note_done(alloc, &mut self.requests, event, envelope)?;
         }
         let as_data = self.wanted.data;
         let (shown, texts): (&str, &[String]) = match self.texts.told(event) {
@@ -209,9 +306,11 @@ impl Story {
         write_done(&mut self.out, as_data, number, line, event, shown)?;
         write_wanted(
             &mut self.out,
+            &mut self.requests,
             &self.wanted,
-            &self.world,
+            &self.stage,
             event,
+            chains_in(envelope),
             texts,
             self.notes.as_slice(),
         )
@@ -226,26 +325,29 @@ impl Story {
         event: &Event,
         refusal: &Refusal,
     ) -> Result<(), Refusal>
-        requires { ¬ MayBeDone self.old.world.shape (log_of self.old.world.run) event.now }
+        requires { ¬ MayBeDone self.old.stage.shape (log_of self.old.stage.run) event.now }
         ensures told { OnOk result ((told : List ℕ)
-            × TellsRefusal self.old.wanted number self.old.world.shape self.old.world.run event.now refusal.now told
+            × TellsRefusal self.old.wanted number self.old.stage.shape self.old.stage.run event.now refusal.now told
             × (string_bytes self.new.out ≡ string_bytes self.old.out ++ told)) }
         ensures wanted { self.new.wanted ≡ self.old.wanted }
-        ensures world { self.new.world ≡ self.old.world }
+        ensures outflow { self.new.outflow ≡ self.old.outflow }
+        ensures stage { self.new.stage ≡ self.old.stage }
     {
         self.first_refused = first_line_of(self.refused, self.first_refused, line);
         self.refused = self.refused.saturating_add(1);
         if self.wanted.has_refused(event) {
             let as_data = self.wanted.data;
+            let since = self.posts.full_since(event, refusal);
             write_refusal(
                 &mut self.out,
                 alloc,
                 as_data,
-                &self.world,
+                &self.stage,
                 number,
                 line,
                 event,
                 refusal,
+                since,
             )
         } else {
             Ok(())
@@ -253,42 +355,46 @@ impl Story {
     }
 }
 
-/// Writes the event, which the world refuses with this refusal, and why. `NoMemory` if memory runs out.
+/// Writes the event, which the stage refuses with this refusal, and why; `since` is the line of the post that fills its box, if that is why. `NoMemory` if
+/// memory runs out.
 fn write_refusal(
     out: &mut String,
     alloc: Global,
     as_data: bool,
-    world: &World,
+    stage: &Stage,
     number: u64,
     line: u64,
     event: &Event,
     refusal: &Refusal,
+    since: Option<u64>,
 ) -> Result<(), Refusal>
-    requires { ¬ MayBeDone world.now.shape (log_of world.now.run) event.now }
-    ensures { OnOk result ((shown : List ℕ) × TellsCause world.now.shape (log_of world.now.run) event.now as_data
+    requires { ¬ MayBeDone stage.now.shape (log_of stage.now.run) event.now }
+    ensures { OnOk result ((shown : List ℕ) × TellsCause stage.now.shape (log_of stage.now.run) event.now as_data
         (string_bytes out.old ++ refused_line as_data number line event.now refusal.now shown) (string_bytes out.new)) }
 {
-    let shown = end_of_refused(alloc, event, as_data)?;
+    let shown = end_of_refused(alloc, event, as_data, since)?;
     write_refused(out, as_data, number, line, event, refusal, shown.as_str())?;
-    write_why(out, as_data, world, event)
+    write_why(out, as_data, stage, event)
 }
 
-/// Writes the lines of those notes of the event that are wanted; `texts` describe the chains of its envelope.
+/// Writes the lines of those notes of the event that are wanted; `chains` are those of its envelope, and `texts` describe them.
 fn write_wanted(
     out: &mut String,
+    requests: &mut RequestTexts,
     wanted: &Wanted,
-    world: &World,
+    stage: &Stage,
     event: &Event,
+    chains: &[Chain],
     texts: &[String],
     notes: &[Note],
 ) -> Result<(), Refusal>
+    requires { chains.now ≡ last_chains stage.now.run }
     ensures { OnOk result (string_bytes out.new ≡ string_bytes out.old
-        ++ note_lines wanted.now.data world.now.shape (log_of world.now.run) (actor_of event.now) (other_of event.now) (last_chains world.now.run)
+        ++ note_lines wanted.now.data stage.now.shape (log_of stage.now.run) (actor_of event.now) (other_of event.now) (last_chains stage.now.run)
         (map (λ text. string_bytes text) texts.now) (filter (wants_note wanted.now) notes.now)) }
 {
-    let chains = last_chains(world);
     for note in notes {
-        write_if_wanted(out, wanted, world, event, chains, texts, note)?;
+        write_if_wanted(out, requests, wanted, stage, event, chains, texts, note)?;
     }
     Ok(())
 }
@@ -296,43 +402,90 @@ fn write_wanted(
 /// Writes the line of the note of the event if it is wanted; `chains` are those of the event's envelope, and `texts` describe them.
 fn write_if_wanted(
     out: &mut String,
+    requests: &mut RequestTexts,
     wanted: &Wanted,
-    world: &World,
+    stage: &Stage,
     event: &Event,
     chains: &[Chain],
     texts: &[String],
     note: &Note,
 ) -> Result<(), Refusal>
-    requires { chains.now ≡ last_chains world.now.run }
+    requires { chains.now ≡ last_chains stage.now.run }
     ensures wanted { wants_note wanted.now note.now ≡ true → OnOk result (string_bytes out.new ≡ string_bytes out.old
-        ++ note_line wanted.now.data world.now.shape (log_of world.now.run) (actor_of event.now) (other_of event.now) (last_chains world.now.run)
+        ++ note_line wanted.now.data stage.now.shape (log_of stage.now.run) (actor_of event.now) (other_of event.now) (last_chains stage.now.run)
         (map (λ text. string_bytes text) texts.now) note.now) }
     ensures unwanted { wants_note wanted.now note.now ≡ false → string_bytes out.new ≡ string_bytes out.old }
 {
     if wanted.has_note(note) {
-        write_note(out, wanted.data, world, event, chains, texts, note)?;
+        write_note(
+            out,
+            requests,
+            wanted.data,
+            stage,
+            event,
+            chains,
+            texts,
+            note,
+        )?;
     }
     Ok(())
 }
 
-/// Returns the chains of the envelope that was posted or taken last.
-fn last_chains(world: &World) -> &[Chain]
-    ensures { result.now ≡ last_chains world.now.run }
+/// Returns the letter in the box from one actor to another; `None` if the box is empty or one of them is not in the shape. `NoMemory` if one more
+/// handle is refused.
+fn letter_in_box(stage: &Stage, from: &Actor, to: &Actor) -> Result<Option<Letter>, Refusal>
+    ensures same { IfOk result (λ letter. letter ≡ box_of stage.now.shape (log_of stage.now.run) from.now to.now) }
+    ensures refusal { IsOkUnless result Refusal.NoMemory }
 {
-    match last_envelope(world) {
-        Some(Envelope::Round { chains, .. }) => chains.as_slice(),
-        _ => &[],
+    if !stage.shape().has(*from) || !stage.shape().has(*to) {
+        return Ok(None);
+    }
+    match stage.in_box(from, to) {
+        Some(letter) => Ok(Some(letter.try_copy()?)),
+        None => Ok(None),
     }
 }
 
-/// Returns the envelope that was posted or taken last.
-fn last_envelope(world: &World) -> Option<&Envelope>
-    ensures { option_map (λ envelope. envelope.now) result ≡ last_envelope world.now.run }
+/// Returns the letter that the event is to take; `None` if it takes none. `NoMemory` if one more handle is refused.
+fn letter_to_take(stage: &Stage, event: &Event) -> Result<Option<Letter>, Refusal>
+    ensures same { IfOk result (λ letter. letter ≡ to_take stage.now.shape (log_of stage.now.run) event.now) }
+    ensures refusal { IsOkUnless result Refusal.NoMemory }
 {
-    match world.entries().last() {
-        Some((_, Entry::Post { envelope, .. })) => Some(envelope.envelope()),
-        Some((_, Entry::Take { envelope, .. })) => Some(envelope.envelope()),
+    match event {
+        Event::Take { at, from } => letter_in_box(stage, from, at),
+        Event::Post { .. } | Event::Plant { .. } | Event::Tell { .. } => Ok(None),
+    }
+}
+
+/// Returns the letter of the event, which was done: the one that it posted, or this one that it took. `NoMemory` if one more handle is refused.
+fn letter_of(stage: &Stage, event: &Event, taken: Option<Letter>) -> Result<Option<Letter>, Refusal>
+    ensures same { IfOk result (λ letter. letter ≡ handled stage.now.shape (log_of stage.now.run) event.now taken) }
+    ensures refusal { IsOkUnless result Refusal.NoMemory }
+{
+    match event {
+        Event::Post { from, to, .. } | Event::Plant { from, to, .. } | Event::Tell { from, to } =>
+            letter_in_box(stage, from, to),
+        Event::Take { .. } => Ok(taken),
+    }
+}
+
+/// Returns the envelope of the letter, if there is one.
+fn envelope_of(letter: &Option<Letter>) -> Option<&Envelope>
+    ensures { option_map (λ x. x.now) result ≡ letter.now }
+{
+    match letter {
+        Some(letter) => Some(letter.envelope()),
         None => None,
+    }
+}
+
+/// Returns the chains of the envelope, if there is one.
+fn chains_in(envelope: Option<&Envelope>) -> &[Chain]
+    ensures { result.now ≡ chains_in_some (option_map (λ x. x.now) envelope.entry) }
+{
+    match envelope {
+        Some(Envelope::Round { chains, .. }) => chains.as_slice(),
+        _ => &[],
     }
 }
 

@@ -1,69 +1,85 @@
-ghost use Rattle.std.specs.Prelude.{◌≡◌, None, IfOk, IfErr, IfNone, IfSome, IsOkUnless, string_bytes};
-ghost use Rattle.dsr_play.specs.Play.{IsPlayRefusal};
-ghost use Rattle.dsr_explain.specs.Told.{Explains, TellsPlay};
+ghost use Rattle.std.specs.Prelude.{◌≡◌, ◌+◌, ◌≤◌, ℕ, List, IfErr, OnOk};
+ghost use Rattle.dsr_names.specs.Limits.{most_calls};
+ghost use Rattle.dsr_names.specs.Streams.{SentAll};
+ghost use Rattle.dsr_explain.specs.Told.{Explains, LeftAfterFault, LeftAfterPlay, LeftAfterTelling, TellsPlay};
 
+use crate::outlet::{Outflow, Outlet};
 use crate::story::Story;
 use crate::wanted::Wanted;
-use dsr_names::Refusal;
+use dsr_names::{Refusal, Sink, write_output};
 use dsr_trouble::trouble_of;
 use dsr_world::Play;
 use std::alloc::Global;
-use std::mem;
+use std::mem::forget;
 
-/// The explanation of a text, and the refusal of a text that is not a play.
-#[derive(Drop)]
-pub struct Explained {
-    /// The explanation: why the play came out as it did, or what is wrong with its text.
-    pub text: String,
-    /// `BadShape` or `BadText` if the text is not a play.
-    pub refusal: Option<Refusal>,
-    spent: Option<Spent>,
-}
-
-/// An explained play, with its world. The caller who ends soon can skip freeing it, which takes a while for a long play.
-#[derive(Drop)]
-struct Spent {
-    play: Play,
-    story: Story,
-}
-
-/// Runs the play that the text encodes in a new world, and explains what is wanted about it: the events, each with its line, what came of it and
-/// why; then the outcome of each slot, and who waits for whom. If the text is not a play, the explanation names the line, the column and what was
-/// expected there. `NoMemory` if memory runs out.
-pub fn explain(alloc: Global, text: &[u8], wanted: &Wanted) -> Result<Explained, Refusal>
-    ensures told { IfOk result (λ explained. IfNone explained.refusal (Explains text.now wanted.now (string_bytes explained.text))) }
-    ensures refused { IfOk result (λ explained. IfSome explained.refusal (IsPlayRefusal text.now)) }
-    ensures refusal { IsOkUnless result Refusal.NoMemory }
+/// Runs the play that the text encodes on a new stage, and writes what is wanted about it: the events, each with its line, what came of it and
+/// why; then the outcome of each slot, and who waits for whom. If the text is not a play, writes the line, the column and what was expected there, and
+/// then returns its refusal.
+///
+/// A long explanation goes out in parts, as it is made, if the sink takes parts. Then, if memory runs out, `NoMemory` comes after nothing was written or
+/// after the text about some of the first events, and otherwise after nothing. `WriteFailed` if writing fails: a prefix was written. The sink is called
+/// at most `MOST_CALLS` times. The memory of the play is not freed: a program should end after the call.
+pub fn explain<K: Outlet>(
+    alloc: Global,
+    text: &[u8],
+    wanted: &Wanted,
+    sink: &mut K,
+) -> Result<(), Refusal>
+    ensures told { OnOk result ((told : List ℕ) × Explains text.now wanted.now told × SentAll told (K.output sink.old) (K.output sink.new)) }
+    ensures refused { IfErr result (λ refusal. LeftAfterTelling text.now wanted.now refusal (K.output sink.old) (K.output sink.new)) }
+    ensures calls { (K.output sink.new).calls ≤ (K.output sink.old).calls + most_calls }
 {
     match Play::read(alloc, text) {
-        Ok(play) => match tell_all(alloc, text, play, wanted) {
-            Ok(explained) => Ok(explained),
-            Err(_) => Err(Refusal::NoMemory),
-        },
+        Ok(play) => tell_play(alloc, text, play, wanted, sink),
         Err(Refusal::NoMemory) => Err(Refusal::NoMemory),
-        Err(refusal) => match trouble_of(alloc, text, &refusal) {
-            Ok(text) => Ok(Explained {
-                text,
-                refusal: Some(refusal),
-                spent: None,
-            }),
-            Err(_) => Err(Refusal::NoMemory),
-        },
+        Err(refusal) => tell_trouble(alloc, text, refusal, sink),
     }
 }
 
-/// Explains the play with this text.
-fn tell_all(alloc: Global, text: &[u8], play: Play, wanted: &Wanted) -> Result<Explained, Refusal>
-    ensures none { IfOk result (λ explained. explained.refusal ≡ None) }
-    ensures told { IfOk result (λ explained. TellsPlay wanted.now play (string_bytes explained.text)) }
+/// Writes what is wrong with the text, which is refused as a play, and returns this refusal. `NoMemory` if memory runs out: then nothing was
+/// written.
+fn tell_trouble<K: Sink>(
+    alloc: Global,
+    text: &[u8],
+    refusal: Refusal,
+    sink: &mut K,
+) -> Result<(), Refusal>
+    ensures refused { IfErr result (λ left. LeftAfterFault refusal left (K.output sink.old) (K.output sink.new)) }
+    ensures never { OnOk result ⊥ }
+    ensures calls { (K.output sink.new).calls ≤ (K.output sink.old).calls + most_calls }
 {
-    let mut story = Story::begin(alloc, play.shape(), wanted)?;
-    story.tell_events(alloc, text, play.events())?;
-    story.end(alloc, play.events().len())?;
-    let told = mem::replace(&mut story.out, String::new(alloc));
-    Ok(Explained {
-        text: told,
-        refusal: None,
-        spent: Some(Spent { play, story }),
-    })
+    let Ok(trouble) = trouble_of(alloc, text, &refusal) else {
+        return Err(Refusal::NoMemory);
+    };
+    write_output(sink, trouble.as_bytes())?;
+    Err(refusal)
+}
+
+/// Writes what is wanted about this play, which the text encodes.
+fn tell_play<K: Outlet>(
+    alloc: Global,
+    text: &[u8],
+    play: Play,
+    wanted: &Wanted,
+    sink: &mut K,
+) -> Result<(), Refusal>
+    ensures told { OnOk result ((told : List ℕ) × TellsPlay wanted.now play told × SentAll told (K.output sink.old) (K.output sink.new)) }
+    ensures refused { IfErr result (λ refusal. LeftAfterPlay wanted.now play refusal (K.output sink.old) (K.output sink.new)) }
+    ensures calls { (K.output sink.new).calls ≤ (K.output sink.old).calls + most_calls }
+{
+    let Ok(mut story) = Story::begin(alloc, play.shape(), wanted, Outflow::to(sink)) else {
+        return Err(Refusal::NoMemory);
+    };
+    match story.tell_events(alloc, text, play.events(), sink) {
+        Ok(_) => {}
+        Err(refusal) => return Err(refusal),
+    }
+    let Ok(_) = story.end(alloc, play.events().len()) else {
+        return Err(Refusal::NoMemory);
+    };
+    let told = story.pass_rest(sink);
+    // The program ends soon, and to free the stage of a long play takes a while.
+    forget(story);
+    forget(play);
+    told
 }

@@ -2,6 +2,8 @@
 
 use crate::chain_lines::{write_shown_data, write_shown_words};
 use crate::pieces::{MOST_ACTORS, place_of, put_name};
+use crate::requests::RequestTexts;
+use crate::short::{is_short, write_short};
 use dsr_chain::Chain;
 use dsr_envelope::{Envelope, Pick};
 use dsr_names::{Actor, ClientId, Refusal};
@@ -26,15 +28,24 @@ pub(crate) struct Told {
 
 impl Told {
     /// Writes the texts about the envelope, either data or words. `NoMemory` if memory runs out.
-    fn of(alloc: Global, envelope: &Envelope, as_data: bool) -> Result<Told, Refusal> {
+    fn of(
+        alloc: Global,
+        requests: &mut RequestTexts,
+        envelope: &Envelope,
+        as_data: bool,
+    ) -> Result<Told, Refusal> {
         let mut end = String::with_capacity(alloc, ROOM)?;
-        if envelope.fits() {
+        if !envelope.fits() {
+            end.push_str(end_of_none(as_data))?;
+        } else if is_short(envelope) {
+            end.push_str(before_draft(as_data))?;
+            write_short(&mut end, requests, envelope)?;
+            end.push_str("\n")?;
+        } else {
             let draft = Draft::of(alloc, envelope)?;
             write_draft(&mut end, &draft, as_data)?;
-        } else {
-            end.push_str(end_of_none(as_data))?;
         }
-        let chains = tell_chains(alloc, envelope, as_data)?;
+        let chains = tell_chains(alloc, requests, envelope, as_data)?;
         Ok(Told { end, chains })
     }
 
@@ -49,19 +60,31 @@ impl Told {
     }
 }
 
-/// Returns the end of the line of an event that was refused: what it was to post, if the event says so.
+/// Returns the end of the line of an event that was refused: what it was to post, if the event says so, after, in words, the line since which its box is
+/// full, if there is one.
 pub(crate) fn end_of_refused(
     alloc: Global,
     event: &Event,
     as_data: bool,
+    since: Option<u64>,
 ) -> Result<String, Refusal> {
     let mut end = String::new(alloc);
+    write_since(&mut end, as_data, since)?;
     match event {
         Event::Plant { draft, .. } => write_draft(&mut end, draft, as_data)?,
         Event::Post { pick, .. } if !as_data => write_choice(&mut end, &pick.pick())?,
         _ => end.push_str(end_of_none(as_data))?,
     }
     Ok(end)
+}
+
+/// Writes the line since which the box is full, in words, if there is one.
+fn write_since(out: &mut String, as_data: bool, since: Option<u64>) -> Result<(), Refusal> {
+    match since {
+        Some(line) if !as_data => write!(out, " (the box is full since line {line})")?,
+        _ => {}
+    }
+    Ok(())
 }
 
 /// Returns the end of an event's line that shows no envelope.
@@ -71,9 +94,14 @@ pub(crate) fn end_of_none(as_data: bool) -> &'static str {
 
 /// Writes the end of an event's line: the envelope of this draft.
 fn write_draft(out: &mut String, draft: &Draft, as_data: bool) -> Result<(), Refusal> {
-    out.push_str(if as_data { " " } else { ": " })?;
+    out.push_str(before_draft(as_data))?;
     writeln!(out, "{draft}")?;
     Ok(())
+}
+
+/// Returns what is between an event and its envelope.
+fn before_draft(as_data: bool) -> &'static str {
+    if as_data { " " } else { ": " }
 }
 
 /// Writes the end of the line of a post that was refused: the post's choice.
@@ -100,21 +128,31 @@ fn write_asks(out: &mut String, clients: &[ClientId]) -> Result<(), Refusal> {
 }
 
 /// Writes the text about each chain of the envelope.
-fn tell_chains(alloc: Global, envelope: &Envelope, as_data: bool) -> Result<Vec<String>, Refusal> {
+fn tell_chains(
+    alloc: Global,
+    requests: &mut RequestTexts,
+    envelope: &Envelope,
+    as_data: bool,
+) -> Result<Vec<String>, Refusal> {
     let mut told = Vec::new(alloc);
     if let Envelope::Round { chains, .. } = envelope {
         for chain in chains.as_slice() {
-            told.push(tell_chain(alloc, chain, as_data)?)?;
+            told.push(tell_chain(alloc, requests, chain, as_data)?)?;
         }
     }
     Ok(told)
 }
 
 /// Writes the text about the chain.
-fn tell_chain(alloc: Global, chain: &Chain, as_data: bool) -> Result<String, Refusal> {
+fn tell_chain(
+    alloc: Global,
+    requests: &mut RequestTexts,
+    chain: &Chain,
+    as_data: bool,
+) -> Result<String, Refusal> {
     let mut text = String::with_capacity(alloc, ROOM)?;
     if as_data {
-        write_shown_data(&mut text, chain)?;
+        write_shown_data(&mut text, requests, chain)?;
     } else {
         write_shown_words(&mut text, chain)?;
     }
@@ -194,11 +232,12 @@ impl Texts {
     pub(crate) fn note_done(
         &mut self,
         alloc: Global,
+        requests: &mut RequestTexts,
         event: &Event,
         envelope: &Envelope,
     ) -> Result<(), Refusal> {
         if is_to_replica(event) {
-            return self.note_posted(alloc, event, envelope);
+            return self.note_posted(alloc, requests, event, envelope);
         }
         if let Event::Take { .. } = event {
             // The box may still hold an ask from before the client's last two requests; its texts have to be written anew.
@@ -206,7 +245,7 @@ impl Texts {
                 return Ok(());
             }
         }
-        let told = Told::of(alloc, envelope, self.as_data)?;
+        let told = Told::of(alloc, requests, envelope, self.as_data)?;
         self.lay(event, Lying::Alone(told));
         Ok(())
     }
@@ -215,6 +254,7 @@ impl Texts {
     fn note_posted(
         &mut self,
         alloc: Global,
+        requests: &mut RequestTexts,
         event: &Event,
         envelope: &Envelope,
     ) -> Result<(), Refusal> {
@@ -223,9 +263,9 @@ impl Texts {
             return Ok(());
         };
         if !is_again(event) {
-            posted.put(Some(Told::of(alloc, envelope, as_data)?));
+            posted.put(Some(Told::of(alloc, requests, envelope, as_data)?));
         } else if posted.last.is_none() {
-            posted.last = Some(Told::of(alloc, envelope, as_data)?);
+            posted.last = Some(Told::of(alloc, requests, envelope, as_data)?);
         }
         let number = posted.count;
         self.lay(event, Lying::Posted(number));

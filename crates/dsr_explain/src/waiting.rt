@@ -10,7 +10,7 @@ ghost use Rattle.dsr_explain.specs.Waiting.{next_data, next_line, next_words, st
 use dsr_envelope::Due;
 use dsr_names::{ClientId, Refusal, ReplicaId};
 use dsr_notes::{Next, Standing, standing_of};
-use dsr_world::World;
+use dsr_world::Stage;
 use std::fmt::Write;
 
 /// Writes what a replica does next with the replicas: data if `as_data`, otherwise words. `NoMemory` if memory runs out.
@@ -76,12 +76,12 @@ fn write_next_words(
             if is_there {
                 writeln!(
                     out,
-                    "{replica}: next it takes {from}'s envelope of round {round}, which is there"
+                    "{replica}: in round {round}, next it takes what {from} posted to it, which is there"
                 )?;
             } else {
                 writeln!(
                     out,
-                    "{replica}: waits for {from}'s envelope of round {round}"
+                    "{replica}: in round {round}, it waits for {from} to post to it"
                 )?;
             }
         }
@@ -91,35 +91,35 @@ fn write_next_words(
 
 /// Writes what a client of the shape waits for, if a request of it is outstanding: in words, with how far each replica is with it. `NoMemory` if memory
 /// runs out.
-pub(crate) fn write_waits(out: &mut String, world: &World, client: ClientId) -> Result<(), Refusal>
-    requires { client < world.now.shape.m }
-    ensures text { OnOk result (string_bytes out.new ≡ string_bytes out.old ++ waits_line world.now.shape (log_of world.now.run) client) }
+pub(crate) fn write_waits(out: &mut String, stage: &Stage, client: ClientId) -> Result<(), Refusal>
+    requires { client < stage.now.shape.m }
+    ensures text { OnOk result (string_bytes out.new ≡ string_bytes out.old ++ waits_line stage.now.shape (log_of stage.now.run) client) }
     ensures refusal { IsOkUnless result Refusal.NoMemory }
 {
-    match outstanding_of(world, client) {
-        Some(number) => write_wait(out, world, client, number),
+    match outstanding_of(stage, client) {
+        Some(number) => write_wait(out, stage, client, number),
         None => Ok(()),
     }
 }
 
 /// Writes what a client waits for whose outstanding request has this number.
-fn write_wait(out: &mut String, world: &World, client: ClientId, number: u64) -> Result<(), Refusal>
-    requires { client < world.now.shape.m }
+fn write_wait(out: &mut String, stage: &Stage, client: ClientId, number: u64) -> Result<(), Refusal>
+    requires { client < stage.now.shape.m }
     ensures text { OnOk result (string_bytes out.new ≡ string_bytes out.old
-        ++ waits_line_for world.now.shape (log_of world.now.run) client (Some number)) }
+        ++ waits_line_for stage.now.shape (log_of stage.now.run) client (Some number)) }
     ensures refusal { IsOkUnless result Refusal.NoMemory }
 {
-    write_wait_begin(out, client, needed_in(world), number)?;
-    write_standings(out, world, client, number)?;
+    write_wait_begin(out, client, needed_in(stage), number)?;
+    write_standings(out, stage, client, number)?;
     out.push_str("\n")?;
     Ok(())
 }
 
 /// Returns how many matching replies a client needs.
-fn needed_in(world: &World) -> u8
-    ensures { result ≡ world.now.shape.f + 1 }
+fn needed_in(stage: &Stage) -> u8
+    ensures { result ≡ stage.now.shape.f + 1 }
 {
-    world.shape().f() + 1
+    stage.shape().f() + 1
 }
 
 /// Writes that a client waits for this many matching replies to its request.
@@ -140,11 +140,11 @@ fn write_wait_begin(
 }
 
 /// Returns the number of the outstanding request of a client of the shape.
-fn outstanding_of(world: &World, client: ClientId) -> Option<u64>
-    requires { client < world.now.shape.m }
-    ensures { result ≡ option_map (λ ask. ask.request.number) (outstanding world.now.shape (log_of world.now.run (ClientNumber client))) }
+fn outstanding_of(stage: &Stage, client: ClientId) -> Option<u64>
+    requires { client < stage.now.shape.m }
+    ensures { result ≡ option_map (λ ask. ask.request.number) (outstanding stage.now.shape (log_of stage.now.run (ClientNumber client))) }
 {
-    match world.client(client) {
+    match stage.client(client) {
         Ok(client) => client.outstanding(),
         Err(_) => unreachable!(),
     }
@@ -153,17 +153,17 @@ fn outstanding_of(world: &World, client: ClientId) -> Option<u64>
 /// Writes how far each replica is with the client's outstanding request, which has this number.
 fn write_standings(
     out: &mut String,
-    world: &World,
+    stage: &Stage,
     client: ClientId,
     number: u64,
 ) -> Result<(), Refusal>
-    requires { client < world.now.shape.m }
+    requires { client < stage.now.shape.m }
     ensures text { OnOk result (string_bytes out.new ≡ string_bytes out.old
-        ++ standings_text world.now.shape (log_of world.now.run) client number world.now.shape.n) }
+        ++ standings_text stage.now.shape (log_of stage.now.run) client number stage.now.shape.n) }
     ensures refusal { IsOkUnless result Refusal.NoMemory }
 {
-    for place in 0..world.shape().n() {
-        write_standing(out, world, client, number, ReplicaId::of(place))?;
+    for place in 0..stage.shape().n() {
+        write_standing(out, stage, client, number, ReplicaId::of(place))?;
     }
     Ok(())
 }
@@ -171,18 +171,18 @@ fn write_standings(
 /// Writes how far a replica is with the client's outstanding request, which has this number.
 fn write_standing(
     out: &mut String,
-    world: &World,
+    stage: &Stage,
     client: ClientId,
     number: u64,
     replica: ReplicaId,
 ) -> Result<(), Refusal>
-    requires client { client < world.now.shape.m }
-    requires replica { replica < world.now.shape.n }
+    requires client { client < stage.now.shape.m }
+    requires replica { replica < stage.now.shape.n }
     ensures text { OnOk result (string_bytes out.new ≡ string_bytes out.old
-        ++ standing_part world.now.shape (log_of world.now.run) client number replica) }
+        ++ standing_part stage.now.shape (log_of stage.now.run) client number replica) }
     ensures refusal { IsOkUnless result Refusal.NoMemory }
 {
-    let standing = standing_words(&standing_of(world, client, number, replica));
+    let standing = standing_words(&standing_of(stage, client, number, replica));
     write!(out, "; {replica} {standing}")?;
     Ok(())
 }
@@ -192,7 +192,7 @@ fn standing_words(standing: &Standing) -> &'static str
     ensures { result.now ≡ standing_text standing.now }
 {
     match standing {
-        Standing::Voted => "has replied",
+        Standing::Voted => "has replied, and its reply has been taken",
         Standing::IsTraitor => "is a traitor",
         Standing::ReplyLies => "has replied, and its reply has not been taken",
         Standing::CanReply => "can reply",

@@ -7,5 +7,5 @@ use Rattle.dsr_explain.proofs.ending.write_waits_of_clients.Given as goal
 -- the text has the lines of those below this number
 abbrev pub invariant-loop-number : goal.invariant-loop-number
 invariant-loop-number l =
-    (waits : List ℕ) × AreBelow (IsWaitOfClient l.wanted l.world.shape (log_of l.world.run)) l.number waits
+    (waits : List ℕ) × AreBelow (IsWaitOfClient l.wanted l.stage.shape (log_of l.stage.run)) l.number waits
     × (string_bytes l.out ≡ string_bytes l.initial.out ++ waits)

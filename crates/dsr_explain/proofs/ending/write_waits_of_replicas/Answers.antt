@@ -7,9 +7,9 @@ use Rattle.dsr_explain.proofs.ending.write_waits_of_replicas.Goals as goal
 
 pub loop-number-preserved : goal.loop-number-preserved
 loop-number-preserved c =
-    let world = c.args.world.now in
-    below_more (IsWaitOfReplica c.args.wanted.now world.shape (log_of world.run)) c.loop-number.number
+    let stage = c.args.stage.now in
+    below_more (IsWaitOfReplica c.args.wanted.now stage.shape (log_of stage.run)) c.loop-number.number
     (string_bytes c.args.out.now) (string_bytes c.loop-number.out) (string_bytes c.write_wait_of_replica.new.out)
     c.loop-number.invariant
-    (subst (λ p. (text : List ℕ) × IsWaitOfReplica c.args.wanted.now world.shape (log_of world.run) p text
+    (subst (λ p. (text : List ℕ) × IsWaitOfReplica c.args.wanted.now stage.shape (log_of stage.run) p text
     × (string_bytes c.write_wait_of_replica.new.out ≡ string_bytes c.loop-number.out ++ text)) c.of.ensures c.in_ok-write_wait_of_replica.ensures.told)

@@ -25,6 +25,6 @@ returns-clause-text c =
     let round = decimal kept.round ++ signed in
     let named = then_ok r read by new (codes ", signed by ") signers c.in_ok-push_str-3.ensures.bytes c.put_signers.ensures.text in
     let last = then_ok r before read new (decimal kept.round) signed c.in_ok-put_number.ensures.text named in
-    let words = then_ok r shown before new (codes ", read in round ") round c.in_ok-push_str-2.ensures.bytes last in
-    let contents = then_ok r begun shown new value (codes ", read in round " ++ round) c.in_ok-put_content.ensures.text words in
-    then_ok r old begun new (codes ": ") (value ++ (codes ", read in round " ++ round)) c.in_ok-push_str.ensures.bytes contents
+    let words = then_ok r shown before new (codes ", read in the slot's round ") round c.in_ok-push_str-2.ensures.bytes last in
+    let contents = then_ok r begun shown new value (codes ", read in the slot's round " ++ round) c.in_ok-put_content.ensures.text words in
+    then_ok r old begun new (codes ": ") (value ++ (codes ", read in the slot's round " ++ round)) c.in_ok-push_str.ensures.bytes contents

@@ -8,7 +8,7 @@ use Rattle.dsr_explain.proofs.story.write_refusal.Goals as goal
 
 pub returns : goal.returns
 returns c =
-    let w = c.args.world.now in
+    let w = c.args.stage.now in
     on_ok c.write_why.result
     (TellsCause w.shape (log_of w.run) c.args.event.now c.args.as_data (string_bytes c.write_refused.new.out) (string_bytes c.write_why.new.out))
     ((shown : List ℕ) × TellsCause w.shape (log_of w.run) c.args.event.now c.args.as_data

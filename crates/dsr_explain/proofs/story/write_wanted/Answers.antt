@@ -9,9 +9,9 @@ use Rattle.dsr_explain.proofs.story.write_wanted.Goals as goal
 
 pub loop-note-preserved : goal.loop-note-preserved
 loop-note-preserved c =
-    let world = c.args.world.now in
+    let stage = c.args.stage.now in
     let event = c.args.event.now in
     let texts = map (λ text. string_bytes text) c.args.texts.now in
-    wanted_more c.args.wanted.now.data world.shape (log_of world.run) (actor_of event) (other_of event) (last_chains world.run) texts (wants_note c.args.wanted.now)
+    wanted_more c.args.wanted.now.data stage.shape (log_of stage.run) (actor_of event) (other_of event) (last_chains stage.run) texts (wants_note c.args.wanted.now)
     (string_bytes c.args.out.now) (string_bytes c.loop-note.out) (string_bytes c.write_if_wanted.new.out) c.args.notes.now c.loop-note.note-index
     c.note-item.result c.loop-note-test.true c.note-item.is c.loop-note.invariant c.in_ok-write_if_wanted.ensures.wanted c.in_ok-write_if_wanted.ensures.unwanted

@@ -12,5 +12,5 @@ abbrev pub invariant-loop-note : goal.invariant-loop-note
 invariant-loop-note l =
     string_bytes l.out
     ≡ string_bytes l.initial.out
-    ++ note_lines l.wanted.data l.world.shape (log_of l.world.run) (actor_of l.event) (other_of l.event) (last_chains l.world.run)
+    ++ note_lines l.wanted.data l.stage.shape (log_of l.stage.run) (actor_of l.event) (other_of l.event) (last_chains l.stage.run)
     (map (λ text. string_bytes text) l.texts) (filter (wants_note l.wanted) (take l.note-index l.notes))

@@ -6,4 +6,4 @@ use Rattle.dsr_explain.proofs.waiting.write_standings.Given as goal
 
 abbrev pub invariant-loop-place : goal.invariant-loop-place
 invariant-loop-place l =
-    string_bytes l.out ≡ string_bytes l.initial.out ++ standings_text l.world.shape (log_of l.world.run) l.client l.number l.place
+    string_bytes l.out ≡ string_bytes l.initial.out ++ standings_text l.stage.shape (log_of l.stage.run) l.client l.number l.place

@@ -1,5 +1,8 @@
-use Rattle.std.proofs.Common.{◌≡◌, ◌++◌, ◌∙◌, ℕ, List, ap, refl, subst}
+use Rattle.std.proofs.Common.{◌≡◌, ◌++◌, ◌∙◌, ℕ, List, ap, refl, rules, subst}
 use Rattle.std.specs.Prelude.{OnOk, string_bytes}
+use Rattle.std.specs.declared.result.Result.TheVariants.{Ok}
+use Rattle.dsr_run.specs.Step.{log_of}
+use Rattle.dsr_notes.proofs.DoneLemmas.{may_be_done}
 use Rattle.dsr_explain.specs.Told.{TellsRefusal}
 use Rattle.dsr_explain.proofs.ToldLemmas.{brief_told, refused_told}
 use Rattle.dsr_explain.proofs.story.Story.tell_briefly.Goals as goal
@@ -7,20 +10,22 @@ use Rattle.dsr_explain.proofs.story.Story.tell_briefly.Goals as goal
 pub returns-in-Ok-clause-told : goal.returns-in-Ok-clause-told
 returns-in-Ok-clause-told c =
     let s = c.args.self.now in
-    brief_told s.wanted c.args.number s.world.shape c.step.new.self.run s.world.run c.args.event.now c.in-Ok.field-0 (string_bytes s.out)
-    c.requires c.in-Ok.ensures.done
+    brief_told s.wanted c.args.number s.stage.shape c.step.new.self.run s.stage.run c.args.event.now c.in-Ok.field-0 (string_bytes s.out)
+    c.requires (may_be_done s.stage.shape (log_of s.stage.run) c.args.event.now (Ok c.in-Ok.field-0) c.in-Ok.ensures.refused c.in-Ok.ensures.forged.1)
+    c.in-Ok.ensures.done
 
 pub returns-in-Err : goal.returns-in-Err
 returns-in-Err c =
     let s = c.args.self.now in
     let new = c.tell_refusal.new.self in
     let stays = c.in-Err.ensures.unchanged in
-    let same = c.tell_refusal.ensures.world ∙ stays in
+    let same = c.tell_refusal.ensures.stage ∙ stays in
     record {
-      told = refused_told c.tell_refusal.result s.wanted c.args.number s.world.shape new.world.run s.world.run c.args.event.now c.in-Err.refusal
-          (string_bytes s.out) (string_bytes new.out) (c.in-Err.ensures.last c.in-Err.refusal refl) (ap (λ w. w.run) same)
+      told = refused_told c.tell_refusal.result s.wanted c.args.number s.stage.shape new.stage.run s.stage.run c.args.event.now c.in-Err.refusal
+          (string_bytes s.out) (string_bytes new.out) (c.in-Err.ensures.last c.in-Err.refusal refl) (search rules) (ap (λ w. w.run) same)
           (subst (λ w. OnOk c.tell_refusal.result ((text : List ℕ) × TellsRefusal s.wanted c.args.number w.shape w.run c.args.event.now c.in-Err.refusal text
           × (string_bytes new.out ≡ string_bytes s.out ++ text))) stays c.tell_refusal.ensures.told);
       wanted = c.tell_refusal.ensures.wanted;
+      outflow = c.tell_refusal.ensures.outflow;
       shape = ap (λ w. w.shape) same;
     }

@@ -10,10 +10,10 @@ pub returns-then-has_refused-clause-told : goal.returns-then-has_refused-clause-
 returns-then-has_refused-clause-told c =
     let s = c.args.self.now in
     on_ok c.write_refusal.result
-    ((shown : List ℕ) × TellsCause s.world.shape (log_of s.world.run) c.args.event.now s.wanted.data
+    ((shown : List ℕ) × TellsCause s.stage.shape (log_of s.stage.run) c.args.event.now s.wanted.data
     (string_bytes s.out ++ refused_line s.wanted.data c.args.number c.args.line c.args.event.now c.args.refusal.now shown) (string_bytes c.write_refusal.new.out))
-    ((text : List ℕ) × TellsRefusal s.wanted c.args.number s.world.shape s.world.run c.args.event.now c.args.refusal.now text
+    ((text : List ℕ) × TellsRefusal s.wanted c.args.number s.stage.shape s.stage.run c.args.event.now c.args.refusal.now text
     × (string_bytes c.write_refusal.new.out ≡ string_bytes s.out ++ text))
-    (λ cause. refusal_told s.wanted c.args.number c.args.line s.world.shape s.world.run c.args.event.now c.args.refusal.now
+    (λ cause. refusal_told s.wanted c.args.number c.args.line s.stage.shape s.stage.run c.args.event.now c.args.refusal.now
     (string_bytes s.out) (string_bytes c.write_refusal.new.out) (c.has_refused.ensures.0 c.if-has_refused.true) cause)
     c.write_refusal.ensures

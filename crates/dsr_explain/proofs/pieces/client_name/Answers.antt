@@ -1,0 +1,99 @@
+use Rattle.std.proofs.Common.{arith}
+use Rattle.dsr_explain.proofs.NameLemmas.{one, two}
+use Rattle.dsr_explain.proofs.pieces.client_name.Goals as goal
+
+pub returns-in-0 : goal.returns-in-0
+returns-in-0 c = one 99 c.args.number 0 c.in-0.is (omega arith)
+
+pub returns-in-1 : goal.returns-in-1
+returns-in-1 c = one 99 c.args.number 1 c.in-1.is (omega arith)
+
+pub returns-in-2 : goal.returns-in-2
+returns-in-2 c = one 99 c.args.number 2 c.in-2.is (omega arith)
+
+pub returns-in-3 : goal.returns-in-3
+returns-in-3 c = one 99 c.args.number 3 c.in-3.is (omega arith)
+
+pub returns-in-4 : goal.returns-in-4
+returns-in-4 c = one 99 c.args.number 4 c.in-4.is (omega arith)
+
+pub returns-in-5 : goal.returns-in-5
+returns-in-5 c = one 99 c.args.number 5 c.in-5.is (omega arith)
+
+pub returns-in-6 : goal.returns-in-6
+returns-in-6 c = one 99 c.args.number 6 c.in-6.is (omega arith)
+
+pub returns-in-7 : goal.returns-in-7
+returns-in-7 c = one 99 c.args.number 7 c.in-7.is (omega arith)
+
+pub returns-in-8 : goal.returns-in-8
+returns-in-8 c = one 99 c.args.number 8 c.in-8.is (omega arith)
+
+pub returns-in-9 : goal.returns-in-9
+returns-in-9 c = one 99 c.args.number 9 c.in-9.is (omega arith)
+
+pub returns-in-10 : goal.returns-in-10
+returns-in-10 c = two 99 c.args.number 10 c.in-10.is (omega arith) (omega arith)
+
+pub returns-in-11 : goal.returns-in-11
+returns-in-11 c = two 99 c.args.number 11 c.in-11.is (omega arith) (omega arith)
+
+pub returns-in-12 : goal.returns-in-12
+returns-in-12 c = two 99 c.args.number 12 c.in-12.is (omega arith) (omega arith)
+
+pub returns-in-13 : goal.returns-in-13
+returns-in-13 c = two 99 c.args.number 13 c.in-13.is (omega arith) (omega arith)
+
+pub returns-in-14 : goal.returns-in-14
+returns-in-14 c = two 99 c.args.number 14 c.in-14.is (omega arith) (omega arith)
+
+pub returns-in-15 : goal.returns-in-15
+returns-in-15 c = two 99 c.args.number 15 c.in-15.is (omega arith) (omega arith)
+
+pub returns-in-16 : goal.returns-in-16
+returns-in-16 c = two 99 c.args.number 16 c.in-16.is (omega arith) (omega arith)
+
+pub returns-in-17 : goal.returns-in-17
+returns-in-17 c = two 99 c.args.number 17 c.in-17.is (omega arith) (omega arith)
+
+pub returns-in-18 : goal.returns-in-18
+returns-in-18 c = two 99 c.args.number 18 c.in-18.is (omega arith) (omega arith)
+
+pub returns-in-19 : goal.returns-in-19
+returns-in-19 c = two 99 c.args.number 19 c.in-19.is (omega arith) (omega arith)
+
+pub returns-in-20 : goal.returns-in-20
+returns-in-20 c = two 99 c.args.number 20 c.in-20.is (omega arith) (omega arith)
+
+pub returns-in-21 : goal.returns-in-21
+returns-in-21 c = two 99 c.args.number 21 c.in-21.is (omega arith) (omega arith)
+
+pub returns-in-22 : goal.returns-in-22
+returns-in-22 c = two 99 c.args.number 22 c.in-22.is (omega arith) (omega arith)
+
+pub returns-in-23 : goal.returns-in-23
+returns-in-23 c = two 99 c.args.number 23 c.in-23.is (omega arith) (omega arith)
+
+pub returns-in-24 : goal.returns-in-24
+returns-in-24 c = two 99 c.args.number 24 c.in-24.is (omega arith) (omega arith)
+
+pub returns-in-25 : goal.returns-in-25
+returns-in-25 c = two 99 c.args.number 25 c.in-25.is (omega arith) (omega arith)
+
+pub returns-in-26 : goal.returns-in-26
+returns-in-26 c = two 99 c.args.number 26 c.in-26.is (omega arith) (omega arith)
+
+pub returns-in-27 : goal.returns-in-27
+returns-in-27 c = two 99 c.args.number 27 c.in-27.is (omega arith) (omega arith)
+
+pub returns-in-28 : goal.returns-in-28
+returns-in-28 c = two 99 c.args.number 28 c.in-28.is (omega arith) (omega arith)
+
+pub returns-in-29 : goal.returns-in-29
+returns-in-29 c = two 99 c.args.number 29 c.in-29.is (omega arith) (omega arith)
+
+pub returns-in-30 : goal.returns-in-30
+returns-in-30 c = two 99 c.args.number 30 c.in-30.is (omega arith) (omega arith)
+
+pub returns-in-31 : goal.returns-in-31
+returns-in-31 c = two 99 c.args.number 31 c.in-31.is (omega arith) (omega arith)

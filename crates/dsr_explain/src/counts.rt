@@ -1,0 +1,209 @@
+//! What matters in a play although nothing is refused: how often it happened, and the line of the first time. Only the end of an explanation in words has
+//! it.
+
+use dsr_base::Exact;
+use dsr_envelope::Envelope;
+use dsr_ledger::Reply;
+use dsr_names::{Actor, Refusal};
+use dsr_notes::{ChainFate, Note};
+use dsr_slot::Fate;
+use dsr_world::Stage;
+use std::fmt::Write;
+
+/// How often something happened, and the line in which it did so first.
+#[derive(Clone, Copy, Debug)]
+struct Count {
+    number: u64,
+    first: u64,
+}
+
+impl Count {
+    /// That it has not happened.
+    const NONE: Count = Count {
+        number: 0,
+        first: 0,
+    };
+
+    /// Counts that it happened in this line.
+    fn add(&mut self, line: u64) {
+        if self.number == 0 {
+            self.first = line;
+        }
+        self.number = self.number.saturating_add(1);
+    }
+
+    /// Writes the line that says how often it happened; none if it did not. `what` says what it is.
+    fn write(&self, out: &mut String, what: &str) -> Result<(), Refusal> {
+        let (number, first) = (self.number, self.first);
+        if number > 0 {
+            writeln!(out, "{what}: {number}, the first in line {first}")?;
+        }
+        Ok(())
+    }
+}
+
+/// The first vote on a client's request: its reply, and the line in which the client took it.
+#[derive(Clone, Copy, Debug)]
+struct FirstVote {
+    reply: Reply,
+    line: u64,
+}
+
+/// How often each of these things happened.
+#[derive(Drop)]
+pub(crate) struct NoteCounts {
+    other_round: Count,
+    improper: Count,
+    not_in_flight: Count,
+    unproposed: Count,
+    stale: Count,
+    unlike: Count,
+    /// The line of the vote from which the first unlike one differs.
+    unlike_which: u64,
+    no_vote: Count,
+    /// For each client, by its number, the first vote on its outstanding request.
+    first_votes: [Option<FirstVote>; 32],
+}
+
+impl NoteCounts {
+    /// Creates the counts before any event.
+    pub(crate) fn new() -> NoteCounts {
+        NoteCounts {
+            other_round: Count::NONE,
+            improper: Count::NONE,
+            not_in_flight: Count::NONE,
+            unproposed: Count::NONE,
+            stale: Count::NONE,
+            unlike: Count::NONE,
+            unlike_which: 0,
+            no_vote: Count::NONE,
+            first_votes: [None; 32],
+        }
+    }
+
+    /// Counts what these notes tell of an event of this line, which was done last. `actor` posted or took the envelope.
+    pub(crate) fn add(
+        &mut self,
+        stage: &Stage,
+        actor: &Actor,
+        envelope: Option<&Envelope>,
+        line: u64,
+        notes: &[Note],
+    ) {
+        let mut has_proposed_nothing = false;
+        for note in notes {
+            match note {
+                Note::OtherRound { .. } => self.other_round.add(line),
+                Note::Chain { fate, .. } => self.add_chain(fate, line),
+                Note::Unproposed { .. } => has_proposed_nothing = true,
+                Note::Stale { .. } => self.stale.add(line),
+                Note::Vote { .. } => self.add_vote(actor, envelope, line),
+                Note::NoVote { .. } => self.add_no_vote(stage, actor, line),
+                Note::Accepted { .. } => self.forget_vote(actor),
+                Note::Kept(_)
+                | Note::Closed { .. }
+                | Note::Decided { .. }
+                | Note::Acted { .. }
+                | Note::Held { .. } => {}
+            }
+        }
+        // A sender may hold several requests, each of which has a note.
+        if has_proposed_nothing {
+            self.unproposed.add(line);
+        }
+    }
+
+    /// Writes the line of each of these things that happened. `NoMemory` if memory runs out.
+    pub(crate) fn write(&self, out: &mut String) -> Result<(), Refusal> {
+        self.other_round.write(out, "taken envelopes that are not of the round in progress")?;
+        self.improper
+            .write(out, "taken chains that are not proper")?;
+        self.not_in_flight
+            .write(out, "taken chains of a slot that is not in flight")?;
+        self.unproposed.write(
+            out,
+            "slots in which the sender proposes nothing, though it holds a request",
+        )?;
+        self.stale.write(out, "decided requests that do not act")?;
+        self.write_unlike(out)?;
+        self.no_vote
+            .write(out, "taken envelopes that give a waiting client no vote")
+    }
+
+    /// Counts a chain with this fate, if it is not proper or its slot is not in flight.
+    fn add_chain(&mut self, fate: &ChainFate, line: u64) {
+        match fate {
+            ChainFate::NotInFlight => self.not_in_flight.add(line),
+            ChainFate::Read { fate, .. } => match fate {
+                Fate::Improper(_) => self.improper.add(line),
+                Fate::First | Fate::Second | Fate::NotNew | Fate::OneTooMany => {}
+            },
+        }
+    }
+
+    /// Counts the vote that this envelope is, if it differs from the first vote on the client's request.
+    fn add_vote(&mut self, actor: &Actor, envelope: Option<&Envelope>, line: u64) {
+        let (Actor::Client(client), Some(Envelope::Reply(reply))) = (actor, envelope) else {
+            return;
+        };
+        let place = client.number() as usize;
+        match self.first_votes[place] {
+            None => {
+                let vote = FirstVote {
+                    reply: *reply,
+                    line,
+                };
+                self.first_votes[place] = Some(vote);
+            }
+            Some(first) => self.compare(&first, reply, line),
+        }
+    }
+
+    /// Counts a vote for this reply, if it differs from the first vote on the same request.
+    fn compare(&mut self, first: &FirstVote, reply: &Reply, line: u64) {
+        if first.reply.same(reply) {
+            return;
+        }
+        if self.unlike.number == 0 {
+            self.unlike_which = first.line;
+        }
+        self.unlike.add(line);
+    }
+
+    /// Writes how many votes differ from the first one on the same request; nothing if none does.
+    fn write_unlike(&self, out: &mut String) -> Result<(), Refusal> {
+        let (number, line, which) = (self.unlike.number, self.unlike.first, self.unlike_which);
+        if number > 0 {
+            writeln!(
+                out,
+                "votes that differ from the first vote on the same request: {number}, the first in line {line}; it differs from a vote in line {which}"
+            )?;
+        }
+        Ok(())
+    }
+
+    /// Counts an envelope that is no vote, if a request of the client is outstanding.
+    fn add_no_vote(&mut self, stage: &Stage, actor: &Actor, line: u64) {
+        if is_waiting(stage, actor) {
+            self.no_vote.add(line);
+        }
+    }
+
+    /// Forgets the first vote on the client's request, which is answered.
+    fn forget_vote(&mut self, actor: &Actor) {
+        if let Actor::Client(client) = actor {
+            self.first_votes[client.number() as usize] = None;
+        }
+    }
+}
+
+/// Tells whether the actor is a client with an outstanding request.
+fn is_waiting(stage: &Stage, actor: &Actor) -> bool {
+    let Actor::Client(client) = actor else {
+        return false;
+    };
+    match stage.client(*client) {
+        Ok(client) => client.outstanding().is_some(),
+        Err(_) => false,
+    }
+}
