@@ -8,7 +8,8 @@ with all later ones refused too. A run that met a refusal must do all the same w
 standard error, and write nothing on standard output. A play may also be reported whole, with status 3, if one of its events was refused for that. Then the
 report must be, to the byte, that of tests/models/slow_play.py in which this event alone has no memory, so that nothing else was changed; and its
 transcript likewise, on which `dsr check` must report as this model says. If each event of a play is made twice, the transcript must be that of ample memory:
-the event that was refused is done when it is made again. Then the same with so little memory that the system refuses it, on long texts, with more and more
+the event that was refused is done when it is made again. An explanation that goes out in parts may break off where the text about some of the first events
+ends. Then the same with so little memory that the system refuses it, on long texts, with more and more
 until all is done. Then the tests of the crates below the command line, one by one: a test that meets a refusal must pass, or end with that error, or with an
 assertion that got that error (`WriteFailed` if what is written goes to memory). One that ends otherwise got a wrong answer in its place. A
 test of a module whose name ends in `_memory` makes each refused call again, and must pass whichever allocation is refused.
@@ -19,7 +20,7 @@ streams: the program runs with every word on examples.
    error, with one for a call that was interrupted, or that would have to wait; all later reads fail too, or none. The program must end with status 1 and
    `reading failed`, write nothing on standard output, and not read again. With no failure, however few bytes a read moves, it gives what it should.
 2. The 1st, 2nd, 3rd .. write fails in the same ways, or takes nothing. The program must end with status 1 and `writing failed`, not write again, and what
-   went out is what the writes before moved: the beginning of what it should give. With no failure all of it goes out.
+   went out is what the writes before moved: the beginning of what it should give. With no failure all of it goes out. Likewise for an explanation in parts.
 3. The reads end early: then the text is what was read, and the program gives what tests/models give for that.
 4. Writes on standard error fail: the status alone tells, and standard output is as it should be.
 5. The system's own: closed streams, folders, full files, pipes that nobody reads, that are left, empty or full, and input in pieces; and terminals.
@@ -242,6 +243,53 @@ def check_of_little(row):
     return f"{words} on {len(text)} bytes with little memory", fault, f", {count} runs with more and more"
 
 
+# ---- an explanation that goes out in parts
+
+# What begins the text about an event, and what the line about an event or of its notes begins with.
+EVENT_BEGINS, OF_EVENTS = re.compile(rb"^line ", re.M), re.compile(rb"(?:line |    ).*\n")
+
+
+@functools.cache
+def long_explanation():
+    """A play, its explanation, which goes out in several parts, and how many of its bytes went out where it may have broken off."""
+    text = one_replica(3_000).text()
+    whole = run_of("explain", text)[1]
+    ends = {begun.start() for begun in EVENT_BEGINS.finditer(whole)}
+    last = max(ends)
+    while OF_EVENTS.match(whole, last):
+        last = OF_EVENTS.match(whole, last).end()
+    return text, whole, ends | {last}
+
+
+def check_of_starved_explanation(shim):
+    """What the runs of an explanation with allocations refused are, what is wrong with them, or None, and what is said of them."""
+    text, whole, ends = long_explanation()
+    lengths = []
+    for nth, rest in itertools.product(numbers(*FEW), (None, 1)):
+        ran, is_refused = refused_run(shim, "explain", text, nth, rest)
+        if not is_refused:
+            break
+        if ran != (0, whole, b"") and (ran[::2] != NO_MEMORY[::2] or whole[:len(ran[1])] != ran[1] or len(ran[1]) not in ends):
+            return "explain in parts", f"with allocation {nth} refused, all later ones too {rest}: {shown(ran)}", ""
+        lengths.append(len(ran[1]))
+    fault = None if any(0 < length < len(whole) for length in lengths) else "no explanation broke off"
+    return "explain in parts", fault, f", {len(lengths)} runs with allocations refused, {len(set(lengths))} lengths of what went out"
+
+
+def fault_of_unwritten_explanation(shim):
+    """What is wrong with the runs of an explanation of which a write fails, or None; and how many they are."""
+    text, whole, ends = long_explanation()
+    length = -1
+    for nth in range(1, MOST_CALLS):
+        ran, calls = failing_run(shim, "explain", text, 1, nth, *kinds(WRITE_ERRORS, nth))
+        if not calls:
+            return difference(ran, (0, whole, b"")) or (None if nth > 4 else f"it wrote {nth - 1} times"), nth
+        if ran[::2] != (1, UNWRITTEN[1]) or whole[:len(ran[1])] != ran[1] or len(ran[1]) not in ends or len(ran[1]) <= length or calls > 1:
+            return f"write {nth} fails: {shown(ran)}, {calls} calls", nth
+        length = len(ran[1])
+    return f"there is still a write after {MOST_CALLS}", MOST_CALLS
+
+
 # ---- allocations: the tests of crates
 
 
@@ -295,6 +343,7 @@ def allocations(report, is_soak):
         checks = [functools.partial(check_of_crate, crate, shim) for crate in CRATES]
         checks += [functools.partial(check_of_row, row, shim, is_soak) for row in allocation_rows()]
         checks += [functools.partial(check_of_little, row) for row in long_rows()]
+        checks += [functools.partial(check_of_starved_explanation, shim)]
         found = []
         for what, fault, said, *more in in_threads(lambda check: check(), checks):
             report.judge(what, fault, said)
@@ -464,6 +513,7 @@ def failing_calls(shim, is_soak):
                 yield f"{words}, writes that fail", functools.partial(fault_of_calls, shim, row, 1, most, is_soak or most > 1)
         yield f"{words}, short reads and writes", functools.partial(short_calls, shim, row)
     yield "serve --transcript, reads and writes that fail", functools.partial(fault_of_transcribed, shim)
+    yield "explain in parts, writes that fail", functools.partial(fault_of_unwritten_explanation, shim)
     shown_help = program("--help", b"", SECONDS)
     yield "--help, writes that fail", functools.partial(fault_of_calls, shim, ("--help", b"", shown_help), 1, 37, True)
     for words, text, wanted in refusals():

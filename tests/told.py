@@ -2,15 +2,15 @@
 """What is told and shown of the program: tests/told.py, or with the names of some of its parts. With `explanations --write` it writes the explanations in
 examples/why/ anew, and with `pictures --write` the pictures of the attacks.
 
-explanations: what `dsr explain` tells. Of each play of examples/, and of random plays, the lines of data are those of tests/models/explain_model.py, but for
-what a replica keeps, holds or does not propose, which the model does not tell; and so are, in words, all lines that say why an event is refused or why a
-reply is no vote. Each reason why an event is refused, but a counter at its limit, is that of a play by hand. Of each attack there are lines that name what
-stopped it. Of each play of examples/why/, which is wrong in one line, the first refused event is of that line, and the explanation beside it is what the
-program writes. Of texts that are no play the line, the column, and what was expected there are named; of 2,000 texts that are nearly plays the line and the
-column are those of tests/models/first_faults.py: the first byte with which no play goes on; and of 600 texts each that are nearly serve scripts, transcripts
-and request lines. Plays written by hand show what is told of requests that are not proposed, of posts that are refused, and at the end. What is told with
-options is told without them too; as data, each option leaves just what it is to leave. To tell what was refused takes at most three times the processor time of
-the play.
+explanations: what `dsr explain` tells. Of each play of examples/, and of random plays, the lines of data are those of tests/models/explain_model.py; and so
+are, in words, all lines that say why an event is refused or why a reply is no vote, the beginnings of those of events that find a box full, and those at the
+end that count something, which are also written by hand for plays that show one each. Each reason why an event is refused, but a counter at its limit, is
+that of a play by hand. Of each attack there are lines that name what stopped it. Of each play of examples/why/, which is wrong in one line, the first refused
+event is of that line, and the explanation beside it is what the program writes. Of texts that are no play the line, the column, and what was expected there
+are named; of 2,000 texts that are nearly plays the line and the column are those of tests/models/first_faults.py: the first byte with which no play goes on;
+and of 600 texts each that are nearly serve scripts, transcripts and request lines. Plays written by hand show what is told of requests that are not proposed,
+of posts that are refused, and at the end. What is told with options is told without them too; as data, each option leaves just what it is to leave. To tell
+what was refused takes at most three times the processor time of the play.
 
 transcripts: what `dsr explain` tells of transcripts. Those of tests/written/stops.txt stop being runs at the line that is there, for the reason that is there,
 as data and in words, and each line after it is the one there; the others there are runs. Of each transcript of examples/ that is not one of a run the explanation
@@ -58,10 +58,9 @@ NEARLY_PLAYS, FULL_PLAYS = 2_000, 100
 NEARLY_OTHERS = 600
 # How many times the processor time of a play it may take to tell what was refused.
 MOST_TIMES = 3
-# Lines that the model does not make.
-BESIDE = ("silence ", "kept ", "hold ", "unproposed ")
-# How lines begin that have a reason in words.
-SENTENCES = ("    because ", "    no vote of ")
+# How lines begin in words that count something at the end, and those and the ones that have a reason.
+COUNTING = tuple(words.split("{}")[0] for words in explain_model.COUNTED.values())
+SENTENCES = ("    because ", "    no vote of ", *COUNTING)
 TABLES = tables("explanations")
 # The wrong line of each play of examples/why/, or the line in which what it lacks is missed first.
 WRONG_LINES = {"forgotten-post": 6, "wrong-senders-choice": 5, "request-not-asked": 3, "signature-of-another-slot": None, "reply-too-early": 8}
@@ -72,17 +71,12 @@ NARROWING = [
 ]
 
 
-def shared(data):
-    """The lines of data that program and model share."""
-    return [line for line in data.decode().splitlines() if not line.startswith(BESIDE)]
-
-
 def fault_of_lines(play):
     """What is wrong with the data of this play, or None."""
     status, data, told = program("explain --data", play)
     if status != 0 or told:
         return f"status {status}, {told!r}"
-    return fault_of_same(shared(data), shared(explain_model.explained(play)[1]))
+    return fault_of_same(data.decode().splitlines(), explain_model.explained(play)[1].decode().splitlines())
 
 
 def fault_of_same(found, wanted):
@@ -94,12 +88,15 @@ def fault_of_same(found, wanted):
 
 
 def fault_of_sentences(play):
-    """What is wrong with the sentences that say why events of this play are refused, or replies are no votes; or None."""
+    """What is wrong with the sentences that say why events of this play are refused, since when a box is full, or why replies are no votes, or that count
+    something; or None."""
     status, text, told = program("explain", play)
     if status != 0 or told:
         return f"status {status}, {told!r}"
     found = [line for line in text.decode().splitlines() if line.startswith(SENTENCES)]
-    return fault_of_same(found, list(explain_model.sentences(explain_model.explained(play)[1])))
+    full = [f"{line.partition(')')[0]})" for line in text.decode().splitlines() if ": refused, E6 BoxFull: " in line]
+    data = explain_model.explained(play)[1]
+    return fault_of_same(found, [*explain_model.sentences(data), *explain_model.ends(data)]) or fault_of_same(full, [*explain_model.full_boxes(data)])
 
 
 def fault_of_reason(lines, reason, sentence):
@@ -250,6 +247,14 @@ def fault_of_sayings(lines, ends, nowhere):
     return next((f"it says `{text}`" for text in nowhere.split("\n") if text and text in written), None)
 
 
+def fault_of_counts(lines, counts):
+    """What is wrong with the lines at the end that count something, of a play with these lines; or None."""
+    status, text, told = program("explain", lines_text(["dsr-play 1 3 1 2 r2", *lines.split("\n")]))
+    if status != 0 or told:
+        return f"status {status}, {told!r}"
+    return fault_of_same([line for line in text.decode().splitlines() if line.startswith(COUNTING)], counts.splitlines())
+
+
 def with_slots(notes):
     """Each note of an event, with the slot that it is of, or None. What acts, and what does not, is of the slot that was decided before it."""
     decided = None
@@ -329,6 +334,8 @@ def explanations(report, is_written):
         report.judge(f"why {lines!r} is refused", fault_of_reason(lines, *told), None)
     for lines, *told in TABLES["sayings"]:
         report.judge(f"what is told of {lines!r}", fault_of_sayings(lines, *told), None)
+    for lines, counts in TABLES["counts"]:
+        report.judge(f"what is counted of {lines!r}", fault_of_counts(lines, counts), None)
     for text, line, column, expected in TABLES["no plays"]:
         report.judge(f"no play: {text[:60]!r}", fault_of_no_play(text.encode(), int(line), int(column), expected.encode()), None)
     faults = [fault for fault in in_processes(fault_of_place, range(NEARLY_PLAYS), 25) if fault]
