@@ -104,9 +104,11 @@ def growth(shim, plays):
         if ran[0] != 0 or not ran[1].startswith(done_with(play)):
             return shown(ran), 0, ""
         counts.append([int(count) for count in noted.split()][:3])
-    whats, (first, second) = ["allocations", "reallocations", "bytes that reallocations had"], counts
-    # Of a linear program each is twice as great, and less as far as the start takes some.
-    faults = [f"{what} are {before} and {after}" for what, before, after in zip(whats, first, second) if 10 * after > 22 * before]
+    (first, second) = counts
+    # Of a linear program each is twice as great, and less as far as the start takes some. But the last room of a text is four times as great where the text passes
+    # two powers of two.
+    limits = [("allocations", 2.2), ("reallocations", 2.2), ("bytes that reallocations had", 2.5)]
+    faults = [f"{what} are {before} and {after}" for (what, most), before, after in zip(limits, first, second) if after > most * before]
     return "; ".join(faults) or None, second[1] - first[1], f", {first} and {second}"
 
 
