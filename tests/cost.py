@@ -4,7 +4,8 @@ and a C compiler, `cc`. A call may refuse for want of memory whatever its contra
 can be, and each event is to be done.
 
 sizes: plays of a million events, and of few, whose whole report is reckoned by tests/kit/long_plays.py. The program has twice the memory that it needed when
-that was measured, so many bytes an event: a program fails that takes room for much before it has use for it. How often a play asks for memory grows
+that was measured, so many bytes an event: a program fails that takes room for much before it has use for it. An explanation of a million events has less memory
+than its text has bytes. How often a play asks for memory grows
 with its events and no faster, and what grows in one piece is given room by doubling. Ten times as many events cost not much more than ten times the time.
 
 load: plays of 2,500, 5,000 and 10,000 rounds, with `soak` most of 20,000 too, and the checks of their transcripts: one replica, three, and four of which one
@@ -83,6 +84,21 @@ def judge_reports(report):
         report.judge(what, fault_within(play, limit), f"{said}, within {limit >> 20} MiB")
 
 
+# What an explanation of a million events is given: less than its text has bytes, which goes out in parts. It needed less than 90 MiB.
+OF_AN_EXPLANATION = 120 << 20
+
+
+def fault_of_explanation(play):
+    """What is wrong with the play's explanation if it has little memory, or None; and what is said of it."""
+    text, command = play.text(), command_of("explain")
+    wanted = run(command, text, env=LARGE_PAGES)
+    said = f", {len(wanted[1]) >> 20} MiB of text within {OF_AN_EXPLANATION >> 20} MiB"
+    if wanted[0] or wanted[2] or len(wanted[1]) <= OF_AN_EXPLANATION:
+        return f"with ample memory: status {wanted[0]}, {wanted[2]!r}", said
+    status, output, errors = run(with_memory(OF_AN_EXPLANATION, command), text, env=LARGE_PAGES)
+    return None if (status, output, errors) == wanted else f"status {status}, {errors[:120]!r}, {len(output)} bytes", said
+
+
 # ---- sizes: counts
 
 # What grows with the play of one client is given room by doubling: the input, the events, the entries, the decisions, the history, its
@@ -144,6 +160,7 @@ def fault_of_time(*plays):
 
 def sizes(report, _):
     judge_reports(report)
+    report.judge("sixteen replicas, seven of them traitors, explained", *fault_of_explanation(broadcasts(98)))
     judge_allocations(report)
     for what, *plays in [
         ("one replica", one_replica(0, 1, 1), one_replica(10_000, 1, 1), one_replica(100_000, 1, 1)),
