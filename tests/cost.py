@@ -89,7 +89,7 @@ OF_AN_EXPLANATION = 120 << 20
 
 
 def fault_of_explanation(play):
-    """What is wrong with the play's explanation if it has little memory, or None; and what is said of it."""
+    """How the play's explanation with little memory differs from that with ample memory, which tests/told.py judges, or None; and what is said about it."""
     text, command = play.text(), command_of("explain")
     wanted = run(command, text, env=LARGE_PAGES)
     said = f", {len(wanted[1]) >> 20} MiB of text within {OF_AN_EXPLANATION >> 20} MiB"
