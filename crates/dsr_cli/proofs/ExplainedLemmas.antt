@@ -1,5 +1,5 @@
 -- What is left after an explanation that was written, or could not be.
-use Rattle.std.proofs.Common.{◌≡◌, ◌⊎◌, ◌≤◌, ℕ, Bool, true, false, List, length, inl, inr, subst, sym}
+use Rattle.std.proofs.Common.{◌≡◌, ◌≢◌, ◌⊎◌, ◌≤◌, ℕ, Bool, true, false, List, length, inl, inr, refl, subst, sym}
 use Rattle.std.specs.Prelude.{Option, None, Some, Result, Ok, Err, IfErr, OnOk}
 use Rattle.dsr_names.specs.Limits.{most_bytes}
 use Rattle.dsr_names.specs.Streams.{Streams, CanFailToTake, SentAll, SentPrefix}
@@ -7,7 +7,7 @@ use Rattle.dsr_names.specs.declared.refusal.Refusal.{Refusal}
 use Rattle.dsr_names.specs.declared.refusal.Refusal.TheVariants.{BadShape, BadName, BadNumber, Busy, NotDue, BoxFull, BoxEmpty, Forged, Exhausted, Stopped, Unanswered, NoMemory, BadText, NotARun, NoActor, WrongRole, ReadFailed, WriteFailed, NoThread}
 use Rattle.dsr_command.specs.declared.narrowing.Narrowing.{Narrowing}
 use Rattle.dsr_history.specs.Applied.{IsTextOf}
-use Rattle.dsr_explain.specs.Told.{Explains, LeftAfterFault, LeftAfterPlay, LeftAfterTelling}
+use Rattle.dsr_explain.specs.Told.{Explains, LeftAfterFault, LeftOfExplanation, LeftAfterTelling}
 use Rattle.dsr_play.specs.Play.{IsPlayRefusal, Play, Spells}
 use Rattle.dsr_record.specs.Record.{Record}
 use Rattle.dsr_record.specs.RecordText.{IsRecordRefusal}
@@ -25,8 +25,9 @@ pub from_err : (r : Result (Unit {0}) Refusal) (P Q : Refusal → Type 0) → ((
 from_err (Ok nothing) P Q more p = tt
 from_err (Err refusal) P Q more p = more refusal p
 
--- no text has a fault for which neither plays nor transcripts are refused, and which tells nothing about a record
-module _ (fault : Refusal) (play : (text : List ℕ) → IsPlayRefusal text fault → ⊥) (transcript : (text : List ℕ) → IsRecordRefusal text fault → ⊥)
+-- no text has a fault for which neither plays nor transcripts are refused, and which tells nothing about a record; want of memory is none
+module _ (fault : Refusal) (play : (text : List ℕ) → (fault ≢ NoMemory) × IsPlayRefusal text fault → ⊥)
+    (transcript : (text : List ℕ) → (fault ≢ NoMemory) × IsRecordRefusal text fault → ⊥)
     (steps : (is_data : Bool) (recorded : Record) (told : List ℕ) → TellsRecord is_data recorded (Some fault) told → ⊥) where
   untold : (text : List ℕ) (narrowing : Narrowing) (told : List ℕ) → IsExplained text narrowing (Some fault) told → ⊥
   untold text narrowing told (inl (is, inl t)) = steps narrowing.as_data t.recorded told t.tells
@@ -41,22 +42,22 @@ fault_left : (narrowing : Narrowing) (s : Streams) (fault : Refusal) → Explain
 fault_left narrowing s BadShape h = h
 fault_left narrowing s (BadText line) h = h
 fault_left narrowing s (NotARun line) h = h
-fault_left narrowing s NoMemory h = inr (inl h)
-fault_left narrowing s Exhausted h = impossible Exhausted (λ text x. x) (λ text x. x) (λ d r told x. x) narrowing s h
-fault_left narrowing s Unanswered h = impossible Unanswered (λ text x. x) (λ text x. x) (λ d r told x. x) narrowing s h
-fault_left narrowing s NoThread h = impossible NoThread (λ text x. x) (λ text x. x) (λ d r told x. x) narrowing s h
-fault_left narrowing s Stopped h = impossible Stopped (λ text x. x) (λ text x. x) (λ d r told x. x) narrowing s h
-fault_left narrowing s BadName h = impossible BadName (λ text x. x) (λ text x. x) (λ d r told x. x) narrowing s h
-fault_left narrowing s BadNumber h = impossible BadNumber (λ text x. x) (λ text x. x) (λ d r told x. x) narrowing s h
-fault_left narrowing s Busy h = impossible Busy (λ text x. x) (λ text x. x) (λ d r told x. x) narrowing s h
-fault_left narrowing s NotDue h = impossible NotDue (λ text x. x) (λ text x. x) (λ d r told x. x) narrowing s h
-fault_left narrowing s BoxFull h = impossible BoxFull (λ text x. x) (λ text x. x) (λ d r told x. x) narrowing s h
-fault_left narrowing s BoxEmpty h = impossible BoxEmpty (λ text x. x) (λ text x. x) (λ d r told x. x) narrowing s h
-fault_left narrowing s Forged h = impossible Forged (λ text x. x) (λ text x. x) (λ d r told x. x) narrowing s h
-fault_left narrowing s NoActor h = impossible NoActor (λ text x. x) (λ text x. x) (λ d r told x. x) narrowing s h
-fault_left narrowing s WrongRole h = impossible WrongRole (λ text x. x) (λ text x. x) (λ d r told x. x) narrowing s h
-fault_left narrowing s ReadFailed h = impossible ReadFailed (λ text x. x) (λ text x. x) (λ d r told x. x) narrowing s h
-fault_left narrowing s WriteFailed h = impossible WriteFailed (λ text x. x) (λ text x. x) (λ d r told x. x) narrowing s h
+fault_left narrowing s NoMemory h = impossible NoMemory (λ text x. x.0 refl) (λ text x. x.0 refl) (λ d r told x. x) narrowing s h
+fault_left narrowing s Exhausted h = impossible Exhausted (λ text x. x.1) (λ text x. x.1) (λ d r told x. x) narrowing s h
+fault_left narrowing s Unanswered h = impossible Unanswered (λ text x. x.1) (λ text x. x.1) (λ d r told x. x) narrowing s h
+fault_left narrowing s NoThread h = impossible NoThread (λ text x. x.1) (λ text x. x.1) (λ d r told x. x) narrowing s h
+fault_left narrowing s Stopped h = impossible Stopped (λ text x. x.1) (λ text x. x.1) (λ d r told x. x) narrowing s h
+fault_left narrowing s BadName h = impossible BadName (λ text x. x.1) (λ text x. x.1) (λ d r told x. x) narrowing s h
+fault_left narrowing s BadNumber h = impossible BadNumber (λ text x. x.1) (λ text x. x.1) (λ d r told x. x) narrowing s h
+fault_left narrowing s Busy h = impossible Busy (λ text x. x.1) (λ text x. x.1) (λ d r told x. x) narrowing s h
+fault_left narrowing s NotDue h = impossible NotDue (λ text x. x.1) (λ text x. x.1) (λ d r told x. x) narrowing s h
+fault_left narrowing s BoxFull h = impossible BoxFull (λ text x. x.1) (λ text x. x.1) (λ d r told x. x) narrowing s h
+fault_left narrowing s BoxEmpty h = impossible BoxEmpty (λ text x. x.1) (λ text x. x.1) (λ d r told x. x) narrowing s h
+fault_left narrowing s Forged h = impossible Forged (λ text x. x.1) (λ text x. x.1) (λ d r told x. x) narrowing s h
+fault_left narrowing s NoActor h = impossible NoActor (λ text x. x.1) (λ text x. x.1) (λ d r told x. x) narrowing s h
+fault_left narrowing s WrongRole h = impossible WrongRole (λ text x. x.1) (λ text x. x.1) (λ d r told x. x) narrowing s h
+fault_left narrowing s ReadFailed h = impossible ReadFailed (λ text x. x.1) (λ text x. x.1) (λ d r told x. x) narrowing s h
+fault_left narrowing s WriteFailed h = impossible WriteFailed (λ text x. x.1) (λ text x. x.1) (λ d r told x. x) narrowing s h
 
 module _ (s : Streams) (text : List ℕ) (narrowing : Narrowing) (short : length text ≤ most_bytes) (given : IsTextOf s.input.left text) where
   -- all of an explanation went out
@@ -95,11 +96,11 @@ module _ (s : Streams) (text : List ℕ) (narrowing : Narrowing) (short : length
     pub play_explained : (told : List ℕ) × Explains text (wanted_of narrowing) told × SentAll told s.output s.written → ExplainedAll narrowing s
     play_explained (told, tells, out) = all_told None told (inr (other, tells)) out
 
-    of_play : (play : Play) → Spells text play → (refusal : Refusal) → LeftAfterPlay (wanted_of narrowing) play refusal s.output s.written
+    of_play : (play : Play) → Spells text play → (refusal : Refusal) → LeftOfExplanation (wanted_of narrowing) play refusal s.output s.written
         → LeftAfterExplain narrowing refusal s
     of_play play spells NoMemory (inl none) = inl none
     of_play play spells NoMemory (inr (told, begins, out)) =
-        inr (inr (record { text = text; short = short; given = given; told = told; begun = (other, (play, spells, begins)); went_out = out }))
+        inr (record { text = text; short = short; given = given; told = told; begun = (other, (play, spells, begins)); went_out = out })
     of_play play spells WriteFailed (told, inl tells, many, out) = part_told told (inl (None, inr (other, (play, spells, tells)))) many out
     of_play play spells WriteFailed (told, inr begins, many, out) = part_told told (inr (other, (play, spells, begins))) many out
     of_play play spells BadShape h = absurd h
@@ -120,14 +121,14 @@ module _ (s : Streams) (text : List ℕ) (narrowing : Narrowing) (short : length
     of_play play spells (BadText line) h = absurd h
     of_play play spells (NotARun line) h = absurd h
 
-    of_fault : (fault : Refusal) → IsPlayRefusal text fault → (refusal : Refusal) → LeftAfterFault fault refusal s.output s.written
+    of_fault : (fault : Refusal) → (fault ≢ NoMemory) × IsPlayRefusal text fault → (refusal : Refusal) → LeftAfterFault fault refusal s.output s.written
         → LeftAfterExplain narrowing refusal s
     of_fault fault is refusal (inl (e, all)) =
         subst (λ r. LeftAfterExplain narrowing r s) (sym e) (fault_left narrowing s fault (all_told (Some fault) all.0 (inr (other, is)) all.1))
-    of_fault fault is refusal (inr (inl (e, part))) = subst (λ r. LeftAfterExplain narrowing r s) (sym e)
+    of_fault fault is refusal (inr (e, part)) = subst (λ r. LeftAfterExplain narrowing r s) (sym e)
         (part_told part.0 (inl (Some fault, inr (other, is))) part.1 part.2)
-    of_fault fault is refusal (inr (inr (e, none))) = subst (λ r. LeftAfterExplain narrowing r s) (sym e) (inl none)
 
     pub play_left : (refusal : Refusal) → LeftAfterTelling text (wanted_of narrowing) refusal s.output s.written → LeftAfterExplain narrowing refusal s
     play_left refusal (inl (play, spells, after)) = of_play play spells refusal after
-    play_left refusal (inr (fault, is, after)) = of_fault fault is refusal after
+    play_left refusal (inr (inl (fault, starved, is, after))) = of_fault fault (starved, is) refusal after
+    play_left refusal (inr (inr (e, none))) = subst (λ r. LeftAfterExplain narrowing r s) (sym e) (inl none)

@@ -1,5 +1,5 @@
 -- What `explain` leaves, by what it returns, and by what of a play is to be explained, as data or in words (this project).
-use Rattle.std.specs.Prelude.{◌≡◌, ◌⊎◌, ◌≤◌, ◌==◌, Bool, true, false, List, ℕ, Option, None, Some, codes, length}
+use Rattle.std.specs.Prelude.{◌≡◌, ◌≢◌, ◌⊎◌, ◌≤◌, ◌==◌, Bool, true, false, List, ℕ, Option, None, Some, codes, length}
 use Rattle.std.specs.Io.KnownBytes.{Keeps}
 use Rattle.std.specs.List.{starts_with}
 use Rattle.dsr_names.specs.Limits.{most_bytes}
@@ -23,10 +23,10 @@ abbrev pub wanted_of : Narrowing → Wanted
 wanted_of narrowing = record { slot = narrowing.slot; actor = narrowing.actor; refused = narrowing.refused; «data» = narrowing.as_data }
 
 -- what `told` says about a text that is no transcript: it explains the play that the text encodes; and a fault, if there is one, is a reason to refuse the
--- text as a play, or a lack of memory
+-- text as a play, and no want of memory
 abbrev pub TellsOfPlay : List ℕ → Wanted → Option Refusal → List ℕ → Type 0
 TellsOfPlay text wanted None told = Explains text wanted told
-TellsOfPlay text wanted (Some fault) told = IsPlayRefusal text fault
+TellsOfPlay text wanted (Some fault) told = (fault ≢ NoMemory) × IsPlayRefusal text fault
 
 -- what `told` says about a text that has this fault: of a transcript that its steps are a run, or where and why they stop being one; of any other text
 -- what came of a play
@@ -72,20 +72,19 @@ abbrev pub ExplainedAll : Narrowing → Streams → Type 0
 ExplainedAll narrowing s = ExplainedTo narrowing None s
 
 -- what each refusal leaves: a text that is neither a play nor a transcript is refused by what is wrong with it, and a transcript whose steps are not a
--- run by the line at which they stop being one: an explanation was written; if memory ran out, so it was, or its beginning, or nothing; if reading failed,
+-- run by the line at which they stop being one: an explanation was written; if memory ran out, the beginning of one was, or nothing; if reading failed,
 -- which a steady source does only for too many bytes, nothing was written; if writing failed, a prefix was; no other refusal occurs
 abbrev pub LeftAfterExplain : Narrowing → Refusal → Streams → Type 0
 LeftAfterExplain narrowing BadShape s = ExplainedTo narrowing (Some BadShape) s
 LeftAfterExplain narrowing (BadText line) s = ExplainedTo narrowing (Some (BadText line)) s
 LeftAfterExplain narrowing (NotARun line) s = ExplainedTo narrowing (Some (NotARun line)) s
-LeftAfterExplain narrowing NoMemory s =
-    Keeps s.output.contents s.written.contents ⊎ (ExplainedTo narrowing (Some NoMemory) s ⊎ ExplainedSome narrowing s)
+LeftAfterExplain narrowing NoMemory s = Keeps s.output.contents s.written.contents ⊎ ExplainedSome narrowing s
 LeftAfterExplain narrowing ReadFailed s = CanFailToGive s.input × Keeps s.output.contents s.written.contents
 LeftAfterExplain narrowing WriteFailed s = ExplainedPart narrowing s
 LeftAfterExplain narrowing other s = ⊥
 
--- what each refusal leaves of an explanation of a transcript; no public contract cites this: if memory ran out, nothing; otherwise what is left after it
--- was made, and written as far as it could be
+-- what each refusal leaves of an explanation of a transcript, which goes out at once; no public contract cites this: if memory ran out, nothing; otherwise
+-- what is left after writing
 abbrev pub LeftAfterSteps : List ℕ → Bool → Refusal → (before after : Output) → Type 0
 LeftAfterSteps text is_data refusal before after =
     ((refusal ≡ NoMemory) × Keeps before.contents after.contents)

@@ -11,7 +11,7 @@ use Rattle.dsr_play.specs.Play.{Play}
 use Rattle.dsr_play.specs.declared.event.Event.{Event}
 use Rattle.dsr_run.specs.Step.{Step}
 use Rattle.dsr_explain.specs.Outlet.{HasGoneOut, IsUnsure}
-use Rattle.dsr_explain.specs.Told.{HasBrokenOff, LeftAfterPlay, TellsEvent, TellsEvents, TellsPlay, TellsSome, first_line}
+use Rattle.dsr_explain.specs.Told.{HasBrokenOff, LeftOfExplanation, TellsEvent, TellsEvents, TellsPlay, TellsSome, first_line}
 use Rattle.dsr_explain.specs.declared.wanted.Wanted.{Wanted}
 use Rattle.dsr_explain.proofs.PartLemmas.{all_gone, gone_on, none_gone, prefix_gone}
 use Rattle.dsr_explain.proofs.ToldLemmas.{told_next}
@@ -85,14 +85,14 @@ of_play wanted w play shape run events out refusal before after same_wanted same
 
 -- what went out before memory ran out
 pub starved : (wanted : Wanted) (play : Play) (before after : Output) → HasBrokenOff wanted play.shape [] play.events (first_line wanted.data play.shape) NoMemory before after
-    → LeftAfterPlay wanted play NoMemory before after
+    → LeftOfExplanation wanted play NoMemory before after
 starved wanted play before after (inl none) = inl none
 starved wanted play before after (inr (text, some, sent)) =
     inr (first_line wanted.data play.shape ++ text, record { events = text; some = some; told = refl }, sent)
 
 -- what went out before writing failed
 pub unwritten : (wanted : Wanted) (play : Play) (before after : Output) → IsUnsure before
-    → HasBrokenOff wanted play.shape [] play.events (first_line wanted.data play.shape) WriteFailed before after → LeftAfterPlay wanted play WriteFailed before after
+    → HasBrokenOff wanted play.shape [] play.events (first_line wanted.data play.shape) WriteFailed before after → LeftOfExplanation wanted play WriteFailed before after
 unwritten wanted play before after unsure (text, some, sent) =
     let all = first_line wanted.data play.shape ++ text in
     (all, inr (record { events = text; some = some; told = refl }), may_fail (length all) before unsure, sent)
@@ -100,7 +100,7 @@ unwritten wanted play before after unsure (text, some, sent) =
 -- what went out before the events broke off; a text that is to go out at once breaks off for want of memory alone
 pub left_broken : (wanted : Wanted) (play : Play) (before after : Output) (refusal : Refusal) (in_parts : Bool) → (IsTrue in_parts → IsUnsure before)
     → (in_parts ≡ false → refusal ≡ NoMemory) → HasBrokenOff wanted play.shape [] play.events (first_line wanted.data play.shape) refusal before after
-    → LeftAfterPlay wanted play refusal before after
+    → LeftOfExplanation wanted play refusal before after
 left_broken wanted play before after NoMemory in_parts unsure only h = starved wanted play before after h
 left_broken wanted play before after WriteFailed true unsure only h = unwritten wanted play before after (unsure refl) h
 left_broken wanted play before after WriteFailed false unsure only h = absurd (written_or_not (only refl))
@@ -134,10 +134,10 @@ on_err (Err refusal) P Q more p = more refusal p
 pub unsent : {T : Type 0} (result : Result T Refusal) (wanted : Wanted) (play : Play) (in_parts : Bool) (total rest : List ℕ) (before middle after : Output)
     → (IsTrue in_parts → IsUnsure before) → (in_parts ≡ false → middle ≡ before) → TellsPlay wanted play total → HasGoneOut in_parts total rest before middle
     → IsOkUnless result WriteFailed → OnErr result (in_parts ≡ false → CanFailToTake (length rest) middle) → SentPrefix rest middle after
-    → IfErr result (λ refusal. LeftAfterPlay wanted play refusal before after)
+    → IfErr result (λ refusal. LeftOfExplanation wanted play refusal before after)
 unsent (Ok x) wanted play in_parts total rest before middle after unsure at_once tells gone which failed prefix = tt
 unsent (Err refusal) wanted play in_parts total rest before middle after unsure at_once tells gone which failed prefix =
-    subst (λ e. LeftAfterPlay wanted play e before after) (sym which)
+    subst (λ e. LeftOfExplanation wanted play e before after) (sym which)
     (total, inl tells, by_parts in_parts refl, prefix_gone in_parts total rest before middle after gone prefix)
   where
     by_parts : (b : Bool) → in_parts ≡ b → CanFailToTake (length total) before

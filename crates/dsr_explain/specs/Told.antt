@@ -171,7 +171,7 @@ Explains play_text wanted text = (play : Play) × Spells play_text play × Tells
 
 -- ---- explanations that break off
 
--- the text tells some of these events, the first of them in turn
+-- the text tells some of these events, from the first on, in turn
 pub record TellsSome (wanted : Wanted) (shape : Shape) (earlier : List Step) (events : List Event) (text : List ℕ) : Type 0 where
   pub run : List Step
   pub first : List Event
@@ -200,23 +200,24 @@ Begins play_text wanted text = (play : Play) × Spells play_text play × BeginsP
 
 -- what each refusal leaves of an explanation of this play: if memory ran out, nothing, or its beginning; if writing failed, a prefix of it or of its
 -- beginning, and the sink was one that may not take all of that; no other refusal occurs
-abbrev pub LeftAfterPlay : Wanted → Play → Refusal → (before after : Output) → Type 0
-LeftAfterPlay wanted play NoMemory before after =
+abbrev pub LeftOfExplanation : Wanted → Play → Refusal → (before after : Output) → Type 0
+LeftOfExplanation wanted play NoMemory before after =
     Keeps before.contents after.contents ⊎ ((text : List ℕ) × BeginsPlay wanted play text × SentAll text before after)
-LeftAfterPlay wanted play WriteFailed before after =
+LeftOfExplanation wanted play WriteFailed before after =
     (text : List ℕ) × (TellsPlay wanted play text ⊎ BeginsPlay wanted play text) × CanFailToTake (length text) before × SentPrefix text before after
-LeftAfterPlay wanted play other before after = ⊥
+LeftOfExplanation wanted play other before after = ⊥
 
--- what each refusal leaves of a text that has this fault: its description went out, and the refusal is the fault; or a prefix of that went out, and the
--- sink was one that may not take all of it; or memory ran out, and nothing did
+-- what each refusal leaves of the description of this fault: it went out, and the refusal is the fault; or a prefix of it went out, and the sink was one
+-- that may not take all of it
 abbrev pub LeftAfterFault : Refusal → Refusal → (before after : Output) → Type 0
 LeftAfterFault fault refusal before after =
     ((refusal ≡ fault) × ((text : List ℕ) × SentAll text before after))
-    ⊎ (((refusal ≡ WriteFailed) × ((text : List ℕ) × CanFailToTake (length text) before × SentPrefix text before after))
-    ⊎ ((refusal ≡ NoMemory) × Keeps before.contents after.contents))
+    ⊎ ((refusal ≡ WriteFailed) × ((text : List ℕ) × CanFailToTake (length text) before × SentPrefix text before after))
 
--- what each refusal leaves of an explanation of a text: what it leaves of that of the play, if it encodes one, and otherwise of its fault
+-- what each refusal leaves of an explanation of a text: what it leaves of that of the play, if the text encodes one; what it leaves of the description of
+-- the text's fault as a play, which is no want of memory; or memory ran out before that, and nothing went out
 abbrev pub LeftAfterTelling : List ℕ → Wanted → Refusal → (before after : Output) → Type 0
 LeftAfterTelling play_text wanted refusal before after =
-    ((play : Play) × Spells play_text play × LeftAfterPlay wanted play refusal before after)
-    ⊎ ((fault : Refusal) × IsPlayRefusal play_text fault × LeftAfterFault fault refusal before after)
+    ((play : Play) × Spells play_text play × LeftOfExplanation wanted play refusal before after)
+    ⊎ (((fault : Refusal) × (fault ≢ NoMemory) × IsPlayRefusal play_text fault × LeftAfterFault fault refusal before after)
+    ⊎ ((refusal ≡ NoMemory) × Keeps before.contents after.contents))

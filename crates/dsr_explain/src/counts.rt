@@ -18,7 +18,7 @@ struct Count {
 }
 
 impl Count {
-    /// That it has not happened.
+    /// It has not happened yet.
     const NONE: Count = Count {
         number: 0,
         first: 0,

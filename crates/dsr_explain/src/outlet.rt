@@ -31,7 +31,7 @@ impl<W: Write> Outlet for Outside<W> {
     }
 }
 
-/// How a text goes out: in parts or at once, and in at most how many calls of the sink from now on.
+/// How a text goes out: in parts or at once, and how many calls of the sink are left for it.
 #[derive(Drop)]
 pub(crate) struct Outflow {
     in_parts: bool,
@@ -103,7 +103,7 @@ impl Outflow {
     }
 }
 
-/// Writes all of the bytes in at most so many calls, and counts the calls down. `WriteFailed` if the sink fails, takes none of a rest that is not
+/// Writes all of the bytes in at most `calls` calls, and counts the calls down. `WriteFailed` if the sink fails, takes none of a rest that is not
 /// empty, or the calls run out: then a prefix of the bytes went out.
 fn send<S: Sink>(sink: &mut S, bytes: &[u8], calls: &mut usize) -> Result<(), Refusal>
     ensures all { OnOk result (SentAll bytes.now (S.output sink.old) (S.output sink.new)) }

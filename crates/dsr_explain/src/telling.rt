@@ -1,7 +1,8 @@
-ghost use Rattle.std.specs.Prelude.{◌≡◌, ◌+◌, ◌≤◌, ℕ, List, IfErr, OnOk};
+ghost use Rattle.std.specs.Io.KnownBytes.{Keeps};
+ghost use Rattle.std.specs.Prelude.{◌≡◌, ◌⊎◌, ◌+◌, ◌≤◌, ℕ, List, IfErr, OnOk};
 ghost use Rattle.dsr_names.specs.Limits.{most_calls};
 ghost use Rattle.dsr_names.specs.Streams.{SentAll};
-ghost use Rattle.dsr_explain.specs.Told.{Explains, LeftAfterFault, LeftAfterPlay, LeftAfterTelling, TellsPlay};
+ghost use Rattle.dsr_explain.specs.Told.{Explains, LeftAfterFault, LeftOfExplanation, LeftAfterTelling, TellsPlay};
 
 use crate::outlet::{Outflow, Outlet};
 use crate::story::Story;
@@ -16,9 +17,9 @@ use std::mem::forget;
 /// why; then the outcome of each slot, and who waits for whom. If the text is not a play, writes the line, the column and what was expected there, and
 /// then returns its refusal.
 ///
-/// A long explanation goes out in parts, as it is made, if the sink takes parts. Then, if memory runs out, `NoMemory` comes after nothing was written or
-/// after the text about some of the first events, and otherwise after nothing. `WriteFailed` if writing fails: a prefix was written. The sink is called
-/// at most `MOST_CALLS` times. The memory of the play is not freed: a program should end after the call.
+/// If the sink takes parts, a long explanation is written part after part. `NoMemory` if memory runs out: then nothing was written or, if the sink takes
+/// parts, the text about some of the first events. `WriteFailed` if writing fails: then a prefix was written. The sink is called at most `MOST_CALLS`
+/// times. The memory of the play is not freed: a program should end after the call.
 pub fn explain<K: Outlet>(
     alloc: Global,
     text: &[u8],
@@ -44,7 +45,8 @@ fn tell_trouble<K: Sink>(
     refusal: Refusal,
     sink: &mut K,
 ) -> Result<(), Refusal>
-    ensures refused { IfErr result (λ left. LeftAfterFault refusal left (K.output sink.old) (K.output sink.new)) }
+    ensures refused { IfErr result (λ left. LeftAfterFault refusal left (K.output sink.old) (K.output sink.new)
+        ⊎ ((left ≡ Refusal.NoMemory) × Keeps (K.output sink.old).contents (K.output sink.new).contents)) }
     ensures never { OnOk result ⊥ }
     ensures calls { (K.output sink.new).calls ≤ (K.output sink.old).calls + most_calls }
 {
@@ -64,7 +66,7 @@ fn tell_play<K: Outlet>(
     sink: &mut K,
 ) -> Result<(), Refusal>
     ensures told { OnOk result ((told : List ℕ) × TellsPlay wanted.now play told × SentAll told (K.output sink.old) (K.output sink.new)) }
-    ensures refused { IfErr result (λ refusal. LeftAfterPlay wanted.now play refusal (K.output sink.old) (K.output sink.new)) }
+    ensures refused { IfErr result (λ refusal. LeftOfExplanation wanted.now play refusal (K.output sink.old) (K.output sink.new)) }
     ensures calls { (K.output sink.new).calls ≤ (K.output sink.old).calls + most_calls }
 {
     let Ok(mut story) = Story::begin(alloc, play.shape(), wanted, Outflow::to(sink)) else {

@@ -1,10 +1,10 @@
 -- The explanation of a transcript (this project).
-use Rattle.std.specs.Prelude.{◌≡◌, ◌⊎◌, ℕ, Bool, List, [], ◌++◌, Option, None, Some, codes, length}
+use Rattle.std.specs.Prelude.{◌≡◌, ◌≢◌, ◌⊎◌, ℕ, Bool, List, [], ◌++◌, Option, None, Some, codes, length}
 use Rattle.std.specs.Fmt.{decimal}
 use Rattle.dsr_names.specs.Shape.{Shape}
 use Rattle.dsr_names.specs.ShapeText.{shape_text}
 use Rattle.dsr_names.specs.declared.refusal.Refusal.{Refusal}
-use Rattle.dsr_names.specs.declared.refusal.Refusal.TheVariants.{NotARun}
+use Rattle.dsr_names.specs.declared.refusal.Refusal.TheVariants.{NoMemory, NotARun}
 use Rattle.dsr_run.specs.Run.{IsRun}
 use Rattle.dsr_run.specs.Step.{Step, Logs, log_of}
 use Rattle.dsr_record.specs.Record.{Record}
@@ -71,10 +71,10 @@ pub record TellsSteps (transcript : List ℕ) (is_data : Bool) (fault : Option R
   pub spells : Spells transcript recorded
   pub tells : TellsRecord is_data recorded fault text
 
--- the fault is one for which the text is refused as a transcript
+-- the fault is one for which the text is refused as a transcript, and no want of memory
 abbrev pub IsUnread : List ℕ → Option Refusal → Type 0
 IsUnread transcript None = ⊥
-IsUnread transcript (Some refusal) = IsRecordRefusal transcript refusal
+IsUnread transcript (Some refusal) = (refusal ≢ NoMemory) × IsRecordRefusal transcript refusal
 
 -- the text explains a transcript; or the transcript is refused, and nothing is claimed about the text
 abbrev pub TellsTranscript : List ℕ → Bool → Option Refusal → List ℕ → Type 0
