@@ -1,8 +1,9 @@
 mod BreakLemmas
 mod DecidedLemmas
+mod DigitLemmas
+mod HeadLemmas
 mod LetterLemmas
 mod MisfitLemmas
-mod NameLemmas
 mod NoteLemmas
 mod PartLemmas
 mod Refusing

@@ -1,3 +1,4 @@
+pub mod Heads
 pub mod Letters
 pub mod Lines
 pub mod Outlet

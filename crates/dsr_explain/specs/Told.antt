@@ -26,23 +26,32 @@ use Rattle.dsr_reasons.specs.Reason.{TellsCause, actor_of, other_of, one_of}
 use Rattle.dsr_explain.specs.Lines.{note_lines}
 use Rattle.dsr_explain.specs.Waits.{TellsWaits}
 use Rattle.dsr_explain.specs.Wanted.{WantsDone, WantsRefused, wants_note}
+use Rattle.dsr_explain.specs.declared.verb.Verb.{Verb}
+use Rattle.dsr_explain.specs.declared.verb.Verb.TheVariants.{Posts, Plants, Takes, Tells}
 use Rattle.dsr_explain.specs.declared.wanted.Wanted.{Wanted}
 
 -- ---- the line of an event
 
--- what an event of this kind is called
-abbrev pub verb : Bool → Event → List ℕ
-verb is_data (Post from to pick) = one_of is_data (codes "post") (codes " posts to ")
-verb is_data (Plant from to draft) = one_of is_data (codes "plant") (codes " plants for ")
-verb is_data (Take at from) = one_of is_data (codes "take") (codes " takes from ")
-verb is_data (Tell from to) = one_of is_data (codes "tell") (codes " tells ")
+-- what an actor does in this event
+abbrev pub verb_of : Event → Verb
+verb_of (Post from to pick) = Posts
+verb_of (Plant from to draft) = Plants
+verb_of (Take at from) = Takes
+verb_of (Tell from to) = Tells
+
+-- what that is called
+abbrev pub verb_text : Bool → Verb → List ℕ
+verb_text is_data Posts = one_of is_data (codes "post") (codes " posts to ")
+verb_text is_data Plants = one_of is_data (codes "plant") (codes " plants for ")
+verb_text is_data Takes = one_of is_data (codes "take") (codes " takes from ")
+verb_text is_data Tells = one_of is_data (codes "tell") (codes " tells ")
 
 -- who does what to whom
 abbrev pub doing : Bool → Event → List ℕ
 doing is_data event =
     one_of is_data
-    (verb is_data event ++ (codes " " ++ (actor_text (actor_of event) ++ (codes " " ++ actor_text (other_of event)))))
-    (codes ": " ++ (actor_text (actor_of event) ++ (verb is_data event ++ actor_text (other_of event))))
+    (verb_text is_data (verb_of event) ++ (codes " " ++ (actor_text (actor_of event) ++ (codes " " ++ actor_text (other_of event)))))
+    (codes ": " ++ (actor_text (actor_of event) ++ (verb_text is_data (verb_of event) ++ actor_text (other_of event))))
 
 -- the event's number, counted from 0, and the line of the play that represents it
 abbrev pub place_text : Bool → ℕ → ℕ → List ℕ

@@ -226,7 +226,7 @@ fn add_taker(
 }
 
 /// Tells whether the box from one actor to another holds an envelope; false if one of them is not in the shape.
-pub(crate) fn is_full(stage: &Stage, from: &Actor, to: &Actor) -> bool {
+fn is_full(stage: &Stage, from: &Actor, to: &Actor) -> bool {
     stage.shape().has(*from) && stage.shape().has(*to) && stage.in_box(from, to).is_some()
 }
 

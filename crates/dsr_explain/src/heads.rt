@@ -1,16 +1,119 @@
 //! The line of an event: its number, the line of the play that represents it, and who does what to whom.
 
-ghost use Rattle.std.specs.Prelude.{◌≡◌, ◌++◌, OnOk, IsOkUnless, string_bytes};
-ghost use Rattle.dsr_explain.specs.Told.{doing, done_line, place_text, refusal_text, refused_line, verb};
+ghost use Rattle.std.specs.Prelude.{◌≡◌, ◌/◌, ◌++◌, [], None, false, codes, IfOk, IfSome, IsTrue, OnOk, IsOkUnless, string_bytes};
+ghost use Rattle.dsr_reasons.specs.Reason.{actor_of, one_of};
+ghost use Rattle.dsr_explain.specs.Heads.{hundreds_text, last_text, line_of, text_after, text_before};
+ghost use Rattle.dsr_explain.specs.Told.{doing, done_line, place_text, refusal_text, refused_line, verb_of};
 
-use crate::pieces::{put_name, put_number};
-use dsr_names::Refusal;
-use dsr_reasons::{actor_of, other_of, put};
+use crate::pieces::{put_name, put_number, put_two_digits};
+use crate::verb::Verb;
+use dsr_names::{Actor, Refusal};
+use dsr_reasons::{actor_of, other_of};
 use dsr_world::Event;
+use std::alloc::Global;
 
-/// Writes the line of an event that was done; `shown` is the envelope that it posted or took.
+/// Initial buffer size in bytes; most texts fit.
+const ROOM: usize = 48;
+
+/// What several events have in common: how they are told, the hundreds of their numbers, the line of the play that represents them, and who does what.
+#[derive(Clone, Copy, Debug, PartialEq, Eq)]
+pub struct Deed {
+    pub(crate) as_data: bool,
+    pub(crate) hundreds: u64,
+    pub(crate) line: u64,
+    pub(crate) verb: Verb,
+    pub(crate) actor: Actor,
+}
+
+impl Deed {
+    /// Returns what the event with this number, which this line of the play represents, may have in common with others.
+    fn of(as_data: bool, number: u64, line: u64, event: &Event) -> Deed
+        ensures as_data { result.as_data ≡ as_data }
+        ensures hundreds { result.hundreds ≡ number / 100 }
+        ensures line { result.line ≡ line }
+        ensures verb { result.verb ≡ verb_of event.now }
+        ensures actor { result.actor ≡ actor_of event.now }
+    {
+        Deed {
+            as_data,
+            hundreds: number / 100,
+            line,
+            verb: Verb::of(event),
+            actor: actor_of(event),
+        }
+    }
+}
+
+/// The texts that the lines of several events have in common, written once for all of them.
+#[derive(Drop)]
+pub(crate) struct Head {
+    deed: Deed,
+    /// The text at the beginning, with the hundreds of the events' numbers.
+    before: String,
+    /// The text between an event's number and the name of whom it concerns.
+    after: String,
+    ghost first: { string_bytes before ≡ text_before deed },
+    ghost second: { string_bytes after ≡ text_after deed },
+}
+
+impl Head {
+    /// Writes the texts. `NoMemory` if memory runs out.
+    fn of(alloc: Global, deed: &Deed) -> Result<Head, Refusal>
+        ensures same { IfOk result (λ head. head.deed ≡ deed.now) }
+        ensures refusal { IsOkUnless result Refusal.NoMemory }
+    {
+        let before = text_before(alloc, deed)?;
+        let after = text_after(alloc, deed)?;
+        Ok(Head {
+            deed: *deed,
+            before,
+            after,
+        })
+    }
+
+    /// Writes the line of the event with this number, which is one of these and was done; `shown` is the envelope that it posted or took.
+    fn write_done(
+        &self,
+        out: &mut String,
+        number: u64,
+        event: &Event,
+        shown: &str,
+    ) -> Result<(), Refusal>
+        requires hundreds { self.now.deed.hundreds ≡ number / 100 }
+        requires verb { self.now.deed.verb ≡ verb_of event.now }
+        requires actor { self.now.deed.actor ≡ actor_of event.now }
+        ensures text { OnOk result (string_bytes out.new ≡ string_bytes out.old
+            ++ done_line self.now.deed.as_data number self.now.deed.line event.now shown.now) }
+        ensures refusal { IsOkUnless result Refusal.NoMemory }
+    {
+        self.write_parts(out, number, event, shown)
+    }
+
+    /// Writes the parts of such a line.
+    fn write_parts(
+        &self,
+        out: &mut String,
+        number: u64,
+        event: &Event,
+        shown: &str,
+    ) -> Result<(), Refusal>
+        ensures text { OnOk result (string_bytes out.new ≡ string_bytes out.old ++ line_of self.now.deed number event.now shown.now) }
+        ensures refusal { IsOkUnless result Refusal.NoMemory }
+    {
+        out.push_str(self.before.as_str())?;
+        put_last(out, self.deed.hundreds, number)?;
+        out.push_str(self.after.as_str())?;
+        put_name(out, other_of(event))?;
+        write_end(out, self.deed.as_data, shown)
+    }
+}
+
+/// Writes the line of the event with this number, which was done; `shown` is the envelope that it posted or took. `last` has the texts that the line before
+/// it and this one may have in common.
 pub(crate) fn write_done(
     out: &mut String,
+    alloc: Global,
+    last: &mut Option<Head>,
     as_data: bool,
     number: u64,
     line: u64,
@@ -20,9 +123,106 @@ pub(crate) fn write_done(
     ensures text { OnOk result (string_bytes out.new ≡ string_bytes out.old ++ done_line as_data number line event.now shown.now) }
     ensures refusal { IsOkUnless result Refusal.NoMemory }
 {
-    write_place(out, as_data, number, line)?;
-    write_doing(out, as_data, event)?;
-    put(out, as_data, " done", "")?;
+    let head = head_of(alloc, last, &Deed::of(as_data, number, line, event))?;
+    head.write_done(out, number, event, shown)
+}
+
+/// Returns the texts of these events: the last ones if they are theirs, otherwise new ones, which become the last. `NoMemory` if memory runs out.
+fn head_of<'a>(alloc: Global, last: &'a mut Option<Head>, deed: &Deed) -> Result<&'a Head, Refusal>
+    ensures same { IfOk result (λ head. head.now.deed ≡ deed.now) }
+    ensures refusal { IsOkUnless result Refusal.NoMemory }
+{
+    if !is_of(last, deed) {
+        *last = Some(Head::of(alloc, deed)?);
+    }
+    match last {
+        Some(head) => Ok(head),
+        None => unreachable!(),
+    }
+}
+
+/// Tells whether there are texts and they are those of these events.
+fn is_of(last: &Option<Head>, deed: &Deed) -> bool
+    ensures some { IfSome last.now (λ head. IsTrue result → head.deed ≡ deed.now) }
+    ensures none { last.now ≡ None → result ≡ false }
+{
+    match last {
+        Some(head) => head.deed == *deed,
+        None => false,
+    }
+}
+
+/// Returns the text at the beginning of the lines of such events. `NoMemory` if memory runs out.
+fn text_before(alloc: Global, deed: &Deed) -> Result<String, Refusal>
+    ensures text { IfOk result (λ text. string_bytes text ≡ text_before deed.now) }
+    ensures refusal { IsOkUnless result Refusal.NoMemory }
+{
+    let mut text = String::with_capacity(alloc, ROOM)?;
+    if deed.as_data {
+        text.push_str("event ")?;
+    } else {
+        text.push_str("line ")?;
+        put_number(&mut text, deed.line)?;
+        text.push_str(", event ")?;
+    }
+    put_hundreds(&mut text, deed.hundreds)?;
+    Ok(text)
+}
+
+/// Appends so many hundreds, as the beginning of a number; nothing for none.
+fn put_hundreds(out: &mut String, hundreds: u64) -> Result<(), Refusal>
+    ensures text { OnOk result (string_bytes out.new ≡ string_bytes out.old ++ hundreds_text hundreds) }
+    ensures refusal { IsOkUnless result Refusal.NoMemory }
+{
+    if hundreds == 0 {
+        Ok(())
+    } else {
+        put_number(out, hundreds)
+    }
+}
+
+/// Appends what comes after its hundreds in the number, which has so many.
+fn put_last(out: &mut String, hundreds: u64, number: u64) -> Result<(), Refusal>
+    ensures text { OnOk result (string_bytes out.new ≡ string_bytes out.old ++ last_text hundreds number) }
+    ensures refusal { IsOkUnless result Refusal.NoMemory }
+{
+    if hundreds == 0 {
+        put_number(out, number)
+    } else {
+        put_two_digits(out, number)
+    }
+}
+
+/// Returns the text between the number of such an event and the name of whom it concerns. `NoMemory` if memory runs out.
+fn text_after(alloc: Global, deed: &Deed) -> Result<String, Refusal>
+    ensures text { IfOk result (λ text. string_bytes text ≡ text_after deed.now) }
+    ensures refusal { IsOkUnless result Refusal.NoMemory }
+{
+    let mut text = String::with_capacity(alloc, ROOM)?;
+    if deed.as_data {
+        text.push_str(" ")?;
+        put_number(&mut text, deed.line)?;
+        text.push_str(" ")?;
+        text.push_str(deed.verb.text(true))?;
+        text.push_str(" ")?;
+        put_name(&mut text, deed.actor)?;
+        text.push_str(" ")?;
+    } else {
+        text.push_str(": ")?;
+        put_name(&mut text, deed.actor)?;
+        text.push_str(deed.verb.text(false))?;
+    }
+    Ok(text)
+}
+
+/// Writes the end of the line of an event that was done: the envelope.
+fn write_end(out: &mut String, as_data: bool, shown: &str) -> Result<(), Refusal>
+    ensures text { OnOk result (string_bytes out.new ≡ string_bytes out.old ++ (one_of as_data (codes " done") [] ++ shown.now)) }
+    ensures refusal { IsOkUnless result Refusal.NoMemory }
+{
+    if as_data {
+        out.push_str(" done")?;
+    }
     out.push_str(shown)?;
     Ok(())
 }
@@ -95,30 +295,14 @@ fn write_doing(out: &mut String, as_data: bool, event: &Event) -> Result<(), Ref
     ensures refusal { IsOkUnless result Refusal.NoMemory }
 {
     if as_data {
-        out.push_str(verb_of(event, true))?;
+        out.push_str(Verb::of(event).text(true))?;
         out.push_str(" ")?;
         put_name(out, actor_of(event))?;
         out.push_str(" ")?;
     } else {
         out.push_str(": ")?;
         put_name(out, actor_of(event))?;
-        out.push_str(verb_of(event, false))?;
+        out.push_str(Verb::of(event).text(false))?;
     }
     put_name(out, other_of(event))
-}
-
-/// Returns what an event of this kind is called.
-fn verb_of(event: &Event, as_data: bool) -> &'static str
-    ensures { result.now ≡ verb as_data event.now }
-{
-    match (event, as_data) {
-        (Event::Post { .. }, true) => "post",
-        (Event::Post { .. }, false) => " posts to ",
-        (Event::Plant { .. }, true) => "plant",
-        (Event::Plant { .. }, false) => " plants for ",
-        (Event::Take { .. }, true) => "take",
-        (Event::Take { .. }, false) => " takes from ",
-        (Event::Tell { .. }, true) => "tell",
-        (Event::Tell { .. }, false) => " tells ",
-    }
 }

@@ -21,6 +21,7 @@ mod standing;
 mod story;
 mod telling;
 mod texts;
+mod verb;
 mod waiting;
 mod wanted;
 

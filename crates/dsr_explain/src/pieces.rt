@@ -1,15 +1,16 @@
 //! Pieces of lines, appended to a text one after another: `write!` takes several times as long for the same line.
 
-ghost use Rattle.std.specs.Prelude.{◌≡◌, ◌<◌, ◌∷◌, ◌++◌, map, OnOk, IsOkUnless, string_bytes};
+ghost use Rattle.std.specs.Prelude.{◌≡◌, ◌<◌, ◌+◌, ◌∷◌, ◌++◌, [], map, OnOk, IsOkUnless, string_bytes};
 ghost use Rattle.std.specs.Fmt.{decimal};
 ghost use Rattle.dsr_base.specs.Joined.{more_joined};
-ghost use Rattle.dsr_names.specs.Actor.{actor_text, client_text, replica_text};
+ghost use Rattle.dsr_names.specs.Actor.{actor_text};
 ghost use Rattle.dsr_request.specs.RequestText.{request_token};
 ghost use Rattle.dsr_request.specs.RequestsText.{requests_text};
 ghost use Rattle.dsr_desk.specs.ContentText.{content_text};
 ghost use Rattle.dsr_desk.specs.SignersText.{signers_text};
 ghost use Rattle.dsr_chain.specs.Chain.{signers_of};
 ghost use Rattle.dsr_chain.specs.Content.{content};
+ghost use Rattle.dsr_explain.specs.Heads.{last_two};
 
 use crate::requests::RequestTexts;
 use dsr_chain::{Chain, SignedRequest};
@@ -35,86 +36,20 @@ pub(crate) fn put_name(out: &mut String, actor: Actor) -> Result<(), Refusal>
     ensures text { OnOk result (string_bytes out.new ≡ string_bytes out.old ++ actor_text actor) }
     ensures refusal { IsOkUnless result Refusal.NoMemory }
 {
-    out.push_str(name_of(actor))?;
-    Ok(())
-}
-
-/// Returns the actor's name.
-fn name_of(actor: Actor) -> &'static str
-    ensures { result.now ≡ actor_text actor }
-{
     match actor {
-        Actor::Replica(replica) => replica_name(replica.number()),
-        Actor::Client(client) => client_name(client.number()),
+        Actor::Replica(replica) => put_lettered(out, 'r', replica.number()),
+        Actor::Client(client) => put_lettered(out, 'c', client.number()),
     }
 }
 
-/// Returns the name of the replica with this number. Requires that it is below 16.
-fn replica_name(number: u8) -> &'static str
-    requires { number < 16 }
-    ensures { result.now ≡ replica_text number }
+/// Appends the letter and the number. Requires a letter of ASCII, and a number below 100.
+fn put_lettered(out: &mut String, letter: char, number: u8) -> Result<(), Refusal>
+    requires { (letter < 128) × (number < 100) }
+    ensures text { OnOk result (string_bytes out.new ≡ string_bytes out.old ++ (letter ∷ decimal number)) }
+    ensures refusal { IsOkUnless result Refusal.NoMemory }
 {
-    match number {
-        0 => "r0",
-        1 => "r1",
-        2 => "r2",
-        3 => "r3",
-        4 => "r4",
-        5 => "r5",
-        6 => "r6",
-        7 => "r7",
-        8 => "r8",
-        9 => "r9",
-        10 => "r10",
-        11 => "r11",
-        12 => "r12",
-        13 => "r13",
-        14 => "r14",
-        15 => "r15",
-        _ => unreachable!(),
-    }
-}
-
-/// Returns the name of the client with this number. Requires that it is below 32.
-fn client_name(number: u8) -> &'static str
-    requires { number < 32 }
-    ensures { result.now ≡ client_text number }
-{
-    match number {
-        0 => "c0",
-        1 => "c1",
-        2 => "c2",
-        3 => "c3",
-        4 => "c4",
-        5 => "c5",
-        6 => "c6",
-        7 => "c7",
-        8 => "c8",
-        9 => "c9",
-        10 => "c10",
-        11 => "c11",
-        12 => "c12",
-        13 => "c13",
-        14 => "c14",
-        15 => "c15",
-        16 => "c16",
-        17 => "c17",
-        18 => "c18",
-        19 => "c19",
-        20 => "c20",
-        21 => "c21",
-        22 => "c22",
-        23 => "c23",
-        24 => "c24",
-        25 => "c25",
-        26 => "c26",
-        27 => "c27",
-        28 => "c28",
-        29 => "c29",
-        30 => "c30",
-        31 => "c31",
-        _ => unreachable!(),
-    }
+    out.push(letter)?;
+    put_short(out, number as u64)
 }
 
 /// Appends the number.
@@ -122,7 +57,42 @@ pub(crate) fn put_number(out: &mut String, number: u64) -> Result<(), Refusal>
     ensures text { OnOk result (string_bytes out.new ≡ string_bytes out.old ++ decimal number) }
     ensures refusal { IsOkUnless result Refusal.NoMemory }
 {
+    if number < 100 {
+        return put_short(out, number);
+    }
     out.push_str(Buffer::new().format(number))?;
+    Ok(())
+}
+
+/// Appends the number, which is below 100: `put_number` takes several times as long for a greater one.
+fn put_short(out: &mut String, number: u64) -> Result<(), Refusal>
+    requires { number < 100 }
+    ensures text { OnOk result (string_bytes out.new ≡ string_bytes out.old ++ decimal number) }
+    ensures refusal { IsOkUnless result Refusal.NoMemory }
+{
+    if number < 10 {
+        put_digit(out, number)
+    } else {
+        put_two_digits(out, number)
+    }
+}
+
+/// Appends the two last digits of the number.
+pub(crate) fn put_two_digits(out: &mut String, number: u64) -> Result<(), Refusal>
+    ensures text { OnOk result (string_bytes out.new ≡ string_bytes out.old ++ last_two number) }
+    ensures refusal { IsOkUnless result Refusal.NoMemory }
+{
+    put_digit(out, number / 10 % 10)?;
+    put_digit(out, number % 10)
+}
+
+/// Appends the digit.
+fn put_digit(out: &mut String, digit: u64) -> Result<(), Refusal>
+    requires { digit < 10 }
+    ensures text { OnOk result (string_bytes out.new ≡ string_bytes out.old ++ ((48 + digit) ∷ [])) }
+    ensures refusal { IsOkUnless result Refusal.NoMemory }
+{
+    out.push((b'0' + digit as u8) as char)?;
     Ok(())
 }
 

@@ -1,12 +1,11 @@
 //! In which line of a play the post is that fills a box.
 
-use crate::ending::is_full;
 use crate::pieces::{MOST_ACTORS, place_of};
 use dsr_names::{Actor, Refusal};
-use dsr_world::{Event, Stage};
+use dsr_world::Event;
 use std::alloc::Global;
 
-/// For each box, by the places of poster and taker, the line of the last event that was to fill it and found it empty. If the box is full, that event did.
+/// For each box, by the places of poster and taker, the line of the last event that filled it.
 #[derive(Drop)]
 pub(crate) struct PostLines {
     lines: Vec<u64>,
@@ -22,15 +21,13 @@ impl PostLines {
         Ok(PostLines { lines })
     }
 
-    /// Notes the line of an event that has not happened yet, if it is to fill a box and that is empty.
-    pub(crate) fn note(&mut self, stage: &Stage, event: &Event, line: u64) {
+    /// Notes the line of an event, which was done, if it filled a box.
+    pub(crate) fn note(&mut self, event: &Event, line: u64) {
         let Some((from, to)) = box_to_fill(event) else {
             return;
         };
-        if !is_full(stage, &from, &to) {
-            if let Some(place) = self.lines.get_mut(place_of_box(from, to)) {
-                *place = line;
-            }
+        if let Some(place) = self.lines.get_mut(place_of_box(from, to)) {
+            *place = line;
         }
     }
 

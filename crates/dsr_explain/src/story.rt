@@ -12,7 +12,7 @@ ghost use Rattle.dsr_explain.specs.Told.{HasBrokenOff, TellsEvent, TellsEvents, 
 ghost use Rattle.dsr_explain.specs.Wanted.{wants_note};
 
 use crate::counts::NoteCounts;
-use crate::heads::{write_done, write_refused};
+use crate::heads::{Head, write_done, write_refused};
 use crate::lines::write_note;
 use crate::outlet::Outflow;
 use crate::places::Places;
@@ -28,7 +28,6 @@ use dsr_reasons::{actor_of, write_why};
 use dsr_world::{Event, Stage};
 use std::alloc::Global;
 use std::fmt::Write;
-use std::mem::replace;
 
 /// How many bytes `make_room` reserves for each event.
 const ROOM_OF_AN_EVENT: usize = 176;
@@ -52,9 +51,11 @@ pub(crate) struct Story {
     texts: Texts,
     posts: PostLines,
     requests: RequestTexts,
+    /// What the lines of the last event that was done and of the next may have in common.
+    head: Option<Head>,
     /// The notes of the last event; the next event uses their room.
     notes: Vec<Note>,
-    /// The letter that the last event was to take, or, once it was done, that it posted or took.
+    /// The letter that the last event was to take.
     letter: Option<Letter>,
     /// How many contents replicas kept, by slot, unless only refused events are wanted.
     pub(crate) kept: Vec<KeptBy>,
@@ -90,6 +91,7 @@ impl Story {
             texts,
             posts,
             requests,
+            head: None,
             notes: Vec::new(alloc),
             letter: None,
             kept: Vec::new(alloc),
@@ -169,7 +171,6 @@ impl Story {
         ensures outflow { self.new.outflow ≡ self.old.outflow }
         ensures shape { self.new.stage.shape ≡ self.old.stage.shape }
     {
-        self.posts.note(&self.stage, event, line);
         if self.wanted.refused {
             self.tell_briefly(alloc, number, line, event)
         } else {
@@ -194,7 +195,10 @@ impl Story {
         ensures shape { self.new.stage.shape ≡ self.old.stage.shape }
     {
         match self.stage.step(alloc, event) {
-            Ok(_) => Ok(()),
+            Ok(_) => {
+                self.posts.note(event, line);
+                Ok(())
+            }
             Err(Refusal::NoMemory) => Err(Refusal::NoMemory),
             Err(refusal) => self.tell_refusal(alloc, number, line, event, &refusal),
         }
@@ -221,15 +225,15 @@ impl Story {
             Ok(_) => {
                 // For the proof: the letter is that of the last step of a run.
                 self.stage.steps_are_a_run();
-                self.tell_step(alloc, number, line, event)
+                self.tell_done(alloc, number, line, event)
             }
             Err(Refusal::NoMemory) => Err(Refusal::NoMemory),
             Err(refusal) => self.tell_refusal(alloc, number, line, event, &refusal),
         }
     }
 
-    /// Writes the event, which was done last, and its notes, if the filter wants them. Requires that the letter is the one that the event took, if it took one.
-    fn tell_step(
+    /// Writes the event, which was done last, and its notes, if the filter wants them. Requires that the letter is the one that it took, if it took one.
+    fn tell_done(
         &mut self,
         alloc: Global,
         number: u64,
@@ -244,29 +248,9 @@ impl Story {
         ensures outflow { self.new.outflow ≡ self.old.outflow }
         ensures stage { self.new.stage ≡ self.old.stage }
     {
-        let taken = replace(&mut self.letter, None);
-        self.letter = letter_of(&self.stage, event, taken)?;
-        self.tell_done(alloc, number, line, event)
-    }
-
-    /// Writes the event, which was done last, and its notes, if the filter wants them. Requires that the letter is the one that the event posted or took.
-    fn tell_done(
-        &mut self,
-        alloc: Global,
-        number: u64,
-        line: u64,
-        event: &Event,
-    ) -> Result<(), Refusal>
-        requires { self.old.letter ≡ last_envelope self.old.stage.run }
-        ensures told { OnOk result ((told : List ℕ)
-            × TellsWanted self.old.wanted number self.old.stage.shape self.old.stage.run event.now self.old.notes.items told
-            × (string_bytes self.new.out ≡ string_bytes self.old.out ++ told)) }
-        ensures wanted { self.new.wanted ≡ self.old.wanted }
-        ensures outflow { self.new.outflow ≡ self.old.outflow }
-        ensures stage { self.new.stage ≡ self.old.stage }
-    {
-        let (actor, envelope) = (actor_of(event), envelope_of(&self.letter));
-        let notes = self.notes.as_slice();
+        self.posts.note(event, line);
+        let (actor, notes) = (actor_of(event), self.notes.as_slice());
+        let envelope = handled(&self.stage, event, &self.letter);
         self.counts.add(&self.stage, &actor, envelope, line, notes);
         count_kept(&mut self.kept, &actor, notes)?;
         if self.wanted.has_done(event, self.notes.as_slice()) {
@@ -285,7 +269,7 @@ impl Story {
         line: u64,
         event: &Event,
     ) -> Result<(), Refusal>
-        requires { self.old.letter ≡ last_envelope self.old.stage.run }
+        requires { handled self.old.stage.shape (log_of self.old.stage.run) event.now self.old.letter ≡ last_envelope self.old.stage.run }
         ensures told { OnOk result ((told : List ℕ)
             × TellsNotes self.old.wanted number self.old.stage.shape self.old.stage.run event.now self.old.notes.items told
             × (string_bytes self.new.out ≡ string_bytes self.old.out ++ told)) }
@@ -293,7 +277,7 @@ impl Story {
         ensures outflow { self.new.outflow ≡ self.old.outflow }
         ensures stage { self.new.stage ≡ self.old.stage }
     {
-        let envelope = envelope_of(&self.letter);
+        let envelope = handled(&self.stage, event, &self.letter);
         if let Some(envelope) = envelope {
             self.texts
                 .note_done(alloc, &mut self.requests, event, envelope)?;
@@ -303,7 +287,16 @@ impl Story {
             Some(told) => (told.end(), told.chains()),
             None => (end_of_none(as_data), &[]),
         };
-        write_done(&mut self.out, as_data, number, line, event, shown)?;
+        write_done(
+            &mut self.out,
+            alloc,
+            &mut self.head,
+            as_data,
+            number,
+            line,
+            event,
+            shown,
+        )?;
         write_wanted(
             &mut self.out,
             &mut self.requests,
@@ -431,18 +424,14 @@ fn write_if_wanted(
     Ok(())
 }
 
-/// Returns the letter in the box from one actor to another; `None` if the box is empty or one of them is not in the shape. `NoMemory` if one more
-/// handle is refused.
-fn letter_in_box(stage: &Stage, from: &Actor, to: &Actor) -> Result<Option<Letter>, Refusal>
-    ensures same { IfOk result (λ letter. letter ≡ box_of stage.now.shape (log_of stage.now.run) from.now to.now) }
-    ensures refusal { IsOkUnless result Refusal.NoMemory }
+/// Returns the letter in the box from one actor to another; `None` if the box is empty or one of them is not in the shape.
+fn letter_in_box<'a>(stage: &'a Stage, from: &Actor, to: &Actor) -> Option<&'a Letter>
+    ensures { option_map (λ letter. letter.now) result ≡ box_of stage.now.shape (log_of stage.now.run) from.now to.now }
 {
-    if !stage.shape().has(*from) || !stage.shape().has(*to) {
-        return Ok(None);
-    }
-    match stage.in_box(from, to) {
-        Some(letter) => Ok(Some(letter.try_copy()?)),
-        None => Ok(None),
+    if stage.shape().has(*from) && stage.shape().has(*to) {
+        stage.in_box(from, to)
+    } else {
+        None
     }
 }
 
@@ -451,27 +440,29 @@ fn letter_to_take(stage: &Stage, event: &Event) -> Result<Option<Letter>, Refusa
     ensures same { IfOk result (λ letter. letter ≡ to_take stage.now.shape (log_of stage.now.run) event.now) }
     ensures refusal { IsOkUnless result Refusal.NoMemory }
 {
-    match event {
-        Event::Take { at, from } => letter_in_box(stage, from, at),
-        Event::Post { .. } | Event::Plant { .. } | Event::Tell { .. } => Ok(None),
+    let Event::Take { at, from } = event else {
+        return Ok(None);
+    };
+    match letter_in_box(stage, from, at) {
+        Some(letter) => Ok(Some(letter.try_copy()?)),
+        None => Ok(None),
     }
 }
 
-/// Returns the letter of the event, which was done: the one that it posted, or this one that it took. `NoMemory` if one more handle is refused.
-fn letter_of(stage: &Stage, event: &Event, taken: Option<Letter>) -> Result<Option<Letter>, Refusal>
-    ensures same { IfOk result (λ letter. letter ≡ handled stage.now.shape (log_of stage.now.run) event.now taken) }
-    ensures refusal { IsOkUnless result Refusal.NoMemory }
+/// Returns the envelope of the event, which was done last: the one that it posted, or that of the letter which it took.
+fn handled<'a>(stage: &'a Stage, event: &Event, taken: &'a Option<Letter>) -> Option<&'a Envelope>
+    ensures { option_map (λ x. x.now) result ≡ handled stage.now.shape (log_of stage.now.run) event.now taken.now }
 {
     match event {
         Event::Post { from, to, .. } | Event::Plant { from, to, .. } | Event::Tell { from, to } =>
-            letter_in_box(stage, from, to),
-        Event::Take { .. } => Ok(taken),
+            envelope_of(letter_in_box(stage, from, to)),
+        Event::Take { .. } => envelope_of(taken.as_ref()),
     }
 }
 
 /// Returns the envelope of the letter, if there is one.
-fn envelope_of(letter: &Option<Letter>) -> Option<&Envelope>
-    ensures { option_map (λ x. x.now) result ≡ letter.now }
+fn envelope_of(letter: Option<&Letter>) -> Option<&Envelope>
+    ensures { option_map (λ x. x.now) result ≡ option_map (λ x. x.now) letter.entry }
 {
     match letter {
         Some(letter) => Some(letter.envelope()),

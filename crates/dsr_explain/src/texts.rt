@@ -274,6 +274,9 @@ impl Texts {
 
     /// Returns the texts about the envelope that this event, which was done, posted or took; `None` if they were not written.
     pub(crate) fn told(&self, event: &Event) -> Option<&Told> {
+        if is_to_replica(event) {
+            return self.posted.get(poster_of(event))?.last.as_ref();
+        }
         match self.boxes.get(box_of(event))? {
             Lying::Nothing => None,
             Lying::Posted(number) => self.posted.get(poster_of(event))?.told(*number),

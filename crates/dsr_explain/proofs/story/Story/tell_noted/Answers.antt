@@ -9,8 +9,8 @@ use Rattle.dsr_explain.proofs.LetterLemmas.{letter_is}
 use Rattle.dsr_explain.proofs.ToldLemmas.{refused_told}
 use Rattle.dsr_explain.proofs.story.Story.tell_noted.Goals as goal
 
-pub tell_step-requires : goal.tell_step-requires
-tell_step-requires c =
+pub tell_done-requires : goal.tell_done-requires
+tell_done-requires c =
     let s = c.args.self.now in
     let event = c.args.event.now in
     let later = c.step_noted.new.stage in
