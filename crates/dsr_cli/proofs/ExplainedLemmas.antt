@@ -25,7 +25,7 @@ pub from_err : (r : Result (Unit {0}) Refusal) (P Q : Refusal → Type 0) → ((
 from_err (Ok nothing) P Q more p = tt
 from_err (Err refusal) P Q more p = more refusal p
 
--- no text has a fault for which neither plays nor transcripts are refused, and which tells nothing about a record; want of memory is none
+-- no text has a fault for which neither plays nor transcripts are refused, and which tells nothing about a record; lack of memory is no fault
 module _ (fault : Refusal) (play : (text : List ℕ) → (fault ≢ NoMemory) × IsPlayRefusal text fault → ⊥)
     (transcript : (text : List ℕ) → (fault ≢ NoMemory) × IsRecordRefusal text fault → ⊥)
     (steps : (is_data : Bool) (recorded : Record) (told : List ℕ) → TellsRecord is_data recorded (Some fault) told → ⊥) where

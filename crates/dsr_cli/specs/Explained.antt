@@ -23,7 +23,7 @@ abbrev pub wanted_of : Narrowing → Wanted
 wanted_of narrowing = record { slot = narrowing.slot; actor = narrowing.actor; refused = narrowing.refused; «data» = narrowing.as_data }
 
 -- what `told` says about a text that is no transcript: it explains the play that the text encodes; and a fault, if there is one, is a reason to refuse the
--- text as a play, and no want of memory
+-- text as a play, other than lack of memory
 abbrev pub TellsOfPlay : List ℕ → Wanted → Option Refusal → List ℕ → Type 0
 TellsOfPlay text wanted None told = Explains text wanted told
 TellsOfPlay text wanted (Some fault) told = (fault ≢ NoMemory) × IsPlayRefusal text fault

@@ -13,17 +13,17 @@ use Rattle.dsr_explain.specs.declared.heads.Deed.{Deed}
 abbrev pub last_two : ℕ → List ℕ
 last_two number = (48 + number / 10 % 10) ∷ (48 + number % 10) ∷ []
 
--- so many hundreds, as the beginning of a number; nothing for none
+-- the digits of a number above its last two, by how many hundreds the number has; empty if it has none
 abbrev pub hundreds_text : ℕ → List ℕ
 hundreds_text hundreds = if hundreds == 0 then [] else decimal hundreds
 
--- what comes after that in a number with so many hundreds
+-- the rest of the number: its last two digits, or all of it if it has no hundreds
 abbrev pub last_text : ℕ → ℕ → List ℕ
 last_text hundreds number = if hundreds == 0 then decimal number else last_two number
 
 -- ---- lines
 
--- the text at the beginning of the lines, with the hundreds of their events' numbers
+-- how the lines begin: up to the last two digits of the event's number
 abbrev pub text_before : Deed → List ℕ
 text_before deed =
     one_of deed.as_data

@@ -223,8 +223,8 @@ LeftAfterFault fault refusal before after =
     ((refusal ≡ fault) × ((text : List ℕ) × SentAll text before after))
     ⊎ ((refusal ≡ WriteFailed) × ((text : List ℕ) × CanFailToTake (length text) before × SentPrefix text before after))
 
--- what each refusal leaves of an explanation of a text: what it leaves of that of the play, if the text encodes one; what it leaves of the description of
--- the text's fault as a play, which is no want of memory; or memory ran out before that, and nothing went out
+-- what each refusal leaves of an explanation of a text: if the text encodes a play, what it leaves of the play's explanation; if the text has a fault, which
+-- is not lack of memory, what it leaves of the fault's description; or memory ran out before that, and nothing went out
 abbrev pub LeftAfterTelling : List ℕ → Wanted → Refusal → (before after : Output) → Type 0
 LeftAfterTelling play_text wanted refusal before after =
     ((play : Play) × Spells play_text play × LeftOfExplanation wanted play refusal before after)

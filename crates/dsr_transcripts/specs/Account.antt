@@ -71,7 +71,7 @@ pub record TellsSteps (transcript : List ℕ) (is_data : Bool) (fault : Option R
   pub spells : Spells transcript recorded
   pub tells : TellsRecord is_data recorded fault text
 
--- the fault is one for which the text is refused as a transcript, and no want of memory
+-- the fault is one for which the text is refused as a transcript, other than lack of memory
 abbrev pub IsUnread : List ℕ → Option Refusal → Type 0
 IsUnread transcript None = ⊥
 IsUnread transcript (Some refusal) = (refusal ≢ NoMemory) × IsRecordRefusal transcript refusal
