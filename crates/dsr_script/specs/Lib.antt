@@ -1,3 +1,4 @@
+pub mod Asked
 pub mod ChainText
 pub mod EnvelopeText
 pub mod Held

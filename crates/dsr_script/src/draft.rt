@@ -1,16 +1,19 @@
-ghost use Rattle.std.specs.Prelude.{◌≡◌, IfOk, IsOkUnless};
+ghost use Rattle.std.specs.Prelude.{◌≡◌, ◌≤◌, ℕ, List, length, map, IfOk, IfSome, IfNone, IsOkUnless};
 ghost use Rattle.std.specs.Option.{option_map};
 ghost use Rattle.dsr_request.specs.AnswerText.{IsAnswer};
 ghost use Rattle.dsr_envelope.specs.Limits.{IsEnvelope};
-ghost use Rattle.dsr_envelope.specs.declared.envelope.Envelope.TheVariants.{Empty};
+ghost use Rattle.dsr_envelope.specs.Pick.{IsClients};
+ghost use Rattle.dsr_envelope.specs.declared.envelope.Envelope.TheVariants.{Empty, Round};
+ghost use Rattle.dsr_script.specs.Asked.{AsksLastFor};
 ghost use Rattle.dsr_script.specs.EnvelopeText.{IsSpelledEnvelope};
 ghost use Rattle.dsr_script.specs.Support.Described.{described, drafted};
 
 use crate::plan::Plan;
 use crate::said::SaidRequest;
-use crate::said_chain::SaidChains;
-use dsr_envelope::Envelope;
-use dsr_names::Refusal;
+use crate::said_chain::{SaidChain, SaidChains};
+use dsr_base::UpTo;
+use dsr_envelope::{Clients, Envelope};
+use dsr_names::{ClientId, Refusal};
 use dsr_request::Answer;
 use std::alloc::Global;
 use std::marker::Model;
@@ -89,6 +92,18 @@ impl Draft {
         Ok(Draft { plan })
     }
 
+    /// Returns the clients of the requests in the last chain, in their order, if a choice can name them: if they are 1 to 8 different ones.
+    /// `None` if not, or if there is no chain.
+    pub fn last_clients(&self) -> Option<Clients>
+        ensures some { IfSome result (AsksLastFor self.now) }
+        ensures none { IfNone result ((clients : List ℕ) → AsksLastFor self.now clients → ¬ IsClients clients) }
+    {
+        match self.plan() {
+            Some(Plan::Round { chains, .. }) => clients_of_last(chains.as_slice()),
+            _ => None,
+        }
+    }
+
     /// Makes the draft with these cases. `NoMemory` if memory runs out.
     pub(crate) fn of_plan(alloc: Global, plan: Plan) -> Result<Draft, Refusal>
         requires { IsSpelledEnvelope (described plan) }
@@ -110,6 +125,30 @@ impl Draft {
             None => None,
         }
     }
+}
+
+/// Returns the clients of the requests in the last chain, if a choice can name them.
+fn clients_of_last(chains: &[SaidChain]) -> Option<Clients>
+    ensures some { (round : ℕ) → IfSome result (AsksLastFor (Round round chains.now)) }
+    ensures none { (round : ℕ) → IfNone result ((clients : List ℕ) → AsksLastFor (Round round chains.now) clients → ¬ IsClients clients) }
+{
+    match chains {
+        [] => None,
+        [.., last] => clients_of(last.asks()),
+    }
+}
+
+/// Returns the clients of these requests, at most 8, if a choice can name them.
+fn clients_of(asks: &[SaidRequest]) -> Option<Clients>
+    requires { length asks.now ≤ 8 }
+    ensures some { IfSome result (λ clients. clients ≡ map (λ r. r.client) (map (λ ask. ask.request) asks.now)) }
+    ensures none { IfNone result (¬ IsClients (map (λ r. r.client) (map (λ ask. ask.request) asks.now))) }
+{
+    let mut clients: UpTo<ClientId, 8> = UpTo::new();
+    for ask in asks {
+        clients.push(ask.request().client());
+    }
+    Clients::of(clients.as_slice())
 }
 
 /// Shows that a text can write any answer in a program.
