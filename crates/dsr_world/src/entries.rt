@@ -59,7 +59,7 @@ impl Entries {
         }
     }
 
-    /// Makes room for a post, and returns a copy of its letter to keep, if steps are kept. `NoMemory` if memory runs out or one more
+    /// Makes room for one more step, and returns a copy of its letter to keep, if steps are kept. `NoMemory` if memory runs out or one more
     /// handle is refused.
     pub(crate) fn make_room_for(&mut self, letter: &Letter) -> Result<Option<Letter>, Refusal>
         ensures kept { self.new.are_kept ≡ self.old.are_kept }
@@ -94,20 +94,23 @@ impl Entries {
     }
 
     /// Adds a take if steps are kept. Requires that there is room then.
-    pub(crate) fn keep_take(&mut self, at: &Actor, from: &Actor, letter: Letter)
+    pub(crate) fn keep_take(&mut self, at: &Actor, from: &Actor, copy: Option<Letter>)
         requires { self.old.are_kept ≡ true → vec_len self.old.items < vec_capacity self.old.items }
         ensures kept { self.new.are_kept ≡ self.old.are_kept }
-        ensures added { self.old.are_kept ≡ true
-            → reverse self.new.items.items ≡ (at.now, TakeEntry from.now letter) ∷ reverse self.old.items.items }
+        ensures added { (x : Envelope) → self.old.are_kept ≡ true → copy ≡ Some x
+            → reverse self.new.items.items ≡ (at.now, TakeEntry from.now x) ∷ reverse self.old.items.items }
     {
         if !self.are_kept {
             return;
         }
+        let Some(envelope) = copy else {
+            return;
+        };
         self.items.push_reserved((
             *at,
             Entry::Take {
                 from: *from,
-                envelope: letter,
+                envelope,
             },
         ));
     }

@@ -48,15 +48,15 @@ pub(crate) fn keep_letter(letters: &mut Vec<Option<Letter>>, place: usize, lette
     }
 }
 
-/// Returns the envelope in the box from one actor to another. Requires that the box holds one.
-pub(crate) fn lent(boxes: &Boxes<Letter>, from: usize, to: usize) -> &Envelope
+/// Returns the letter in the box from one actor to another. Requires that the box holds one.
+pub(crate) fn lent(boxes: &Boxes<Letter>, from: usize, to: usize) -> &Letter
     requires inside { from < length boxes.now }
     requires row { to < length (row_of boxes.now from) }
     requires full { IsSome (box_at boxes.now from to).item }
     ensures { (box_at boxes.now from to).item ≡ Some result.now }
 {
     match boxes.item(from, to) {
-        Some(letter) => letter.envelope(),
+        Some(letter) => letter,
         None => unreachable!(),
     }
 }

@@ -29,6 +29,7 @@ ghost use Rattle.dsr_run.specs.Right.{IsRight, IsRightReply, TookAllReplies, Has
 ghost use Rattle.dsr_ledger.specs.declared.reply.Reply.{Reply as AReply};
 ghost use Rattle.dsr_run.specs.Run.{IsRun, IsTraitor, IsMadeOrPosted, ForgesNothing};
 ghost use Rattle.dsr_run.specs.Step.{Step, log_of};
+ghost use Rattle.dsr_world.specs.Stage.{last_taken};
 ghost use Rattle.dsr_world.specs.Support.StageFields.{box_refusal};
 ghost use Rattle.dsr_world.specs.Support.EntriesFields.{AreOf};
 
@@ -193,6 +194,13 @@ impl Stage {
     {
         let (poster, taker) = (self.shape.place(from), self.shape.place(to));
         self.boxes.item(poster, taker)
+    }
+
+    /// Returns the letter that was taken last; `None` before the first take.
+    pub fn last_taken(&self) -> Option<&Letter>
+        ensures { option_map (λ letter. letter.now) result ≡ last_taken self.now.run }
+    {
+        self.steps.last_taken()
     }
 
     /// Returns how many envelopes were posted into the box from one actor to another. Requires two actors of the shape.
@@ -463,14 +471,14 @@ impl Stage {
         // For the proof: at most f replicas are traitors.
         let _n = self.shape.n();
         let (poster, taker) = (self.shape.place(from), self.shape.place(at));
-        entries.make_room()?;
-        let envelope = lent(&self.boxes, poster, taker);
-        let Ok(reply) = self.nodes[taker].take(alloc, from, envelope) else {
+        let held = lent(&self.boxes, poster, taker);
+        let copy = entries.make_room_for(held)?;
+        let Ok(reply) = self.nodes[taker].take(alloc, from, held.envelope()) else {
             return Err(Refusal::NoMemory);
         };
         let letter = self.boxes.take(poster, taker);
-        self.steps.add_take(at, from, &letter);
-        entries.keep_take(at, from, letter);
+        self.steps.add_take(at, from, letter);
+        entries.keep_take(at, from, copy);
         Ok(reply)
     }
 

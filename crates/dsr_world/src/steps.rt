@@ -1,5 +1,7 @@
 ghost use Rattle.std.specs.Prelude.{◌≡◌, [], ◌∷◌};
+ghost use Rattle.std.specs.Option.{option_map};
 ghost use Rattle.dsr_envelope.specs.declared.entry.Entry.TheVariants.{Post as PostEntry, Take as TakeEntry};
+ghost use Rattle.dsr_world.specs.Stage.{last_taken};
 
 use dsr_envelope::Letter;
 use dsr_names::Actor;
@@ -13,20 +15,23 @@ pub(crate) enum Act {
     Take { at: Actor, from: Actor },
 }
 
-/// The steps so far, as proofs read them: nothing is stored, and to add a step does nothing.
+/// The steps so far, as proofs read them: of all steps only the letter that was taken last is stored.
 #[derive(Drop)]
 pub(crate) struct Steps {
     log: Log<Act, Letter>,
+    taken: Option<Letter>,
 }
 
 impl Model for Steps {
     ghost use Rattle.std.specs.Prelude.{List};
     ghost use Rattle.dsr_run.specs.Step.{Step};
-    ghost use Rattle.dsr_world.specs.Support.StepsFields.{steps_of};
+    ghost use Rattle.dsr_world.specs.Support.StepsFields.{steps_of, HoldsLastTaken};
 
     ghost Value = { List Step };
 
     ghost view = { steps_of };
+
+    ghost invariant = { HoldsLastTaken };
 }
 
 impl Steps {
@@ -34,7 +39,17 @@ impl Steps {
     pub(crate) fn new() -> Steps
         ensures { result ≡ [] }
     {
-        Steps { log: Log::new() }
+        Steps {
+            log: Log::new(),
+            taken: None,
+        }
+    }
+
+    /// Returns the letter that was taken last.
+    pub(crate) fn last_taken(&self) -> Option<&Letter>
+        ensures { option_map (λ letter. letter.now) result ≡ last_taken self.now }
+    {
+        self.taken.as_ref()
     }
 
     /// Adds the post of a letter.
@@ -48,14 +63,15 @@ impl Steps {
         self.log = self.log.and(&act, letter);
     }
 
-    /// Adds the take of a letter.
-    pub(crate) fn add_take(&mut self, at: &Actor, from: &Actor, letter: &Letter)
-        ensures { self.new ≡ (at.now, TakeEntry from.now letter.now) ∷ self.old }
+    /// Adds the take of a letter, and stores the letter in place of the one before.
+    pub(crate) fn add_take(&mut self, at: &Actor, from: &Actor, letter: Letter)
+        ensures { self.new ≡ (at.now, TakeEntry from.now letter) ∷ self.old }
     {
         let act = Act::Take {
             at: *at,
             from: *from,
         };
-        self.log = self.log.and(&act, letter);
+        self.log = self.log.and(&act, &letter);
+        self.taken = Some(letter);
     }
 }

@@ -20,7 +20,7 @@ take-requires c =
     let at = c.args.at.now in
     let from = c.args.from.now in
     let run = a.steps in
-    let envelope = c.lent-envelope.result.now in
+    let envelope = c.envelope.result.now in
     let none = subst (λ (w : Stage). refusal_of w.shape (log_of w.run) (Take at from) ≡ None) (sym c.self.view_is)
     (sym c.take_refusal.ensures ∙ c.in_default.is) in
     let is = cleared_take a.shape (log_of run) at from none in
@@ -28,7 +28,7 @@ take-requires c =
     subst (Plays a.shape at (log_of run at)) (sym (c.index_mut.ensures.value ∙ ap (λ k. slice_index_or a.nodes.items k c.index_mut.result.now) c.place-taker.ensures))
     (c.self.invariant.0.played.each at is.actor c.index_mut.result.now) in
     let full : (box_at a.boxes (place_of a.shape from) (place_of a.shape at)).item ≡ Some envelope =
-    ap₂ (λ k l. (box_at a.boxes k l).item) (sym c.place-poster.ensures) (sym c.place-taker.ensures) ∙ c.lent-envelope.ensures in
+    ap₂ (λ k l. (box_at a.boxes k l).item) (sym c.place-poster.ensures) (sym c.place-taker.ensures) ∙ (c.lent-held.ensures ∙ ap Some (sym c.envelope.ensures)) in
     may_take a.shape run a.nodes.items a.boxes a.keys.items a.known.signatures c.self.invariant.0 at from envelope c.index_mut.result.now is full before
 
 pub invariant_of-self : goal.invariant_of-self
@@ -55,7 +55,7 @@ invariant_of-self-2 c =
     let at = c.args.at.now in
     let from = c.args.from.now in
     let run = a.steps in
-    let envelope = c.lent-envelope.result.now in
+    let envelope = c.envelope.result.now in
     let none = subst (λ (w : Stage). refusal_of w.shape (log_of w.run) (Take at from) ≡ None) (sym c.self.view_is)
     (sym c.take_refusal.ensures ∙ c.in_default.is) in
     let is = cleared_take a.shape (log_of run) at from none in
@@ -63,7 +63,7 @@ invariant_of-self-2 c =
     subst (Plays a.shape at (log_of run at)) (sym (c.index_mut.ensures.value ∙ ap (λ k. slice_index_or a.nodes.items k c.index_mut.result.now) c.place-taker.ensures))
     (c.self.invariant.0.played.each at is.actor c.index_mut.result.now) in
     let full : (box_at a.boxes (place_of a.shape from) (place_of a.shape at)).item ≡ Some envelope =
-    ap₂ (λ k l. (box_at a.boxes k l).item) (sym c.place-poster.ensures) (sym c.place-taker.ensures) ∙ c.lent-envelope.ensures in
+    ap₂ (λ k l. (box_at a.boxes k l).item) (sym c.place-poster.ensures) (sym c.place-taker.ensures) ∙ (c.lent-held.ensures ∙ ap Some (sym c.envelope.ensures)) in
     let taken : c.take-letter.result ≡ envelope =
     same_Some c.take-letter.result envelope
     (sym c.take-letter.ensures.item ∙ (ap₂ (λ k l. (box_at a.boxes k l).item) c.place-poster.ensures c.place-taker.ensures ∙ full)) in
@@ -88,7 +88,7 @@ returns-clause-done c =
     let at = c.args.at.now in
     let from = c.args.from.now in
     let run = a.steps in
-    let envelope = c.lent-envelope.result.now in
+    let envelope = c.envelope.result.now in
     let none = subst (λ (w : Stage). refusal_of w.shape (log_of w.run) (Take at from) ≡ None) (sym c.self.view_is)
     (sym c.take_refusal.ensures ∙ c.in_default.is) in
     let is = cleared_take a.shape (log_of run) at from none in
@@ -96,7 +96,7 @@ returns-clause-done c =
     subst (Plays a.shape at (log_of run at)) (sym (c.index_mut.ensures.value ∙ ap (λ k. slice_index_or a.nodes.items k c.index_mut.result.now) c.place-taker.ensures))
     (c.self.invariant.0.played.each at is.actor c.index_mut.result.now) in
     let full : (box_at a.boxes (place_of a.shape from) (place_of a.shape at)).item ≡ Some envelope =
-    ap₂ (λ k l. (box_at a.boxes k l).item) (sym c.place-poster.ensures) (sym c.place-taker.ensures) ∙ c.lent-envelope.ensures in
+    ap₂ (λ k l. (box_at a.boxes k l).item) (sym c.place-poster.ensures) (sym c.place-taker.ensures) ∙ (c.lent-held.ensures ∙ ap Some (sym c.envelope.ensures)) in
     let taken : c.take-letter.result ≡ envelope =
     same_Some c.take-letter.result envelope
     (sym c.take-letter.ensures.item ∙ (ap₂ (λ k l. (box_at a.boxes k l).item) c.place-poster.ensures c.place-taker.ensures ∙ full)) in
@@ -108,12 +108,17 @@ returns-clause-done c =
 
 pub returns-clause-added : goal.returns-clause-added
 returns-clause-added c are kept =
+    let a = c.self.inside in
     let at = c.args.at.now in
     let from = c.args.from.now in
+    let held = c.lent-held.result.now in
     let x = c.take-letter.result in
+    let same : held ≡ x =
+    same_Some held x
+    (sym c.lent-held.ensures ∙ c.take-letter.ensures.item) in
     let room = sym c.keep_take.ensures.kept ∙ kept in
-    let was = sym c.make_room.ensures.kept ∙ room in
+    let was = sym c.make_room_for.ensures.kept ∙ room in
     let run = ap (λ (s : Stage). s.run) c.self.view_is in
-    c.keep_take.ensures.added room
-    ∙ (ap (λ es. (at, TakeEntry from x) ∷ reverse es) c.make_room.ensures.same
+    c.keep_take.ensures.added x room (c.in_ok-copy.ensures.copy was ∙ ap Some same)
+    ∙ (ap (λ es. (at, TakeEntry from x) ∷ reverse es) c.make_room_for.ensures.same
     ∙ (ap (λ r. (at, TakeEntry from x) ∷ r) (are was ∙ sym run) ∙ sym c.add_take.ensures))
