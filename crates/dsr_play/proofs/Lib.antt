@@ -1,3 +1,3 @@
-mod PlayLemmas
+pub mod PlayLemmas
 mod PlayLineLemmas
 mod PlayPartLemmas

@@ -12,3 +12,4 @@ pub use choice::Choice;
 pub use event::Event;
 pub use laws::each_event_has_a_line;
 pub use play::{MOST_EVENTS, Play};
+pub use play_line::PlayLine;

@@ -3,7 +3,6 @@ ghost use Rattle.dsr_play.specs.PlayText.{events_of};
 ghost use Rattle.dsr_play.specs.Play.{Play as APlay, Spells, IsPlayRefusal};
 
 use crate::event::Event;
-use crate::play_events::add_events;
 use crate::play_line::PlayLine;
 use dsr_names::{Refusal, Shape};
 use dsr_text::{TakesLines, read_header, take_lines};
@@ -108,7 +107,7 @@ impl Reading {
         ensures shape { self.new.shape ≡ self.old.shape }
         ensures refusal { IsOkUnless result Refusal.NoMemory }
     {
-        add_events(alloc, &self.shape, line, &mut self.events)?;
+        line.add_events(alloc, &self.shape, &mut self.events)?;
         Ok(self.events.len() <= MOST_EVENTS)
     }
 }

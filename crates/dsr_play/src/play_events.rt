@@ -12,32 +12,47 @@ use dsr_names::{Actor, Refusal, ReplicaId, Shape};
 use dsr_script::Draft;
 use std::alloc::Global;
 
-/// Adds the events that the line represents, in order. `NoMemory` if memory runs out: then some of them may have been added.
-pub(crate) fn add_events(
-    alloc: Global,
-    shape: &Shape,
-    line: PlayLine,
-    events: &mut Vec<Event>,
-) -> Result<(), Refusal>
-    ensures added { OnOk result (events.new.items ≡ events.old.items ++ events_of shape.now line) }
-    ensures refusal { IsOkUnless result Refusal.NoMemory }
-{
-    match line {
-        PlayLine::One(event) => add(event, events),
-        PlayLine::Posts { by, pick } => add_posts(alloc, shape, &Actor::Replica(by), &pick, events),
-        PlayLine::PostsAll => add_all_posts(alloc, shape, events),
-        PlayLine::Plants { by, draft } => add_plants(
-            alloc,
-            shape,
-            &Actor::Replica(by),
-            &draft,
-            events,
-        ),
-        PlayLine::Takes { at } => add_takes(shape, &at, events),
-        PlayLine::TakesAll => add_all_takes(shape, events),
-        PlayLine::Asks { by, pick } => add_posts(alloc, shape, &Actor::Client(by), &pick, events),
-        PlayLine::Hears { from } => add_hears(shape, &Actor::Client(from), events),
-        PlayLine::Replies { to } => add_replies(shape, &Actor::Client(to), events),
+impl PlayLine {
+    /// Adds the events that the line represents in a world of this shape, in order. `NoMemory` if memory runs out: then some of them
+    /// may have been added.
+    pub fn add_events(
+        self,
+        alloc: Global,
+        shape: &Shape,
+        events: &mut Vec<Event>,
+    ) -> Result<(), Refusal>
+        ensures added { OnOk result (events.new.items ≡ events.old.items ++ events_of shape.now self) }
+        ensures refusal { IsOkUnless result Refusal.NoMemory }
+    {
+        match self {
+            PlayLine::One(event) => add(event, events),
+            PlayLine::Posts { by, pick } => add_posts(
+                alloc,
+                shape,
+                &Actor::Replica(by),
+                &pick,
+                events,
+            ),
+            PlayLine::PostsAll => add_all_posts(alloc, shape, events),
+            PlayLine::Plants { by, draft } => add_plants(
+                alloc,
+                shape,
+                &Actor::Replica(by),
+                &draft,
+                events,
+            ),
+            PlayLine::Takes { at } => add_takes(shape, &at, events),
+            PlayLine::TakesAll => add_all_takes(shape, events),
+            PlayLine::Asks { by, pick } => add_posts(
+                alloc,
+                shape,
+                &Actor::Client(by),
+                &pick,
+                events,
+            ),
+            PlayLine::Hears { from } => add_hears(shape, &Actor::Client(from), events),
+            PlayLine::Replies { to } => add_replies(shape, &Actor::Client(to), events),
+        }
     }
 }
 

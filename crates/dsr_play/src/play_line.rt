@@ -17,9 +17,9 @@ use dsr_request::Op;
 use dsr_script::Draft;
 use std::alloc::Global;
 
-/// A line of a play.
+/// A line of a play: one event, or several that are written together.
 #[derive(Drop)]
-pub(crate) enum PlayLine {
+pub enum PlayLine {
     /// One event.
     One(Event),
     /// A replica's posts to each replica.
@@ -66,7 +66,7 @@ pub(crate) enum PlayLine {
 
 impl PlayLine {
     /// Reads a line's text, without its line feed. The inner `None` means exactly that the bytes are not one. `NoMemory` if memory runs out.
-    pub(crate) fn read(alloc: Global, bytes: &[u8]) -> Result<Option<PlayLine>, Refusal>
+    pub fn read(alloc: Global, bytes: &[u8]) -> Result<Option<PlayLine>, Refusal>
         ensures read { IfOk result (λ line. Reads IsPlayLine line_text bytes.now line) }
         ensures refusal { IsOkUnless result Refusal.NoMemory }
     {

@@ -8,16 +8,9 @@ ghost use Rattle.dsr_reports.specs.Played.{HasPlayed, HasRun, IsReport, LeftAfte
 
 use crate::report::report_of;
 use dsr_names::{Refusal, Sink, Source, read_input, write_output};
-use dsr_world::{Play, RunEnd, Stage};
+use dsr_world::{Played, play_text};
 use std::alloc::Global;
 use std::mem::forget;
-
-/// The stage after a play, and how the play's events ended.
-#[derive(Drop)]
-struct Played {
-    stage: Stage,
-    end: RunEnd,
-}
 
 /// The report of a play, the number of its refused events, and the number of those refused because memory ran out.
 #[derive(Drop)]
@@ -32,17 +25,7 @@ fn play_out(alloc: Global, text: &[u8]) -> Result<Played, Refusal>
     ensures played { IfOk result (λ played. HasRun text.now played.stage.shape played.stage.run played.end) }
     ensures refused { IfErr result (IsPlayRefusal text.now) }
 {
-    let play = match Play::read(alloc, text) {
-        Ok(play) => play,
-        Err(refusal) => return Err(refusal),
-    };
-    let Ok(mut stage) = Stage::open(alloc, play.shape()) else {
-        return Err(Refusal::NoMemory);
-    };
-    let end = stage.run(alloc, play.events());
-    // The program ends soon, and to free the events one by one would only take time.
-    forget(play);
-    Ok(Played { stage, end })
+    play_text(alloc, text)
 }
 
 /// Plays the play that the text encodes, and makes its report.
@@ -67,7 +50,7 @@ fn outcome_of(alloc: Global, text: &[u8]) -> Result<Outcome, Refusal>
 }
 
 /// Reads a play, plays it on a new stage, writes the report of its outcome, and returns how many of its events were refused.
-/// Plays nothing before the end of the text, and writes nothing before the end of the play.
+/// The events of a line happen as soon as it is read; nothing is written before the end of the play.
 ///
 /// `BadShape` and `BadText` say what is wrong with the text; after them, and after `ReadFailed`, nothing was written. After
 /// `WriteFailed` a prefix of the report was. `NoMemory` if memory ran out: if some events were refused for that, the whole

@@ -1,8 +1,10 @@
 mod Blindness
 mod Ending
+mod Joining
 mod Keeping
 pub mod NextSteps
 mod Opening
+mod Playings
 mod Repeating
 mod Stepping
 mod WorldPosts

@@ -2,7 +2,9 @@
 -- Model` and private contracts.
 pub mod Boxes
 pub mod EntriesFields
+pub mod PlayingFields
 pub mod RunEndEquality
+pub mod RunEndFields
 pub mod StageFields
 pub mod StepsFields
 pub mod WorldFields

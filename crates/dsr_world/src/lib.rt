@@ -6,6 +6,7 @@ mod blind;
 mod entries;
 mod first_nodes;
 mod letters;
+mod playing;
 mod replies;
 mod roles;
 mod run_end;
@@ -22,6 +23,7 @@ pub use dsr_run::{
     loyal_senders_values_are_decided, no_signature_is_forged, runs_agree, runs_are_linearizable,
     runs_are_right, runs_go_on, runs_keep_conduct, traitors_may_be_loyal,
 };
+pub use playing::{Played, play_text};
 pub use run_end::RunEnd;
 pub use stage::Stage;
 pub use world::World;
