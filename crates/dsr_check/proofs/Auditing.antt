@@ -336,16 +336,16 @@ module _ (shape : Shape) (run : List Step) (parties : List Party) (rows : List (
       (subst (λ i. AreParts shape ((at, Take from h.envelope) ∷ run) (slice_set parties (place_of shape at) party)
       (with_box rows i (place_of shape at) (without_item (box_at rows i (place_of shape at)))) notary keys known firsts) (sym from_at) taken)))
 
-  -- what a loyal replica posts next by the plain choice is within the limits
+  -- what a loyal replica posts next is within the limits
   pub posts_within : IsAllowed shape → (p q : ℕ) → p < shape.n → (party : Party) → Plays shape (Replica p) (log_of run (Replica p)) party → PostsWithin party q
   posts_within allowed p q inside (party.Loyal r) plays = record {
     log = log_of run (Replica p);
     stands = plays.stands;
-    within = λ x e. loyal_next_within shape allowed run are.is_run p (inside, plays.honest) (Replica q) x (
-      Plain,
-      tt,
-      subst (λ m. envelope_to shape m (log_of run (Replica p)) q Plain ≡ Some x) plays.me
-          (subst (λ s. envelope_to s r.me (log_of run (Replica p)) q Plain ≡ Some x) plays.shape_is e),
+    within = λ pick x good e. loyal_next_within shape allowed run are.is_run p (inside, plays.honest) (Replica q) x (
+      pick,
+      good,
+      subst (λ m. envelope_to shape m (log_of run (Replica p)) q pick ≡ Some x) plays.me
+          (subst (λ s. envelope_to s r.me (log_of run (Replica p)) q pick ≡ Some x) plays.shape_is e),
     );
   }
   posts_within allowed p q inside party.Traitor plays = tt

@@ -22,7 +22,7 @@ use crate::held::Held;
 use crate::party::Party;
 use dsr_base::Boxes;
 use dsr_desk::Key;
-use dsr_envelope::{Envelope, Letter};
+use dsr_envelope::{Envelope, Letter, Pick};
 use dsr_names::{Actor, NUMBER_END, Refusal, ReplicaId, Shape};
 use dsr_record::{NotedEntry, NotedStep, all_keys};
 use dsr_script::{Draft, Known, build, each_draft_has_a_text, spelled_is_within_limits};
@@ -106,8 +106,8 @@ impl<'a> Audit<'a> {
         if !self.shape.has(*from) || !self.shape.has(*to) || !self.is_open(from, to) {
             return Ok(false);
         }
-        let plain = self.post_plain(alloc, from, to, draft)?;
-        if plain {
+        let made = self.post_to_replica(alloc, from, to, draft)?;
+        if made {
             return Ok(true);
         }
         let Some(envelope) = self.unforged(alloc, from, draft)? else {
@@ -143,9 +143,9 @@ impl<'a> Audit<'a> {
         Ok(next)
     }
 
-    /// Tells whether a loyal replica may post next by the plain choice, to a replica, what is recorded like this; it may say no. If it says
-    /// yes, follows that, else changes nothing.
-    fn post_plain(
+    /// Tells whether a loyal replica may post next, to a replica, what is recorded like this; it may say no. If it says yes, follows that, else
+    /// changes nothing.
+    fn post_to_replica(
         &mut self,
         alloc: Global,
         from: &Actor,
@@ -157,9 +157,9 @@ impl<'a> Audit<'a> {
         requires to { IsActor self.old.shape to.now }
         requires open { IsOpen (box_of self.old from.now to.now) }
         ensures next { (run : List Step) → StandsFor self.old run
-            → IfOk result (λ plain. OnTrue plain (StandsFor self.new ((from.now, Post to.now draft.now) ∷ run))) }
+            → IfOk result (λ made. OnTrue made (StandsFor self.new ((from.now, Post to.now draft.now) ∷ run))) }
         ensures shape { self.new.shape ≡ self.old.shape }
-        ensures stays { IfOk result (λ again. OnFalse again (self.new ≡ self.old)) }
+        ensures stays { IfOk result (λ made. OnFalse made (self.new ≡ self.old)) }
         ensures refusal { IsOkUnless result Refusal.NoMemory }
     {
         match (from, to) {
@@ -168,8 +168,8 @@ impl<'a> Audit<'a> {
                 Ok(again)
             }
             (Actor::Replica(poster), Actor::Replica(taker)) => {
-                let plain = self.plain(alloc, *poster, *taker, draft)?;
-                Ok(plain)
+                let chosen = self.post_chosen(alloc, *poster, *taker, draft)?;
+                Ok(chosen)
             }
             _ => Ok(false),
         }
@@ -196,14 +196,14 @@ impl<'a> Audit<'a> {
         if !self.parties[poster].can_repeat(to) {
             return Ok(false);
         }
-        self.parties[poster].repeat(to);
+        self.parties[poster].posted(to, Pick::Plain);
         self.boxes.put(poster, taker, Held { envelope, draft });
         Ok(true)
     }
 
-    /// Tells whether a loyal replica may post to this replica next, by the plain choice, what is recorded like this. If so, follows that, else
-    /// changes nothing. A sender's first post of its slot is by another choice.
-    fn plain(
+    /// Tells whether a loyal replica may post to this replica next what is recorded like this, by the choice that this shows. If so, follows
+    /// that, else changes nothing.
+    fn post_chosen(
         &mut self,
         alloc: Global,
         from: ReplicaId,
@@ -215,19 +215,19 @@ impl<'a> Audit<'a> {
         requires to { to < self.old.shape.n }
         requires open { IsOpen (box_at self.old.boxes from to) }
         ensures next { (run : List Step) → StandsFor self.old run
-            → IfOk result (λ plain. OnTrue plain (StandsFor self.new ((ReplicaNumber from, Post (ReplicaNumber to) draft.now) ∷ run))) }
+            → IfOk result (λ chosen. OnTrue chosen (StandsFor self.new ((ReplicaNumber from, Post (ReplicaNumber to) draft.now) ∷ run))) }
         ensures shape { self.new.shape ≡ self.old.shape }
-        ensures stays { IfOk result (λ plain. OnFalse plain (self.new ≡ self.old)) }
+        ensures stays { IfOk result (λ chosen. OnFalse chosen (self.new ≡ self.old)) }
         ensures refusal { IsOkUnless result Refusal.NoMemory }
     {
         // For the proof: the limits of the shape.
         let _n = self.shape.n();
         let poster = from.number() as usize;
-        let Some(envelope) = self.parties[poster].plain(alloc, to, draft)? else {
+        let Some(chosen) = self.parties[poster].chosen(alloc, to, draft)? else {
             return Ok(false);
         };
-        let envelope = Letter::of(alloc, envelope)?;
-        self.parties[poster].repeat(to);
+        let envelope = Letter::of(alloc, chosen.envelope)?;
+        self.parties[poster].posted(to, chosen.pick);
         let held = Held { envelope, draft };
         self.deliver(&Actor::Replica(from), &Actor::Replica(to), held)?;
         Ok(true)

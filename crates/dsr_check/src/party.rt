@@ -1,9 +1,10 @@
 ghost use Rattle.std.specs.Bool.{OnFalse, OnTrue};
-ghost use Rattle.std.specs.Prelude.{Some, IfSome, OnSome, ◌↔◌, IsTrue, ◌≡◌, ◌∷◌, ◌<◌, ◌^◌, ℕ, List, IfOk, IsOkUnless};
+ghost use Rattle.std.specs.Prelude.{Some, IfSome, ◌↔◌, IsTrue, ◌≡◌, ◌∷◌, ◌<◌, ◌^◌, ℕ, List, IfOk, IsOkUnless};
 ghost use Rattle.dsr_names.specs.Shape.{Shape, IsActor};
 ghost use Rattle.dsr_names.specs.declared.actor.Actor.TheVariants.{Replica as ReplicaNumber, Client as ClientNumber};
 ghost use Rattle.dsr_envelope.specs.Limits.{IsEnvelope};
 ghost use Rattle.dsr_envelope.specs.Log.{due, rounds};
+ghost use Rattle.dsr_envelope.specs.Pick.{IsPick};
 ghost use Rattle.dsr_envelope.specs.declared.due.Due.TheVariants.{Take as TakeFrom};
 ghost use Rattle.dsr_envelope.specs.declared.entry.Entry.{Entry};
 ghost use Rattle.dsr_envelope.specs.declared.entry.Entry.TheVariants.{Post, Take};
@@ -13,7 +14,7 @@ ghost use Rattle.dsr_envelope.specs.declared.pick.Pick.TheVariants.{Plain};
 ghost use Rattle.dsr_replica.specs.Replica.{Allows, StandsFor};
 ghost use Rattle.dsr_run.specs.OwnStep.{KeepsOwn};
 ghost use Rattle.dsr_run.specs.Run.{KeepsRounds};
-ghost use Rattle.dsr_check.specs.Support.Party.{CanGet, CanRepeat, HasWithin, Plays, PlaysClient, PostsWithin};
+ghost use Rattle.dsr_check.specs.Support.Party.{CanGet, CanPost, HasWithin, Plays, PlaysClient, PostsWithin};
 
 use crate::customer::Customer;
 use crate::shown::{pick_of, shown_clients};
@@ -22,6 +23,13 @@ use dsr_names::{Actor, ClientId, Refusal, ReplicaId};
 use dsr_replica::Replica;
 use dsr_script::Draft;
 use std::alloc::Global;
+
+/// What a loyal replica posts to another: its choice, and the envelope.
+#[derive(Drop)]
+pub(crate) struct Chosen {
+    pub(crate) pick: Pick,
+    pub(crate) envelope: Envelope,
+}
 
 /// A party repeats an actor's steps. A loyal actor is a real replica or client; a traitor may do anything but forge, so it needs no
 /// code.
@@ -61,7 +69,7 @@ impl Party {
 
     /// Tells whether the actor is a loyal replica that may post to this replica next by the plain choice.
     pub(crate) fn can_repeat(&self, to: ReplicaId) -> bool
-        ensures { IsTrue result ↔ CanRepeat self.now to }
+        ensures { IsTrue result ↔ CanPost self.now to Plain }
     {
         match self {
             Party::Loyal(replica) => replica.allows(to, Pick::Plain),
@@ -69,37 +77,41 @@ impl Party {
         }
     }
 
-    /// Makes the envelope that the actor may post to this replica next by the plain choice, if it is a loyal replica that may post so, and
-    /// the draft records that envelope; else returns `None`. `NoMemory` if memory runs out or one more handle is refused.
-    pub(crate) fn plain(
+    /// Makes the envelope that the actor may post to this replica next by the choice that the draft shows, if it is a loyal replica that may
+    /// post so, and the draft records that envelope; else returns `None`. `NoMemory` if memory runs out or one more handle is refused.
+    pub(crate) fn chosen(
         &self,
         alloc: Global,
         to: ReplicaId,
         draft: &Draft,
-    ) -> Result<Option<Envelope>, Refusal>
+    ) -> Result<Option<Chosen>, Refusal>
         requires { PostsWithin self.now to }
-        ensures can { IfOk result (λ made. OnSome made (CanRepeat self.now to)) }
-        ensures recorded { IfOk result (λ made. IfSome made (λ envelope. envelope ≡ draft.now)) }
+        ensures can { IfOk result (λ made. IfSome made (λ chosen. CanPost self.now to chosen.pick)) }
+        ensures pick { IfOk result (λ made. IfSome made (λ chosen. IsPick chosen.pick)) }
+        ensures recorded { IfOk result (λ made. IfSome made (λ chosen. chosen.envelope ≡ draft.now)) }
         ensures given { (shape : Shape) (p : ℕ) (log : List Entry) → Plays shape (ReplicaNumber p) log self.now
-            → IfOk result (λ made. IfSome made (λ envelope. envelope_to shape (ReplicaNumber p) log to Plain ≡ Some envelope)) }
+            → IfOk result (λ made. IfSome made (λ chosen. envelope_to shape (ReplicaNumber p) log to chosen.pick ≡ Some chosen.envelope)) }
         ensures refusal { IsOkUnless result Refusal.NoMemory }
     {
         match self {
-            Party::Loyal(replica) => plain_post(alloc, replica, to, draft),
+            Party::Loyal(replica) => {
+                let pick = shown_pick(replica, to, draft);
+                post_by(alloc, replica, to, &pick, draft)
+            }
             Party::Traitor | Party::Client(_) => Ok(None),
         }
     }
 
-    /// Posts to this replica by the plain choice. Requires that it can.
-    pub(crate) fn repeat(&mut self, to: ReplicaId)
-        requires { CanRepeat self.old to }
-        ensures repeats { (shape : Shape) (p : ℕ) (log : List Entry) (envelope : AnEnvelope) → Plays shape (ReplicaNumber p) log self.old
-            → ((other : AnEnvelope) → envelope_to shape (ReplicaNumber p) log to Plain ≡ Some other → envelope ≡ other)
+    /// Posts to this replica by this choice. Requires that it can.
+    pub(crate) fn posted(&mut self, to: ReplicaId, pick: Pick)
+        requires { CanPost self.old to pick }
+        ensures posts { (shape : Shape) (p : ℕ) (log : List Entry) (envelope : AnEnvelope) → Plays shape (ReplicaNumber p) log self.old → IsPick pick
+            → ((other : AnEnvelope) → envelope_to shape (ReplicaNumber p) log to pick ≡ Some other → envelope ≡ other)
             → KeepsOwn shape (ReplicaNumber p) log (Post (ReplicaNumber to) envelope)
             × Plays shape (ReplicaNumber p) (Post (ReplicaNumber to) envelope ∷ log) self.new }
     {
         match self {
-            Party::Loyal(replica) => replica.posted(to, Pick::Plain),
+            Party::Loyal(replica) => replica.posted(to, pick),
             Party::Traitor | Party::Client(_) => unreachable!(),
         }
     }
@@ -200,32 +212,48 @@ fn sends(
     Ok(true)
 }
 
-/// Makes the envelope that a loyal replica may post to this replica next by the plain choice, if it may post so, and the draft records that
-/// envelope; else returns `None`.
-fn plain_post(
+/// Makes the envelope that a loyal replica may post to this replica next by this choice, if it may post so, and the draft records that envelope;
+/// else returns `None`.
+fn post_by(
     alloc: Global,
     replica: &Replica,
     to: ReplicaId,
+    pick: &Pick,
     draft: &Draft,
-) -> Result<Option<Envelope>, Refusal>
+) -> Result<Option<Chosen>, Refusal>
     requires { HasWithin replica.now to }
-    ensures can { IfOk result (λ made. OnSome made (Allows replica.now to Plain)) }
-    ensures recorded { IfOk result (λ made. IfSome made (λ envelope. envelope ≡ draft.now)) }
+    ensures can { IfOk result (λ made. IfSome made (λ chosen. Allows replica.now to chosen.pick)) }
+    ensures pick { IfOk result (λ made. IfSome made (λ chosen. IsPick chosen.pick)) }
+    ensures recorded { IfOk result (λ made. IfSome made (λ chosen. chosen.envelope ≡ draft.now)) }
     ensures given { (log : List Entry) → StandsFor replica.now log
-        → IfOk result (λ made. IfSome made (λ envelope. envelope_to replica.now.shape replica.now.me log to Plain ≡ Some envelope)) }
+        → IfOk result (λ made. IfSome made (λ chosen. envelope_to replica.now.shape replica.now.me log to chosen.pick ≡ Some chosen.envelope)) }
     ensures refusal { IsOkUnless result Refusal.NoMemory }
 {
-    if !replica.allows(to, Pick::Plain) {
+    if !replica.allows(to, *pick) {
         return Ok(None);
     }
-    let Ok(envelope) = replica.envelope_for(alloc, to, Pick::Plain) else {
+    let Ok(envelope) = replica.envelope_for(alloc, to, *pick) else {
         return Err(Refusal::NoMemory);
     };
     let made = Draft::of(alloc, &envelope)?;
     if made.same(draft) {
-        Ok(Some(envelope))
+        Ok(Some(Chosen {
+            pick: *pick,
+            envelope,
+        }))
     } else {
         Ok(None)
+    }
+}
+
+/// Returns the choice that the draft shows at a post of a loyal replica to this one: a sender's at its post to replica 0, else the plain one.
+/// It needs no contract, since what the replica posts by it is compared with the draft.
+fn shown_pick(replica: &Replica, to: ReplicaId, draft: &Draft) -> Pick {
+    match draft.last_clients() {
+        Some(clients) if to.number() == 0 && replica.allows(to, Pick::From(clients)) => {
+            Pick::From(clients)
+        }
+        _ => Pick::Plain,
     }
 }
 

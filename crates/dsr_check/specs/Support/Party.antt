@@ -8,6 +8,7 @@ use Rattle.dsr_envelope.specs.declared.envelope.Envelope.{Envelope}
 use Rattle.dsr_envelope.specs.declared.pick.Pick.{Pick}
 use Rattle.dsr_envelope.specs.declared.pick.Pick.TheVariants.{Plain, From}
 use Rattle.dsr_envelope.specs.Limits.{IsEnvelope}
+use Rattle.dsr_envelope.specs.Pick.{IsPick}
 use Rattle.dsr_replica.specs.Conduct.{envelope_to}
 use Rattle.dsr_replica.specs.Replica.{Allows, Replica, StandsFor}
 use Rattle.dsr_client.specs.Client.{StandsFor as StandsForClient}
@@ -53,20 +54,20 @@ pub record CanGet (party : Party) (me from : Actor) (envelope : Envelope) : Type
   pub other : IsActor shape from
   pub within : IsEnvelope envelope
 
--- what the replica posts to this replica next by the plain choice is within the limits
+-- what the replica posts to this replica next, by any choice, is within the limits
 pub record HasWithin (r : Replica) (q : ℕ) : Type 0 where
   pub log : List Entry
   pub stands : StandsFor r log
-  pub within : (x : Envelope) → envelope_to r.shape r.me log q Plain ≡ Some x → IsEnvelope x
+  pub within : (pick : Pick) (x : Envelope) → IsPick pick → envelope_to r.shape r.me log q pick ≡ Some x → IsEnvelope x
 
--- so is what the party posts to this replica next by the plain choice, if it is a loyal replica
+-- so is what the party posts to this replica next, if it is a loyal replica
 abbrev pub PostsWithin : Party → ℕ → Type 0
 PostsWithin (Loyal r) q = HasWithin r q
 PostsWithin Traitor q = Unit {0}
 PostsWithin (Client x) q = Unit {0}
 
--- the party is a loyal replica that may post to this replica by the plain choice
-abbrev pub CanRepeat : Party → ℕ → Type 0
-CanRepeat (Loyal r) q = Allows r q Plain
-CanRepeat Traitor q = ⊥
-CanRepeat (Client x) q = ⊥
+-- the party is a loyal replica that may post to this replica by this choice
+abbrev pub CanPost : Party → ℕ → Pick → Type 0
+CanPost (Loyal r) q pick = Allows r q pick
+CanPost Traitor q pick = ⊥
+CanPost (Client x) q pick = ⊥

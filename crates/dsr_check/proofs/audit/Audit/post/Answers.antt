@@ -14,8 +14,8 @@ returns-in_default-clause-not c run are =
     let from = c.args.from.now in
     let to = c.args.to.now in
     let x = c.args.draft.now in
-    let b = c.post_plain.new.self in
-    let same : b ≡ c.args.self.now = where_false c.in_ok-plain.plain (b ≡ c.args.self.now) c.if-plain.false c.in_ok-plain.ensures.stays in
+    let b = c.post_to_replica.new.self in
+    let same : b ≡ c.args.self.now = where_false c.in_ok-made.made (b ≡ c.args.self.now) c.if-made.false c.in_ok-made.ensures.stays in
     let none = where_none c.in_ok-envelope.field-0 (¬ IsNextStep b.shape (log_of run) (from, Post to x)) c.in_default.is
     (c.in_ok-envelope.ensures.forged run to (subst (λ z. StandsFor z run) (sym same) are)) in
     subst (λ (z : Audit). ¬ IsNextStep z.shape (log_of run) (from, Post to x)) same none
@@ -24,7 +24,7 @@ pub put-requires-clause-unforged : goal.put-requires-clause-unforged
 put-requires-clause-unforged c run are =
     let x = c.args.draft.now in
     let made = c.in-Some.envelope in
-    let b = c.post_plain.new.self in
+    let b = c.post_to_replica.new.self in
     let same : made ≡ x = subst (λ o. IfSome o (λ e. e ≡ x)) c.in-Some.is c.in_ok-envelope.ensures.same in
     let forges = where_some c.in_ok-envelope.field-0 made (ForgesNone b.shape (log_of run) c.args.from.now x) c.in-Some.is (c.in_ok-envelope.ensures.unforged run are) in
     subst (ForgesNone b.shape (log_of run) c.args.from.now) (sym same) forges
@@ -32,8 +32,8 @@ put-requires-clause-unforged c run are =
 pub returns-clause-next : goal.returns-clause-next
 returns-clause-next c run are =
     let x = c.args.draft.now in
-    let b = c.post_plain.new.self in
-    let unchanged : b ≡ c.args.self.now = where_false c.in_ok-plain.plain (b ≡ c.args.self.now) c.if-plain.false c.in_ok-plain.ensures.stays in
+    let b = c.post_to_replica.new.self in
+    let unchanged : b ≡ c.args.self.now = where_false c.in_ok-made.made (b ≡ c.args.self.now) c.if-made.false c.in_ok-made.ensures.stays in
     let same : c.in-Some.envelope ≡ x = subst (λ o. IfSome o (λ e. e ≡ x)) c.in-Some.is c.in_ok-envelope.ensures.same in
     subst (λ e. OnTrue c.in_ok-next.next (StandsFor c.put.new.self ((c.args.from.now, Post c.args.to.now e) ∷ run))) same
     (c.in_ok-next.ensures.next run (subst (λ z. StandsFor z run) (sym unchanged) are))
