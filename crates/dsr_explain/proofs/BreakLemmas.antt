@@ -97,7 +97,7 @@ unwritten wanted play before after unsure (text, some, sent) =
     let all = first_line wanted.data play.shape ++ text in
     (all, inr (record { events = text; some = some; told = refl }), may_fail (length all) before unsure, sent)
 
--- what went out before the events broke off; a text that is to go out at once breaks off for want of memory alone
+-- what went out before the events broke off; a text that is to go out at once breaks off for lack of memory alone
 pub left_broken : (wanted : Wanted) (play : Play) (before after : Output) (refusal : Refusal) (in_parts : Bool) → (IsTrue in_parts → IsUnsure before)
     → (in_parts ≡ false → refusal ≡ NoMemory) → HasBrokenOff wanted play.shape [] play.events (first_line wanted.data play.shape) refusal before after
     → LeftOfExplanation wanted play refusal before after

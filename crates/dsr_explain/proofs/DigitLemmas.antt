@@ -1,11 +1,8 @@
 -- Numbers by their last digits.
-use Rattle.std.proofs.Common.{◌≡◌, ◌≢◌, ◌∙◌, ℕ, Bool, true, false, ◌+◌, ◌/◌, ◌%◌, ◌<◌, ◌≤◌, ◌++◌, [], ◌∷◌, ap, append_assoc, arith, refl, subst, sym}
-use Rattle.std.specs.Prelude.{◌==◌, ◌^◌, if◌then◌else◌}
+use Rattle.std.proofs.Common.{◌≡◌, ◌∙◌, ℕ, ◌+◌, ◌/◌, ◌%◌, ◌<◌, ◌≤◌, ◌++◌, [], ◌∷◌, ap, arith, sym}
 use Rattle.std.specs.Fmt.{decimal}
-use Rattle.std.proofs.Math.Nat.{div-div-eq-div-mul}
-use Rattle.std.proofs.lemmas.Bool.{eqb-false}
 use Rattle.std.proofs.lemmas.Fmt.{decimal_digit, decimal_step}
-use Rattle.dsr_explain.specs.Heads.{hundreds_text, last_text, last_two}
+use Rattle.dsr_explain.specs.Heads.{last_two}
 
 -- a number of two digits
 pub two_digits : (n : ℕ) → 10 ≤ n → n < 100 → last_two n ≡ decimal n
@@ -13,20 +10,3 @@ two_digits n low high =
     let tens : n / 10 % 10 ≡ n / 10 = omega (arith, high) in
     ap (λ d. (48 + d) ∷ (48 + n % 10) ∷ []) tens
     ∙ sym (decimal_step n low (omega (arith, high)) ∙ ap (λ t. t ++ ((48 + n % 10) ∷ [])) (decimal_digit (n / 10) (omega (arith, high))))
-
--- a number with hundreds
-with_hundreds : (n : ℕ) → 100 ≤ n → n < 2 ^ 64 → decimal (n / 100) ++ last_two n ≡ decimal n
-with_hundreds n low fits =
-    let tens = decimal_step (n / 10) (omega (arith, low)) (omega (arith, fits)) ∙ ap (λ k. decimal k ++ ((48 + n / 10 % 10) ∷ [])) (div-div-eq-div-mul n 10 10) in
-    sym (decimal_step n (omega (arith, low)) fits
-    ∙ (ap (λ t. t ++ ((48 + n % 10) ∷ [])) tens ∙ append_assoc (decimal (n / 100)) ((48 + n / 10 % 10) ∷ []) ((48 + n % 10) ∷ [])))
-
--- a number is its hundreds and what comes after them
-pub by_hundreds : (hundreds n : ℕ) → hundreds ≡ n / 100 → n < 2 ^ 64 → hundreds_text hundreds ++ last_text hundreds n ≡ decimal n
-by_hundreds hundreds n e fits = cases (hundreds == 0) refl
-  where
-    cases : (b : Bool) → (hundreds == 0) ≡ b → (if b then [] else decimal hundreds) ++ (if b then decimal n else last_two n) ≡ decimal n
-    cases true none = refl
-    cases false some =
-        let above : hundreds ≢ 0 = eqb-false hundreds 0 some in
-        subst (λ h. decimal h ++ last_two n ≡ decimal n) (sym e) (with_hundreds n (omega (arith, e, above)) fits)

@@ -24,7 +24,8 @@ use Rattle.dsr_ledger.specs.declared.reply.Reply.{Reply as AReply}
 use Rattle.dsr_run.specs.Run.{IsRun, envelope_of}
 use Rattle.dsr_run.specs.Step.{Step, log_of}
 use Rattle.dsr_world.specs.Event.{HasDone, MayBeDone, first_of, in_box, refusal_of, refusals, step_of}
-use Rattle.dsr_explain.specs.Letters.{handled, to_take}
+use Rattle.dsr_world.specs.Stage.{last_taken}
+use Rattle.dsr_explain.specs.Letters.{handled}
 use Rattle.dsr_explain.specs.Told.{last_envelope}
 
 -- ---- a posted letter
@@ -70,12 +71,6 @@ module _ (shape : Shape) where
   opened true o e = refl
   opened false o e = absurd (false≢true e)
 
-  turned : (a b : Bool) → (a && b) ≡ true → (b && a) ≡ true
-  turned true true e = refl
-  turned true false e = e
-  turned false true e = absurd (false≢true e)
-  turned false false e = e
-
   -- what makes an option some step is some envelope
   mapped : (o : Option Envelope) (f : Envelope → Step) (step : Step) → option_map f o ≡ Some step → (x : Envelope) × (o ≡ Some x) × (step ≡ f x)
   mapped None f step e = absurd (none-some step e)
@@ -92,7 +87,7 @@ module _ (shape : Shape) where
 
     by_event : (event : Event) (step : Step) → step_of shape (log_of earlier) event ≡ Some step → IsRun shape (step ∷ earlier)
         → refusal_of shape (log_of earlier) event ≡ None
-        → handled shape (log_of (step ∷ earlier)) event (to_take shape (log_of earlier) event) ≡ Some (envelope_of step.1)
+        → handled shape (step ∷ earlier) event ≡ Some (envelope_of step.1)
     by_event (Post from to pick) step e is clear =
         let found = mapped (post_of shape (log_of earlier from) from to pick) (λ x. (from, PostEntry to x)) step e in
         let both = is_actor shape from && is_actor shape to in
@@ -102,9 +97,7 @@ module _ (shape : Shape) where
         of_post from to draft step both (sym (same_Some (from, PostEntry to draft) step e)) (first_clear both NoActor (later (refusals shape (log_of earlier) (Plant from to draft))) clear) is
     by_event (Take at from) step e is clear =
         let found = mapped (in_box (log_of earlier) from at) (λ x. (at, TakeEntry from x)) step e in
-        let both = is_actor shape at && is_actor shape from in
-        opened (is_actor shape from && is_actor shape at) (in_box (log_of earlier) from at) (turned (is_actor shape at) (is_actor shape from) (first_clear both NoActor (later (refusals shape (log_of earlier) (Take at from))) clear))
-        ∙ (found.1 ∙ subst (λ s. Some found.0 ≡ Some (envelope_of s.1)) (sym found.2) refl)
+        subst (λ (s : Step). last_taken (s ∷ earlier) ≡ Some (envelope_of s.1)) (sym found.2) refl
     by_event (Tell (Client c) to) step e is clear =
         let both = is_actor shape (Client c) && is_actor shape to in
         of_post (Client c) to (Seen (seen_by shape (log_of earlier) c)) step both (sym (same_Some (Client c, PostEntry to (Seen (seen_by shape (log_of earlier) c))) step e))
@@ -113,7 +106,7 @@ module _ (shape : Shape) where
 
   -- an event that nothing refused posted or took the envelope of the last step
   pub letter_is : (later earlier : List Step) (event : Event) (reply : Option AReply) → IsRun shape later → MayBeDone shape (log_of earlier) event
-      → HasDone shape later earlier event reply → handled shape (log_of later) event (to_take shape (log_of earlier) event) ≡ last_envelope later
+      → HasDone shape later earlier event reply → handled shape later event ≡ last_envelope later
   letter_is later earlier event reply is may done =
-      subst (λ run. handled shape (log_of run) event (to_take shape (log_of earlier) event) ≡ last_envelope run) (sym done.went_on)
+      subst (λ run. handled shape run event ≡ last_envelope run) (sym done.went_on)
       (by_event earlier event done.step done.is_event (subst (IsRun shape) done.went_on is) may.0)

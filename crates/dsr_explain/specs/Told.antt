@@ -133,7 +133,7 @@ pub record TellsRefusal (wanted : Wanted) (number : ℕ) (shape : Shape) (run : 
       × TellsCause shape (log_of run) event wanted.data (refused_line wanted.data number line event refusal shown) text
   pub other : ¬ WantsRefused wanted event → text ≡ []
 
--- an event that was refused, and not for want of memory, changes nothing
+-- an event that was refused, and not for lack of memory, changes nothing
 pub record TellsRefused (wanted : Wanted) (number : ℕ) (shape : Shape) (later earlier : List Step) (event : Event) (text : List ℕ) : Type 0 where
   pub refusal : Refusal
   pub refused : IsRefusedBy shape (log_of earlier) event refusal

@@ -1,11 +1,11 @@
 //! The line of an event: its number, the line of the play that represents it, and who does what to whom.
 
-ghost use Rattle.std.specs.Prelude.{◌≡◌, ◌/◌, ◌++◌, [], None, false, codes, IfOk, IfSome, IsTrue, OnOk, IsOkUnless, string_bytes};
+ghost use Rattle.std.specs.Prelude.{◌≡◌, ◌++◌, [], None, false, codes, IfOk, IfSome, IsTrue, OnOk, IsOkUnless, string_bytes};
 ghost use Rattle.dsr_reasons.specs.Reason.{actor_of, one_of};
-ghost use Rattle.dsr_explain.specs.Heads.{hundreds_text, last_text, line_of, text_after, text_before};
+ghost use Rattle.dsr_explain.specs.Heads.{line_of, text_after, text_before};
 ghost use Rattle.dsr_explain.specs.Told.{doing, done_line, place_text, refusal_text, refused_line, verb_of};
 
-use crate::pieces::{put_name, put_number, put_two_digits};
+use crate::pieces::{put_name, put_number};
 use crate::verb::Verb;
 use dsr_names::{Actor, Refusal};
 use dsr_reasons::{actor_of, other_of};
@@ -15,28 +15,25 @@ use std::alloc::Global;
 /// Initial buffer size in bytes; most texts fit.
 const ROOM: usize = 48;
 
-/// What several events have in common: how they are told, the hundreds of their numbers, the line of the play that represents them, and who does what.
+/// What several events may have in common: how they are told, the line of the play that represents them, and who does what.
 #[derive(Clone, Copy, Debug, PartialEq, Eq)]
 pub struct Deed {
     pub(crate) as_data: bool,
-    pub(crate) hundreds: u64,
     pub(crate) line: u64,
     pub(crate) verb: Verb,
     pub(crate) actor: Actor,
 }
 
 impl Deed {
-    /// Returns what the event with this number, which this line of the play represents, may have in common with others.
-    fn of(as_data: bool, number: u64, line: u64, event: &Event) -> Deed
+    /// Returns what the event, which this line of the play represents, may have in common with others.
+    fn of(as_data: bool, line: u64, event: &Event) -> Deed
         ensures as_data { result.as_data ≡ as_data }
-        ensures hundreds { result.hundreds ≡ number / 100 }
         ensures line { result.line ≡ line }
         ensures verb { result.verb ≡ verb_of event.now }
         ensures actor { result.actor ≡ actor_of event.now }
     {
         Deed {
             as_data,
-            hundreds: number / 100,
             line,
             verb: Verb::of(event),
             actor: actor_of(event),
@@ -48,7 +45,7 @@ impl Deed {
 #[derive(Drop)]
 pub(crate) struct Head {
     deed: Deed,
-    /// The text at the beginning, with the hundreds of the events' numbers.
+    /// The text before an event's number.
     before: String,
     /// The text between an event's number and the name of whom it concerns.
     after: String,
@@ -72,25 +69,7 @@ impl Head {
     }
 
     /// Writes the line of the event with this number, which is one of these and was done; `shown` is the envelope that it posted or took.
-    fn write_done(
-        &self,
-        out: &mut String,
-        number: u64,
-        event: &Event,
-        shown: &str,
-    ) -> Result<(), Refusal>
-        requires hundreds { self.now.deed.hundreds ≡ number / 100 }
-        requires verb { self.now.deed.verb ≡ verb_of event.now }
-        requires actor { self.now.deed.actor ≡ actor_of event.now }
-        ensures text { OnOk result (string_bytes out.new ≡ string_bytes out.old
-            ++ done_line self.now.deed.as_data number self.now.deed.line event.now shown.now) }
-        ensures refusal { IsOkUnless result Refusal.NoMemory }
-    {
-        self.write_parts(out, number, event, shown)
-    }
-
-    /// Writes the parts of such a line.
-    fn write_parts(
+    fn write(
         &self,
         out: &mut String,
         number: u64,
@@ -101,7 +80,7 @@ impl Head {
         ensures refusal { IsOkUnless result Refusal.NoMemory }
     {
         out.push_str(self.before.as_str())?;
-        put_last(out, self.deed.hundreds, number)?;
+        put_number(out, number)?;
         out.push_str(self.after.as_str())?;
         put_name(out, other_of(event))?;
         write_end(out, self.deed.as_data, shown)
@@ -123,8 +102,9 @@ pub(crate) fn write_done(
     ensures text { OnOk result (string_bytes out.new ≡ string_bytes out.old ++ done_line as_data number line event.now shown.now) }
     ensures refusal { IsOkUnless result Refusal.NoMemory }
 {
-    let head = head_of(alloc, last, &Deed::of(as_data, number, line, event))?;
-    head.write_done(out, number, event, shown)
+    let deed = Deed::of(as_data, line, event);
+    let head = head_of(alloc, last, &deed)?;
+    head.write(out, number, event, shown)
 }
 
 /// Returns the texts of these events: the last ones if they are theirs, otherwise new ones, which become the last. `NoMemory` if memory runs out.
@@ -152,7 +132,7 @@ fn is_of(last: &Option<Head>, deed: &Deed) -> bool
     }
 }
 
-/// Returns the text at the beginning of the lines of such events. `NoMemory` if memory runs out.
+/// Returns the text before the number of such an event. `NoMemory` if memory runs out.
 fn text_before(alloc: Global, deed: &Deed) -> Result<String, Refusal>
     ensures text { IfOk result (λ text. string_bytes text ≡ text_before deed.now) }
     ensures refusal { IsOkUnless result Refusal.NoMemory }
@@ -165,32 +145,7 @@ fn text_before(alloc: Global, deed: &Deed) -> Result<String, Refusal>
         put_number(&mut text, deed.line)?;
         text.push_str(", event ")?;
     }
-    put_hundreds(&mut text, deed.hundreds)?;
     Ok(text)
-}
-
-/// Appends so many hundreds, as the beginning of a number; nothing for none.
-fn put_hundreds(out: &mut String, hundreds: u64) -> Result<(), Refusal>
-    ensures text { OnOk result (string_bytes out.new ≡ string_bytes out.old ++ hundreds_text hundreds) }
-    ensures refusal { IsOkUnless result Refusal.NoMemory }
-{
-    if hundreds == 0 {
-        Ok(())
-    } else {
-        put_number(out, hundreds)
-    }
-}
-
-/// Appends what comes after its hundreds in the number, which has so many.
-fn put_last(out: &mut String, hundreds: u64, number: u64) -> Result<(), Refusal>
-    ensures text { OnOk result (string_bytes out.new ≡ string_bytes out.old ++ last_text hundreds number) }
-    ensures refusal { IsOkUnless result Refusal.NoMemory }
-{
-    if hundreds == 0 {
-        put_number(out, number)
-    } else {
-        put_two_digits(out, number)
-    }
 }
 
 /// Returns the text between the number of such an event and the name of whom it concerns. `NoMemory` if memory runs out.

@@ -78,7 +78,7 @@ fn put_short(out: &mut String, number: u64) -> Result<(), Refusal>
 }
 
 /// Appends the two last digits of the number.
-pub(crate) fn put_two_digits(out: &mut String, number: u64) -> Result<(), Refusal>
+fn put_two_digits(out: &mut String, number: u64) -> Result<(), Refusal>
     ensures text { OnOk result (string_bytes out.new ≡ string_bytes out.old ++ last_two number) }
     ensures refusal { IsOkUnless result Refusal.NoMemory }
 {

@@ -5,10 +5,11 @@ ghost use Rattle.dsr_reasons.specs.Reason.{TellsCause, actor_of, other_of};
 ghost use Rattle.dsr_run.specs.Step.{log_of};
 ghost use Rattle.dsr_world.specs.Event.{MayBeDone};
 ghost use Rattle.dsr_explain.specs.Lines.{note_line, note_lines};
-ghost use Rattle.dsr_explain.specs.Letters.{box_of, handled, to_take};
+ghost use Rattle.dsr_explain.specs.Letters.{box_of, handled};
 ghost use Rattle.dsr_names.specs.Streams.{CanFailToTake, SentAll, SentPrefix};
 ghost use Rattle.dsr_explain.specs.Outlet.{HasGoneOut};
-ghost use Rattle.dsr_explain.specs.Told.{HasBrokenOff, TellsEvent, TellsEvents, TellsNotes, TellsRefusal, TellsWanted, chains_in_some, first_line, last_chains, last_envelope, refused_line};
+ghost use Rattle.dsr_explain.specs.Telling.{GoesOn};
+ghost use Rattle.dsr_explain.specs.Told.{HasBrokenOff, TellsEvents, TellsNotes, TellsRefusal, TellsWanted, chains_in_some, first_line, last_chains, last_envelope, refused_line};
 ghost use Rattle.dsr_explain.specs.Wanted.{wants_note};
 
 use crate::counts::NoteCounts;
@@ -55,8 +56,6 @@ pub(crate) struct Story {
     head: Option<Head>,
     /// The notes of the last event; the next event uses their room.
     notes: Vec<Note>,
-    /// The letter that the last event was to take.
-    letter: Option<Letter>,
     /// How many contents replicas kept, by slot, unless only refused events are wanted.
     pub(crate) kept: Vec<KeptBy>,
 }
@@ -93,7 +92,6 @@ impl Story {
             requests,
             head: None,
             notes: Vec::new(alloc),
-            letter: None,
             kept: Vec::new(alloc),
         })
     }
@@ -164,12 +162,7 @@ impl Story {
 
     /// Makes the event with this number, which this line represents, happen, and explains it. `NoMemory` if memory runs out.
     fn tell(&mut self, alloc: Global, number: u64, line: u64, event: &Event) -> Result<(), Refusal>
-        ensures told { OnOk result ((told : List ℕ)
-            × TellsEvent self.old.wanted number self.old.stage.shape self.new.stage.run self.old.stage.run event.now told
-            × (string_bytes self.new.out ≡ string_bytes self.old.out ++ told)) }
-        ensures wanted { self.new.wanted ≡ self.old.wanted }
-        ensures outflow { self.new.outflow ≡ self.old.outflow }
-        ensures shape { self.new.stage.shape ≡ self.old.stage.shape }
+        ensures { GoesOn number event.now result self.old self.new }
     {
         if self.wanted.refused {
             self.tell_briefly(alloc, number, line, event)
@@ -187,12 +180,7 @@ impl Story {
         event: &Event,
     ) -> Result<(), Refusal>
         requires { self.old.wanted.refused ≡ true }
-        ensures told { OnOk result ((told : List ℕ)
-            × TellsEvent self.old.wanted number self.old.stage.shape self.new.stage.run self.old.stage.run event.now told
-            × (string_bytes self.new.out ≡ string_bytes self.old.out ++ told)) }
-        ensures wanted { self.new.wanted ≡ self.old.wanted }
-        ensures outflow { self.new.outflow ≡ self.old.outflow }
-        ensures shape { self.new.stage.shape ≡ self.old.stage.shape }
+        ensures { GoesOn number event.now result self.old self.new }
     {
         match self.stage.step(alloc, event) {
             Ok(_) => {
@@ -213,14 +201,8 @@ impl Story {
         event: &Event,
     ) -> Result<(), Refusal>
         requires { self.old.wanted.refused ≡ false }
-        ensures told { OnOk result ((told : List ℕ)
-            × TellsEvent self.old.wanted number self.old.stage.shape self.new.stage.run self.old.stage.run event.now told
-            × (string_bytes self.new.out ≡ string_bytes self.old.out ++ told)) }
-        ensures wanted { self.new.wanted ≡ self.old.wanted }
-        ensures outflow { self.new.outflow ≡ self.old.outflow }
-        ensures shape { self.new.stage.shape ≡ self.old.stage.shape }
+        ensures { GoesOn number event.now result self.old self.new }
     {
-        self.letter = letter_to_take(&self.stage, event)?;
         match step_noted(alloc, &mut self.stage, event, &mut self.notes) {
             Ok(_) => {
                 // For the proof: the letter is that of the last step of a run.
@@ -232,7 +214,7 @@ impl Story {
         }
     }
 
-    /// Writes the event, which was done last, and its notes, if the filter wants them. Requires that the letter is the one that it took, if it took one.
+    /// Writes the event, which was done last, and its notes, if the filter wants them.
     fn tell_done(
         &mut self,
         alloc: Global,
@@ -240,7 +222,7 @@ impl Story {
         line: u64,
         event: &Event,
     ) -> Result<(), Refusal>
-        requires { handled self.old.stage.shape (log_of self.old.stage.run) event.now self.old.letter ≡ last_envelope self.old.stage.run }
+        requires { handled self.old.stage.shape self.old.stage.run event.now ≡ last_envelope self.old.stage.run }
         ensures told { OnOk result ((told : List ℕ)
             × TellsWanted self.old.wanted number self.old.stage.shape self.old.stage.run event.now self.old.notes.items told
             × (string_bytes self.new.out ≡ string_bytes self.old.out ++ told)) }
@@ -250,7 +232,7 @@ impl Story {
     {
         self.posts.note(event, line);
         let (actor, notes) = (actor_of(event), self.notes.as_slice());
-        let envelope = handled(&self.stage, event, &self.letter);
+        let envelope = handled(&self.stage, event);
         self.counts.add(&self.stage, &actor, envelope, line, notes);
         count_kept(&mut self.kept, &actor, notes)?;
         if self.wanted.has_done(event, self.notes.as_slice()) {
@@ -269,7 +251,7 @@ impl Story {
         line: u64,
         event: &Event,
     ) -> Result<(), Refusal>
-        requires { handled self.old.stage.shape (log_of self.old.stage.run) event.now self.old.letter ≡ last_envelope self.old.stage.run }
+        requires { handled self.old.stage.shape self.old.stage.run event.now ≡ last_envelope self.old.stage.run }
         ensures told { OnOk result ((told : List ℕ)
             × TellsNotes self.old.wanted number self.old.stage.shape self.old.stage.run event.now self.old.notes.items told
             × (string_bytes self.new.out ≡ string_bytes self.old.out ++ told)) }
@@ -277,7 +259,7 @@ impl Story {
         ensures outflow { self.new.outflow ≡ self.old.outflow }
         ensures stage { self.new.stage ≡ self.old.stage }
     {
-        let envelope = handled(&self.stage, event, &self.letter);
+        let envelope = handled(&self.stage, event);
         if let Some(envelope) = envelope {
             self.texts
                 .note_done(alloc, &mut self.requests, event, envelope)?;
@@ -435,28 +417,14 @@ fn letter_in_box<'a>(stage: &'a Stage, from: &Actor, to: &Actor) -> Option<&'a L
     }
 }
 
-/// Returns the letter that the event is to take; `None` if it takes none. `NoMemory` if one more handle is refused.
-fn letter_to_take(stage: &Stage, event: &Event) -> Result<Option<Letter>, Refusal>
-    ensures same { IfOk result (λ letter. letter ≡ to_take stage.now.shape (log_of stage.now.run) event.now) }
-    ensures refusal { IsOkUnless result Refusal.NoMemory }
-{
-    let Event::Take { at, from } = event else {
-        return Ok(None);
-    };
-    match letter_in_box(stage, from, at) {
-        Some(letter) => Ok(Some(letter.try_copy()?)),
-        None => Ok(None),
-    }
-}
-
-/// Returns the envelope of the event, which was done last: the one that it posted, or that of the letter which it took.
-fn handled<'a>(stage: &'a Stage, event: &Event, taken: &'a Option<Letter>) -> Option<&'a Envelope>
-    ensures { option_map (λ x. x.now) result ≡ handled stage.now.shape (log_of stage.now.run) event.now taken.now }
+/// Returns the envelope that the event, which was done last, posted or took.
+fn handled<'a>(stage: &'a Stage, event: &Event) -> Option<&'a Envelope>
+    ensures { option_map (λ x. x.now) result ≡ handled stage.now.shape stage.now.run event.now }
 {
     match event {
         Event::Post { from, to, .. } | Event::Plant { from, to, .. } | Event::Tell { from, to } =>
             envelope_of(letter_in_box(stage, from, to)),
-        Event::Take { .. } => envelope_of(taken.as_ref()),
+        Event::Take { .. } => envelope_of(stage.last_taken()),
     }
 }
 

@@ -8,7 +8,7 @@ use Rattle.dsr_run.specs.Step.{log_of}
 use Rattle.dsr_world.specs.Event.{HasDone, IsRefusedBy, MayBeDone}
 use Rattle.dsr_world.specs.Stage.{Stage}
 
--- an event that nothing refuses was done; one that was refused, but for want of memory, left the stage as it was; and the shape stays
+-- an event that nothing refuses was done; one that was refused, but for lack of memory, left the stage as it was; and the shape stays
 abbrev pub IsStepped : Stage → Stage → Event → Result (Option AReply) Refusal → Type 0
 IsStepped later earlier event result =
     IfOk result (HasDone earlier.shape later.run earlier.run event)

@@ -7,12 +7,17 @@ use Rattle.dsr_explain.specs.Told.{TellsRefusal}
 use Rattle.dsr_explain.proofs.ToldLemmas.{brief_told, refused_told}
 use Rattle.dsr_explain.proofs.story.Story.tell_briefly.Goals as goal
 
-pub returns-in-Ok-clause-told : goal.returns-in-Ok-clause-told
-returns-in-Ok-clause-told c =
+pub returns-in-Ok : goal.returns-in-Ok
+returns-in-Ok c =
     let s = c.args.self.now in
-    brief_told s.wanted c.args.number s.stage.shape c.step.new.self.run s.stage.run c.args.event.now c.in-Ok.field-0 (string_bytes s.out)
-    c.requires (may_be_done s.stage.shape (log_of s.stage.run) c.args.event.now (Ok c.in-Ok.field-0) c.in-Ok.ensures.refused c.in-Ok.ensures.forged.1)
-    c.in-Ok.ensures.done
+    record {
+      told = brief_told s.wanted c.args.number s.stage.shape c.step.new.self.run s.stage.run c.args.event.now c.in-Ok.field-0 (string_bytes s.out)
+          c.requires (may_be_done s.stage.shape (log_of s.stage.run) c.args.event.now (Ok c.in-Ok.field-0) c.in-Ok.ensures.refused c.in-Ok.ensures.forged.1)
+          c.in-Ok.ensures.done;
+      wanted = refl;
+      outflow = refl;
+      shape = c.in-Ok.ensures.shape;
+    }
 
 pub returns-in-Err : goal.returns-in-Err
 returns-in-Err c =

@@ -3,7 +3,7 @@ use Rattle.std.specs.Prelude.{◌≢◌, OnOk, string_bytes}
 use Rattle.dsr_names.specs.declared.refusal.Refusal.TheVariants.{NoMemory}
 use Rattle.dsr_run.specs.Run.{IsRun}
 use Rattle.dsr_run.specs.Step.{log_of}
-use Rattle.dsr_explain.specs.Letters.{handled, to_take}
+use Rattle.dsr_explain.specs.Letters.{handled}
 use Rattle.dsr_explain.specs.Told.{TellsRefusal, last_envelope}
 use Rattle.dsr_explain.proofs.LetterLemmas.{letter_is}
 use Rattle.dsr_explain.proofs.ToldLemmas.{refused_told}
@@ -17,8 +17,7 @@ tell_done-requires c =
     let shape = c.in-Ok.ensures.shape in
     let is = subst (λ shape. IsRun shape later.run) shape c.steps_are_a_run.ensures in
     let letter = letter_is s.stage.shape later.run s.stage.run event c.in-Ok.field-0 is c.in-Ok.ensures.may c.in-Ok.ensures.done in
-    subst (λ letter. handled later.shape (log_of later.run) event letter ≡ last_envelope later.run) (sym c.in_ok-self.ensures.same)
-    (subst (λ shape. handled shape (log_of later.run) event (to_take s.stage.shape (log_of s.stage.run) event) ≡ last_envelope later.run) (sym shape) letter)
+    subst (λ shape. handled shape later.run event ≡ last_envelope later.run) (sym shape) letter
 
 pub returns-in-Err : goal.returns-in-Err
 returns-in-Err c =
