@@ -43,9 +43,9 @@ from models.transcript_text import refused
 # ---- sizes: reports and memory
 
 # What the program needed of memory, as RLIMIT_AS counts it, when it was measured: by play, for the start and for the shape, and for each
-# event with its share of the report. The plays of 1,000,000 events needed 363, 334 and 91 MiB.
-ONE_REPLICA = (5 << 20, 380)
-SIXTEEN_REPLICAS = (8 << 20, 90)
+# event with its share of the report. The plays of 1,000,000 events needed 314, 271 and 62 MiB.
+ONE_REPLICA = (5 << 20, 328)
+SIXTEEN_REPLICAS = (8 << 20, 58)
 # It is given twice that.
 AMPLE = 2
 
