@@ -5,8 +5,7 @@ use Rattle.dsr_play.specs.declared.event.Event.{Event}
 use Rattle.dsr_explain.specs.Told.{TellsEvent}
 use Rattle.dsr_explain.specs.declared.story.Story.{Story}
 
--- the story after the event with this number: unless memory ran out, what is told of the event was appended to the text; the filter, the way out of the
--- text and the shape stay as they were
+-- the story after the event with this number: what is told of the event stands at the end of the text, unless memory ran out, and the rest stays
 pub record GoesOn {T : Type 0} (number : ℕ) (event : Event) (result : Result T Refusal) (before after : Story) : Type 0 where
   pub told : OnOk result ((told : List ℕ)
       × TellsEvent before.wanted number before.stage.shape after.stage.run before.stage.run event told
