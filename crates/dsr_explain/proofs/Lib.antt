@@ -1,12 +1,12 @@
 mod BreakLemmas
 mod DecidedLemmas
-mod DigitLemmas
 mod HeadLemmas
 mod LetterLemmas
 mod MisfitLemmas
 mod NoteLemmas
 mod PartLemmas
 mod Refusing
+mod StartLemmas
 mod TextLemmas
 mod ToldLemmas
 mod WaitingLemmas

@@ -132,10 +132,13 @@ abbrev pub chain_word : ChainFate → List ℕ
 chain_word (Read round fate) = fate_text true fate
 chain_word NotInFlight = codes "not-in-flight"
 
--- what becomes of a chain of this slot, as data
+-- what becomes of a chain of this slot, as data, after whose chain it is
+abbrev pub chain_data_end : List ℕ → ℕ → ChainFate → List ℕ
+chain_data_end shown slot fate = codes " " ++ (decimal slot ++ (codes " " ++ (decimal (round_of fate) ++ (shown ++ (chain_word fate ++ codes "\n")))))
+
+-- what becomes of a chain of this slot, which this actor took, as data
 abbrev pub chain_data : Actor → List ℕ → ℕ → ChainFate → List ℕ
-chain_data at shown slot fate =
-    about true (codes "chain ") at [] slot ++ (codes " " ++ (decimal (round_of fate) ++ (shown ++ (chain_word fate ++ codes "\n"))))
+chain_data at shown slot fate = codes "chain " ++ (actor_text at ++ chain_data_end shown slot fate)
 
 -- the same in words
 abbrev pub chain_words : Shape → Option Chain → List ℕ → ℕ → ChainFate → List ℕ
@@ -144,6 +147,13 @@ chain_words shape chain shown slot fate = codes "    chain of slot " ++ (decimal
 -- what becomes of a chain of this slot; `shown` is a text that describes the chain, about which this definition claims nothing
 abbrev pub chain_line : Bool → Shape → Actor → Option Chain → List ℕ → ℕ → ChainFate → List ℕ
 chain_line is_data shape at chain shown slot fate = if is_data then chain_data at shown slot fate else chain_words shape chain shown slot fate
+
+-- the same, if the chain is not new in this round of its slot: in words all of the line, and as data what comes after the actor
+abbrev pub not_new_end : Bool → List ℕ → ℕ → ℕ → List ℕ
+not_new_end is_data shown slot round =
+    if is_data
+    then chain_data_end shown slot (Read round NotNew)
+    else codes "    chain of slot " ++ (decimal slot ++ (shown ++ ((codes ", in its round " ++ (decimal round ++ (codes ": " ++ fate_text false NotNew))) ++ codes "\n")))
 
 -- a text that describes a chain, as data: its signers and its content
 abbrev pub shown_data : Chain → List ℕ
@@ -258,11 +268,10 @@ no_vote_line is_data at other why =
 -- that a client accepts a reply
 abbrev pub accepted_line : Bool → Actor → Reply → List ℕ
 accepted_line is_data at reply =
-    if is_data
-    then codes "accept " ++ (actor_text at ++ (codes " " ++ (decimal reply.number ++ (codes " " ++ (decimal reply.place ++ (codes " "
-    ++ (answer_text reply.answer ++ codes "\n")))))))
-    else codes "    " ++ (actor_text at ++ (codes " accepts the reply to its request " ++ (decimal reply.number ++ (codes ": "
-    ++ (answer_text reply.answer ++ (codes ", at place " ++ (decimal reply.place ++ codes "\n")))))))
+    about is_data (codes "accept ") at (codes " accepts the reply to its request ") reply.number
+    ++ (if is_data
+    then codes " " ++ (decimal reply.place ++ (codes " " ++ (answer_text reply.answer ++ codes "\n")))
+    else codes ": " ++ (answer_text reply.answer ++ (codes ", at place " ++ (decimal reply.place ++ codes "\n"))))
 
 -- ---- all notes
 

@@ -1,15 +1,16 @@
 -- How a story goes on with an event; no public contract cites this (this project).
-use Rattle.std.specs.Prelude.{◌≡◌, ℕ, List, ◌++◌, Result, OnOk, string_bytes}
+use Rattle.std.specs.Prelude.{◌≡◌, ℕ, List, ◌++◌, Result, OnOk}
 use Rattle.dsr_names.specs.declared.refusal.Refusal.{Refusal}
 use Rattle.dsr_play.specs.declared.event.Event.{Event}
 use Rattle.dsr_explain.specs.Told.{TellsEvent}
 use Rattle.dsr_explain.specs.declared.story.Story.{Story}
 
--- the story after the event with this number: what is told of the event stands at the end of the text, unless memory ran out, and the rest stays
+-- the story after the event with this number: what is told of the event stands at the end of the text, unless memory ran out; the filter, how the
+-- text goes out and the shape stay
 pub record GoesOn {T : Type 0} (number : ℕ) (event : Event) (result : Result T Refusal) (before after : Story) : Type 0 where
   pub told : OnOk result ((told : List ℕ)
       × TellsEvent before.wanted number before.stage.shape after.stage.run before.stage.run event told
-      × (string_bytes after.out ≡ string_bytes before.out ++ told))
+      × (after.out ≡ before.out ++ told))
   pub wanted : after.wanted ≡ before.wanted
   pub outflow : after.outflow ≡ before.outflow
   pub shape : after.stage.shape ≡ before.stage.shape

@@ -22,18 +22,26 @@ next_data p round (PostTo to) = codes "waits " ++ (replica_text p ++ (codes " po
 next_data p round (TakeFrom from) =
     codes "waits " ++ (replica_text p ++ (codes " take " ++ (replica_text from ++ (codes " " ++ (decimal round ++ codes "\n")))))
 
--- in words: what it does next, or for whom it waits, by whether the box of the post or take holds an envelope
+-- in words, after its name: that it posts, by whether the box of the post holds an envelope
+abbrev pub post_words : ℕ → Bool → ℕ → List ℕ
+post_words round is_there to =
+    if is_there
+    then codes ": posts its envelope of round " ++ (decimal round ++ (codes " to " ++ (replica_text to
+    ++ (codes " once " ++ (replica_text to ++ codes " has taken the one before\n")))))
+    else codes ": next it posts its envelope of round " ++ (decimal round ++ (codes " to " ++ (replica_text to ++ codes "\n")))
+
+-- that it takes, or waits for that, by whether the box of the take holds an envelope
+abbrev pub take_words : ℕ → Bool → ℕ → List ℕ
+take_words round is_there from =
+    codes ": in round " ++ (decimal round
+    ++ (if is_there
+    then codes ", next it takes what " ++ (replica_text from ++ codes " posted to it, which is there\n")
+    else codes ", it waits for " ++ (replica_text from ++ codes " to post to it\n")))
+
+-- in words: what it does next, or for whom it waits
 abbrev pub next_words : ℕ → ℕ → Bool → Due → List ℕ
-next_words p round is_there (PostTo to) =
-    if is_there
-    then replica_text p ++ (codes ": posts its envelope of round " ++ (decimal round ++ (codes " to " ++ (replica_text to
-    ++ (codes " once " ++ (replica_text to ++ codes " has taken the one before\n"))))))
-    else replica_text p ++ (codes ": next it posts its envelope of round " ++ (decimal round ++ (codes " to " ++ (replica_text to ++ codes "\n"))))
-next_words p round is_there (TakeFrom from) =
-    if is_there
-    then replica_text p ++ (codes ": in round " ++ (decimal round ++ (codes ", next it takes what " ++ (replica_text from
-    ++ codes " posted to it, which is there\n"))))
-    else replica_text p ++ (codes ": in round " ++ (decimal round ++ (codes ", it waits for " ++ (replica_text from ++ codes " to post to it\n"))))
+next_words p round is_there (PostTo to) = replica_text p ++ post_words round is_there to
+next_words p round is_there (TakeFrom from) = replica_text p ++ take_words round is_there from
 
 -- what a replica does next with the replicas
 abbrev pub next_line : Bool → ℕ → Next → List ℕ

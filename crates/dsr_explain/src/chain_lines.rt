@@ -1,38 +1,41 @@
 //! The line of a chain that a replica takes: data if `as_data`, otherwise words. `specs/Lines` says which line.
 
-ghost use Rattle.std.specs.Prelude.{◌≡◌, ◌++◌, [], false, true, OnOk, IsOkUnless, string_bytes};
+ghost use Rattle.std.specs.Prelude.{◌≡◌, ◌++◌, [], codes, false, true, if◌then◌else◌, string_bytes};
 ghost use Rattle.std.specs.Option.{option_map};
+ghost use Rattle.dsr_names.specs.Actor.{actor_text};
 ghost use Rattle.dsr_chain.specs.Chain.{link_after};
-ghost use Rattle.dsr_explain.specs.Lines.{chain_line, chain_data, chain_words, chain_word, chain_end, read_end, round_of, fate_content, fate_detail, fate_text, fault_detail, fault_text, misfit_text, misfit_told, shown_data, shown_words};
+ghost use Rattle.dsr_reasons.specs.Reason.{one_of};
+ghost use Rattle.dsr_explain.specs.Lines.{chain_line, chain_data, chain_data_end, chain_words, or_empty, chain_word, chain_end, read_end, round_of, fate_content, fate_detail, fate_text, fault_detail, fault_text, misfit_text, misfit_told, shown_data, shown_words};
 
-use crate::lines::put_about;
-use crate::pieces::{put_content, put_number, put_signers};
+use crate::chain_texts::{ChainText, end_if_not_new, shown_in};
+use crate::pieces::{put_content, put_signers};
 use crate::requests::RequestTexts;
 use dsr_chain::{Chain, ChainFault};
 use dsr_desk::{Signature, Signers, Statement};
-use dsr_names::{Actor, Refusal, Shape};
+use dsr_names::{Actor, Shape};
 use dsr_notes::ChainFate;
-use dsr_reasons::put;
+use dsr_reasons::Writer;
 use dsr_slot::Fate;
-use std::fmt::Write;
 
-/// Writes what becomes of a chain of this slot, which `shown` describes. In words its content and the details of its fault come from the chain itself.
-/// `NoMemory` if memory runs out.
+/// Writes what becomes of a chain of this slot, which `text` describes. In words its content and the details of its fault come from the chain itself.
 pub(crate) fn write_chain(
-    out: &mut String,
+    out: &mut Writer,
     requests: &mut RequestTexts,
     as_data: bool,
     shape: &Shape,
     at: Actor,
     chain: Option<&Chain>,
-    shown: &str,
+    text: Option<&ChainText>,
     slot: u64,
     fate: &ChainFate,
-) -> Result<(), Refusal>
-    ensures text { OnOk result (string_bytes out.new ≡ string_bytes out.old
-        ++ chain_line as_data shape.now at (option_map (λ c. c.now) chain.entry) shown.now slot fate.now) }
-    ensures refusal { IsOkUnless result Refusal.NoMemory }
+)
+    ensures { out.new ≡ out.old
+        ++ chain_line as_data shape.now at (option_map (λ c. c.now) chain.entry) (or_empty (option_map (λ t. string_bytes t.now.shown) text.entry)) slot fate.now }
 {
+    if let Some(end) = end_if_not_new(text, as_data, slot, fate) {
+        return write_not_new(out, as_data, at, end);
+    }
+    let shown = shown_in(text);
     if as_data {
         write_data(out, at, shown, slot, fate)
     } else {
@@ -40,50 +43,67 @@ pub(crate) fn write_chain(
     }
 }
 
-/// Writes a text that describes a chain, as data: its signers and its content. `NoMemory` if memory runs out.
-pub(crate) fn write_shown_data(
-    out: &mut String,
-    requests: &mut RequestTexts,
-    chain: &Chain,
-) -> Result<(), Refusal>
-    ensures text { OnOk result (string_bytes out.new ≡ string_bytes out.old ++ shown_data chain.now) }
-    ensures refusal { IsOkUnless result Refusal.NoMemory }
+/// Writes the line of a chain that is not new, which ends so; words are all in this end.
+fn write_not_new(out: &mut Writer, as_data: bool, at: Actor, end: &String)
+    ensures { out.new ≡ out.old
+        ++ (if as_data then codes "chain " ++ (actor_text at ++ string_bytes end.now) else string_bytes end.now) }
 {
-    out.push_str(" ")?;
-    put_signers(out, chain)?;
-    out.push_str(" ")?;
-    put_content(out, requests, chain)?;
-    out.push_str(" ")?;
-    Ok(())
+    if as_data {
+        out.put("chain ");
+        out.put_name(at);
+    }
+    out.put_text(end);
 }
 
-/// Writes a text that describes a chain, in words: its signers. `NoMemory` if memory runs out.
-pub(crate) fn write_shown_words(out: &mut String, chain: &Chain) -> Result<(), Refusal>
-    ensures text { OnOk result (string_bytes out.new ≡ string_bytes out.old ++ shown_words chain.now) }
-    ensures refusal { IsOkUnless result Refusal.NoMemory }
+/// Writes a text that describes a chain, as data: its signers and its content.
+pub(crate) fn write_shown_data(out: &mut Writer, requests: &mut RequestTexts, chain: &Chain)
+    ensures { out.new ≡ out.old ++ shown_data chain.now }
 {
-    out.push_str(", signed by ")?;
+    out.put(" ");
+    put_signers(out, chain);
+    out.put(" ");
+    put_content(out, requests, chain);
+    out.put(" ");
+}
+
+/// Writes a text that describes a chain, in words: its signers.
+pub(crate) fn write_shown_words(out: &mut Writer, chain: &Chain)
+    ensures { out.new ≡ out.old ++ shown_words chain.now }
+{
+    out.put(", signed by ");
     put_signers(out, chain)
 }
 
-/// Writes what becomes of a chain, as data.
-fn write_data(
-    out: &mut String,
-    at: Actor,
-    shown: &str,
-    slot: u64,
-    fate: &ChainFate,
-) -> Result<(), Refusal>
-    ensures text { OnOk result (string_bytes out.new ≡ string_bytes out.old ++ chain_data at shown.now slot fate.now) }
-    ensures refusal { IsOkUnless result Refusal.NoMemory }
+/// Writes what describes a chain, if there is a text that does.
+fn put_shown(out: &mut Writer, shown: Option<&String>)
+    ensures { out.new ≡ out.old ++ or_empty (option_map (λ s. string_bytes s.now) shown.entry) }
 {
-    put_about(out, true, "chain ", at, "", slot)?;
-    out.push_str(" ")?;
-    put_number(out, round_of(fate))?;
-    out.push_str(shown)?;
-    write_word(out, fate)?;
-    out.push_str("\n")?;
-    Ok(())
+    match shown {
+        Some(shown) => out.put_text(shown),
+        None => {}
+    }
+}
+
+/// Writes what becomes of a chain that this actor took, as data.
+fn write_data(out: &mut Writer, at: Actor, shown: Option<&String>, slot: u64, fate: &ChainFate)
+    ensures { out.new ≡ out.old ++ chain_data at (or_empty (option_map (λ s. string_bytes s.now) shown.entry)) slot fate.now }
+{
+    out.put("chain ");
+    out.put_name(at);
+    write_data_end(out, shown, slot, fate)
+}
+
+/// Writes what becomes of a chain, as data, after whose chain it is.
+pub(crate) fn write_data_end(out: &mut Writer, shown: Option<&String>, slot: u64, fate: &ChainFate)
+    ensures { out.new ≡ out.old ++ chain_data_end (or_empty (option_map (λ s. string_bytes s.now) shown.entry)) slot fate.now }
+{
+    out.put(" ");
+    out.put_number(slot);
+    out.put(" ");
+    out.put_number(round_of(fate));
+    put_shown(out, shown);
+    write_word(out, fate);
+    out.put("\n");
 }
 
 /// Returns the round of its slot in which a chain is read; 0 if its slot is not in flight.
@@ -97,57 +117,49 @@ fn round_of(fate: &ChainFate) -> u64
 }
 
 /// Writes the word for what becomes of a chain.
-fn write_word(out: &mut String, fate: &ChainFate) -> Result<(), Refusal>
-    ensures text { OnOk result (string_bytes out.new ≡ string_bytes out.old ++ chain_word fate.now) }
-    ensures refusal { IsOkUnless result Refusal.NoMemory }
+fn write_word(out: &mut Writer, fate: &ChainFate)
+    ensures { out.new ≡ out.old ++ chain_word fate.now }
 {
     match fate {
-        ChainFate::Read { fate, .. } => write_fate(out, true, fate),
-        ChainFate::NotInFlight => {
-            out.push_str("not-in-flight")?;
-            Ok(())
-        }
+        ChainFate::Read { fate, .. } => out.put(fate_text(true, fate)),
+        ChainFate::NotInFlight => out.put("not-in-flight"),
     }
 }
 
 /// Writes what becomes of a chain, in words.
-fn write_words(
-    out: &mut String,
+pub(crate) fn write_words(
+    out: &mut Writer,
     requests: &mut RequestTexts,
     shape: &Shape,
     chain: Option<&Chain>,
-    shown: &str,
+    shown: Option<&String>,
     slot: u64,
     fate: &ChainFate,
-) -> Result<(), Refusal>
-    ensures text { OnOk result (string_bytes out.new ≡ string_bytes out.old
-        ++ chain_words shape.now (option_map (λ c. c.now) chain.entry) shown.now slot fate.now) }
-    ensures refusal { IsOkUnless result Refusal.NoMemory }
+)
+    ensures { out.new ≡ out.old
+        ++ chain_words shape.now (option_map (λ c. c.now) chain.entry) (or_empty (option_map (λ s. string_bytes s.now) shown.entry)) slot fate.now }
 {
-    out.push_str("    chain of slot ")?;
-    put_number(out, slot)?;
-    out.push_str(shown)?;
-    write_end(out, requests, shape, chain, fate)?;
-    out.push_str("\n")?;
-    Ok(())
+    out.put("    chain of slot ");
+    out.put_number(slot);
+    put_shown(out, shown);
+    write_end(out, requests, shape, chain, fate);
+    out.put("\n");
 }
 
 /// Writes the end of a chain's line of words.
 fn write_end(
-    out: &mut String,
+    out: &mut Writer,
     requests: &mut RequestTexts,
     shape: &Shape,
     chain: Option<&Chain>,
     fate: &ChainFate,
-) -> Result<(), Refusal>
-    ensures text { OnOk result (string_bytes out.new ≡ string_bytes out.old
-        ++ chain_end shape.now (option_map (λ c. c.now) chain.entry) fate.now) }
-    ensures refusal { IsOkUnless result Refusal.NoMemory }
+)
+    ensures { out.new ≡ out.old
+        ++ chain_end shape.now (option_map (λ c. c.now) chain.entry) fate.now }
 {
     match fate {
         ChainFate::NotInFlight => {
-            out.push_str(": dropped, as the slot is not in flight")?;
-            Ok(())
+            out.put(": dropped, as the slot is not in flight");
         }
         ChainFate::Read { round, fate } => {
             write_read_end(out, requests, shape, chain, *round, fate)
@@ -157,120 +169,106 @@ fn write_end(
 
 /// Writes what becomes of a chain that is read in this round of its slot, in words.
 fn write_read_end(
-    out: &mut String,
+    out: &mut Writer,
     requests: &mut RequestTexts,
     shape: &Shape,
     chain: Option<&Chain>,
     round: u8,
     fate: &Fate,
-) -> Result<(), Refusal>
-    ensures text { OnOk result (string_bytes out.new ≡ string_bytes out.old
-        ++ read_end shape.now (option_map (λ c. c.now) chain.entry) round fate.now) }
-    ensures refusal { IsOkUnless result Refusal.NoMemory }
+)
+    ensures { out.new ≡ out.old
+        ++ read_end shape.now (option_map (λ c. c.now) chain.entry) round fate.now }
 {
-    write_fate_content(out, requests, chain, fate)?;
-    out.push_str(", in its round ")?;
-    put_number(out, round as u64)?;
-    out.push_str(": ")?;
-    write_fate(out, false, fate)?;
+    write_fate_content(out, requests, chain, fate);
+    out.put(", in its round ");
+    out.put_number(round as u64);
+    out.put(": ");
+    out.put(fate_text(false, fate));
     write_fate_detail(out, shape, chain, fate)
 }
 
 /// Writes the content of a chain with this fate. Only the text of the envelope shows a content that is kept already.
 fn write_fate_content(
-    out: &mut String,
+    out: &mut Writer,
     requests: &mut RequestTexts,
     chain: Option<&Chain>,
     fate: &Fate,
-) -> Result<(), Refusal>
-    ensures text { OnOk result (string_bytes out.new ≡ string_bytes out.old ++ fate_content (option_map (λ c. c.now) chain.entry) fate.now) }
-    ensures refusal { IsOkUnless result Refusal.NoMemory }
+)
+    ensures { out.new ≡ out.old ++ fate_content (option_map (λ c. c.now) chain.entry) fate.now }
 {
     let Some(chain) = chain else {
-        return Ok(());
+        return;
     };
     match fate {
-        Fate::NotNew => Ok(()),
+        Fate::NotNew => {}
         Fate::First | Fate::Second | Fate::OneTooMany | Fate::Improper(_) => {
-            out.push_str(", for ")?;
+            out.put(", for ");
             put_content(out, requests, chain)
         }
     }
 }
 
-/// Writes what becomes of a chain that is read.
-fn write_fate(out: &mut String, as_data: bool, fate: &Fate) -> Result<(), Refusal>
-    ensures text { OnOk result (string_bytes out.new ≡ string_bytes out.old ++ fate_text as_data fate.now) }
-    ensures refusal { IsOkUnless result Refusal.NoMemory }
+/// Returns what becomes of a chain that is read.
+fn fate_text(as_data: bool, fate: &Fate) -> &'static str
+    ensures { result.now ≡ fate_text as_data fate.now }
 {
     match fate {
-        Fate::First => put(out, as_data, "first", "kept, as the first content"),
-        Fate::Second => put(
-            out,
+        Fate::First => one_of(as_data, "first", "kept, as the first content"),
+        Fate::Second => one_of(
             as_data,
             "second",
             "kept, as the second content: the slot will be idle",
         ),
-        Fate::NotNew => put(
-            out,
+        Fate::NotNew => one_of(
             as_data,
             "not-new",
             "not new, as its content is kept already",
         ),
-        Fate::OneTooMany => put(
-            out,
+        Fate::OneTooMany => one_of(
             as_data,
             "one-too-many",
             "one too many, as two other contents are kept already",
         ),
-        Fate::Improper(fault) => write_fault(out, as_data, fault),
+        Fate::Improper(fault) => fault_text(as_data, fault),
     }
 }
 
-/// Writes why a chain is not proper.
-fn write_fault(out: &mut String, as_data: bool, fault: &ChainFault) -> Result<(), Refusal>
-    ensures text { OnOk result (string_bytes out.new ≡ string_bytes out.old ++ fault_text as_data fault.now) }
-    ensures refusal { IsOkUnless result Refusal.NoMemory }
+/// Returns why a chain is not proper.
+fn fault_text(as_data: bool, fault: &ChainFault) -> &'static str
+    ensures { result.now ≡ fault_text as_data fault.now }
 {
     match fault {
-        ChainFault::OtherSlot => put(
-            out,
+        ChainFault::OtherSlot => one_of(
             as_data,
             "other-slot",
             "not proper (other-slot): the chain is of another slot",
         ),
-        ChainFault::WrongCount => put(
-            out,
+        ChainFault::WrongCount => one_of(
             as_data,
             "wrong-count",
             "not proper (wrong-count): the chain does not have as many signatures as the round's number",
         ),
-        ChainFault::WrongSender => put(
-            out,
+        ChainFault::WrongSender => one_of(
             as_data,
             "wrong-sender",
             "not proper (wrong-sender): the first signer is not the sender of the slot",
         ),
-        ChainFault::NoReplica => put(
-            out,
+        ChainFault::NoReplica => one_of(
             as_data,
             "no-replica",
             "not proper (no-replica): a signer is no replica of the shape",
         ),
-        ChainFault::SignedTwice => put(
-            out,
+        ChainFault::SignedTwice => one_of(
             as_data,
             "signed-twice",
             "not proper (signed-twice): a signer signed twice",
         ),
-        ChainFault::Misfit => put(
-            out,
+        ChainFault::Misfit => one_of(
             as_data,
             "misfit",
             "not proper (misfit): a signature is on a statement that does not fit its place",
         ),
-        ChainFault::BadRequest => put(
-            out,
+        ChainFault::BadRequest => one_of(
             as_data,
             "bad-request",
             "not proper (bad-request): a request is not signed by its client, a client of the shape",
@@ -278,59 +276,51 @@ fn write_fault(out: &mut String, as_data: bool, fault: &ChainFault) -> Result<()
     }
 }
 
+/// Returns the word if `as_data`, otherwise the sentence.
+fn one_of(as_data: bool, word: &'static str, sentence: &'static str) -> &'static str
+    ensures { result.now ≡ one_of as_data word.now sentence.now }
+{
+    if as_data { word } else { sentence }
+}
+
 /// Writes the details of a chain's fate.
-fn write_fate_detail(
-    out: &mut String,
-    shape: &Shape,
-    chain: Option<&Chain>,
-    fate: &Fate,
-) -> Result<(), Refusal>
-    ensures text { OnOk result (string_bytes out.new ≡ string_bytes out.old ++ fate_detail shape.now (option_map (λ c. c.now) chain.entry) fate.now) }
-    ensures refusal { IsOkUnless result Refusal.NoMemory }
+fn write_fate_detail(out: &mut Writer, shape: &Shape, chain: Option<&Chain>, fate: &Fate)
+    ensures { out.new ≡ out.old ++ fate_detail shape.now (option_map (λ c. c.now) chain.entry) fate.now }
 {
     let Some(chain) = chain else {
-        return Ok(());
+        return;
     };
     match fate {
-        Fate::First | Fate::Second | Fate::NotNew | Fate::OneTooMany => Ok(()),
+        Fate::First | Fate::Second | Fate::NotNew | Fate::OneTooMany => {}
         Fate::Improper(fault) => write_fault_detail(out, shape, chain, fault),
     }
 }
 
 /// Writes the details of a chain's fault: how many signatures the chain has, who is the sender of its slot, or which statement does not fit.
-fn write_fault_detail(
-    out: &mut String,
-    shape: &Shape,
-    chain: &Chain,
-    fault: &ChainFault,
-) -> Result<(), Refusal>
-    ensures text { OnOk result (string_bytes out.new ≡ string_bytes out.old ++ fault_detail shape.now chain.now fault.now) }
-    ensures refusal { IsOkUnless result Refusal.NoMemory }
+fn write_fault_detail(out: &mut Writer, shape: &Shape, chain: &Chain, fault: &ChainFault)
+    ensures { out.new ≡ out.old ++ fault_detail shape.now chain.now fault.now }
 {
     match fault {
         ChainFault::WrongCount => {
-            let count = chain.signature_count();
-            write!(out, ", but {count}")?;
-            Ok(())
+            out.put(", but ");
+            out.put_number(chain.signature_count() as u64);
         }
         ChainFault::WrongSender => {
-            let sender = shape.sender(chain.slot());
-            write!(out, ", which is {sender}")?;
-            Ok(())
+            out.put(", which is ");
+            out.put_name(Actor::Replica(shape.sender(chain.slot())));
         }
         ChainFault::Misfit => write_misfit(out, chain),
         ChainFault::OtherSlot
         | ChainFault::NoReplica
         | ChainFault::SignedTwice
-        | ChainFault::BadRequest => Ok(()),
+        | ChainFault::BadRequest => {}
     }
 }
 
 /// Writes who signed the first statement that does not fit its place, this statement, and the one that would fit there.
-fn write_misfit(out: &mut String, chain: &Chain) -> Result<(), Refusal>
-    ensures text { OnOk result (string_bytes out.new ≡ string_bytes out.old
-        ++ misfit_text chain.now.slot chain.now.value [] chain.now.signatures) }
-    ensures refusal { IsOkUnless result Refusal.NoMemory }
+fn write_misfit(out: &mut Writer, chain: &Chain)
+    ensures { out.new ≡ out.old
+        ++ misfit_text chain.now.slot chain.now.value [] chain.now.signatures }
 {
     let mut before = Signers::new();
     for place in 0..chain.signature_count() {
@@ -341,17 +331,19 @@ fn write_misfit(out: &mut String, chain: &Chain) -> Result<(), Refusal>
         }
         before.push(signature.signer());
     }
-    Ok(())
 }
 
 /// Writes who signed a statement that does not fit its place, this statement, and the one that would fit there.
-fn tell_misfit(out: &mut String, signature: &Signature, link: &Statement) -> Result<(), Refusal>
-    ensures text { OnOk result (string_bytes out.new ≡ string_bytes out.old ++ misfit_told signature.now link.now) }
-    ensures refusal { IsOkUnless result Refusal.NoMemory }
+fn tell_misfit(out: &mut Writer, signature: &Signature, link: &Statement)
+    ensures { out.new ≡ out.old ++ misfit_told signature.now link.now }
 {
-    let (signer, statement) = (signature.signer(), signature.statement());
-    write!(out, ": {signer} signed {statement}, where {link} fits")?;
-    Ok(())
+    out.put(": ");
+    out.put_name(signature.signer());
+    out.put(" signed ");
+    out.put_statement(signature.statement());
+    out.put(", where ");
+    out.put_statement(link);
+    out.put(" fits");
 }
 
 /// Returns the statement that fits in the chain after these signers.

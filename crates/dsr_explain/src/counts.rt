@@ -4,14 +4,14 @@
 use dsr_base::Exact;
 use dsr_envelope::Envelope;
 use dsr_ledger::Reply;
-use dsr_names::{Actor, Refusal};
+use dsr_names::Actor;
 use dsr_notes::{ChainFate, Note};
+use dsr_reasons::Writer;
 use dsr_slot::Fate;
 use dsr_world::Stage;
-use std::fmt::Write;
 
 /// How often something happened, and the line in which it did so first.
-#[derive(Clone, Copy, Debug)]
+#[derive(Clone, Copy)]
 struct Count {
     number: u64,
     first: u64,
@@ -33,17 +33,20 @@ impl Count {
     }
 
     /// Writes the line that says how often it happened; none if it did not. `what` says what it is.
-    fn write(&self, out: &mut String, what: &str) -> Result<(), Refusal> {
-        let (number, first) = (self.number, self.first);
-        if number > 0 {
-            writeln!(out, "{what}: {number}, the first in line {first}")?;
+    fn write(&self, out: &mut Writer, what: &'static str) {
+        if self.number > 0 {
+            out.put(what);
+            out.put(": ");
+            out.put_number(self.number);
+            out.put(", the first in line ");
+            out.put_number(self.first);
+            out.put("\n");
         }
-        Ok(())
     }
 }
 
 /// The first vote on a client's request: its reply, and the line in which the client took it.
-#[derive(Clone, Copy, Debug)]
+#[derive(Clone, Copy)]
 struct FirstVote {
     reply: Reply,
     line: u64,
@@ -113,21 +116,20 @@ impl NoteCounts {
         }
     }
 
-    /// Writes the line of each of these things that happened. `NoMemory` if memory runs out.
-    pub(crate) fn write(&self, out: &mut String) -> Result<(), Refusal> {
-        self.other_round.write(out, "taken envelopes that are not of the round in progress")?;
-        self.improper
-            .write(out, "taken chains that are not proper")?;
+    /// Writes the line of each of these things that happened.
+    pub(crate) fn write(&self, out: &mut Writer) {
+        self.other_round.write(out, "taken envelopes that are not of the round in progress");
+        self.improper.write(out, "taken chains that are not proper");
         self.not_in_flight
-            .write(out, "taken chains of a slot that is not in flight")?;
+            .write(out, "taken chains of a slot that is not in flight");
         self.unproposed.write(
             out,
             "slots in which the sender proposes nothing, though it holds a request",
-        )?;
-        self.stale.write(out, "decided requests that do not act")?;
-        self.write_unlike(out)?;
+        );
+        self.stale.write(out, "decided requests that do not act");
+        self.write_unlike(out);
         self.no_vote
-            .write(out, "taken envelopes that give a waiting client no vote")
+            .write(out, "taken envelopes that give a waiting client no vote");
     }
 
     /// Counts a chain with this fate, if it is not proper or its slot is not in flight.
@@ -171,15 +173,16 @@ impl NoteCounts {
     }
 
     /// Writes how many votes differ from the first one on the same request; nothing if none does.
-    fn write_unlike(&self, out: &mut String) -> Result<(), Refusal> {
-        let (number, line, which) = (self.unlike.number, self.unlike.first, self.unlike_which);
-        if number > 0 {
-            writeln!(
-                out,
-                "votes that differ from the first vote on the same request: {number}, the first in line {line}; it differs from a vote in line {which}"
-            )?;
+    fn write_unlike(&self, out: &mut Writer) {
+        if self.unlike.number > 0 {
+            out.put("votes that differ from the first vote on the same request: ");
+            out.put_number(self.unlike.number);
+            out.put(", the first in line ");
+            out.put_number(self.unlike.first);
+            out.put("; it differs from a vote in line ");
+            out.put_number(self.unlike_which);
+            out.put("\n");
         }
-        Ok(())
     }
 
     /// Counts an envelope that is no vote, if a request of the client is outstanding.

@@ -6,10 +6,12 @@
 #![tactic(auto)]
 
 mod chain_lines;
+mod chain_texts;
 mod counts;
 mod ending;
 mod heads;
 mod lines;
+mod names;
 mod nothing;
 mod outlet;
 mod pieces;
@@ -18,6 +20,7 @@ mod posts;
 mod requests;
 mod short;
 mod standing;
+mod starts;
 mod story;
 mod telling;
 mod texts;

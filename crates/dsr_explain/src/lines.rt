@@ -1,6 +1,6 @@
 //! The line of each note: data if `as_data`, otherwise words. `specs/Lines` says which line; each kind of note has its words at one place.
 
-ghost use Rattle.std.specs.Prelude.{◌≡◌, ◌++◌, map, codes, slice_get, OnOk, IsOkUnless, string_bytes};
+ghost use Rattle.std.specs.Prelude.{◌≡◌, ◌++◌, map, codes, slice_get, string_bytes};
 ghost use Rattle.std.specs.Fmt.{decimal};
 ghost use Rattle.std.specs.Option.{option_map};
 ghost use Rattle.dsr_names.specs.Actor.{actor_text};
@@ -10,45 +10,43 @@ ghost use Rattle.dsr_chain.specs.Chain.{signers_of};
 ghost use Rattle.dsr_chain.specs.Content.{content};
 ghost use Rattle.dsr_run.specs.Step.{log_of};
 ghost use Rattle.dsr_reasons.specs.Reason.{actor_of, other_of};
-ghost use Rattle.dsr_explain.specs.Lines.{about, kept_data, kept_words, note_line, other_round_line, kept_line, closed_line, decided_content, decided_line, kept_text, acted_line, stale_line, held_line, unproposed_line, vote_line, no_vote_text, no_vote_line, accepted_line, shown_at};
+ghost use Rattle.dsr_explain.specs.Lines.{about, kept_data, kept_words, note_line, other_round_line, kept_line, closed_line, decided_content, decided_line, kept_text, acted_line, stale_line, held_line, unproposed_line, vote_line, no_vote_text, no_vote_line, accepted_line};
 
 use crate::chain_lines::write_chain;
-use crate::pieces::{put_content, put_decision, put_name, put_number, put_signers};
+use crate::chain_texts::ChainText;
+use crate::pieces::{put_answer, put_content, put_decision, put_signers};
 use crate::requests::RequestTexts;
 use crate::standing::decision_of;
 use dsr_chain::Chain;
 use dsr_ledger::Reply;
-use dsr_names::{Actor, Refusal};
+use dsr_names::Actor;
 use dsr_notes::{NoVote, Note};
-use dsr_reasons::{actor_of, other_of, put};
+use dsr_reasons::{Writer, actor_of, other_of};
 use dsr_request::Request;
 use dsr_slot::Kept;
 use dsr_world::{Event, Stage};
-use std::fmt::Write;
 
 /// Writes the line of the note, which is one of the event. `chains` are those of the envelope that it posted or took, and `texts` describe them.
-/// `NoMemory` if memory runs out.
 pub(crate) fn write_note(
-    out: &mut String,
+    out: &mut Writer,
     requests: &mut RequestTexts,
     as_data: bool,
     stage: &Stage,
     event: &Event,
     chains: &[Chain],
-    texts: &[String],
+    texts: &[ChainText],
     note: &Note,
-) -> Result<(), Refusal>
-    ensures text { OnOk result (string_bytes out.new ≡ string_bytes out.old
+)
+    ensures { out.new ≡ out.old
         ++ note_line as_data stage.now.shape (log_of stage.now.run) (actor_of event.now) (other_of event.now) chains.now
-        (map (λ text. string_bytes text) texts.now) note.now) }
-    ensures refusal { IsOkUnless result Refusal.NoMemory }
+        (map (λ text. string_bytes text.shown) texts.now) note.now }
 {
     let (at, other) = (actor_of(event), other_of(event));
     match note {
         Note::OtherRound { round } => write_other_round(out, as_data, at, *round),
         Note::Chain { place, slot, fate } => {
             let chain = chain_at(chains, *place as usize);
-            let shown = shown_at(texts, *place as usize);
+            let text = text_at(texts, *place as usize);
             write_chain(
                 out,
                 requests,
@@ -56,7 +54,7 @@ pub(crate) fn write_note(
                 stage.shape(),
                 at,
                 chain,
-                shown,
+                text,
                 *slot,
                 fate,
             )
@@ -85,63 +83,55 @@ fn chain_at(chains: &[Chain], place: usize) -> Option<&Chain>
     chains.get(place)
 }
 
-/// Returns the text at this place; an empty one if there is none.
-fn shown_at(texts: &[String], place: usize) -> &str
-    ensures { result.now ≡ shown_at (map (λ text. string_bytes text) texts.now) place }
+/// Returns the texts at this place; `None` if there are none.
+fn text_at(texts: &[ChainText], place: usize) -> Option<&ChainText>
+    ensures { option_map (λ t. string_bytes t.now.shown) result ≡ slice_get (map (λ text. string_bytes text.shown) texts.now) place }
 {
-    match texts.get(place) {
-        Some(text) => text.as_str(),
-        None => "",
-    }
+    texts.get(place)
 }
 
 /// Writes the beginning of a line: the word, the actor and the number if `as_data`, otherwise the actor, the verb and the number.
 pub(crate) fn put_about(
-    out: &mut String,
+    out: &mut Writer,
     as_data: bool,
-    word: &str,
+    word: &'static str,
     at: Actor,
-    verb: &str,
+    verb: &'static str,
     number: u64,
-) -> Result<(), Refusal>
-    ensures text { OnOk result (string_bytes out.new ≡ string_bytes out.old ++ about as_data word.now at verb.now number) }
-    ensures refusal { IsOkUnless result Refusal.NoMemory }
+)
+    ensures { out.new ≡ out.old ++ about as_data word.now at verb.now number }
 {
-    put(out, as_data, word, "    ")?;
-    put_name(out, at)?;
-    put(out, as_data, " ", verb)?;
-    put_number(out, number)
+    out.put_one(as_data, word, "    ");
+    out.put_name(at);
+    out.put_one(as_data, " ", verb);
+    out.put_number(number);
 }
 
 /// Writes two actors between three texts.
 fn put_two(
-    out: &mut String,
-    before: &str,
+    out: &mut Writer,
+    before: &'static str,
     one: Actor,
-    between: &str,
+    between: &'static str,
     two: Actor,
-    after: &str,
-) -> Result<(), Refusal>
-    ensures text { OnOk result (string_bytes out.new ≡ string_bytes out.old
-        ++ (before.now ++ (actor_text one ++ (between.now ++ (actor_text two ++ after.now))))) }
-    ensures refusal { IsOkUnless result Refusal.NoMemory }
+    after: &'static str,
+)
+    ensures { out.new ≡ out.old
+        ++ (before.now ++ (actor_text one ++ (between.now ++ (actor_text two ++ after.now)))) }
 {
-    out.push_str(before)?;
-    put_name(out, one)?;
-    out.push_str(between)?;
-    put_name(out, two)?;
-    out.push_str(after)?;
-    Ok(())
+    out.put(before);
+    out.put_name(one);
+    out.put(between);
+    out.put_name(two);
+    out.put(after);
 }
 
 /// Writes that an envelope is not one of the round in progress.
-fn write_other_round(out: &mut String, as_data: bool, at: Actor, round: u64) -> Result<(), Refusal>
-    ensures text { OnOk result (string_bytes out.new ≡ string_bytes out.old ++ other_round_line as_data at round) }
-    ensures refusal { IsOkUnless result Refusal.NoMemory }
+fn write_other_round(out: &mut Writer, as_data: bool, at: Actor, round: u64)
+    ensures { out.new ≡ out.old ++ other_round_line as_data at round }
 {
-    put_about(out, as_data, "silence ", at, " is in round ", round)?;
-    put(
-        out,
+    put_about(out, as_data, "silence ", at, " is in round ", round);
+    out.put_one(
         as_data,
         "\n",
         ": this is not its envelope, and counts as no chains\n",
@@ -149,96 +139,74 @@ fn write_other_round(out: &mut String, as_data: bool, at: Actor, round: u64) -> 
 }
 
 /// Writes that a chain was kept.
-fn write_kept(
-    out: &mut String,
-    requests: &mut RequestTexts,
-    as_data: bool,
-    at: Actor,
-    kept: &Kept,
-) -> Result<(), Refusal>
-    ensures text { OnOk result (string_bytes out.new ≡ string_bytes out.old ++ kept_line as_data at kept.now) }
-    ensures refusal { IsOkUnless result Refusal.NoMemory }
+fn write_kept(out: &mut Writer, requests: &mut RequestTexts, as_data: bool, at: Actor, kept: &Kept)
+    ensures { out.new ≡ out.old ++ kept_line as_data at kept.now }
 {
     let slot = kept.chain.slot();
-    put_about(out, as_data, "kept ", at, " has kept of slot ", slot)?;
+    put_about(out, as_data, "kept ", at, " has kept of slot ", slot);
     if as_data {
-        write_kept_data(out, requests, kept)?;
+        write_kept_data(out, requests, kept);
     } else {
-        write_kept_words(out, requests, kept)?;
+        write_kept_words(out, requests, kept);
     }
-    out.push_str("\n")?;
-    Ok(())
+    out.put("\n");
 }
 
 /// Writes how a chain was kept, as data: the round of its slot in which it was read, its signers and its content.
-fn write_kept_data(
-    out: &mut String,
-    requests: &mut RequestTexts,
-    kept: &Kept,
-) -> Result<(), Refusal>
-    ensures text { OnOk result (string_bytes out.new ≡ string_bytes out.old ++ kept_data kept.now) }
-    ensures refusal { IsOkUnless result Refusal.NoMemory }
+fn write_kept_data(out: &mut Writer, requests: &mut RequestTexts, kept: &Kept)
+    ensures { out.new ≡ out.old ++ kept_data kept.now }
 {
-    out.push_str(" ")?;
-    put_number(out, kept.round as u64)?;
+    out.put(" ");
+    out.put_number(kept.round as u64);
     write_signed(out, requests, &kept.chain)
 }
 
 /// Writes who signed a chain, and its content, as data.
-fn write_signed(out: &mut String, requests: &mut RequestTexts, chain: &Chain) -> Result<(), Refusal>
-    ensures text { OnOk result (string_bytes out.new ≡ string_bytes out.old
-        ++ (codes " " ++ (signers_text (signers_of chain.now.signatures) ++ (codes " " ++ content_text (content chain.now.value))))) }
-    ensures refusal { IsOkUnless result Refusal.NoMemory }
+fn write_signed(out: &mut Writer, requests: &mut RequestTexts, chain: &Chain)
+    ensures { out.new ≡ out.old
+        ++ (codes " " ++ (signers_text (signers_of chain.now.signatures) ++ (codes " " ++ content_text (content chain.now.value)))) }
 {
-    out.push_str(" ")?;
-    put_signers(out, chain)?;
-    out.push_str(" ")?;
+    out.put(" ");
+    put_signers(out, chain);
+    out.put(" ");
     put_content(out, requests, chain)
 }
 
 /// Writes how a chain was kept, in words.
-fn write_kept_words(
-    out: &mut String,
-    requests: &mut RequestTexts,
-    kept: &Kept,
-) -> Result<(), Refusal>
-    ensures text { OnOk result (string_bytes out.new ≡ string_bytes out.old ++ kept_words kept.now) }
-    ensures refusal { IsOkUnless result Refusal.NoMemory }
+fn write_kept_words(out: &mut Writer, requests: &mut RequestTexts, kept: &Kept)
+    ensures { out.new ≡ out.old ++ kept_words kept.now }
 {
-    out.push_str(": ")?;
-    put_content(out, requests, &kept.chain)?;
-    out.push_str(", read in the slot's round ")?;
-    put_number(out, kept.round as u64)?;
-    out.push_str(", signed by ")?;
+    out.put(": ");
+    put_content(out, requests, &kept.chain);
+    out.put(", read in the slot's round ");
+    out.put_number(kept.round as u64);
+    out.put(", signed by ");
     put_signers(out, &kept.chain)
 }
 
 /// Writes that a round is closed.
-fn write_closed(out: &mut String, as_data: bool, at: Actor, round: u64) -> Result<(), Refusal>
-    ensures text { OnOk result (string_bytes out.new ≡ string_bytes out.old ++ closed_line as_data at round) }
-    ensures refusal { IsOkUnless result Refusal.NoMemory }
+fn write_closed(out: &mut Writer, as_data: bool, at: Actor, round: u64)
+    ensures { out.new ≡ out.old ++ closed_line as_data at round }
 {
     let verb = " has taken from all replicas, and closes round ";
-    put_about(out, as_data, "close ", at, verb, round)?;
-    out.push_str("\n")?;
-    Ok(())
+    put_about(out, as_data, "close ", at, verb, round);
+    out.put("\n");
 }
 
 /// Writes what was decided for a slot, for which this many chains were kept.
 fn write_decided(
-    out: &mut String,
+    out: &mut Writer,
     requests: &mut RequestTexts,
     as_data: bool,
     stage: &Stage,
     at: Actor,
     slot: u64,
     kept: u8,
-) -> Result<(), Refusal>
-    ensures text { OnOk result (string_bytes out.new ≡ string_bytes out.old
-        ++ decided_line as_data at slot kept (decided_content stage.now.shape (log_of stage.now.run) at slot)) }
-    ensures refusal { IsOkUnless result Refusal.NoMemory }
+)
+    ensures { out.new ≡ out.old
+        ++ decided_line as_data at slot kept (decided_content stage.now.shape (log_of stage.now.run) at slot) }
 {
-    put_about(out, as_data, "decide ", at, " decides slot ", slot)?;
+    put_about(out, as_data, "decide ", at, " decides slot ", slot);
     if as_data {
         write_decided_data(out, requests, stage, &at, slot, kept)
     } else {
@@ -248,63 +216,49 @@ fn write_decided(
 
 /// Writes what was decided for a slot, as data: for how many chains that were kept, and the content.
 fn write_decided_data(
-    out: &mut String,
+    out: &mut Writer,
     requests: &mut RequestTexts,
     stage: &Stage,
     at: &Actor,
     slot: u64,
     kept: u8,
-) -> Result<(), Refusal>
-    ensures text { OnOk result (string_bytes out.new ≡ string_bytes out.old
-        ++ (codes " " ++ (decimal kept ++ (codes " " ++ (content_text (decided_content stage.now.shape (log_of stage.now.run) at.now slot) ++ codes "\n"))))) }
-    ensures refusal { IsOkUnless result Refusal.NoMemory }
+)
+    ensures { out.new ≡ out.old
+        ++ (codes " " ++ (decimal kept ++ (codes " " ++ (content_text (decided_content stage.now.shape (log_of stage.now.run) at.now slot) ++ codes "\n")))) }
 {
-    out.push_str(" ")?;
-    put_number(out, kept as u64)?;
-    out.push_str(" ")?;
-    put_decided(out, requests, stage, at, slot)?;
-    out.push_str("\n")?;
-    Ok(())
+    out.put(" ");
+    out.put_number(kept as u64);
+    out.put(" ");
+    put_decided(out, requests, stage, at, slot);
+    out.put("\n");
 }
 
 /// Writes what was decided for a slot, in words: the content, and why.
 fn write_decided_words(
-    out: &mut String,
+    out: &mut Writer,
     requests: &mut RequestTexts,
     stage: &Stage,
     at: &Actor,
     slot: u64,
     kept: u8,
-) -> Result<(), Refusal>
-    ensures text { OnOk result (string_bytes out.new ≡ string_bytes out.old
-        ++ (codes ": " ++ (content_text (decided_content stage.now.shape (log_of stage.now.run) at.now slot) ++ (kept_text kept ++ codes "\n")))) }
-    ensures refusal { IsOkUnless result Refusal.NoMemory }
+)
+    ensures { out.new ≡ out.old
+        ++ (codes ": " ++ (content_text (decided_content stage.now.shape (log_of stage.now.run) at.now slot) ++ (kept_text kept ++ codes "\n"))) }
 {
-    out.push_str(": ")?;
-    put_decided(out, requests, stage, at, slot)?;
-    out.push_str(reason_of(kept))?;
-    out.push_str("\n")?;
-    Ok(())
+    out.put(": ");
+    put_decided(out, requests, stage, at, slot);
+    out.put(reason_of(kept));
+    out.put("\n");
 }
 
 /// Appends the content that the actor decided for the slot.
-fn put_decided(
-    out: &mut String,
-    requests: &mut RequestTexts,
-    stage: &Stage,
-    at: &Actor,
-    slot: u64,
-) -> Result<(), Refusal>
-    ensures text { OnOk result (string_bytes out.new ≡ string_bytes out.old
-        ++ content_text (decided_content stage.now.shape (log_of stage.now.run) at.now slot)) }
-    ensures refusal { IsOkUnless result Refusal.NoMemory }
+fn put_decided(out: &mut Writer, requests: &mut RequestTexts, stage: &Stage, at: &Actor, slot: u64)
+    ensures { out.new ≡ out.old
+        ++ content_text (decided_content stage.now.shape (log_of stage.now.run) at.now slot) }
 {
     match decision_of(stage, at, slot) {
         Some(decision) => put_decision(out, requests, decision),
-        None => {
-            out.push_str("idle")?;
-            Ok(())
-        }
+        None => out.put("idle"),
     }
 }
 
@@ -321,177 +275,133 @@ fn reason_of(kept: u8) -> &'static str
 
 /// Writes that a request acted, at this place of the history.
 fn write_acted(
-    out: &mut String,
+    out: &mut Writer,
     requests: &mut RequestTexts,
     as_data: bool,
     at: Actor,
     place: u64,
     request: &Request,
-) -> Result<(), Refusal>
-    ensures text { OnOk result (string_bytes out.new ≡ string_bytes out.old ++ acted_line as_data at place request.now) }
-    ensures refusal { IsOkUnless result Refusal.NoMemory }
+)
+    ensures { out.new ≡ out.old ++ acted_line as_data at place request.now }
 {
     if as_data {
-        put_about(out, true, "act ", at, "", place)?;
-        out.push_str(" ")?;
-        requests.put(out, request)?;
-        out.push_str("\n")?;
-        return Ok(());
+        put_about(out, true, "act ", at, "", place);
+        out.put(" ");
+        requests.put(out, request);
+        out.put("\n");
+        return;
     }
-    out.push_str("    ")?;
-    requests.put(out, request)?;
-    out.push_str(" acts at ")?;
-    put_name(out, at)?;
-    write_history_place(out, place)
-}
-
-/// Writes the place of the history at which a request acted, in words.
-fn write_history_place(out: &mut String, place: u64) -> Result<(), Refusal>
-    ensures text { OnOk result (string_bytes out.new ≡ string_bytes out.old
-        ++ (codes ", at place " ++ (decimal place ++ codes " of the history\n"))) }
-    ensures refusal { IsOkUnless result Refusal.NoMemory }
-{
-    out.push_str(", at place ")?;
-    put_number(out, place)?;
-    out.push_str(" of the history\n")?;
-    Ok(())
+    out.put("    ");
+    requests.put(out, request);
+    out.put(" acts at ");
+    out.put_name(at);
+    out.put(", at place ");
+    out.put_number(place);
+    out.put(" of the history\n");
 }
 
 /// Writes that a request did not act.
 fn write_stale(
-    out: &mut String,
+    out: &mut Writer,
     requests: &mut RequestTexts,
     as_data: bool,
     at: Actor,
     request: &Request,
-) -> Result<(), Refusal>
-    ensures text { OnOk result (string_bytes out.new ≡ string_bytes out.old ++ stale_line as_data at request.now) }
-    ensures refusal { IsOkUnless result Refusal.NoMemory }
+)
+    ensures { out.new ≡ out.old ++ stale_line as_data at request.now }
 {
     if as_data {
-        out.push_str("stale ")?;
-        put_name(out, at)?;
-        out.push_str(" ")?;
-        requests.put(out, request)?;
-        out.push_str("\n")?;
-        return Ok(());
+        out.put("stale ");
+        out.put_name(at);
+        out.put(" ");
+        requests.put(out, request);
+        out.put("\n");
+        return;
     }
-    out.push_str("    ")?;
-    requests.put(out, request)?;
-    out.push_str(" does not act at ")?;
-    put_name(out, at)?;
-    out.push_str(
-        ": a request of its client with this number or a greater one has acted already\n",
-    )?;
-    Ok(())
+    out.put("    ");
+    requests.put(out, request);
+    out.put(" does not act at ");
+    out.put_name(at);
+    out.put(": a request of its client with this number or a greater one has acted already\n");
 }
 
 /// Writes that a replica holds a request.
 fn write_held(
-    out: &mut String,
+    out: &mut Writer,
     requests: &mut RequestTexts,
     as_data: bool,
     at: Actor,
     request: &Request,
-) -> Result<(), Refusal>
-    ensures text { OnOk result (string_bytes out.new ≡ string_bytes out.old ++ held_line as_data at request.now) }
-    ensures refusal { IsOkUnless result Refusal.NoMemory }
+)
+    ensures { out.new ≡ out.old ++ held_line as_data at request.now }
 {
-    put(out, as_data, "hold ", "    ")?;
-    put_name(out, at)?;
-    put(out, as_data, " ", " holds the request ")?;
-    requests.put(out, request)?;
-    out.push_str("\n")?;
-    Ok(())
+    out.put_one(as_data, "hold ", "    ");
+    out.put_name(at);
+    out.put_one(as_data, " ", " holds the request ");
+    requests.put(out, request);
+    out.put("\n");
 }
 
 /// Writes that a replica proposes nothing in a slot, though it holds a request.
-fn write_unproposed(
-    out: &mut String,
-    as_data: bool,
-    at: Actor,
-    slot: u64,
-    request: &Request,
-) -> Result<(), Refusal>
-    ensures text { OnOk result (string_bytes out.new ≡ string_bytes out.old ++ unproposed_line as_data at slot request.now) }
-    ensures refusal { IsOkUnless result Refusal.NoMemory }
+fn write_unproposed(out: &mut Writer, as_data: bool, at: Actor, slot: u64, request: &Request)
+    ensures { out.new ≡ out.old ++ unproposed_line as_data at slot request.now }
 {
     let verb = " proposes nothing in slot ";
-    put_about(out, as_data, "unproposed ", at, verb, slot)?;
-    put(out, as_data, " ", ", though it holds ")?;
-    writeln!(out, "{request}")?;
-    Ok(())
+    put_about(out, as_data, "unproposed ", at, verb, slot);
+    out.put_one(as_data, " ", ", though it holds ");
+    out.put_request(request);
+    out.put("\n");
 }
 
 /// Writes that a reply is a vote: how many there are for it then, and how many are needed.
-fn write_vote(
-    out: &mut String,
-    as_data: bool,
-    at: Actor,
-    other: Actor,
-    count: u8,
-    needed: u8,
-) -> Result<(), Refusal>
-    ensures text { OnOk result (string_bytes out.new ≡ string_bytes out.old ++ vote_line as_data at other count needed) }
-    ensures refusal { IsOkUnless result Refusal.NoMemory }
+fn write_vote(out: &mut Writer, as_data: bool, at: Actor, other: Actor, count: u8, needed: u8)
+    ensures { out.new ≡ out.old ++ vote_line as_data at other count needed }
 {
     if as_data {
-        put_two(out, "vote ", at, " ", other, " ")?;
-        put_number(out, count as u64)?;
-        out.push_str(" ")?;
-        put_number(out, needed as u64)?;
-        out.push_str("\n")?;
-        return Ok(());
+        put_two(out, "vote ", at, " ", other, " ");
+        out.put_number(count as u64);
+        out.put(" ");
+        out.put_number(needed as u64);
+        out.put("\n");
+        return;
     }
-    put_two(out, "    a vote of ", other, " at ", at, ": ")?;
-    put_number(out, count as u64)?;
-    out.push_str(" of ")?;
-    put_number(out, needed as u64)?;
-    out.push_str(" needed\n")?;
-    Ok(())
+    put_two(out, "    a vote of ", other, " at ", at, ": ");
+    out.put_number(count as u64);
+    out.put(" of ");
+    out.put_number(needed as u64);
+    out.put(" needed\n");
 }
 
 /// Writes that an envelope is not a vote.
-fn write_no_vote(
-    out: &mut String,
-    as_data: bool,
-    at: Actor,
-    other: Actor,
-    why: NoVote,
-) -> Result<(), Refusal>
-    ensures text { OnOk result (string_bytes out.new ≡ string_bytes out.old ++ no_vote_line as_data at other why) }
-    ensures refusal { IsOkUnless result Refusal.NoMemory }
+fn write_no_vote(out: &mut Writer, as_data: bool, at: Actor, other: Actor, why: NoVote)
+    ensures { out.new ≡ out.old ++ no_vote_line as_data at other why }
 {
     if as_data {
-        put_two(out, "no-vote ", at, " ", other, " ")?;
+        put_two(out, "no-vote ", at, " ", other, " ");
     } else {
-        put_two(out, "    no vote of ", other, " at ", at, ": ")?;
+        put_two(out, "    no vote of ", other, " at ", at, ": ");
     }
-    write_why_not(out, as_data, why)?;
-    out.push_str("\n")?;
-    Ok(())
+    write_why_not(out, as_data, why);
+    out.put("\n");
 }
 
 /// Writes why an envelope is not a vote.
-fn write_why_not(out: &mut String, as_data: bool, why: NoVote) -> Result<(), Refusal>
-    ensures text { OnOk result (string_bytes out.new ≡ string_bytes out.old ++ no_vote_text as_data why) }
-    ensures refusal { IsOkUnless result Refusal.NoMemory }
+fn write_why_not(out: &mut Writer, as_data: bool, why: NoVote)
+    ensures { out.new ≡ out.old ++ no_vote_text as_data why }
 {
     match why {
-        NoVote::NoReply => put(out, as_data, "no-reply", "it is no reply"),
-        NoVote::NothingOutstanding => put(
-            out,
+        NoVote::NoReply => out.put_one(as_data, "no-reply", "it is no reply"),
+        NoVote::NothingOutstanding => out.put_one(
             as_data,
             "nothing-outstanding",
             "no request is outstanding",
         ),
         NoVote::OtherNumber { outstanding } => {
-            put(out, as_data, "other-number ", "request ")?;
-            put_number(out, outstanding)?;
-            put(out, as_data, "", " is outstanding")
+            out.put_one(as_data, "other-number ", "request ");
+            out.put_number(outstanding);
+            out.put_one(as_data, "", " is outstanding")
         }
-        NoVote::HasVoted => put(
-            out,
+        NoVote::HasVoted => out.put_one(
             as_data,
             "has-voted",
             "it has voted, and only its first reply counts",
@@ -500,18 +410,22 @@ fn write_why_not(out: &mut String, as_data: bool, why: NoVote) -> Result<(), Ref
 }
 
 /// Writes that a client accepts a reply.
-fn write_accepted(out: &mut String, as_data: bool, at: Actor, reply: &Reply) -> Result<(), Refusal>
-    ensures text { OnOk result (string_bytes out.new ≡ string_bytes out.old ++ accepted_line as_data at reply.now) }
-    ensures refusal { IsOkUnless result Refusal.NoMemory }
+fn write_accepted(out: &mut Writer, as_data: bool, at: Actor, reply: &Reply)
+    ensures { out.new ≡ out.old ++ accepted_line as_data at reply.now }
 {
-    let (number, place, answer) = (reply.number, reply.place, reply.answer);
+    let verb = " accepts the reply to its request ";
+    put_about(out, as_data, "accept ", at, verb, reply.number);
     if as_data {
-        writeln!(out, "accept {at} {number} {place} {answer}")?;
-        return Ok(());
+        out.put(" ");
+        out.put_number(reply.place);
+        out.put(" ");
+        put_answer(out, &reply.answer);
+        out.put("\n");
+    } else {
+        out.put(": ");
+        put_answer(out, &reply.answer);
+        out.put(", at place ");
+        out.put_number(reply.place);
+        out.put("\n");
     }
-    writeln!(
-        out,
-        "    {at} accepts the reply to its request {number}: {answer}, at place {place}"
-    )?;
-    Ok(())
 }

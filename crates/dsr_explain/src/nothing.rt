@@ -1,59 +1,62 @@
 //! What an explanation says if no event is what was wanted.
 
 use crate::wanted::Wanted;
-use dsr_names::{Refusal, ReplicaId, Shape};
+use dsr_names::{ReplicaId, Shape};
+use dsr_reasons::Writer;
 use dsr_world::Stage;
-use std::fmt::Write;
 
-/// Writes that no event is what was wanted, and which events, actors and slots there are: `events`, of which `refused` were refused. `NoMemory` if memory
-/// runs out.
+/// Writes that no event is what was wanted, and which events, actors and slots there are: `events`, of which `refused` were refused.
 pub(crate) fn write_nothing(
-    out: &mut String,
+    out: &mut Writer,
     stage: &Stage,
     wanted: &Wanted,
-    events: usize,
+    events: u64,
     refused: u64,
-) -> Result<(), Refusal> {
+) {
     if events == 0 {
-        out.push_str("the play has no events\n")?;
-        return Ok(());
+        out.put("the play has no events\n");
+        return;
     }
     if wanted.refused && refused == 0 {
-        writeln!(out, "no event was refused: all {events} were done")?;
-        return Ok(());
+        out.put("no event was refused: all ");
+        out.put_number(events);
+        out.put(" were done\n");
+        return;
     }
+    out.put("none of the ");
     if wanted.refused {
-        write!(out, "none of the {refused} refused events is")?;
+        out.put_number(refused);
+        out.put(" refused events is");
     } else {
-        write!(out, "none of the {events} events is")?;
+        out.put_number(events);
+        out.put(" events is");
     }
-    write_wanted(out, wanted)?;
-    write_existing(out, stage, wanted)?;
-    out.push_str("\n")?;
-    Ok(())
+    write_wanted(out, wanted);
+    write_existing(out, stage, wanted);
+    out.put("\n");
 }
 
 /// Writes which actor and which slot were wanted.
-fn write_wanted(out: &mut String, wanted: &Wanted) -> Result<(), Refusal> {
+fn write_wanted(out: &mut Writer, wanted: &Wanted) {
     if let Some(actor) = wanted.actor {
-        write!(out, " by {actor}")?;
+        out.put(" by ");
+        out.put_name(actor);
     }
     if let Some(slot) = wanted.slot {
-        write!(out, " of slot {slot}")?;
+        out.put(" of slot ");
+        out.put_number(slot);
     }
-    Ok(())
 }
 
 /// Writes which actors there are, if the wanted one is not in the shape, and which slots, if a slot was wanted.
-fn write_existing(out: &mut String, stage: &Stage, wanted: &Wanted) -> Result<(), Refusal> {
+fn write_existing(out: &mut Writer, stage: &Stage, wanted: &Wanted) {
     if is_outside(stage.shape(), wanted) {
-        write_actors(out, stage.shape())?;
+        write_actors(out, stage.shape());
     }
     if wanted.slot.is_some() {
-        let last = last_slot(stage);
-        write!(out, "; the slots that have begun are 0 to {last}")?;
+        out.put("; the slots that have begun are 0 to ");
+        out.put_number(last_slot(stage));
     }
-    Ok(())
 }
 
 /// Tells whether an actor was wanted that is not in the shape.
@@ -65,14 +68,11 @@ fn is_outside(shape: &Shape, wanted: &Wanted) -> bool {
 }
 
 /// Writes which actors are in the shape.
-fn write_actors(out: &mut String, shape: &Shape) -> Result<(), Refusal> {
-    let replicas = shape.n().saturating_sub(1);
-    let clients = shape.m().saturating_sub(1);
-    write!(
-        out,
-        "; the replicas are r0 to r{replicas}, and the clients c0 to c{clients}"
-    )?;
-    Ok(())
+fn write_actors(out: &mut Writer, shape: &Shape) {
+    out.put("; the replicas are r0 to r");
+    out.put_number(shape.n().saturating_sub(1) as u64);
+    out.put(", and the clients c0 to c");
+    out.put_number(shape.m().saturating_sub(1) as u64);
 }
 
 /// Returns the newest slot that has begun at a loyal replica: one begins with each round.

@@ -1,11 +1,12 @@
 //! The sink of an explanation, to which a long text may go out in parts.
 
-ghost use Rattle.std.specs.Prelude.{◌≡◌, ◌⊎◌, ◌+◌, ◌≤◌, [], IsOk, IsTrue, OnErr, OnOk, IsOkUnless, false, length, string_bytes};
+ghost use Rattle.std.specs.Prelude.{◌≡◌, ◌⊎◌, ◌+◌, ◌≤◌, [], IfErr, IsTrue, OnErr, OnOk, IsOkUnless, false, length};
 ghost use Rattle.dsr_names.specs.Limits.{most_calls};
 ghost use Rattle.dsr_names.specs.Streams.{CanFailToTake, SentAll, SentPrefix};
 ghost use Rattle.dsr_explain.specs.Outlet.{HasGoneOut, IsUnsure};
 
 use dsr_names::{MOST_CALLS, Outside, Refusal, Sink, write_output};
+use dsr_reasons::Writer;
 use std::io::Write;
 
 /// How many bytes of a text are kept until they go out.
@@ -64,25 +65,27 @@ impl Outflow {
         self.has_begun
     }
 
-    /// Lets what there is of the text go out, all of it, if it is long enough for a part. `WriteFailed` if writing fails: then a prefix of it went out.
+    /// Lets what there is of the text go out, all of it, if it is long enough for a part. `NoMemory` if memory ran out while it was written: then nothing
+    /// goes out. `WriteFailed` if writing fails: then a prefix of it went out.
     pub(crate) fn pass_part<K: Sink>(
         &mut self,
-        text: &mut String,
+        text: &mut Writer,
         sink: &mut K,
     ) -> Result<(), Refusal>
-        ensures sent { OnOk result (HasGoneOut self.old.in_parts (string_bytes text.old) (string_bytes text.new) (K.output sink.old) (K.output sink.new)) }
-        ensures prefix { SentPrefix (string_bytes text.old) (K.output sink.old) (K.output sink.new) }
-        ensures whole { OnOk result ((sink.new ≡ sink.old) ⊎ (string_bytes text.new ≡ [])) }
-        ensures at_once { self.old.in_parts ≡ false → IsOk result × (sink.new ≡ sink.old) }
+        ensures sent { OnOk result (HasGoneOut self.old.in_parts text.old text.new (K.output sink.old) (K.output sink.new)) }
+        ensures prefix { SentPrefix text.old (K.output sink.old) (K.output sink.new) }
+        ensures whole { OnOk result ((sink.new ≡ sink.old) ⊎ (text.new ≡ [])) }
+        ensures at_once { self.old.in_parts ≡ false → IsOkUnless result Refusal.NoMemory × (sink.new ≡ sink.old) }
         ensures parts { self.new.in_parts ≡ self.old.in_parts }
-        ensures refusal { IsOkUnless result Refusal.WriteFailed }
+        ensures refusal { IfErr result (λ refusal. ((refusal ≡ Refusal.NoMemory) × (sink.new ≡ sink.old)) ⊎ (refusal ≡ Refusal.WriteFailed)) }
         ensures calls { (K.output sink.new).calls + self.new.calls ≤ (K.output sink.old).calls + self.old.calls }
     {
-        if !self.in_parts || text.len() < PART {
+        let whole = text.whole()?;
+        if !self.in_parts || whole.len() < PART {
             return Ok(());
         }
         self.has_begun = true;
-        send(sink, text.as_bytes(), &mut self.calls)?;
+        send(sink, whole.as_bytes(), &mut self.calls)?;
         text.clear();
         Ok(())
     }

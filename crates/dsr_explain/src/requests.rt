@@ -1,12 +1,12 @@
 //! The texts of requests, each written once for the lines that have it.
 
-ghost use Rattle.std.specs.Prelude.{◌≡◌, ◌++◌, IfOk, IfSome, OnOk, IsOkUnless, string_bytes};
+ghost use Rattle.std.specs.Prelude.{◌≡◌, ◌++◌, IfOk, IfSome, string_bytes};
 ghost use Rattle.dsr_request.specs.RequestText.{request_token};
 
 use dsr_names::Refusal;
+use dsr_reasons::Writer;
 use dsr_request::Request;
 use std::alloc::Global;
-use std::fmt::Write;
 
 /// The maximum number of clients.
 const MOST_CLIENTS: usize = 32;
@@ -37,48 +37,47 @@ impl RequestTexts {
     }
 
     /// Appends the request.
-    pub(crate) fn put(&mut self, out: &mut String, request: &Request) -> Result<(), Refusal>
-        ensures text { OnOk result (string_bytes out.new ≡ string_bytes out.old ++ request_token request.now) }
-        ensures refusal { IsOkUnless result Refusal.NoMemory }
+    pub(crate) fn put(&mut self, out: &mut Writer, request: &Request)
+        ensures { out.new ≡ out.old ++ request_token request.now }
     {
-        if let Some(text) = self.text_of(request) {
-            out.push_str(text)?;
-            return Ok(());
+        match self.text_of(request) {
+            Some(text) => out.put_text(text),
+            None => self.put_anew(out, request),
         }
-        self.put_anew(out, request)
     }
 
     /// Returns the text of the request; `None` if it is not the client's last.
-    fn text_of(&self, request: &Request) -> Option<&str>
-        ensures { IfSome result (λ text. text.now ≡ request_token request.now) }
+    fn text_of(&self, request: &Request) -> Option<&String>
+        ensures { IfSome result (λ text. string_bytes text.now ≡ request_token request.now) }
     {
         match self.last.get(request.client().number() as usize)? {
-            Some(spelled) if spelled.request == *request => Some(spelled.text.as_str()),
+            Some(spelled) if spelled.request == *request => Some(&spelled.text),
             _ => None,
         }
     }
 
-    /// Appends the request, and keeps its text as that of its client's last one.
-    fn put_anew(&mut self, out: &mut String, request: &Request) -> Result<(), Refusal>
-        ensures text { OnOk result (string_bytes out.new ≡ string_bytes out.old ++ request_token request.now) }
-        ensures refusal { IsOkUnless result Refusal.NoMemory }
+    /// Appends the request, and keeps its text as that of its client's last one, if there is memory for it.
+    fn put_anew(&mut self, out: &mut Writer, request: &Request)
+        ensures { out.new ≡ out.old ++ request_token request.now }
     {
-        let spelled = spell(self.alloc, request)?;
-        out.push_str(spelled.text.as_str())?;
+        let Ok(spelled) = spell(self.alloc, request) else {
+            out.put_request(request);
+            return;
+        };
+        out.put_text(&spelled.text);
         if let Some(place) = self.last.get_mut(request.client().number() as usize) {
             *place = Some(spelled);
         }
-        Ok(())
     }
 }
 
 /// Writes the text of the request. `NoMemory` if memory runs out.
 fn spell(alloc: Global, request: &Request) -> Result<Spelled, Refusal>
     ensures same { IfOk result (λ spelled. spelled.request ≡ request.now) }
-    ensures refusal { IsOkUnless result Refusal.NoMemory }
 {
-    let mut text = String::new(alloc);
-    write!(text, "{request}")?;
+    let mut text = Writer::new(alloc);
+    text.put_request(request);
+    let text = text.finish()?;
     Ok(Spelled {
         request: *request,
         text,

@@ -1,13 +1,13 @@
 //! The text of an envelope, put together from the texts of its requests. It is the one that a draft of the envelope has, for which there is no need to make
 //! the draft: most envelopes have no signature on a statement that does not fit its place.
 
-use crate::pieces::{put_name, put_number, put_signers};
+use crate::pieces::{put_answer, put_signers};
 use crate::requests::RequestTexts;
 use dsr_chain::{Chain, SignedRequest};
 use dsr_desk::Statement;
 use dsr_envelope::Envelope;
 use dsr_ledger::Reply;
-use dsr_names::Refusal;
+use dsr_reasons::Writer;
 
 /// Tells whether a text writes each signature of the envelope as its signer alone, because all are on the statements that fit their places.
 pub(crate) fn is_short(envelope: &Envelope) -> bool {
@@ -34,78 +34,60 @@ fn is_short_ask(ask: &SignedRequest) -> bool {
 }
 
 /// Writes the envelope, with each signature as its signer alone.
-pub(crate) fn write_short(
-    out: &mut String,
-    requests: &mut RequestTexts,
-    envelope: &Envelope,
-) -> Result<(), Refusal> {
+pub(crate) fn write_short(out: &mut Writer, requests: &mut RequestTexts, envelope: &Envelope) {
     match envelope {
-        Envelope::Empty => out.push_str("empty")?,
+        Envelope::Empty => out.put("empty"),
         Envelope::Round { round, chains } => {
-            out.push_str("round ")?;
-            put_number(out, *round)?;
+            out.put("round ");
+            out.put_number(*round);
             for chain in chains.as_slice() {
-                put_chain(out, requests, chain)?;
+                put_chain(out, requests, chain);
             }
         }
         Envelope::Ask(ask) => {
-            out.push_str("ask ")?;
-            put_ask(out, requests, ask.signed())?;
+            out.put("ask ");
+            put_ask(out, requests, ask.signed());
         }
-        Envelope::Reply(reply) => put_reply(out, reply)?,
+        Envelope::Reply(reply) => put_reply(out, reply),
         Envelope::Seen(front) => {
-            out.push_str("seen ")?;
-            put_number(out, *front)?;
+            out.put("seen ");
+            out.put_number(*front);
         }
     }
-    Ok(())
 }
 
 /// Writes the reply.
-fn put_reply(out: &mut String, reply: &Reply) -> Result<(), Refusal> {
-    out.push_str("reply ")?;
-    put_number(out, reply.number)?;
-    out.push_str(" ")?;
-    put_number(out, reply.place)?;
-    out.push_str(" ")?;
-    let (words, held) = reply.answer.parts();
-    out.push_str(words)?;
-    match held {
-        None => Ok(()),
-        Some(None) => {
-            out.push_str("none")?;
-            Ok(())
-        }
-        Some(Some(value)) => put_number(out, value),
-    }
+fn put_reply(out: &mut Writer, reply: &Reply) {
+    out.put("reply ");
+    out.put_number(reply.number);
+    out.put(" ");
+    out.put_number(reply.place);
+    out.put(" ");
+    put_answer(out, &reply.answer);
 }
 
 /// Writes the chain, with a space before it.
-fn put_chain(out: &mut String, requests: &mut RequestTexts, chain: &Chain) -> Result<(), Refusal> {
-    out.push_str(" ")?;
-    put_number(out, chain.slot())?;
-    out.push_str("/")?;
+fn put_chain(out: &mut Writer, requests: &mut RequestTexts, chain: &Chain) {
+    out.put(" ");
+    out.put_number(chain.slot());
+    out.put("/");
     match chain.signed() {
-        [] => out.push_str("idle")?,
+        [] => out.put("idle"),
         [first, others @ ..] => {
-            put_ask(out, requests, first)?;
+            put_ask(out, requests, first);
             for ask in others {
-                out.push_str(",")?;
-                put_ask(out, requests, ask)?;
+                out.put(",");
+                put_ask(out, requests, ask);
             }
         }
     }
-    out.push_str("/")?;
+    out.put("/");
     put_signers(out, chain)
 }
 
 /// Writes the request with who signed it.
-fn put_ask(
-    out: &mut String,
-    requests: &mut RequestTexts,
-    ask: &SignedRequest,
-) -> Result<(), Refusal> {
-    requests.put(out, &ask.request)?;
-    out.push_str("~")?;
-    put_name(out, ask.signature.signer())
+fn put_ask(out: &mut Writer, requests: &mut RequestTexts, ask: &SignedRequest) {
+    requests.put(out, &ask.request);
+    out.put("~");
+    out.put_name(ask.signature.signer());
 }

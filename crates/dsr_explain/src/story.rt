@@ -12,20 +12,21 @@ ghost use Rattle.dsr_explain.specs.Telling.{GoesOn};
 ghost use Rattle.dsr_explain.specs.Told.{HasBrokenOff, TellsEvents, TellsNotes, TellsRefusal, TellsWanted, chains_in_some, first_line, last_chains, last_envelope, refused_line};
 ghost use Rattle.dsr_explain.specs.Wanted.{wants_note};
 
+use crate::chain_texts::ChainText;
 use crate::counts::NoteCounts;
-use crate::heads::{Head, write_done, write_refused};
+use crate::heads::{Heads, write_refused};
 use crate::lines::write_note;
 use crate::outlet::Outflow;
 use crate::places::Places;
 use crate::posts::PostLines;
 use crate::requests::RequestTexts;
-use crate::texts::{Texts, end_of_none, end_of_refused};
+use crate::texts::{Texts, end_of_refused};
 use crate::wanted::Wanted;
 use dsr_chain::Chain;
 use dsr_envelope::{Envelope, Letter};
 use dsr_names::{Actor, Refusal, Shape, Sink};
 use dsr_notes::{Note, step_noted};
-use dsr_reasons::{actor_of, write_why};
+use dsr_reasons::{Writer, actor_of, write_why};
 use dsr_world::{Event, Stage};
 use std::alloc::Global;
 use std::fmt::Write;
@@ -42,7 +43,7 @@ pub(crate) struct Story {
     pub(crate) stage: Stage,
     pub(crate) wanted: Wanted,
     /// The text so far, but for the parts that went out.
-    pub(crate) out: String,
+    pub(crate) out: Writer,
     pub(crate) outflow: Outflow,
     /// The number of refused events, and the line of the first.
     pub(crate) refused: u64,
@@ -52,8 +53,8 @@ pub(crate) struct Story {
     texts: Texts,
     posts: PostLines,
     requests: RequestTexts,
-    /// What the lines of the last event that was done and of the next may have in common.
-    head: Option<Head>,
+    /// What the lines of the last event that was done and of the next may share.
+    heads: Heads,
     /// The notes of the last event; the next event uses their room.
     notes: Vec<Note>,
     /// How many contents replicas kept, by slot, unless only refused events are wanted.
@@ -68,7 +69,7 @@ impl Story {
         wanted: &Wanted,
         outflow: Outflow,
     ) -> Result<Story, Refusal>
-        ensures out { IfOk result (λ story. string_bytes story.out ≡ first_line wanted.now.data shape) }
+        ensures out { IfOk result (λ story. story.out ≡ first_line wanted.now.data shape) }
         ensures wanted { IfOk result (λ story. story.wanted ≡ wanted.now) }
         ensures shape { IfOk result (λ story. story.stage.shape ≡ shape) }
         ensures empty { IfOk result (λ story. story.stage.run ≡ []) }
@@ -78,6 +79,7 @@ impl Story {
         let texts = Texts::new(alloc, wanted.data)?;
         let posts = PostLines::new(alloc)?;
         let requests = RequestTexts::new(alloc)?;
+        let heads = Heads::new(alloc)?;
         let stage = Stage::open(alloc, shape)?;
         Ok(Story {
             stage,
@@ -90,7 +92,7 @@ impl Story {
             texts,
             posts,
             requests,
-            head: None,
+            heads,
             notes: Vec::new(alloc),
             kept: Vec::new(alloc),
         })
@@ -107,11 +109,11 @@ impl Story {
     ) -> Result<(), Refusal>
         ensures told { OnOk result ((told : List ℕ)
             × TellsEvents self.old.wanted 0 self.old.stage.shape self.new.stage.run self.old.stage.run events.now told
-            × HasGoneOut self.old.outflow.in_parts (string_bytes self.old.out ++ told) (string_bytes self.new.out) (K.output sink.old) (K.output sink.new)) }
+            × HasGoneOut self.old.outflow.in_parts (self.old.out ++ told) self.new.out (K.output sink.old) (K.output sink.new)) }
         ensures so_far { OnOk result (HasBrokenOff self.old.wanted self.old.stage.shape self.old.stage.run events.now
-            (string_bytes self.old.out) Refusal.NoMemory (K.output sink.old) (K.output sink.new)) }
+            self.old.out Refusal.NoMemory (K.output sink.old) (K.output sink.new)) }
         ensures broke_off { IfErr result (λ refusal. HasBrokenOff self.old.wanted self.old.stage.shape self.old.stage.run events.now
-            (string_bytes self.old.out) refusal (K.output sink.old) (K.output sink.new)) }
+            self.old.out refusal (K.output sink.old) (K.output sink.new)) }
         ensures at_once { self.old.outflow.in_parts ≡ false → IsOkUnless result Refusal.NoMemory × (sink.new ≡ sink.old) }
         ensures wanted { self.new.wanted ≡ self.old.wanted }
         ensures shape { self.new.stage.shape ≡ self.old.stage.shape }
@@ -135,28 +137,15 @@ impl Story {
         Ok(())
     }
 
-    /// Lets the rest of the text go out. `WriteFailed` if writing fails: then a prefix of it went out.
-    pub(crate) fn pass_rest<K: Sink>(&mut self, sink: &mut K) -> Result<(), Refusal>
-        ensures all { OnOk result (SentAll (string_bytes self.old.out) (K.output sink.old) (K.output sink.new)) }
-        ensures prefix { SentPrefix (string_bytes self.old.out) (K.output sink.old) (K.output sink.new) }
-        ensures failed { OnErr result (self.old.outflow.in_parts ≡ false
-            → CanFailToTake (length (string_bytes self.old.out)) (K.output sink.old)) }
-        ensures refusal { IsOkUnless result Refusal.WriteFailed }
-        ensures calls { (K.output sink.new).calls ≤ (K.output sink.old).calls + self.old.outflow.calls }
-    {
-        self.outflow.pass_rest(self.out.as_str(), sink)
-    }
-
     /// Reserves room for the text about `events` events, if all of it is wanted and it is to go out at once.
     fn make_room(&mut self, events: usize)
-        ensures same { string_bytes self.new.out ≡ string_bytes self.old.out }
+        ensures same { self.new.out ≡ self.old.out }
         ensures stage { self.new.stage ≡ self.old.stage }
         ensures wanted { self.new.wanted ≡ self.old.wanted }
         ensures outflow { self.new.outflow ≡ self.old.outflow }
     {
         if self.wanted.is_of_all() && !self.wanted.refused && !self.outflow.is_in_parts() {
-            // If memory is refused here, the text still grows as needed.
-            let _ = self.out.reserve(events.saturating_mul(ROOM_OF_AN_EVENT));
+            self.out.reserve(events.saturating_mul(ROOM_OF_AN_EVENT));
         }
     }
 
@@ -214,7 +203,7 @@ impl Story {
         }
     }
 
-    /// Writes the event, which was done last, and its notes, if the filter wants them.
+    /// Writes the event, which was done last, and those of its notes that the filter wants, if it wants the event.
     fn tell_done(
         &mut self,
         alloc: Global,
@@ -225,7 +214,7 @@ impl Story {
         requires { handled self.old.stage.shape self.old.stage.run event.now ≡ last_envelope self.old.stage.run }
         ensures told { OnOk result ((told : List ℕ)
             × TellsWanted self.old.wanted number self.old.stage.shape self.old.stage.run event.now self.old.notes.items told
-            × (string_bytes self.new.out ≡ string_bytes self.old.out ++ told)) }
+            × (self.new.out ≡ self.old.out ++ told)) }
         ensures wanted { self.new.wanted ≡ self.old.wanted }
         ensures outflow { self.new.outflow ≡ self.old.outflow }
         ensures stage { self.new.stage ≡ self.old.stage }
@@ -235,49 +224,23 @@ impl Story {
         let envelope = handled(&self.stage, event);
         self.counts.add(&self.stage, &actor, envelope, line, notes);
         count_kept(&mut self.kept, &actor, notes)?;
-        if self.wanted.has_done(event, self.notes.as_slice()) {
-            self.write_event(alloc, number, line, event)
-        } else {
+        if !self.wanted.has_done(event, notes) {
             self.texts.forget(event);
-            Ok(())
+            return Ok(());
         }
-    }
-
-    /// Writes the event, which was done last, and those of its notes that the filter wants.
-    fn write_event(
-        &mut self,
-        alloc: Global,
-        number: u64,
-        line: u64,
-        event: &Event,
-    ) -> Result<(), Refusal>
-        requires { handled self.old.stage.shape self.old.stage.run event.now ≡ last_envelope self.old.stage.run }
-        ensures told { OnOk result ((told : List ℕ)
-            × TellsNotes self.old.wanted number self.old.stage.shape self.old.stage.run event.now self.old.notes.items told
-            × (string_bytes self.new.out ≡ string_bytes self.old.out ++ told)) }
-        ensures wanted { self.new.wanted ≡ self.old.wanted }
-        ensures outflow { self.new.outflow ≡ self.old.outflow }
-        ensures stage { self.new.stage ≡ self.old.stage }
-    {
-        let envelope = handled(&self.stage, event);
         if let Some(envelope) = envelope {
+            let (requests, shape) = (&mut self.requests, self.stage.shape());
             self.texts
-                .note_done(alloc, &mut self.requests, event, envelope)?;
+                .note_done(alloc, requests, shape, event, envelope)?;
         }
-        let as_data = self.wanted.data;
-        let (shown, texts): (&str, &[String]) = match self.texts.told(event) {
-            Some(told) => (told.end(), told.chains()),
-            None => (end_of_none(as_data), &[]),
-        };
-        write_done(
+        let told = self.texts.told(event);
+        self.heads.write_done(
             &mut self.out,
-            alloc,
-            &mut self.head,
-            as_data,
+            self.wanted.data,
             number,
             line,
             event,
-            shown,
+            told.end(),
         )?;
         write_wanted(
             &mut self.out,
@@ -286,9 +249,10 @@ impl Story {
             &self.stage,
             event,
             chains_in(envelope),
-            texts,
-            self.notes.as_slice(),
-        )
+            told.chains(),
+            notes,
+        );
+        Ok(())
     }
 
     /// Counts the event, which was refused, and writes it and why, if the filter wants it.
@@ -303,7 +267,7 @@ impl Story {
         requires { ¬ MayBeDone self.old.stage.shape (log_of self.old.stage.run) event.now }
         ensures told { OnOk result ((told : List ℕ)
             × TellsRefusal self.old.wanted number self.old.stage.shape self.old.stage.run event.now refusal.now told
-            × (string_bytes self.new.out ≡ string_bytes self.old.out ++ told)) }
+            × (self.new.out ≡ self.old.out ++ told)) }
         ensures wanted { self.new.wanted ≡ self.old.wanted }
         ensures outflow { self.new.outflow ≡ self.old.outflow }
         ensures stage { self.new.stage ≡ self.old.stage }
@@ -333,7 +297,7 @@ impl Story {
 /// Writes the event, which the stage refuses with this refusal, and why; `since` is the line of the post that fills its box, if that is why. `NoMemory` if
 /// memory runs out.
 fn write_refusal(
-    out: &mut String,
+    out: &mut Writer,
     alloc: Global,
     as_data: bool,
     stage: &Stage,
@@ -345,51 +309,51 @@ fn write_refusal(
 ) -> Result<(), Refusal>
     requires { ¬ MayBeDone stage.now.shape (log_of stage.now.run) event.now }
     ensures { OnOk result ((shown : List ℕ) × TellsCause stage.now.shape (log_of stage.now.run) event.now as_data
-        (string_bytes out.old ++ refused_line as_data number line event.now refusal.now shown) (string_bytes out.new)) }
+        (out.old ++ refused_line as_data number line event.now refusal.now shown) out.new) }
 {
     let shown = end_of_refused(alloc, event, as_data, since)?;
-    write_refused(out, as_data, number, line, event, refusal, shown.as_str())?;
-    write_why(out, as_data, stage, event)
+    write_refused(out, as_data, number, line, event, refusal, &shown);
+    write_why(out, as_data, stage, event);
+    Ok(())
 }
 
 /// Writes the lines of those notes of the event that are wanted; `chains` are those of its envelope, and `texts` describe them.
 fn write_wanted(
-    out: &mut String,
+    out: &mut Writer,
     requests: &mut RequestTexts,
     wanted: &Wanted,
     stage: &Stage,
     event: &Event,
     chains: &[Chain],
-    texts: &[String],
+    texts: &[ChainText],
     notes: &[Note],
-) -> Result<(), Refusal>
+)
     requires { chains.now ≡ last_chains stage.now.run }
-    ensures { OnOk result (string_bytes out.new ≡ string_bytes out.old
+    ensures { out.new ≡ out.old
         ++ note_lines wanted.now.data stage.now.shape (log_of stage.now.run) (actor_of event.now) (other_of event.now) (last_chains stage.now.run)
-        (map (λ text. string_bytes text) texts.now) (filter (wants_note wanted.now) notes.now)) }
+        (map (λ text. string_bytes text.shown) texts.now) (filter (wants_note wanted.now) notes.now) }
 {
     for note in notes {
-        write_if_wanted(out, requests, wanted, stage, event, chains, texts, note)?;
+        write_if_wanted(out, requests, wanted, stage, event, chains, texts, note);
     }
-    Ok(())
 }
 
 /// Writes the line of the note of the event if it is wanted; `chains` are those of the event's envelope, and `texts` describe them.
 fn write_if_wanted(
-    out: &mut String,
+    out: &mut Writer,
     requests: &mut RequestTexts,
     wanted: &Wanted,
     stage: &Stage,
     event: &Event,
     chains: &[Chain],
-    texts: &[String],
+    texts: &[ChainText],
     note: &Note,
-) -> Result<(), Refusal>
+)
     requires { chains.now ≡ last_chains stage.now.run }
-    ensures wanted { wants_note wanted.now note.now ≡ true → OnOk result (string_bytes out.new ≡ string_bytes out.old
+    ensures wanted { wants_note wanted.now note.now ≡ true → out.new ≡ out.old
         ++ note_line wanted.now.data stage.now.shape (log_of stage.now.run) (actor_of event.now) (other_of event.now) (last_chains stage.now.run)
-        (map (λ text. string_bytes text) texts.now) note.now) }
-    ensures unwanted { wants_note wanted.now note.now ≡ false → string_bytes out.new ≡ string_bytes out.old }
+        (map (λ text. string_bytes text.shown) texts.now) note.now }
+    ensures unwanted { wants_note wanted.now note.now ≡ false → out.new ≡ out.old }
 {
     if wanted.has_note(note) {
         write_note(
@@ -401,9 +365,8 @@ fn write_if_wanted(
             chains,
             texts,
             note,
-        )?;
+        );
     }
-    Ok(())
 }
 
 /// Returns the letter in the box from one actor to another; `None` if the box is empty or one of them is not in the shape.
@@ -448,13 +411,17 @@ fn chains_in(envelope: Option<&Envelope>) -> &[Chain]
     }
 }
 
-/// Returns the text before any event: empty in words, the version and the shape as data.
-fn write_first_line(alloc: Global, shape: Shape, as_data: bool) -> Result<String, Refusal>
-    ensures { IfOk result (λ text. string_bytes text ≡ first_line as_data shape) }
+/// Returns the text before any event: empty in words, the version and the shape as data. `NoMemory` if memory runs out.
+fn write_first_line(alloc: Global, shape: Shape, as_data: bool) -> Result<Writer, Refusal>
+    ensures { IfOk result (λ out. out ≡ first_line as_data shape) }
 {
-    let mut out = String::new(alloc);
+    let mut out = Writer::new(alloc);
     if as_data {
-        writeln!(out, "dsr-explain 1 {shape}")?;
+        let mut text = String::new(alloc);
+        write!(text, "{shape}")?;
+        out.put("dsr-explain 1 ");
+        out.put_text(&text);
+        out.put("\n");
     }
     Ok(out)
 }

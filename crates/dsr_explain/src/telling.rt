@@ -79,7 +79,11 @@ fn tell_play<K: Outlet>(
     let Ok(_) = story.end(alloc, play.events().len()) else {
         return Err(Refusal::NoMemory);
     };
-    let told = story.pass_rest(sink);
+    let ended = &mut story;
+    let Ok(rest) = ended.out.whole() else {
+        return Err(Refusal::NoMemory);
+    };
+    let told = ended.outflow.pass_rest(rest, sink);
     // The program ends soon, and to free the stage of a long play takes a while.
     forget(story);
     forget(play);

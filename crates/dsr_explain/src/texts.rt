@@ -1,13 +1,12 @@
 //! The texts about envelopes, written once for all events that post or take one.
 
-use crate::chain_lines::{write_shown_data, write_shown_words};
-use crate::pieces::{MOST_ACTORS, place_of, put_name};
+use crate::chain_texts::ChainText;
+use crate::pieces::{MOST_ACTORS, place_of};
 use crate::requests::RequestTexts;
 use crate::short::{is_short, write_short};
-use dsr_chain::Chain;
 use dsr_envelope::{Envelope, Pick};
-use dsr_names::{Actor, ClientId, Refusal};
-use dsr_reasons::{actor_of, other_of};
+use dsr_names::{Actor, ClientId, Refusal, Shape};
+use dsr_reasons::{Writer, actor_of, other_of};
 use dsr_script::Draft;
 use dsr_world::Event;
 use std::alloc::Global;
@@ -22,8 +21,8 @@ const ROOM: usize = 120;
 pub(crate) struct Told {
     /// The end of the line of an event that posts or takes it: its text.
     end: String,
-    /// The text about each of its chains, which does not depend on the chain's fate.
-    chains: Vec<String>,
+    /// The texts about each of its chains.
+    chains: Vec<ChainText>,
 }
 
 impl Told {
@@ -31,71 +30,105 @@ impl Told {
     fn of(
         alloc: Global,
         requests: &mut RequestTexts,
+        shape: &Shape,
         envelope: &Envelope,
         as_data: bool,
     ) -> Result<Told, Refusal> {
-        let mut end = String::with_capacity(alloc, ROOM)?;
-        if !envelope.fits() {
-            end.push_str(end_of_none(as_data))?;
-        } else if is_short(envelope) {
-            end.push_str(before_draft(as_data))?;
-            write_short(&mut end, requests, envelope)?;
-            end.push_str("\n")?;
-        } else {
-            let draft = Draft::of(alloc, envelope)?;
-            write_draft(&mut end, &draft, as_data)?;
-        }
-        let chains = tell_chains(alloc, requests, envelope, as_data)?;
+        let end = end_of(alloc, requests, envelope, as_data)?;
+        let chains = tell_chains(alloc, requests, shape, envelope, as_data)?;
         Ok(Told { end, chains })
     }
 
-    /// Returns the end of the line of an event that posts or takes the envelope.
-    pub(crate) fn end(&self) -> &str {
-        self.end.as_str()
+    /// Writes the texts about no envelope. `NoMemory` if memory runs out.
+    fn of_none(alloc: Global, as_data: bool) -> Result<Told, Refusal> {
+        let mut end = Writer::new(alloc);
+        end.put(end_of_none(as_data));
+        Ok(Told {
+            end: end.finish()?,
+            chains: Vec::new(alloc),
+        })
     }
 
-    /// Returns the text about each of its chains, which does not depend on the chain's fate.
-    pub(crate) fn chains(&self) -> &[String] {
+    /// Returns the end of the line of an event that posts or takes the envelope.
+    pub(crate) fn end(&self) -> &String {
+        &self.end
+    }
+
+    /// Returns the texts about each of its chains.
+    pub(crate) fn chains(&self) -> &[ChainText] {
         self.chains.as_slice()
     }
 }
 
+/// Returns the end of the line of an event that posts or takes this envelope: its text. `NoMemory` if memory runs out.
+fn end_of(
+    alloc: Global,
+    requests: &mut RequestTexts,
+    envelope: &Envelope,
+    as_data: bool,
+) -> Result<String, Refusal> {
+    let mut end = Writer::new(alloc);
+    end.reserve(ROOM);
+    if !envelope.fits() {
+        end.put(end_of_none(as_data));
+    } else if is_short(envelope) {
+        end.put(before_draft(as_data));
+        write_short(&mut end, requests, envelope);
+        end.put("\n");
+    } else {
+        let draft = Draft::of(alloc, envelope)?;
+        write_draft(&mut end, alloc, &draft, as_data)?;
+    }
+    end.finish()
+}
+
 /// Returns the end of the line of an event that was refused: what it was to post, if the event says so, after, in words, the line since which its box is
-/// full, if there is one.
+/// full, if there is one. `NoMemory` if memory runs out.
 pub(crate) fn end_of_refused(
     alloc: Global,
     event: &Event,
     as_data: bool,
     since: Option<u64>,
 ) -> Result<String, Refusal> {
-    let mut end = String::new(alloc);
-    write_since(&mut end, as_data, since)?;
+    let mut end = Writer::new(alloc);
+    write_since(&mut end, as_data, since);
     match event {
-        Event::Plant { draft, .. } => write_draft(&mut end, draft, as_data)?,
-        Event::Post { pick, .. } if !as_data => write_choice(&mut end, &pick.pick())?,
-        _ => end.push_str(end_of_none(as_data))?,
+        Event::Plant { draft, .. } => write_draft(&mut end, alloc, draft, as_data)?,
+        Event::Post { pick, .. } if !as_data => write_choice(&mut end, alloc, &pick.pick())?,
+        _ => end.put(end_of_none(as_data)),
     }
-    Ok(end)
+    end.finish()
 }
 
 /// Writes the line since which the box is full, in words, if there is one.
-fn write_since(out: &mut String, as_data: bool, since: Option<u64>) -> Result<(), Refusal> {
+fn write_since(out: &mut Writer, as_data: bool, since: Option<u64>) {
     match since {
-        Some(line) if !as_data => write!(out, " (the box is full since line {line})")?,
+        Some(line) if !as_data => {
+            out.put(" (the box is full since line ");
+            out.put_number(line);
+            out.put(")");
+        }
         _ => {}
     }
-    Ok(())
 }
 
 /// Returns the end of an event's line that shows no envelope.
-pub(crate) fn end_of_none(as_data: bool) -> &'static str {
+fn end_of_none(as_data: bool) -> &'static str {
     if as_data { " -\n" } else { "\n" }
 }
 
-/// Writes the end of an event's line: the envelope of this draft.
-fn write_draft(out: &mut String, draft: &Draft, as_data: bool) -> Result<(), Refusal> {
-    out.push_str(before_draft(as_data))?;
-    writeln!(out, "{draft}")?;
+/// Writes the end of an event's line: the envelope of this draft. `NoMemory` if memory runs out.
+fn write_draft(
+    out: &mut Writer,
+    alloc: Global,
+    draft: &Draft,
+    as_data: bool,
+) -> Result<(), Refusal> {
+    let mut text = String::new(alloc);
+    write!(text, "{draft}")?;
+    out.put(before_draft(as_data));
+    out.put_text(&text);
+    out.put("\n");
     Ok(())
 }
 
@@ -104,59 +137,48 @@ fn before_draft(as_data: bool) -> &'static str {
     if as_data { " " } else { ": " }
 }
 
-/// Writes the end of the line of a post that was refused: the post's choice.
-fn write_choice(out: &mut String, pick: &Pick) -> Result<(), Refusal> {
+/// Writes the end of the line of a post that was refused: the post's choice. `NoMemory` if memory runs out.
+fn write_choice(out: &mut Writer, alloc: Global, pick: &Pick) -> Result<(), Refusal> {
     match pick {
         Pick::Plain => {}
-        Pick::From(clients) => write_asks(out, clients.as_slice())?,
-        Pick::Begin(op) => write!(out, ", to begin the request {op}")?,
+        Pick::From(clients) => write_asks(out, clients.as_slice()),
+        Pick::Begin(op) => {
+            let mut text = String::new(alloc);
+            write!(text, "{op}")?;
+            out.put(", to begin the request ");
+            out.put_text(&text);
+        }
     }
-    out.push_str("\n")?;
+    out.put("\n");
     Ok(())
 }
 
 /// Writes that the replica was to propose the asks of these clients.
-fn write_asks(out: &mut String, clients: &[ClientId]) -> Result<(), Refusal> {
-    out.push_str(", to propose what it holds of ")?;
+fn write_asks(out: &mut Writer, clients: &[ClientId]) {
+    out.put(", to propose what it holds of ");
     for place in 0..clients.len() {
         if place > 0 {
-            out.push_str("+")?;
+            out.put("+");
         }
-        put_name(out, Actor::Client(clients[place]))?;
+        out.put_name(Actor::Client(clients[place]));
     }
-    Ok(())
 }
 
-/// Writes the text about each chain of the envelope.
+/// Writes the texts about each chain of the envelope.
 fn tell_chains(
     alloc: Global,
     requests: &mut RequestTexts,
+    shape: &Shape,
     envelope: &Envelope,
     as_data: bool,
-) -> Result<Vec<String>, Refusal> {
+) -> Result<Vec<ChainText>, Refusal> {
     let mut told = Vec::new(alloc);
     if let Envelope::Round { chains, .. } = envelope {
         for chain in chains.as_slice() {
-            told.push(tell_chain(alloc, requests, chain, as_data)?)?;
+            told.push(ChainText::of(alloc, requests, shape, chain, as_data)?)?;
         }
     }
     Ok(told)
-}
-
-/// Writes the text about the chain.
-fn tell_chain(
-    alloc: Global,
-    requests: &mut RequestTexts,
-    chain: &Chain,
-    as_data: bool,
-) -> Result<String, Refusal> {
-    let mut text = String::with_capacity(alloc, ROOM)?;
-    if as_data {
-        write_shown_data(&mut text, requests, chain)?;
-    } else {
-        write_shown_words(&mut text, chain)?;
-    }
-    Ok(text)
 }
 
 /// The texts about the envelopes that a loyal actor posts to replicas: the last one, which it may post again, and the one before, which
@@ -212,6 +234,8 @@ enum Lying {
 #[derive(Drop)]
 pub(crate) struct Texts {
     as_data: bool,
+    /// The texts about no envelope.
+    nothing: Told,
     /// What each actor posted to replicas, by the poster's place.
     posted: Vec<Posted>,
     /// The boxes, by the places of poster and taker.
@@ -223,6 +247,7 @@ impl Texts {
     pub(crate) fn new(alloc: Global, as_data: bool) -> Result<Texts, Refusal> {
         Ok(Texts {
             as_data,
+            nothing: Told::of_none(alloc, as_data)?,
             posted: nothing_posted(alloc)?,
             boxes: empty_boxes(alloc)?,
         })
@@ -233,19 +258,20 @@ impl Texts {
         &mut self,
         alloc: Global,
         requests: &mut RequestTexts,
+        shape: &Shape,
         event: &Event,
         envelope: &Envelope,
     ) -> Result<(), Refusal> {
         if is_to_replica(event) {
-            return self.note_posted(alloc, requests, event, envelope);
+            return self.note_posted(alloc, requests, shape, event, envelope);
         }
         if let Event::Take { .. } = event {
             // The box may still hold an ask from before the client's last two requests; its texts have to be written anew.
-            if self.told(event).is_some() {
+            if self.written(event).is_some() {
                 return Ok(());
             }
         }
-        let told = Told::of(alloc, requests, envelope, self.as_data)?;
+        let told = Told::of(alloc, requests, shape, envelope, self.as_data)?;
         self.lay(event, Lying::Alone(told));
         Ok(())
     }
@@ -255,6 +281,7 @@ impl Texts {
         &mut self,
         alloc: Global,
         requests: &mut RequestTexts,
+        shape: &Shape,
         event: &Event,
         envelope: &Envelope,
     ) -> Result<(), Refusal> {
@@ -263,17 +290,25 @@ impl Texts {
             return Ok(());
         };
         if !is_again(event) {
-            posted.put(Some(Told::of(alloc, requests, envelope, as_data)?));
+            posted.put(Some(Told::of(alloc, requests, shape, envelope, as_data)?));
         } else if posted.last.is_none() {
-            posted.last = Some(Told::of(alloc, requests, envelope, as_data)?);
+            posted.last = Some(Told::of(alloc, requests, shape, envelope, as_data)?);
         }
         let number = posted.count;
         self.lay(event, Lying::Posted(number));
         Ok(())
     }
 
-    /// Returns the texts about the envelope that this event, which was done, posted or took; `None` if they were not written.
-    pub(crate) fn told(&self, event: &Event) -> Option<&Told> {
+    /// Returns the texts about the envelope that this event, which was done, posted or took; those about none if they were not written.
+    pub(crate) fn told(&self, event: &Event) -> &Told {
+        match self.written(event) {
+            Some(told) => told,
+            None => &self.nothing,
+        }
+    }
+
+    /// Returns these texts; `None` if they were not written.
+    fn written(&self, event: &Event) -> Option<&Told> {
         if is_to_replica(event) {
             return self.posted.get(poster_of(event))?.last.as_ref();
         }

@@ -1,8 +1,11 @@
-//! Why an event of a play is refused, as text: a line of data or of words, proved to the letter. `dsr_facts` finds the cause.
+//! Why an event of a play is refused, as text: a line of data or of words, proved to the letter. `dsr_facts` finds the cause. And the writer by which
+//! explanations write their lines.
 #![tactic(auto)]
 
 mod actors;
 mod why;
+mod writer;
 
 pub use actors::{actor_of, other_of};
-pub use why::{put, write_why};
+pub use why::write_why;
+pub use writer::Writer;

@@ -1,4 +1,2 @@
-mod DifferenceLemmas
 mod StandingLemmas
 mod StepLemmas
-mod TextLemmas

@@ -1,4 +1,4 @@
-ghost use Rattle.std.specs.Prelude.{◌≡◌, ◌+◌, ◌++◌, ◌∷◌, List, Some, IfNone, IfOk, IfSome, OnOk, IsOkUnless, length, string_bytes};
+ghost use Rattle.std.specs.Prelude.{◌≡◌, ◌+◌, ◌++◌, ◌∷◌, List, Some, IfNone, IfOk, IfSome, IsOkUnless, length, string_bytes};
 ghost use Rattle.dsr_run.specs.Run.{IsRun};
 ghost use Rattle.dsr_run.specs.Step.{Step};
 ghost use Rattle.dsr_record.specs.FirstBad.{IsFirstBad};
@@ -8,7 +8,7 @@ ghost use Rattle.dsr_transcripts.specs.Account.{TellsRecord, TellsTranscript, fi
 use crate::stop::tell_stop;
 use dsr_lines::{Followed, Stop, follow_all};
 use dsr_names::{Refusal, Shape};
-use dsr_reasons::put;
+use dsr_reasons::Writer;
 use dsr_record::{NotedStep, Record};
 use dsr_trouble::trouble_of;
 use dsr_world::Stage;
@@ -87,10 +87,13 @@ fn tell_run(alloc: Global, recorded: &Record, as_data: bool) -> Result<Account, 
     ensures told { IfOk result (λ account. TellsRecord as_data recorded.now account.refusal (string_bytes account.text)) }
     ensures refusal { IsOkUnless result Refusal.NoMemory }
 {
-    let mut out = String::new(alloc);
-    write_run(&mut out, as_data, recorded)?;
+    let first = tell_first(alloc, as_data, recorded.shape())?;
+    let mut out = Writer::new(alloc);
+    out.put_text(&first);
+    write_count(&mut out, as_data, count_of(recorded));
+    let told = out.finish()?;
     Ok(Account {
-        text: out,
+        text: told,
         refusal: None,
     })
 }
@@ -111,11 +114,13 @@ fn tell_stopped(
 {
     let step = step_at(recorded, stop.line);
     let rest = tell_stop(alloc, as_data, stage, step, stop.line, &stop.fault)?;
-    let mut out = String::new(alloc);
-    write_first(&mut out, as_data, recorded.shape())?;
-    out.push_str(rest.as_str())?;
+    let first = tell_first(alloc, as_data, recorded.shape())?;
+    let mut out = Writer::new(alloc);
+    out.put_text(&first);
+    out.put_text(&rest);
+    let told = out.finish()?;
     Ok(Account {
-        text: out,
+        text: told,
         refusal: Some(Refusal::NotARun { line: stop.line }),
     })
 }
@@ -128,25 +133,16 @@ fn step_at(recorded: &Record, line: u64) -> &NotedStep
     &recorded.entries()[(line - 2) as usize]
 }
 
-/// Writes the first line: of data the version and the shape.
-fn write_first(out: &mut String, as_data: bool, shape: Shape) -> Result<(), Refusal>
-    ensures text { OnOk result (string_bytes out.new ≡ string_bytes out.old ++ first_line as_data shape) }
+/// Returns the first line: of data the version and the shape.
+fn tell_first(alloc: Global, as_data: bool, shape: Shape) -> Result<String, Refusal>
+    ensures told { IfOk result (λ told. string_bytes told ≡ first_line as_data shape) }
     ensures refusal { IsOkUnless result Refusal.NoMemory }
 {
+    let mut first = String::new(alloc);
     if as_data {
-        writeln!(out, "dsr-explain 1 {shape}")?;
+        writeln!(first, "dsr-explain 1 {shape}")?;
     }
-    Ok(())
-}
-
-/// Writes the text about a run: the first line, that the steps are a run, and how many they are.
-fn write_run(out: &mut String, as_data: bool, recorded: &Record) -> Result<(), Refusal>
-    ensures text { OnOk result (string_bytes out.new ≡ string_bytes out.old
-        ++ (first_line as_data recorded.now.shape ++ run_line as_data (length recorded.now.run))) }
-    ensures refusal { IsOkUnless result Refusal.NoMemory }
-{
-    write_first(out, as_data, recorded.shape())?;
-    write_count(out, as_data, count_of(recorded))
+    Ok(first)
 }
 
 /// Returns the number of recorded steps.
@@ -157,16 +153,14 @@ fn count_of(recorded: &Record) -> usize
 }
 
 /// Writes that `count` steps are a run.
-fn write_count(out: &mut String, as_data: bool, count: usize) -> Result<(), Refusal>
-    ensures text { OnOk result (string_bytes out.new ≡ string_bytes out.old ++ run_line as_data count) }
-    ensures refusal { IsOkUnless result Refusal.NoMemory }
+fn write_count(out: &mut Writer, as_data: bool, count: usize)
+    ensures { out.new ≡ out.old ++ run_line as_data count }
 {
-    put(
-        out,
+    out.put_one(
         as_data,
         "run ",
         "this is a run: each step may follow those before it; number of steps: ",
-    )?;
-    writeln!(out, "{count}")?;
-    Ok(())
+    );
+    out.put_number(count as u64);
+    out.put("\n");
 }

@@ -1,35 +1,31 @@
 //! How an envelope differs from the one that its actor posts there.
 
-ghost use Rattle.std.specs.Prelude.{◌≡◌, ◌<◌, ◌++◌, OnOk, IsOkUnless, length, slice_get, string_bytes};
+ghost use Rattle.std.specs.Prelude.{◌≡◌, ◌<◌, ◌++◌, length, slice_get};
 ghost use Rattle.dsr_facts.specs.Difference.{IsDifference};
 ghost use Rattle.dsr_facts.specs.declared.difference.Difference.TheVariants.{OtherRound, Chains, OtherAsk};
 ghost use Rattle.dsr_transcripts.specs.Why.{ask_text, chain_text, chains_in, difference_text, new_ask_text, number_in, parted_of, parted_text, parting_end, parting_word, round_in, rounds_text};
 
-use crate::words::put_numbers;
+use crate::words::{put_numbers, put_signers};
 use dsr_chain::Chain;
 use dsr_envelope::Envelope;
 use dsr_facts::{Difference, Parting};
-use dsr_names::Refusal;
-use dsr_reasons::put;
-use std::fmt::Write;
+use dsr_reasons::Writer;
 
 /// Writes how the posted envelope differs from the wanted one. Requires that it differs like this. `current` is the number of the actor's outstanding
 /// request.
 pub(crate) fn write_difference(
-    out: &mut String,
+    out: &mut Writer,
     as_data: bool,
     current: Option<u64>,
     wanted: &Envelope,
     posted: &Envelope,
     how: &Difference,
-) -> Result<(), Refusal>
+)
     requires { IsDifference wanted.now posted.now how.now }
-    ensures text { OnOk result (string_bytes out.new ≡ string_bytes out.old ++ difference_text as_data current wanted.now posted.now how.now) }
-    ensures refusal { IsOkUnless result Refusal.NoMemory }
+    ensures { out.new ≡ out.old ++ difference_text as_data current wanted.now posted.now how.now }
 {
     match how {
-        Difference::OtherKind => put(
-            out,
+        Difference::OtherKind => out.put_one(
             as_data,
             "other-kind",
             "it posts an envelope of another kind there",
@@ -39,21 +35,19 @@ pub(crate) fn write_difference(
             out, as_data, wanted, posted, *place, *how,
         ),
         Difference::OtherAsk => write_ask(out, as_data, current, wanted, posted),
-        Difference::OtherReply => put(out, as_data, "other-reply", "it gives another reply there"),
-        Difference::OtherFront => put(out, as_data, "other-front", "its seen front is another"),
+        Difference::OtherReply => out.put_one(
+            as_data,
+            "other-reply",
+            "it gives another reply there",
+        ),
+        Difference::OtherFront => out.put_one(as_data, "other-front", "its seen front is another"),
     }
 }
 
 /// Writes which round is in progress, and the round of the envelope. Requires that both envelopes are of rounds, and differ in them.
-fn write_rounds(
-    out: &mut String,
-    as_data: bool,
-    wanted: &Envelope,
-    posted: &Envelope,
-) -> Result<(), Refusal>
+fn write_rounds(out: &mut Writer, as_data: bool, wanted: &Envelope, posted: &Envelope)
     requires { IsDifference wanted.now posted.now OtherRound }
-    ensures text { OnOk result (string_bytes out.new ≡ string_bytes out.old ++ rounds_text as_data (round_in wanted.now) (round_in posted.now)) }
-    ensures refusal { IsOkUnless result Refusal.NoMemory }
+    ensures { out.new ≡ out.old ++ rounds_text as_data (round_in wanted.now) (round_in posted.now) }
 {
     let Some(ours) = round_of(wanted) else {
         unreachable!()
@@ -84,17 +78,16 @@ fn round_of(envelope: &Envelope) -> Option<u64>
 
 /// Writes what is wrong with a chain. Requires that the chains of both envelopes part at this place.
 fn write_chains(
-    out: &mut String,
+    out: &mut Writer,
     as_data: bool,
     wanted: &Envelope,
     posted: &Envelope,
     place: u64,
     how: Parting,
-) -> Result<(), Refusal>
+)
     requires { IsDifference wanted.now posted.now (Chains place how) }
-    ensures text { OnOk result (string_bytes out.new ≡ string_bytes out.old
-        ++ parted_text as_data place (slice_get (chains_in (parted_of how wanted.now posted.now)) place) how) }
-    ensures refusal { IsOkUnless result Refusal.NoMemory }
+    ensures { out.new ≡ out.old
+        ++ parted_text as_data place (slice_get (chains_in (parted_of how wanted.now posted.now)) place) how }
 {
     let chains = chains_of(parted_of(how, wanted, posted));
     write_parted(out, as_data, chains, place, how)
@@ -121,16 +114,9 @@ fn chains_of(envelope: &Envelope) -> &[Chain]
 }
 
 /// Writes what is wrong with the chain at this place. Requires that there is one.
-fn write_parted(
-    out: &mut String,
-    as_data: bool,
-    chains: &[Chain],
-    place: u64,
-    how: Parting,
-) -> Result<(), Refusal>
+fn write_parted(out: &mut Writer, as_data: bool, chains: &[Chain], place: u64, how: Parting)
     requires { place < length chains.now }
-    ensures text { OnOk result (string_bytes out.new ≡ string_bytes out.old ++ parted_text as_data place (slice_get chains.now place) how) }
-    ensures refusal { IsOkUnless result Refusal.NoMemory }
+    ensures { out.new ≡ out.old ++ parted_text as_data place (slice_get chains.now place) how }
 {
     // For the proof: the number of chains fits.
     let _count = chains.len();
@@ -138,24 +124,16 @@ fn write_parted(
 }
 
 /// Writes what is wrong with the chain, which has this number in its envelope.
-fn write_chain(
-    out: &mut String,
-    as_data: bool,
-    number: u64,
-    chain: &Chain,
-    how: Parting,
-) -> Result<(), Refusal>
-    ensures text { OnOk result (string_bytes out.new ≡ string_bytes out.old ++ chain_text as_data number chain.now how) }
-    ensures refusal { IsOkUnless result Refusal.NoMemory }
+fn write_chain(out: &mut Writer, as_data: bool, number: u64, chain: &Chain, how: Parting)
+    ensures { out.new ≡ out.old ++ chain_text as_data number chain.now how }
 {
-    let (slot, signers) = (chain.slot(), chain.signers());
-    put(out, as_data, parting_word(how), "its chain ")?;
-    write!(out, "{number}")?;
-    put(out, as_data, " ", ", of slot ")?;
-    write!(out, "{slot}")?;
-    put(out, as_data, " ", " and signed by ")?;
-    write!(out, "{signers}")?;
-    put(out, as_data, "", parting_end(how))
+    out.put_one(as_data, parting_word(how), "its chain ");
+    out.put_number(number);
+    out.put_one(as_data, " ", ", of slot ");
+    out.put_number(chain.slot());
+    out.put_one(as_data, " ", " and signed by ");
+    put_signers(out, chain);
+    out.put_one(as_data, "", parting_end(how));
 }
 
 /// Returns the word for what is wrong with a chain.
@@ -184,15 +162,14 @@ fn parting_end(how: Parting) -> &'static str
 
 /// Writes what is wrong with the ask. Requires that both envelopes are asks, and differ.
 fn write_ask(
-    out: &mut String,
+    out: &mut Writer,
     as_data: bool,
     current: Option<u64>,
     wanted: &Envelope,
     posted: &Envelope,
-) -> Result<(), Refusal>
+)
     requires { IsDifference wanted.now posted.now OtherAsk }
-    ensures text { OnOk result (string_bytes out.new ≡ string_bytes out.old ++ ask_text as_data current (number_in wanted.now) (number_in posted.now)) }
-    ensures refusal { IsOkUnless result Refusal.NoMemory }
+    ensures { out.new ≡ out.old ++ ask_text as_data current (number_in wanted.now) (number_in posted.now) }
 {
     let Some(next) = number_of(wanted) else {
         unreachable!()
@@ -225,9 +202,8 @@ fn number_of(envelope: &Envelope) -> Option<u64>
 }
 
 /// Writes what is wrong with an ask of this number, if no request is outstanding and the client's next request has the number `next`.
-fn write_new_ask(out: &mut String, as_data: bool, next: u64, number: u64) -> Result<(), Refusal>
-    ensures text { OnOk result (string_bytes out.new ≡ string_bytes out.old ++ new_ask_text as_data next number) }
-    ensures refusal { IsOkUnless result Refusal.NoMemory }
+fn write_new_ask(out: &mut Writer, as_data: bool, next: u64, number: u64)
+    ensures { out.new ≡ out.old ++ new_ask_text as_data next number }
 {
     if number < next {
         return put_numbers(
@@ -251,8 +227,7 @@ fn write_new_ask(out: &mut String, as_data: bool, next: u64, number: u64) -> Res
             next,
         );
     }
-    put(
-        out,
+    out.put_one(
         as_data,
         "not-own",
         "the request or its signature is not its own",

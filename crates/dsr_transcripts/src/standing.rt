@@ -1,6 +1,6 @@
 //! What an actor's own log has due, and what a box holds.
 
-ghost use Rattle.std.specs.Prelude.{◌≡◌, ◌<◌, ◌++◌, false, codes, IfOk, OnOk, IsOkUnless, IsTrue, string_bytes};
+ghost use Rattle.std.specs.Prelude.{◌≡◌, ◌<◌, ◌++◌, false, codes, IfOk, IsOkUnless, IsTrue, string_bytes};
 ghost use Rattle.dsr_names.specs.Actor.{replica_text};
 ghost use Rattle.dsr_names.specs.Shape.{IsActor, is_traitor};
 ghost use Rattle.dsr_names.specs.declared.actor.Actor.TheVariants.{Replica as ReplicaNumber, Client as ClientNumber};
@@ -11,29 +11,22 @@ ghost use Rattle.dsr_world.specs.Event.{in_box};
 ghost use Rattle.dsr_reasons.specs.Reason.{one_of};
 ghost use Rattle.dsr_transcripts.specs.Standing.{box_line, current_number, due_line, entry_box_line, held_text, next_text, number_text, own_number, standing_line};
 
-use crate::words::put_actor;
+use crate::words::{put_actor, text_of};
 use dsr_envelope::Due;
 use dsr_facts::{client_of, loyal_of};
 use dsr_names::{Actor, ClientId, Refusal, ReplicaId, Shape};
-use dsr_reasons::put;
+use dsr_reasons::Writer;
 use dsr_record::{NotedEntry, NotedStep};
 use dsr_script::Draft;
 use dsr_world::Stage;
 use std::alloc::Global;
-use std::fmt::Write;
 
 /// Writes what the actor's own log has due; nothing if it is not an actor of the shape.
-pub(crate) fn write_standing(
-    out: &mut String,
-    as_data: bool,
-    stage: &Stage,
-    actor: &Actor,
-) -> Result<(), Refusal>
-    ensures text { OnOk result (string_bytes out.new ≡ string_bytes out.old ++ standing_line as_data stage.now.shape (log_of stage.now.run) actor.now) }
-    ensures refusal { IsOkUnless result Refusal.NoMemory }
+pub(crate) fn write_standing(out: &mut Writer, as_data: bool, stage: &Stage, actor: &Actor)
+    ensures { out.new ≡ out.old ++ standing_line as_data stage.now.shape (log_of stage.now.run) actor.now }
 {
     if !is_inside(stage.shape(), actor) {
-        return Ok(());
+        return;
     }
     match actor {
         Actor::Replica(replica) => write_due(out, as_data, stage, *replica),
@@ -50,20 +43,14 @@ fn is_inside(shape: &Shape, actor: &Actor) -> bool
 }
 
 /// Writes what the log of a replica of the shape has due; nothing is due for a traitor.
-fn write_due(
-    out: &mut String,
-    as_data: bool,
-    stage: &Stage,
-    replica: ReplicaId,
-) -> Result<(), Refusal>
+fn write_due(out: &mut Writer, as_data: bool, stage: &Stage, replica: ReplicaId)
     requires { replica < stage.now.shape.n }
-    ensures text { OnOk result (string_bytes out.new ≡ string_bytes out.old
-        ++ due_line as_data stage.now.shape (log_of stage.now.run) (ReplicaNumber replica)) }
-    ensures refusal { IsOkUnless result Refusal.NoMemory }
+    ensures { out.new ≡ out.old
+        ++ due_line as_data stage.now.shape (log_of stage.now.run) (ReplicaNumber replica) }
 {
-    put_actor(out, as_data, "due ", "    due at ", Actor::Replica(replica))?;
+    put_actor(out, as_data, "due ", "    due at ", Actor::Replica(replica));
     if is_traitor(stage.shape(), replica) {
-        return put(out, as_data, " -\n", ": nothing, since it is a traitor\n");
+        return out.put_one(as_data, " -\n", ": nothing, since it is a traitor\n");
     }
     write_next(out, as_data, due_of(stage, replica))
 }
@@ -86,9 +73,8 @@ fn due_of(stage: &Stage, replica: ReplicaId) -> Due
 }
 
 /// Writes what a loyal replica does next with the replicas.
-fn write_next(out: &mut String, as_data: bool, next: Due) -> Result<(), Refusal>
-    ensures text { OnOk result (string_bytes out.new ≡ string_bytes out.old ++ next_text as_data next) }
-    ensures refusal { IsOkUnless result Refusal.NoMemory }
+fn write_next(out: &mut Writer, as_data: bool, next: Due)
+    ensures { out.new ≡ out.old ++ next_text as_data next }
 {
     match next {
         Due::Post(to) => put_replica(out, as_data, " post ", ": the post to ", to),
@@ -98,32 +84,24 @@ fn write_next(out: &mut String, as_data: bool, next: Due) -> Result<(), Refusal>
 
 /// Writes the end of a line: the word or the end of a sentence, and the replica's name.
 fn put_replica(
-    out: &mut String,
+    out: &mut Writer,
     as_data: bool,
-    word: &str,
-    before: &str,
+    word: &'static str,
+    before: &'static str,
     replica: ReplicaId,
-) -> Result<(), Refusal>
-    ensures text { OnOk result (string_bytes out.new ≡ string_bytes out.old
-        ++ (one_of as_data word.now before.now ++ (replica_text replica ++ codes "\n"))) }
-    ensures refusal { IsOkUnless result Refusal.NoMemory }
+)
+    ensures { out.new ≡ out.old
+        ++ (one_of as_data word.now before.now ++ (replica_text replica ++ codes "\n")) }
 {
-    put_actor(out, as_data, word, before, Actor::Replica(replica))?;
-    out.push_str("\n")?;
-    Ok(())
+    put_actor(out, as_data, word, before, Actor::Replica(replica));
+    out.put("\n");
 }
 
 /// Writes which request of a client of the shape is outstanding.
-fn write_outstanding(
-    out: &mut String,
-    as_data: bool,
-    stage: &Stage,
-    client: ClientId,
-) -> Result<(), Refusal>
+fn write_outstanding(out: &mut Writer, as_data: bool, stage: &Stage, client: ClientId)
     requires { client < stage.now.shape.m }
-    ensures text { OnOk result (string_bytes out.new ≡ string_bytes out.old
-        ++ due_line as_data stage.now.shape (log_of stage.now.run) (ClientNumber client)) }
-    ensures refusal { IsOkUnless result Refusal.NoMemory }
+    ensures { out.new ≡ out.old
+        ++ due_line as_data stage.now.shape (log_of stage.now.run) (ClientNumber client) }
 {
     put_actor(
         out,
@@ -131,7 +109,7 @@ fn write_outstanding(
         "due ",
         "    outstanding at ",
         Actor::Client(client),
-    )?;
+    );
     write_number(out, as_data, outstanding_of(stage, client))
 }
 
@@ -157,60 +135,58 @@ pub(crate) fn current_of(stage: &Stage, actor: &Actor) -> Option<u64>
 }
 
 /// Writes the number of an outstanding request, or that there is none.
-fn write_number(out: &mut String, as_data: bool, current: Option<u64>) -> Result<(), Refusal>
-    ensures text { OnOk result (string_bytes out.new ≡ string_bytes out.old ++ number_text as_data current) }
-    ensures refusal { IsOkUnless result Refusal.NoMemory }
+fn write_number(out: &mut Writer, as_data: bool, current: Option<u64>)
+    ensures { out.new ≡ out.old ++ number_text as_data current }
 {
     let Some(number) = current else {
-        return put(out, as_data, " -\n", ": nothing\n");
+        return out.put_one(as_data, " -\n", ": nothing\n");
     };
-    put(out, as_data, " ", ": request ")?;
-    writeln!(out, "{number}")?;
-    Ok(())
+    out.put_one(as_data, " ", ": request ");
+    out.put_number(number);
+    out.put("\n");
 }
 
-/// Writes what the box holds into which the step posts, or from which it takes; nothing if one of its ends is not an actor of the shape.
-pub(crate) fn write_box(
+/// Returns what the box holds into which the step posts, or from which it takes; nothing if one of its ends is not an actor of the shape.
+pub(crate) fn tell_box(
     alloc: Global,
-    out: &mut String,
     as_data: bool,
     stage: &Stage,
     step: &NotedStep,
-) -> Result<(), Refusal>
-    ensures text { OnOk result (string_bytes out.new ≡ string_bytes out.old
-        ++ entry_box_line as_data stage.now.shape (log_of stage.now.run) step.now.0 step.now.1) }
+) -> Result<String, Refusal>
+    ensures told { IfOk result (λ told. string_bytes told ≡ entry_box_line as_data stage.now.shape (log_of stage.now.run) step.now.0 step.now.1) }
     ensures refusal { IsOkUnless result Refusal.NoMemory }
 {
     let actor = step.actor();
     match step.entry() {
-        NotedEntry::Post { to, .. } => write_between(alloc, out, as_data, stage, &actor, to),
-        NotedEntry::Take { from, .. } => write_between(alloc, out, as_data, stage, from, &actor),
+        NotedEntry::Post { to, .. } => tell_between(alloc, as_data, stage, &actor, to),
+        NotedEntry::Take { from, .. } => tell_between(alloc, as_data, stage, from, &actor),
     }
 }
 
-/// Writes what the box from one actor to another holds; nothing if one of them is not an actor of the shape.
-fn write_between(
+/// Returns what the box from one actor to another holds; nothing if one of them is not an actor of the shape.
+fn tell_between(
     alloc: Global,
-    out: &mut String,
     as_data: bool,
     stage: &Stage,
     from: &Actor,
     to: &Actor,
-) -> Result<(), Refusal>
-    ensures text { OnOk result (string_bytes out.new ≡ string_bytes out.old
-        ++ box_line as_data stage.now.shape (log_of stage.now.run) from.now to.now) }
+) -> Result<String, Refusal>
+    ensures told { IfOk result (λ told. string_bytes told ≡ box_line as_data stage.now.shape (log_of stage.now.run) from.now to.now) }
     ensures refusal { IsOkUnless result Refusal.NoMemory }
 {
     if !is_inside(stage.shape(), from) {
-        return Ok(());
+        return Ok(String::new(alloc));
     }
     if !is_inside(stage.shape(), to) {
-        return Ok(());
+        return Ok(String::new(alloc));
     }
     let held = held_in(alloc, stage, from, to)?;
-    put_actor(out, as_data, "box ", "    in the box from ", *from)?;
-    put_actor(out, as_data, " ", " to ", *to)?;
-    write_held(out, as_data, &held)
+    let shown = tell_held(alloc, as_data, &held)?;
+    let mut out = Writer::new(alloc);
+    put_actor(&mut out, as_data, "box ", "    in the box from ", *from);
+    put_actor(&mut out, as_data, " ", " to ", *to);
+    out.put_text(&shown);
+    out.finish()
 }
 
 /// Returns a draft of the envelope in the box from one actor of the shape to another; `None` if the box is empty.
@@ -229,15 +205,19 @@ fn held_in(alloc: Global, stage: &Stage, from: &Actor, to: &Actor) -> Result<Opt
     Ok(Some(held))
 }
 
-/// Writes that a box is empty, or holds this envelope.
-fn write_held(out: &mut String, as_data: bool, held: &Option<Draft>) -> Result<(), Refusal>
-    ensures text { OnOk result (string_bytes out.new ≡ string_bytes out.old ++ held_text as_data held.now) }
+/// Returns the text that a box is empty, or holds this envelope.
+fn tell_held(alloc: Global, as_data: bool, held: &Option<Draft>) -> Result<String, Refusal>
+    ensures told { IfOk result (λ told. string_bytes told ≡ held_text as_data held.now) }
     ensures refusal { IsOkUnless result Refusal.NoMemory }
 {
+    let mut out = Writer::new(alloc);
     let Some(held) = held else {
-        return put(out, as_data, " -\n", ": nothing\n");
+        out.put_one(as_data, " -\n", ": nothing\n");
+        return out.finish();
     };
-    put(out, as_data, " ", ": ")?;
-    writeln!(out, "{held}")?;
-    Ok(())
+    let shown = text_of(alloc, held)?;
+    out.put_one(as_data, " ", ": ");
+    out.put_text(&shown);
+    out.put("\n");
+    out.finish()
 }

@@ -1,6 +1,6 @@
 //! Why a step may not follow.
 
-ghost use Rattle.std.specs.Prelude.{◌≡◌, ◌++◌, [], codes, IfOk, OnOk, IsOkUnless, string_bytes};
+ghost use Rattle.std.specs.Prelude.{◌≡◌, ◌++◌, [], codes, IfOk, IsOkUnless, string_bytes};
 ghost use Rattle.dsr_run.specs.Step.{log_of};
 ghost use Rattle.dsr_reasons.specs.Reason.{TellsCause, one_of};
 ghost use Rattle.dsr_facts.specs.Cause.{HoldsCause};
@@ -15,12 +15,11 @@ use dsr_envelope::Envelope;
 use dsr_facts::{Cause, Difference};
 use dsr_lines::LineFault;
 use dsr_names::{Actor, ClientId, Refusal};
-use dsr_reasons::{put, write_why};
+use dsr_reasons::{Writer, write_why};
 use dsr_record::NotedStep;
 use dsr_script::Forged;
 use dsr_world::{Event, Stage};
 use std::alloc::Global;
-use std::fmt::Write;
 
 /// Returns the text that says why the step may not follow in this stage. Requires that this is wrong with it.
 pub(crate) fn why_of(
@@ -62,9 +61,9 @@ fn why_refused(
     ensures says { IfOk result (λ why. TellsCause stage.now.shape (log_of stage.now.run) event.now as_data [] (string_bytes why)) }
     ensures refusal { IsOkUnless result Refusal.NoMemory }
 {
-    let mut out = String::new(alloc);
-    write_why(&mut out, as_data, stage, event)?;
-    Ok(out)
+    let mut out = Writer::new(alloc);
+    write_why(&mut out, as_data, stage, event);
+    out.finish()
 }
 
 /// Returns that the box holds another envelope than the one that the step takes.
@@ -72,16 +71,11 @@ fn why_held(alloc: Global, as_data: bool) -> Result<String, Refusal>
     ensures says { IfOk result (λ why. string_bytes why ≡ why_line as_data (other_held_text as_data)) }
     ensures refusal { IsOkUnless result Refusal.NoMemory }
 {
-    let mut out = String::new(alloc);
-    put(&mut out, as_data, "why ", "    because ")?;
-    put(
-        &mut out,
-        as_data,
-        "other-held",
-        "the box holds another envelope",
-    )?;
-    out.push_str("\n")?;
-    Ok(out)
+    let mut out = Writer::new(alloc);
+    out.put_one(as_data, "why ", "    because ");
+    out.put_one(as_data, "other-held", "the box holds another envelope");
+    out.put("\n");
+    out.finish()
 }
 
 /// Returns how the posted envelope differs from the wanted one, and then the wanted one. Requires that it differs like this. `current` is the number of
@@ -99,42 +93,32 @@ fn why_posted(
     ensures refusal { IsOkUnless result Refusal.NoMemory }
 {
     let shown = shown_of(alloc, wanted)?;
-    let mut out = String::new(alloc);
-    write_posted(
-        &mut out,
-        as_data,
-        current,
-        wanted,
-        posted,
-        how,
-        shown.as_str(),
-    )?;
-    Ok(out)
+    let mut out = Writer::new(alloc);
+    write_posted(&mut out, as_data, current, wanted, posted, how, &shown);
+    out.finish()
 }
 
 /// Writes how the posted envelope differs from the wanted one, and then `shown`, the text of the wanted one.
 fn write_posted(
-    out: &mut String,
+    out: &mut Writer,
     as_data: bool,
     current: Option<u64>,
     wanted: &Envelope,
     posted: &Envelope,
     how: &Difference,
-    shown: &str,
-) -> Result<(), Refusal>
+    shown: &String,
+)
     requires { IsDifference wanted.now posted.now how.now }
-    ensures text { OnOk result (string_bytes out.new ≡ string_bytes out.old
+    ensures { out.new ≡ out.old
         ++ (why_line as_data (difference_text as_data current wanted.now posted.now how.now)
-        ++ (one_of as_data (codes "wanted ") (codes "    it posts there: ") ++ (shown.now ++ codes "\n")))) }
-    ensures refusal { IsOkUnless result Refusal.NoMemory }
+        ++ (one_of as_data (codes "wanted ") (codes "    it posts there: ") ++ (string_bytes shown.now ++ codes "\n"))) }
 {
-    put(out, as_data, "why ", "    because ")?;
-    write_difference(out, as_data, current, wanted, posted, how)?;
-    out.push_str("\n")?;
-    put(out, as_data, "wanted ", "    it posts there: ")?;
-    out.push_str(shown)?;
-    out.push_str("\n")?;
-    Ok(())
+    out.put_one(as_data, "why ", "    because ");
+    write_difference(out, as_data, current, wanted, posted, how);
+    out.put("\n");
+    out.put_one(as_data, "wanted ", "    it posts there: ");
+    out.put_text(shown);
+    out.put("\n");
 }
 
 /// Returns which signature has a signer that is not an actor of the shape.
@@ -142,24 +126,19 @@ fn why_signed(alloc: Global, as_data: bool, forged: &Forged) -> Result<String, R
     ensures says { IfOk result (λ why. string_bytes why ≡ why_line as_data (outside_text as_data forged.now.signer forged.now.statement)) }
     ensures refusal { IsOkUnless result Refusal.NoMemory }
 {
-    let (signer, statement) = (forged.signer, forged.statement);
-    let mut out = String::new(alloc);
-    put(&mut out, as_data, "why ", "    because ")?;
+    let mut out = Writer::new(alloc);
+    out.put_one(as_data, "why ", "    because ");
     put_actor(
         &mut out,
         as_data,
         "signed-outside ",
         "it carries a signature of ",
-        signer,
-    )?;
-    put(
-        &mut out,
-        as_data,
-        " ",
-        ", who is no actor of this shape, on ",
-    )?;
-    writeln!(out, "{statement}")?;
-    Ok(out)
+        forged.signer,
+    );
+    out.put_one(as_data, " ", ", who is no actor of this shape, on ");
+    out.put_statement(&forged.statement);
+    out.put("\n");
+    out.finish()
 }
 
 /// Writes which client has more than one request in the list that begins a replica's slot.
@@ -167,15 +146,15 @@ fn why_twice(alloc: Global, as_data: bool, client: ClientId) -> Result<String, R
     ensures says { IfOk result (λ why. string_bytes why ≡ why_line as_data (twice_text as_data client)) }
     ensures refusal { IsOkUnless result Refusal.NoMemory }
 {
-    let mut out = String::new(alloc);
-    put(&mut out, as_data, "why ", "    because ")?;
+    let mut out = Writer::new(alloc);
+    out.put_one(as_data, "why ", "    because ");
     put_actor(
         &mut out,
         as_data,
         "client-twice ",
         "it begins its slot with more than one request of ",
         Actor::Client(client),
-    )?;
-    out.push_str("\n")?;
-    Ok(out)
+    );
+    out.put("\n");
+    out.finish()
 }

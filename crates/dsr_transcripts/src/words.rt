@@ -1,51 +1,80 @@
 //! What the lines of an explanation have in common.
 
-ghost use Rattle.std.specs.Prelude.{◌≡◌, ◌++◌, IfOk, OnOk, IsOkUnless, string_bytes};
+ghost use Rattle.std.specs.Prelude.{◌≡◌, ◌++◌, IfOk, IsOkUnless, string_bytes};
+ghost use Rattle.dsr_base.specs.Joined.{more_joined};
 ghost use Rattle.dsr_names.specs.Actor.{actor_text};
+ghost use Rattle.dsr_desk.specs.SignersText.{signers_text};
+ghost use Rattle.dsr_chain.specs.Chain.{signers_of};
+ghost use Rattle.dsr_script.specs.EnvelopeText.{envelope_text};
 ghost use Rattle.dsr_reasons.specs.Reason.{one_of};
 ghost use Rattle.dsr_transcripts.specs.Why.{IsShown, numbers_text};
 
+use dsr_chain::Chain;
 use dsr_envelope::Envelope;
 use dsr_names::{Actor, Refusal};
-use dsr_reasons::put;
+use dsr_reasons::Writer;
 use dsr_script::Draft;
 use std::alloc::Global;
 use std::fmt::Write;
 
 /// Writes the word or the beginning of a sentence, and the actor's name.
 pub(crate) fn put_actor(
-    out: &mut String,
+    out: &mut Writer,
     as_data: bool,
-    word: &str,
-    before: &str,
+    word: &'static str,
+    before: &'static str,
     actor: Actor,
-) -> Result<(), Refusal>
-    ensures text { OnOk result (string_bytes out.new ≡ string_bytes out.old ++ (one_of as_data word.now before.now ++ actor_text actor)) }
-    ensures refusal { IsOkUnless result Refusal.NoMemory }
+)
+    ensures { out.new ≡ out.old ++ (one_of as_data word.now before.now ++ actor_text actor) }
 {
-    put(out, as_data, word, before)?;
-    write!(out, "{actor}")?;
-    Ok(())
+    out.put_one(as_data, word, before);
+    out.put_name(actor);
 }
 
 /// Writes the word and two numbers, or a sentence with both.
 pub(crate) fn put_numbers(
-    out: &mut String,
+    out: &mut Writer,
     as_data: bool,
-    word: &str,
-    before: &str,
+    word: &'static str,
+    before: &'static str,
     number: u64,
-    between: &str,
+    between: &'static str,
     other: u64,
-) -> Result<(), Refusal>
-    ensures text { OnOk result (string_bytes out.new ≡ string_bytes out.old ++ numbers_text as_data word.now before.now number between.now other) }
-    ensures refusal { IsOkUnless result Refusal.NoMemory }
+)
+    ensures { out.new ≡ out.old ++ numbers_text as_data word.now before.now number between.now other }
 {
-    put(out, as_data, word, before)?;
-    write!(out, "{number}")?;
-    put(out, as_data, " ", between)?;
-    write!(out, "{other}")?;
-    Ok(())
+    out.put_one(as_data, word, before);
+    out.put_number(number);
+    out.put_one(as_data, " ", between);
+    out.put_number(other);
+}
+
+/// Writes who signed the chain.
+pub(crate) fn put_signers(out: &mut Writer, chain: &Chain)
+    ensures { out.new ≡ out.old ++ signers_text (signers_of chain.now.signatures) }
+{
+    let signers = chain.signers();
+    match signers.as_slice() {
+        [] => out.put("-"),
+        [first, others @ ..] => {
+            out.put_name(*first);
+            put_others(out, others)
+        }
+    }
+}
+
+/// Writes these signers, each after a plus sign.
+fn put_others(out: &mut Writer, signers: &[Actor])
+    ensures { out.new ≡ out.old ++ more_joined 43 actor_text signers.now }
+{
+    match signers {
+        [] => {}
+        [first, others @ ..] => {
+            out.put("+");
+            out.put_name(*first);
+            put_others(out, others)
+        }
+    }
 }
 
 /// Returns the envelope's text; a dash for an envelope beyond the limits, which has none.
@@ -53,12 +82,21 @@ pub(crate) fn shown_of(alloc: Global, envelope: &Envelope) -> Result<String, Ref
     ensures shown { IfOk result (λ shown. IsShown envelope.now (string_bytes shown)) }
     ensures refusal { IsOkUnless result Refusal.NoMemory }
 {
-    let mut out = String::new(alloc);
     if envelope.fits() {
         let draft = Draft::of(alloc, envelope)?;
-        write!(out, "{draft}")?;
-        return Ok(out);
+        return text_of(alloc, &draft);
     }
+    let mut out = String::new(alloc);
     out.push_str("-")?;
     Ok(out)
+}
+
+/// Returns the text of the envelope.
+pub(crate) fn text_of(alloc: Global, draft: &Draft) -> Result<String, Refusal>
+    ensures text { IfOk result (λ text. string_bytes text ≡ envelope_text draft.now) }
+    ensures refusal { IsOkUnless result Refusal.NoMemory }
+{
+    let mut text = String::new(alloc);
+    write!(text, "{draft}")?;
+    Ok(text)
 }

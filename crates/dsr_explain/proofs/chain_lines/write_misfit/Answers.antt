@@ -1,12 +1,11 @@
-use Rattle.std.proofs.Common.{◌≡◌, ◌≢◌, ◌++◌, ◌∷◌, [], ◌∙◌, OnOk, ap, subst, sym}
-use Rattle.std.specs.Prelude.{string_bytes}
+use Rattle.std.proofs.Common.{◌≢◌, ◌++◌, ◌∷◌, [], ◌∙◌, ap, sym}
 use Rattle.std.proofs.lemmas.Bool.{both_ways}
 use Rattle.dsr_explain.specs.Lines.{misfit_told}
 use Rattle.dsr_explain.proofs.MisfitLemmas.{fits_at, misfit_at, signers_more}
 use Rattle.dsr_explain.proofs.chain_lines.write_misfit.Goals as goal
 
-pub returns-then-not-same-clause-text : goal.returns-then-not-same-clause-text
-returns-then-not-same-clause-text c =
+pub returns-then-not-same : goal.returns-then-not-same
+returns-then-not-same c =
     let inv = c.loop-place.invariant in
     let chain = c.args.chain.now in
     let s = c.signature-signature.result in
@@ -15,8 +14,8 @@ returns-then-not-same-clause-text c =
     let whole =
     misfit_at chain.slot chain.value c.loop-place.before chain.signatures c.loop-place.place s link _ inv.0 c.signature-signature.ensures
     c.link_after-link.ensures apart inv.1 in
-    let text = ap (λ o. o ++ misfit_told s link) inv.2 ∙ ap (λ t. string_bytes c.args.out.now ++ t) (sym whole) in
-    subst (λ t. OnOk c.tell_misfit.result (string_bytes c.tell_misfit.new.out ≡ t)) text c.tell_misfit.ensures.text
+    let text = ap (λ o. o ++ misfit_told s link) inv.2 ∙ ap (λ t. c.args.out.now ++ t) (sym whole) in
+    c.tell_misfit.ensures ∙ text
 
 pub loop-place-preserved : goal.loop-place-preserved
 loop-place-preserved c =

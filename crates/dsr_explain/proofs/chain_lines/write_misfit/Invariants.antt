@@ -1,5 +1,4 @@
 use Rattle.std.proofs.Common.{◌≡◌, [], take, drop}
-use Rattle.std.specs.Prelude.{string_bytes}
 use Rattle.dsr_chain.specs.Chain.{signers_of}
 use Rattle.dsr_explain.specs.Lines.{misfit_text}
 use Rattle.dsr_explain.proofs.chain_lines.write_misfit.Given as goal
@@ -9,4 +8,4 @@ invariant-loop-place l =
     (l.before ≡ signers_of (take l.place l.chain.signatures))
     × (misfit_text l.chain.slot l.chain.value [] l.chain.signatures
     ≡ misfit_text l.chain.slot l.chain.value (signers_of (take l.place l.chain.signatures)) (drop l.place l.chain.signatures))
-    × (string_bytes l.out ≡ string_bytes l.initial.out)
+    × (l.out ≡ l.initial.out)

@@ -1,5 +1,4 @@
 use Rattle.std.proofs.Common.{◌≡◌, ◌++◌, ℕ, List}
-use Rattle.std.specs.Prelude.{string_bytes}
 use Rattle.dsr_run.specs.Step.{log_of}
 use Rattle.dsr_explain.specs.Waits.{AreBelow, IsWaitOfClient}
 use Rattle.dsr_explain.proofs.ending.write_waits_of_clients.Given as goal
@@ -8,4 +7,4 @@ use Rattle.dsr_explain.proofs.ending.write_waits_of_clients.Given as goal
 abbrev pub invariant-loop-number : goal.invariant-loop-number
 invariant-loop-number l =
     (waits : List ℕ) × AreBelow (IsWaitOfClient l.wanted l.stage.shape (log_of l.stage.run)) l.number waits
-    × (string_bytes l.out ≡ string_bytes l.initial.out ++ waits)
+    × (l.out ≡ l.initial.out ++ waits)

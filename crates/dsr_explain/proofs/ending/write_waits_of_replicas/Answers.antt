@@ -1,5 +1,4 @@
 use Rattle.std.proofs.Common.{◌≡◌, ◌++◌, ℕ, List, subst}
-use Rattle.std.specs.Prelude.{string_bytes}
 use Rattle.dsr_run.specs.Step.{log_of}
 use Rattle.dsr_explain.specs.Waits.{IsWaitOfReplica}
 use Rattle.dsr_explain.proofs.ToldLemmas.{below_more}
@@ -9,7 +8,7 @@ pub loop-number-preserved : goal.loop-number-preserved
 loop-number-preserved c =
     let stage = c.args.stage.now in
     below_more (IsWaitOfReplica c.args.wanted.now stage.shape (log_of stage.run)) c.loop-number.number
-    (string_bytes c.args.out.now) (string_bytes c.loop-number.out) (string_bytes c.write_wait_of_replica.new.out)
+    c.args.out.now c.loop-number.out c.write_wait_of_replica.new.out
     c.loop-number.invariant
     (subst (λ p. (text : List ℕ) × IsWaitOfReplica c.args.wanted.now stage.shape (log_of stage.run) p text
-    × (string_bytes c.write_wait_of_replica.new.out ≡ string_bytes c.loop-number.out ++ text)) c.of.ensures c.in_ok-write_wait_of_replica.ensures.told)
+    × (c.write_wait_of_replica.new.out ≡ c.loop-number.out ++ text)) c.of.ensures c.write_wait_of_replica.ensures)

@@ -1,5 +1,5 @@
 use Rattle.std.proofs.Common.{◌≡◌, ◌++◌, ◌∙◌, ℕ, List, ap, arith, refl, subst, sym}
-use Rattle.std.specs.Prelude.{IsTrue, OnErr, false, length, string_bytes}
+use Rattle.std.specs.Prelude.{IsTrue, OnErr, false, length}
 use Rattle.dsr_names.specs.Streams.{CanFailToTake, SentAll}
 use Rattle.dsr_names.specs.declared.refusal.Refusal.TheVariants.{NoMemory}
 use Rattle.dsr_explain.specs.Outlet.{HasGoneOut}
@@ -18,26 +18,26 @@ returns g c =
     let s2 = g.K.Sink.output c.pass_rest-told.new.sink in
     let begun = c.in-Ok.story in
     let mid = c.tell_events.new.self in
-    let last = c.end.new.self in
+    let rest = c.in-Ok-whole.rest.now in
     let told = c.in-Ok-tell_events.ensures.told in
     let end = c.in-Ok-end.ensures.told in
     let ends = end.0 ++ (end.1 ++ end.2) in
-    let first = string_bytes begun.out ++ told.0 in
+    let first = begun.out ++ told.0 in
     let total = first ++ ends in
     let parts = begun.outflow.in_parts in
     let tells = told_whole wanted begun.wanted mid.wanted play begun.stage.shape mid.stage.shape c.events.result.now mid.stage.run begun.stage.run
-    (string_bytes begun.out) first total
+    begun.out first total
     c.in-Ok.ensures.wanted c.in-Ok-tell_events.ensures.wanted (c.in-Ok.ensures.shape ∙ c.shape.ensures) c.in-Ok-tell_events.ensures.shape
     c.events.ensures.same c.in-Ok.ensures.empty (c.in-Ok.ensures.out ∙ ap (first_line wanted.data) c.shape.ensures)
     (told.0, told.1, refl) (end.0, end.1, end.2, end.3, end.4, refl) in
-    let gone = gone_on parts first (string_bytes mid.out) ends (string_bytes last.out) s0 s1 s1 told.2
-    (subst (λ t. HasGoneOut parts (string_bytes mid.out ++ ends) t s1 s1) (sym end.5) (none_gone parts (string_bytes mid.out ++ ends) s1)) in
+    let gone = gone_on parts first mid.out ends rest s0 s1 s1 told.2
+    (subst (λ t. HasGoneOut parts (mid.out ++ ends) t s1 s1) (sym (c.in-Ok-whole.ensures.whole ∙ end.5)) (none_gone parts (mid.out ++ ends) s1)) in
     let flow = ap (λ f. f.in_parts) c.in-Ok-end.ensures.outflow ∙ c.in-Ok-tell_events.ensures.parts in
-    let failed = subst (λ b. OnErr c.pass_rest-told.result (b ≡ false → CanFailToTake (length (string_bytes last.out)) s1)) flow c.pass_rest-told.ensures.failed in
+    let failed = subst (λ b. OnErr c.pass_rest-told.result (b ≡ false → CanFailToTake (length rest) s1)) flow c.pass_rest-told.ensures.failed in
     record {
-      told = on_ok c.pass_rest-told.result (SentAll (string_bytes last.out) s1 s2) ((text : List ℕ) × TellsPlay wanted play text × SentAll text s0 s2)
-          (λ sent. (total, tells, all_gone parts total (string_bytes last.out) s0 s1 s2 gone sent)) c.pass_rest-told.ensures.all;
-      refused = unsent c.pass_rest-told.result wanted play parts total (string_bytes last.out) s0 s1 s2
+      told = on_ok c.pass_rest-told.result (SentAll rest s1 s2) ((text : List ℕ) × TellsPlay wanted play text × SentAll text s0 s2)
+          (λ sent. (total, tells, all_gone parts total rest s0 s1 s2 gone sent)) c.pass_rest-told.ensures.all;
+      refused = unsent c.pass_rest-told.result wanted play parts total rest s0 s1 s2
           (λ yes. c.to.ensures.parts (subst (λ f. IsTrue f.in_parts) c.in-Ok.ensures.outflow yes))
           (λ none. ap (g.K.Sink.output) (c.in-Ok-tell_events.ensures.at_once none).1) tells gone
           c.pass_rest-told.ensures.refusal failed c.pass_rest-told.ensures.prefix;
@@ -62,11 +62,11 @@ returns-in-Err-clause-refused g c =
     left_broken wanted play s0 s1 c.in-Err.refusal begun.outflow.in_parts
     (λ yes. c.to.ensures.parts (subst (λ f. IsTrue f.in_parts) c.in-Ok.ensures.outflow yes))
     (λ none. (c.in-Err.ensures.at_once none).0)
-    (of_play wanted begun.wanted play begun.stage.shape begun.stage.run c.events.result.now (string_bytes begun.out) c.in-Err.refusal s0 s1
+    (of_play wanted begun.wanted play begun.stage.shape begun.stage.run c.events.result.now begun.out c.in-Err.refusal s0 s1
     c.in-Ok.ensures.wanted (c.in-Ok.ensures.shape ∙ c.shape.ensures) c.in-Ok.ensures.empty c.events.ensures.same
     (c.in-Ok.ensures.out ∙ ap (first_line wanted.data) c.shape.ensures) c.in-Err.ensures.broke_off)
 
--- memory ran out at the end
+-- memory ran out at the end, or while the events were written
 pub returns-in_default-end-clause-refused : goal.returns-in_default-end-clause-refused
 returns-in_default-end-clause-refused g c =
     let play = c.args.play in
@@ -75,6 +75,18 @@ returns-in_default-end-clause-refused g c =
     let s1 = g.K.Sink.output c.tell_events.new.sink in
     let begun = c.in-Ok.story in
     starved wanted play s0 s1
-    (of_play wanted begun.wanted play begun.stage.shape begun.stage.run c.events.result.now (string_bytes begun.out) NoMemory s0 s1
+    (of_play wanted begun.wanted play begun.stage.shape begun.stage.run c.events.result.now begun.out NoMemory s0 s1
+    c.in-Ok.ensures.wanted (c.in-Ok.ensures.shape ∙ c.shape.ensures) c.in-Ok.ensures.empty c.events.ensures.same
+    (c.in-Ok.ensures.out ∙ ap (first_line wanted.data) c.shape.ensures) c.in-Ok-tell_events.ensures.so_far)
+
+pub returns-in_default-whole-clause-refused : goal.returns-in_default-whole-clause-refused
+returns-in_default-whole-clause-refused g c =
+    let play = c.args.play in
+    let wanted = c.args.wanted.now in
+    let s0 = g.K.Sink.output c.args.sink.now in
+    let s1 = g.K.Sink.output c.tell_events.new.sink in
+    let begun = c.in-Ok.story in
+    starved wanted play s0 s1
+    (of_play wanted begun.wanted play begun.stage.shape begun.stage.run c.events.result.now begun.out NoMemory s0 s1
     c.in-Ok.ensures.wanted (c.in-Ok.ensures.shape ∙ c.shape.ensures) c.in-Ok.ensures.empty c.events.ensures.same
     (c.in-Ok.ensures.out ∙ ap (first_line wanted.data) c.shape.ensures) c.in-Ok-tell_events.ensures.so_far)

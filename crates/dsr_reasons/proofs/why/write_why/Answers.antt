@@ -1,16 +1,15 @@
 use Rattle.std.proofs.Common.{◌≡◌, ◌++◌, subst}
-use Rattle.std.specs.Prelude.{string_bytes}
 use Rattle.dsr_reasons.specs.Reason.{other_of, reason_line}
 use Rattle.dsr_reasons.proofs.why.write_why.Goals as goal
 
-pub returns-clause-told : goal.returns-clause-told
-returns-clause-told c =
+pub returns : goal.returns
+returns c =
     let cause = c.in-Some.cause in
-    let out = string_bytes c.args.out.now in
-    let new = string_bytes c.write_line.new.out in
+    let out = c.args.out.now in
+    let new = c.write_line.new.out in
     record {
       cause = cause;
       holds = c.in-Some.ensures.some;
       told = subst (λ a. new ≡ out ++ reason_line c.args.as_data a (other_of c.args.event.now) cause) c.actor_of.ensures
-          (subst (λ b. new ≡ out ++ reason_line c.args.as_data c.actor_of.result b cause) c.other_of.ensures c.in_ok-write_line.ensures.text);
+          (subst (λ b. new ≡ out ++ reason_line c.args.as_data c.actor_of.result b cause) c.other_of.ensures c.write_line.ensures);
     }

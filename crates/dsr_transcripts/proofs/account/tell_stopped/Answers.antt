@@ -1,9 +1,8 @@
-use Rattle.std.proofs.Common.{◌++◌, ◌∙◌, ap, sym, subst}
+use Rattle.std.proofs.Common.{refl, sym, subst}
 use Rattle.std.specs.Prelude.{string_bytes}
 use Rattle.dsr_run.specs.Step.{log_of}
 use Rattle.dsr_lines.specs.Line.{HoldsFault}
-use Rattle.dsr_transcripts.specs.Account.{TellsStep, first_line}
-use Rattle.dsr_transcripts.proofs.TextLemmas.{whole}
+use Rattle.dsr_transcripts.specs.Account.{TellsStep}
 use Rattle.dsr_transcripts.proofs.account.tell_stopped.Goals as goal
 
 pub tell_stop-requires : goal.tell_stop-requires
@@ -25,8 +24,6 @@ returns-clause-told c =
     let at = c.requires.fault in
     let rest = string_bytes c.in_ok-rest.rest in
     let found = c.step_at-step.ensures w.run at.later at.step at.parts at.counted in
-    let first = whole (string_bytes c.new-out.result) (string_bytes c.write_first.new.out) (first_line d c.shape.result) c.new-out.ensures.bytes
-    c.in_ok-write_first.ensures.text in
     record {
       first_bad = c.requires.line;
       before = w.run;
@@ -35,6 +32,5 @@ returns-clause-told c =
       rest = rest;
       tells = subst (λ step. TellsStep d r.shape (log_of w.run) line step fault rest) found
           (subst (λ s. TellsStep d s (log_of w.run) line c.step_at-step.result.now fault rest) c.requires.shape c.in_ok-rest.ensures.told);
-      told = c.in_ok-push_str.ensures.bytes ∙ (ap (λ l. l ++ c.as_str.result.now) (first ∙ ap (first_line d) c.shape.ensures)
-          ∙ ap (λ l. first_line d r.shape ++ l) c.as_str.ensures.value);
+      told = simp (c.in_ok-told.ensures.whole, c.put_text-2.ensures, c.put_text.ensures, c.new-out.ensures, c.in_ok-first.ensures.told, c.shape.ensures) refl;
     }

@@ -1,5 +1,5 @@
 use Rattle.std.proofs.Common.{◌≡◌, ◌++◌, ◌∙◌, ℕ, List, ap, refl, rules, subst}
-use Rattle.std.specs.Prelude.{OnOk, string_bytes}
+use Rattle.std.specs.Prelude.{OnOk}
 use Rattle.std.specs.declared.result.Result.TheVariants.{Ok}
 use Rattle.dsr_run.specs.Step.{log_of}
 use Rattle.dsr_notes.proofs.DoneLemmas.{may_be_done}
@@ -11,7 +11,7 @@ pub returns-in-Ok : goal.returns-in-Ok
 returns-in-Ok c =
     let s = c.args.self.now in
     record {
-      told = brief_told s.wanted c.args.number s.stage.shape c.step.new.self.run s.stage.run c.args.event.now c.in-Ok.field-0 (string_bytes s.out)
+      told = brief_told s.wanted c.args.number s.stage.shape c.step.new.self.run s.stage.run c.args.event.now c.in-Ok.field-0 s.out
           c.requires (may_be_done s.stage.shape (log_of s.stage.run) c.args.event.now (Ok c.in-Ok.field-0) c.in-Ok.ensures.refused c.in-Ok.ensures.forged.1)
           c.in-Ok.ensures.done;
       wanted = refl;
@@ -27,9 +27,9 @@ returns-in-Err c =
     let same = c.tell_refusal.ensures.stage ∙ stays in
     record {
       told = refused_told c.tell_refusal.result s.wanted c.args.number s.stage.shape new.stage.run s.stage.run c.args.event.now c.in-Err.refusal
-          (string_bytes s.out) (string_bytes new.out) (c.in-Err.ensures.last c.in-Err.refusal refl) (search rules) (ap (λ w. w.run) same)
+          s.out new.out (c.in-Err.ensures.last c.in-Err.refusal refl) (search rules) (ap (λ w. w.run) same)
           (subst (λ w. OnOk c.tell_refusal.result ((text : List ℕ) × TellsRefusal s.wanted c.args.number w.shape w.run c.args.event.now c.in-Err.refusal text
-          × (string_bytes new.out ≡ string_bytes s.out ++ text))) stays c.tell_refusal.ensures.told);
+          × (new.out ≡ s.out ++ text))) stays c.tell_refusal.ensures.told);
       wanted = c.tell_refusal.ensures.wanted;
       outflow = c.tell_refusal.ensures.outflow;
       shape = ap (λ w. w.shape) same;

@@ -1,6 +1,5 @@
 use Rattle.std.proofs.Common.{◌≡◌, ◌⊎◌, ◌++◌, ◌∙◌, ℕ, List, [], ap, arith, inl, inr, subst, sym}
-use Rattle.std.specs.Prelude.{string_bytes}
-use Rattle.dsr_names.specs.declared.refusal.Refusal.TheVariants.{WriteFailed}
+use Rattle.dsr_names.specs.declared.refusal.Refusal.TheVariants.{NoMemory, WriteFailed}
 use Rattle.dsr_explain.specs.Outlet.{HasGoneOut}
 use Rattle.dsr_explain.specs.Told.{HasBrokenOff, TellsEvent}
 use Rattle.dsr_explain.proofs.BreakLemmas.{one_more, prefix_some, still_some}
@@ -18,21 +17,21 @@ loop-place-preserved g c =
     let s2 = g.K.Sink.output c.pass_part.new.sink in
     let passed = c.in-Ok-pass_part.ensures in
     let one = subst (λ wanted. (text : List ℕ) × TellsEvent wanted c.loop-place.place start.stage.shape after.stage.run before.stage.run event text
-    × (string_bytes after.out ≡ string_bytes before.out ++ text)) kept.3
+    × (after.out ≡ before.out ++ text)) kept.3
     (subst (λ shape. (text : List ℕ) × TellsEvent before.wanted c.loop-place.place shape after.stage.run before.stage.run event text
-    × (string_bytes after.out ≡ string_bytes before.out ++ text)) kept.4 c.in-Ok-tell.ensures.told) in
+    × (after.out ≡ before.out ++ text)) kept.4 c.in-Ok-tell.ensures.told) in
     let parts = ap (λ flow. flow.in_parts) c.in-Ok-tell.ensures.outflow ∙ kept.5 in
-    let gone = subst (λ b. HasGoneOut b (string_bytes after.out) (string_bytes c.pass_part.new.text) s1 s2) parts passed.sent in
-    let whole : (s2 ≡ s1) ⊎ (string_bytes c.pass_part.new.text ≡ []) = elim passed.whole [
+    let gone = subst (λ b. HasGoneOut b after.out c.pass_part.new.text s1 s2) parts passed.sent in
+    let whole : (s2 ≡ s1) ⊎ (c.pass_part.new.text ≡ []) = elim passed.whole [
       | inl same ↦ inl (ap (g.K.Sink.output) same)
       | inr none ↦ inr none
     ] in (
       one_more start.wanted start.stage.shape after.stage.run before.stage.run start.stage.run c.args.events.now c.loop-place.place event start.outflow.in_parts
-          (string_bytes start.out) (string_bytes before.out) (string_bytes after.out) s0 s1 c.loop-place-test.true c.index-events-place.is kept.0 one
-          (string_bytes c.pass_part.new.text) s2 gone,
+          start.out before.out after.out s0 s1 c.loop-place-test.true c.index-events-place.is kept.0 one
+          c.pass_part.new.text s2 gone,
       still_some start.wanted start.stage.shape after.stage.run before.stage.run start.stage.run c.args.events.now c.loop-place.place event start.outflow.in_parts
-          (string_bytes start.out) (string_bytes before.out) (string_bytes after.out) s0 s1 c.loop-place-test.true c.index-events-place.is kept.0 one
-          (string_bytes c.pass_part.new.text) s2 gone whole kept.1,
+          start.out before.out after.out s0 s1 c.loop-place-test.true c.index-events-place.is kept.0 one
+          c.pass_part.new.text s2 gone whole kept.1,
       (λ none. (passed.at_once (parts ∙ none)).1 ∙ kept.2 none),
       c.in-Ok-tell.ensures.wanted ∙ kept.3,
       c.in-Ok-tell.ensures.shape ∙ kept.4,
@@ -51,15 +50,22 @@ returns-in-Err-clause-broke_off g c =
     let s1 = g.K.Sink.output c.loop-place.sink in
     let s2 = g.K.Sink.output c.pass_part.new.sink in
     let one = subst (λ wanted. (text : List ℕ) × TellsEvent wanted c.loop-place.place start.stage.shape after.stage.run before.stage.run event text
-    × (string_bytes after.out ≡ string_bytes before.out ++ text)) kept.3
+    × (after.out ≡ before.out ++ text)) kept.3
     (subst (λ shape. (text : List ℕ) × TellsEvent before.wanted c.loop-place.place shape after.stage.run before.stage.run event text
-    × (string_bytes after.out ≡ string_bytes before.out ++ text)) kept.4 c.in-Ok-tell.ensures.told) in
+    × (after.out ≡ before.out ++ text)) kept.4 c.in-Ok-tell.ensures.told) in
     let first = c.args.self.now in
-    subst (λ refusal. HasBrokenOff first.wanted first.stage.shape first.stage.run c.args.events.now (string_bytes first.out) refusal s0 s2)
-    (sym c.in-Err.ensures.refusal)
-    (subst (λ w. HasBrokenOff w first.stage.shape first.stage.run c.args.events.now (string_bytes first.out) WriteFailed s0 s2) c.make_room.ensures.wanted
-    (subst (λ st. HasBrokenOff start.wanted st.shape st.run c.args.events.now (string_bytes first.out) WriteFailed s0 s2) c.make_room.ensures.stage
+    let kept_so_far = subst (λ w. HasBrokenOff w first.stage.shape first.stage.run c.args.events.now first.out NoMemory s0 s1) c.make_room.ensures.wanted
+    (subst (λ st. HasBrokenOff start.wanted st.shape st.run c.args.events.now first.out NoMemory s0 s1) c.make_room.ensures.stage
+    (subst (λ o. HasBrokenOff start.wanted start.stage.shape start.stage.run c.args.events.now o NoMemory s0 s1) c.make_room.ensures.same kept.1)) in
+    let unwritten = subst (λ w. HasBrokenOff w first.stage.shape first.stage.run c.args.events.now first.out WriteFailed s0 s2) c.make_room.ensures.wanted
+    (subst (λ st. HasBrokenOff start.wanted st.shape st.run c.args.events.now first.out WriteFailed s0 s2) c.make_room.ensures.stage
     (subst (λ o. HasBrokenOff start.wanted start.stage.shape start.stage.run c.args.events.now o WriteFailed s0 s2) c.make_room.ensures.same
     (prefix_some start.wanted start.stage.shape after.stage.run before.stage.run start.stage.run c.args.events.now c.loop-place.place event start.outflow.in_parts
-    (string_bytes start.out) (string_bytes before.out) (string_bytes after.out) s0 s1 c.loop-place-test.true c.index-events-place.is kept.0 one s2
-    c.in-Err.ensures.prefix))))
+    start.out before.out after.out s0 s1 c.loop-place-test.true c.index-events-place.is kept.0 one s2
+    c.in-Err.ensures.prefix))) in
+    elim c.in-Err.ensures.refusal [
+      | inl starved ↦ subst (λ refusal. HasBrokenOff first.wanted first.stage.shape first.stage.run c.args.events.now first.out refusal s0 s2) (sym starved.0)
+          (subst (λ s. HasBrokenOff first.wanted first.stage.shape first.stage.run c.args.events.now first.out NoMemory s0 s)
+          (sym (ap (g.K.Sink.output) starved.1)) kept_so_far)
+      | inr failed ↦ subst (λ refusal. HasBrokenOff first.wanted first.stage.shape first.stage.run c.args.events.now first.out refusal s0 s2) (sym failed) unwritten
+    ]

@@ -1,8 +1,7 @@
 use Rattle.std.proofs.Common.{◌≡◌, ◌++◌, ◌∙◌, ℕ, List, ap, refl, rules, subst, sym}
-use Rattle.std.specs.Prelude.{◌≢◌, OnOk, string_bytes}
+use Rattle.std.specs.Prelude.{◌≢◌, OnOk}
 use Rattle.dsr_names.specs.declared.refusal.Refusal.TheVariants.{NoMemory}
 use Rattle.dsr_run.specs.Run.{IsRun}
-use Rattle.dsr_run.specs.Step.{log_of}
 use Rattle.dsr_explain.specs.Letters.{handled}
 use Rattle.dsr_explain.specs.Told.{TellsRefusal, last_envelope}
 use Rattle.dsr_explain.proofs.LetterLemmas.{letter_is}
@@ -29,9 +28,9 @@ returns-in-Err c =
     let same = c.tell_refusal.ensures.stage ∙ stays in
     record {
       told = refused_told c.tell_refusal.result s.wanted c.args.number s.stage.shape new.stage.run s.stage.run c.args.event.now c.in-Err.refusal
-          (string_bytes s.out) (string_bytes new.out) refused.0 fed (ap (λ w. w.run) same)
+          s.out new.out refused.0 fed (ap (λ w. w.run) same)
           (subst (λ w. OnOk c.tell_refusal.result ((text : List ℕ) × TellsRefusal s.wanted c.args.number w.shape w.run c.args.event.now c.in-Err.refusal text
-          × (string_bytes new.out ≡ string_bytes s.out ++ text))) stays c.tell_refusal.ensures.told);
+          × (new.out ≡ s.out ++ text))) stays c.tell_refusal.ensures.told);
       wanted = c.tell_refusal.ensures.wanted;
       outflow = c.tell_refusal.ensures.outflow;
       shape = ap (λ w. w.shape) same;

@@ -1,0 +1,2 @@
+-- How a writer represents its text. No public contract cites this: it serves `impl Model`.
+pub mod WriterFields

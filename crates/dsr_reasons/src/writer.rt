@@ -1,0 +1,235 @@
+//! A text that is written piece by piece.
+
+ghost use Rattle.std.specs.Prelude.{◌≡◌, ◌<◌, ◌+◌, ◌∷◌, ◌++◌, [], IfOk, IsOkUnless, string_bytes};
+ghost use Rattle.std.specs.Fmt.{decimal};
+ghost use Rattle.dsr_names.specs.Actor.{actor_text};
+ghost use Rattle.dsr_request.specs.RequestText.{request_token};
+ghost use Rattle.dsr_desk.specs.StatementText.{statement_text};
+ghost use Rattle.dsr_reasons.specs.Reason.{one_of};
+ghost use Rattle.dsr_reasons.specs.Digits.{last_two};
+
+use dsr_desk::Statement;
+use dsr_names::{Actor, Refusal};
+use dsr_request::Request;
+use http_server::Log;
+use itoa::Buffer;
+use std::alloc::Global;
+use std::fmt::Write;
+use std::marker::Model;
+
+/// A text that is written piece by piece. If memory runs out, the writer keeps that in itself: its user asks once for the whole text, and not at each
+/// piece whether it was put.
+///
+/// Contracts see it as all that was put, with what there was no memory for.
+#[derive(Drop)]
+pub struct Writer {
+    text: String,
+    /// Whether memory ran out: then the text is not all that was put.
+    is_broken: bool,
+    /// All that was put, as proofs read it; it has no bytes.
+    pieces: Log<Piece, String>,
+}
+
+impl Model for Writer {
+    ghost use Rattle.std.specs.Prelude.{List, ℕ};
+    ghost use Rattle.dsr_reasons.specs.Support.WriterFields.{put_in, IsWhole};
+
+    ghost Value = { List ℕ };
+
+    ghost view = { put_in };
+
+    ghost invariant = { IsWhole };
+}
+
+impl Writer {
+    /// Begins an empty text.
+    pub fn new(alloc: Global) -> Writer
+        ensures { result ≡ [] }
+    {
+        Writer {
+            text: String::new(alloc),
+            is_broken: false,
+            pieces: Log::new(),
+        }
+    }
+
+    /// Reserves room for this many bytes more. If memory is refused here, the text still grows as needed.
+    pub fn reserve(&mut self, bytes: usize)
+        ensures { self.new ≡ self.old }
+    {
+        let _ = self.text.reserve(bytes);
+    }
+
+    /// Appends the piece.
+    pub fn put(&mut self, piece: &'static str)
+        ensures { self.new ≡ self.old ++ piece.now }
+    {
+        let is_put = self.text.push_str(piece).is_ok();
+        self.is_broken = self.is_broken || !is_put;
+        self.pieces = self.pieces.and(&Piece::Text(piece), &self.text);
+    }
+
+    /// Appends the word if `as_data`, otherwise the sentence.
+    pub fn put_one(&mut self, as_data: bool, word: &'static str, sentence: &'static str)
+        ensures { self.new ≡ self.old ++ one_of as_data word.now sentence.now }
+    {
+        if as_data {
+            self.put(word);
+        } else {
+            self.put(sentence);
+        }
+    }
+
+    /// Appends the actor's name.
+    pub fn put_name(&mut self, actor: Actor)
+        ensures { self.new ≡ self.old ++ actor_text actor }
+    {
+        match actor {
+            Actor::Replica(replica) => self.put_lettered('r', replica.number()),
+            Actor::Client(client) => self.put_lettered('c', client.number()),
+        }
+    }
+
+    /// Appends the number.
+    pub fn put_number(&mut self, number: u64)
+        ensures { self.new ≡ self.old ++ decimal number }
+    {
+        if number < 100 {
+            self.put_short(number);
+        } else {
+            self.put_long(number);
+        }
+    }
+
+    /// Appends the text.
+    pub fn put_text(&mut self, text: &String)
+        ensures { self.new ≡ self.old ++ string_bytes text.now }
+    {
+        let is_put = self.text.push_str(text.as_str()).is_ok();
+        self.is_broken = self.is_broken || !is_put;
+        self.pieces = self.pieces.and(&Piece::Shown, text);
+    }
+
+    /// Appends the request.
+    pub fn put_request(&mut self, request: &Request)
+        ensures { self.new ≡ self.old ++ request_token request.now }
+    {
+        let is_put = write!(self.text, "{request}").is_ok();
+        self.is_broken = self.is_broken || !is_put;
+        self.pieces = self.pieces.and(&Piece::Request(*request), &self.text);
+    }
+
+    /// Appends the statement.
+    pub fn put_statement(&mut self, statement: &Statement)
+        ensures { self.new ≡ self.old ++ statement_text statement.now }
+    {
+        let is_put = write!(self.text, "{statement}").is_ok();
+        self.is_broken = self.is_broken || !is_put;
+        self.pieces = self.pieces.and(&Piece::Statement(*statement), &self.text);
+    }
+
+    /// Appends the letter and the number. Requires a letter of ASCII, and a number below 100.
+    fn put_lettered(&mut self, letter: char, number: u8)
+        requires { (letter < 128) × (number < 100) }
+        ensures { self.new ≡ self.old ++ (letter ∷ decimal number) }
+    {
+        self.put_char(letter);
+        self.put_short(number as u64);
+    }
+
+    /// Appends the number.
+    fn put_long(&mut self, number: u64)
+        ensures { self.new ≡ self.old ++ decimal number }
+    {
+        let is_put = self.text.push_str(Buffer::new().format(number)).is_ok();
+        self.is_broken = self.is_broken || !is_put;
+        self.pieces = self.pieces.and(&Piece::Number(number), &self.text);
+    }
+
+    /// Appends the number, which is below 100: `put_number` takes several times as long for a greater one.
+    fn put_short(&mut self, number: u64)
+        requires { number < 100 }
+        ensures { self.new ≡ self.old ++ decimal number }
+    {
+        if number < 10 {
+            self.put_digit(number);
+        } else {
+            self.put_two_digits(number);
+        }
+    }
+
+    /// Appends the two last digits of the number.
+    pub fn put_two_digits(&mut self, number: u64)
+        ensures { self.new ≡ self.old ++ last_two number }
+    {
+        self.put_digit(number / 10 % 10);
+        self.put_digit(number % 10);
+    }
+
+    /// Appends the digit.
+    fn put_digit(&mut self, digit: u64)
+        requires { digit < 10 }
+        ensures { self.new ≡ self.old ++ ((48 + digit) ∷ []) }
+    {
+        self.put_char((b'0' + digit as u8) as char);
+    }
+
+    /// Appends the character, which is one of ASCII.
+    fn put_char(&mut self, character: char)
+        requires { character < 128 }
+        ensures { self.new ≡ self.old ++ (character ∷ []) }
+    {
+        let is_put = self.text.push(character).is_ok();
+        self.is_broken = self.is_broken || !is_put;
+        self.pieces = self.pieces.and(&Piece::Char(character), &self.text);
+    }
+
+    /// Forgets all that was put, but not that memory ran out.
+    pub fn clear(&mut self)
+        ensures { self.new ≡ [] }
+    {
+        self.text.clear();
+        self.pieces = Log::new();
+    }
+
+    /// Returns the whole text. `NoMemory` if memory ran out while it was written.
+    pub fn whole(&self) -> Result<&str, Refusal>
+        ensures whole { IfOk result (λ text. text.now ≡ self.now) }
+        ensures refusal { IsOkUnless result Refusal.NoMemory }
+    {
+        if self.is_broken {
+            Err(Refusal::NoMemory)
+        } else {
+            Ok(self.text.as_str())
+        }
+    }
+
+    /// Ends the text, and returns it. `NoMemory` if memory ran out while it was written.
+    pub fn finish(self) -> Result<String, Refusal>
+        ensures whole { IfOk result (λ text. string_bytes text ≡ self) }
+        ensures refusal { IsOkUnless result Refusal.NoMemory }
+    {
+        if self.is_broken {
+            Err(Refusal::NoMemory)
+        } else {
+            Ok(self.text)
+        }
+    }
+
+    /// Tells whether nothing was written.
+    pub fn is_empty(&self) -> bool {
+        self.text.is_empty()
+    }
+}
+
+/// A piece that was put.
+#[derive(Clone, Copy, Debug)]
+pub(crate) enum Piece {
+    Text(&'static str),
+    Char(char),
+    Number(u64),
+    Request(Request),
+    Statement(Statement),
+    /// The text that is noted with it.
+    Shown,
+}
