@@ -14,7 +14,7 @@ use Rattle.dsr_explain.specs.declared.heads.Deed.{Deed}
 abbrev pub text_before : Bool → ℕ → List ℕ
 text_before is_data line = one_of is_data (codes "event ") (codes "line " ++ (decimal line ++ codes ", event "))
 
--- the digits of a number before its last two, by how many hundreds it has; empty if it has none
+-- the digits of a number before its last two, given its hundreds; empty if the number is below 100
 abbrev pub hundreds_text : ℕ → List ℕ
 hundreds_text hundreds = if hundreds == 0 then [] else decimal hundreds
 
@@ -22,7 +22,7 @@ hundreds_text hundreds = if hundreds == 0 then [] else decimal hundreds
 abbrev pub last_text : ℕ → ℕ → List ℕ
 last_text hundreds number = if hundreds == 0 then decimal number else last_two number
 
--- how the lines of events with so many hundreds begin
+-- the beginning of the lines of all events whose numbers have these hundreds
 abbrev pub start_text : Bool → ℕ → ℕ → List ℕ
 start_text is_data line hundreds = text_before is_data line ++ hundreds_text hundreds
 

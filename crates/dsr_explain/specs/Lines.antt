@@ -148,7 +148,7 @@ chain_words shape chain shown slot fate = codes "    chain of slot " ++ (decimal
 abbrev pub chain_line : Bool → Shape → Actor → Option Chain → List ℕ → ℕ → ChainFate → List ℕ
 chain_line is_data shape at chain shown slot fate = if is_data then chain_data at shown slot fate else chain_words shape chain shown slot fate
 
--- the same, if the chain is not new in this round of its slot: in words all of the line, and as data what comes after the actor
+-- the end of the line of a chain whose content is not new in this round of its slot: the whole line in words, and in data what follows the actor
 abbrev pub not_new_end : Bool → List ℕ → ℕ → ℕ → List ℕ
 not_new_end is_data shown slot round =
     if is_data

@@ -18,16 +18,16 @@ use std::alloc::Global;
 /// Initial buffer size in bytes; most texts fit.
 const ROOM: usize = 120;
 
-/// The text that describes a chain, and the end of the chain's line if it is not new: of those that take it most have kept its content before.
+/// The text that describes a chain, and the end of its line if its content is not new: most actors that take a chain have already kept its content.
 #[derive(Drop)]
 pub(crate) struct ChainText {
     as_data: bool,
     /// What describes the chain, which does not depend on its fate.
     pub(crate) shown: String,
-    /// The slot, and the round of it in which a proper chain of so many signatures is read.
+    /// The chain's slot, and the slot's round in which a proper chain with as many signatures is read.
     slot: u64,
     round: u8,
-    /// The end of its line there if it is not new.
+    /// The end of its line in that round, if its content is not new.
     not_new: String,
     ghost is: { string_bytes not_new ≡ not_new_end as_data (string_bytes shown) slot round },
 }

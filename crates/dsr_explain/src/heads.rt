@@ -16,7 +16,7 @@ use std::alloc::Global;
 /// Initial buffer size in bytes; most texts fit.
 const ROOM: usize = 48;
 
-/// What the lines of several events may share: how they are told, the line of the play that represents the events, and who does what.
+/// What several events may share: whether they are written as data, the line of the play that represents them, the actor, and what it does.
 #[derive(Clone, Copy, PartialEq, Eq)]
 pub struct Deed {
     pub(crate) as_data: bool,
@@ -26,7 +26,7 @@ pub struct Deed {
 }
 
 impl Deed {
-    /// Returns what the event, which this line of the play represents, may have in common with others.
+    /// Returns what the event, which this line of the play represents, may share with others.
     fn of(as_data: bool, line: u64, event: &Event) -> Deed
         ensures as_data { result.as_data ≡ as_data }
         ensures line { result.line ≡ line }

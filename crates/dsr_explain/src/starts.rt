@@ -11,7 +11,7 @@ use std::alloc::Global;
 /// Initial buffer size in bytes; most texts fit.
 const ROOM: usize = 48;
 
-/// The text with which the lines of some events begin: those of one line of the play whose numbers have as many hundreds.
+/// The beginning of the lines of all events that one line of the play represents and whose numbers have the same hundreds.
 #[derive(Drop)]
 pub(crate) struct Start {
     as_data: bool,
@@ -43,7 +43,7 @@ impl Start {
         })
     }
 
-    /// Writes the text, and the rest of an event's number that has so many hundreds.
+    /// Writes the text, and then the digits that follow the hundreds in the event's number.
     fn write(&self, out: &mut Writer, number: u64)
         ensures { out.new ≡ out.old ++ (start_text self.now.as_data self.now.line self.now.hundreds ++ last_text self.now.hundreds number) }
     {
@@ -117,7 +117,7 @@ fn write_before(out: &mut Writer, as_data: bool, line: u64)
     }
 }
 
-/// Writes so many hundreds, as the beginning of a number; nothing for none.
+/// Writes the digits of `hundreds`, which begin a number; writes nothing if it is 0.
 fn put_hundreds(out: &mut Writer, hundreds: u64)
     ensures { out.new ≡ out.old ++ hundreds_text hundreds }
 {
@@ -126,7 +126,7 @@ fn put_hundreds(out: &mut Writer, hundreds: u64)
     }
 }
 
-/// Writes what comes after the hundreds in the number, which has so many.
+/// Writes the digits of the number that follow its hundreds, which are `hundreds`.
 fn put_last(out: &mut Writer, hundreds: u64, number: u64)
     ensures { out.new ≡ out.old ++ last_text hundreds number }
 {

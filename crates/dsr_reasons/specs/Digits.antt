@@ -1,4 +1,4 @@
--- Numbers by their last digits; no public contract of another crate needs this (this project).
+-- The last digits of a number (this project).
 use Rattle.std.specs.Prelude.{◌+◌, ◌/◌, ◌%◌, ◌∷◌, ℕ, List, []}
 
 -- the last two digits of a number

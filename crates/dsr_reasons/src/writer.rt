@@ -17,10 +17,10 @@ use std::alloc::Global;
 use std::fmt::Write;
 use std::marker::Model;
 
-/// A text that is written piece by piece. If memory runs out, the writer keeps that in itself: its user asks once for the whole text, and not at each
-/// piece whether it was put.
+/// A text that is written piece by piece. If memory runs out, the writer remembers it: its user checks once, when it asks for the whole text, and not
+/// after each piece.
 ///
-/// Contracts see it as all that was put, with what there was no memory for.
+/// Contracts see a writer as all pieces that were put, including those for which memory was refused.
 #[derive(Drop)]
 pub struct Writer {
     text: String,
@@ -184,7 +184,7 @@ impl Writer {
         self.pieces = self.pieces.and(&Piece::Char(character), &self.text);
     }
 
-    /// Forgets all that was put, but not that memory ran out.
+    /// Forgets all pieces, but not that memory ran out.
     pub fn clear(&mut self)
         ensures { self.new ≡ [] }
     {
@@ -230,6 +230,6 @@ pub(crate) enum Piece {
     Number(u64),
     Request(Request),
     Statement(Statement),
-    /// The text that is noted with it.
+    /// The text beside it in the list.
     Shown,
 }
