@@ -271,7 +271,7 @@ pub enum Task {
     },
     /// Check the transcript on standard input, and report the run's outcome.
     Check,
-    /// Explain the outcome of the play on standard input.
+    /// Explain the play or the transcript on standard input.
     Explain(Narrowing),
 }
 

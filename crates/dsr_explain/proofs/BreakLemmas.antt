@@ -24,6 +24,15 @@ some_of wanted shape run earlier events i told each =
 
 -- ---- one event more
 
+-- the text about an event, for the filter and the shape with which the events began
+pub for_start : (wanted filter : Wanted) (shape other : Shape) (number : ℕ) (later earlier : List Step) (event : Event) (out grown : List ℕ)
+    → filter ≡ wanted → other ≡ shape
+    → ((text : List ℕ) × TellsEvent filter number other later earlier event text × (grown ≡ out ++ text))
+    → ((text : List ℕ) × TellsEvent wanted number shape later earlier event text × (grown ≡ out ++ text))
+for_start wanted filter shape other number later earlier event out grown same_filter same_shape told =
+    subst (λ w. (text : List ℕ) × TellsEvent w number shape later earlier event text × (grown ≡ out ++ text)) same_filter
+    (subst (λ s. (text : List ℕ) × TellsEvent filter number s later earlier event text × (grown ≡ out ++ text)) same_shape told)
+
 module _ (wanted : Wanted) (shape : Shape) (later mid earlier : List Step) (events : List Event) (i : ℕ) (event : Event) (in_parts : Bool)
     (start out grown : List ℕ) (s0 s1 : Output) (inside : i < length events) (is : event ≡ get_or events i event)
     (before : (told : List ℕ) × TellsEvents wanted 0 shape mid earlier (take i events) told × HasGoneOut in_parts (start ++ told) out s0 s1)

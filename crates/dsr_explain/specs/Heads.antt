@@ -2,6 +2,7 @@
 use Rattle.std.specs.Prelude.{◌==◌, ◌++◌, ℕ, Bool, true, false, List, [], codes, if◌then◌else◌}
 use Rattle.std.specs.Fmt.{decimal}
 use Rattle.dsr_names.specs.Actor.{actor_text}
+use Rattle.dsr_names.specs.declared.actor.Actor.{Actor}
 use Rattle.dsr_play.specs.declared.event.Event.{Event}
 use Rattle.dsr_reasons.specs.Digits.{last_two}
 use Rattle.dsr_reasons.specs.Reason.{one_of, other_of}
@@ -34,6 +35,14 @@ text_after deed =
     one_of deed.as_data
     (codes " " ++ (decimal deed.line ++ (codes " " ++ (verb_text true deed.verb ++ (codes " " ++ (actor_text deed.actor ++ codes " "))))))
     (codes ": " ++ (actor_text deed.actor ++ verb_text false deed.verb))
+
+-- the name of whom an event concerns that was done, and the word that tells that it was done; words need no such word
+abbrev pub done_name : Bool → Actor → List ℕ
+done_name is_data other = actor_text other ++ one_of is_data (codes " done") []
+
+-- the beginning of the data about a chain that this actor took
+abbrev pub chain_name : Actor → List ℕ
+chain_name at = codes "chain " ++ actor_text at
 
 -- the line of an event of this deed, which was done, after its number; `shown` is the envelope
 abbrev pub text_from : Deed → Event → List ℕ → List ℕ

@@ -4,23 +4,22 @@ ghost use Rattle.std.specs.Prelude.{◌≡◌, ◌++◌, [], codes, false, true,
 ghost use Rattle.std.specs.Option.{option_map};
 ghost use Rattle.dsr_names.specs.Actor.{actor_text};
 ghost use Rattle.dsr_chain.specs.Chain.{link_after};
-ghost use Rattle.dsr_reasons.specs.Reason.{one_of};
 ghost use Rattle.dsr_explain.specs.Lines.{chain_line, chain_data, chain_data_end, chain_words, or_empty, chain_word, chain_end, read_end, round_of, fate_content, fate_detail, fate_text, fault_detail, fault_text, misfit_text, misfit_told, shown_data, shown_words};
 
 use crate::chain_texts::{ChainText, end_if_not_new, shown_in};
-use crate::pieces::{put_content, put_signers};
-use crate::requests::RequestTexts;
+use crate::pieces::put_content;
+use crate::tokens::{Tokens, put_chain};
 use dsr_chain::{Chain, ChainFault};
 use dsr_desk::{Signature, Signers, Statement};
 use dsr_names::{Actor, Shape};
 use dsr_notes::ChainFate;
-use dsr_reasons::Writer;
+use dsr_reasons::{Writer, one_of};
 use dsr_slot::Fate;
 
 /// Writes what becomes of a chain of this slot, which `text` describes. In words its content and the details of its fault come from the chain itself.
 pub(crate) fn write_chain(
     out: &mut Writer,
-    requests: &mut RequestTexts,
+    tokens: &mut Tokens,
     as_data: bool,
     shape: &Shape,
     at: Actor,
@@ -33,36 +32,35 @@ pub(crate) fn write_chain(
         ++ chain_line as_data shape.now at (option_map (λ c. c.now) chain.entry) (or_empty (option_map (λ t. string_bytes t.now.shown) text.entry)) slot fate.now }
 {
     if let Some(end) = end_if_not_new(text, as_data, slot, fate) {
-        return write_not_new(out, as_data, at, end);
+        return write_not_new(out, tokens, as_data, at, end);
     }
     let shown = shown_in(text);
     if as_data {
         write_data(out, at, shown, slot, fate)
     } else {
-        write_words(out, requests, shape, chain, shown, slot, fate)
+        write_words(out, tokens, shape, chain, shown, slot, fate)
     }
 }
 
 /// Writes the line of a chain that is not new, which ends so; words are all in this end.
-fn write_not_new(out: &mut Writer, as_data: bool, at: Actor, end: &String)
+fn write_not_new(out: &mut Writer, tokens: &Tokens, as_data: bool, at: Actor, end: &String)
     ensures { out.new ≡ out.old
         ++ (if as_data then codes "chain " ++ (actor_text at ++ string_bytes end.now) else string_bytes end.now) }
 {
     if as_data {
-        out.put("chain ");
-        out.put_name(at);
+        tokens.put_chain(out, at);
     }
     out.put_text(end);
 }
 
 /// Writes a text that describes a chain, as data: its signers and its content.
-pub(crate) fn write_shown_data(out: &mut Writer, requests: &mut RequestTexts, chain: &Chain)
+pub(crate) fn write_shown_data(out: &mut Writer, tokens: &mut Tokens, chain: &Chain)
     ensures { out.new ≡ out.old ++ shown_data chain.now }
 {
     out.put(" ");
-    put_signers(out, chain);
+    out.put_signers(chain.signers().as_slice());
     out.put(" ");
-    put_content(out, requests, chain);
+    put_content(out, tokens, chain);
     out.put(" ");
 }
 
@@ -71,7 +69,7 @@ pub(crate) fn write_shown_words(out: &mut Writer, chain: &Chain)
     ensures { out.new ≡ out.old ++ shown_words chain.now }
 {
     out.put(", signed by ");
-    put_signers(out, chain)
+    out.put_signers(chain.signers().as_slice());
 }
 
 /// Writes what describes a chain, if there is a text that does.
@@ -88,8 +86,7 @@ fn put_shown(out: &mut Writer, shown: Option<&String>)
 fn write_data(out: &mut Writer, at: Actor, shown: Option<&String>, slot: u64, fate: &ChainFate)
     ensures { out.new ≡ out.old ++ chain_data at (or_empty (option_map (λ s. string_bytes s.now) shown.entry)) slot fate.now }
 {
-    out.put("chain ");
-    out.put_name(at);
+    put_chain(out, at);
     write_data_end(out, shown, slot, fate)
 }
 
@@ -129,7 +126,7 @@ fn write_word(out: &mut Writer, fate: &ChainFate)
 /// Writes what becomes of a chain, in words.
 pub(crate) fn write_words(
     out: &mut Writer,
-    requests: &mut RequestTexts,
+    tokens: &mut Tokens,
     shape: &Shape,
     chain: Option<&Chain>,
     shown: Option<&String>,
@@ -142,14 +139,14 @@ pub(crate) fn write_words(
     out.put("    chain of slot ");
     out.put_number(slot);
     put_shown(out, shown);
-    write_end(out, requests, shape, chain, fate);
+    write_end(out, tokens, shape, chain, fate);
     out.put("\n");
 }
 
 /// Writes the end of a chain's line of words.
 fn write_end(
     out: &mut Writer,
-    requests: &mut RequestTexts,
+    tokens: &mut Tokens,
     shape: &Shape,
     chain: Option<&Chain>,
     fate: &ChainFate,
@@ -162,7 +159,7 @@ fn write_end(
             out.put(": dropped, as the slot is not in flight");
         }
         ChainFate::Read { round, fate } => {
-            write_read_end(out, requests, shape, chain, *round, fate)
+            write_read_end(out, tokens, shape, chain, *round, fate)
         }
     }
 }
@@ -170,7 +167,7 @@ fn write_end(
 /// Writes what becomes of a chain that is read in this round of its slot, in words.
 fn write_read_end(
     out: &mut Writer,
-    requests: &mut RequestTexts,
+    tokens: &mut Tokens,
     shape: &Shape,
     chain: Option<&Chain>,
     round: u8,
@@ -179,7 +176,7 @@ fn write_read_end(
     ensures { out.new ≡ out.old
         ++ read_end shape.now (option_map (λ c. c.now) chain.entry) round fate.now }
 {
-    write_fate_content(out, requests, chain, fate);
+    write_fate_content(out, tokens, chain, fate);
     out.put(", in its round ");
     out.put_number(round as u64);
     out.put(": ");
@@ -188,12 +185,7 @@ fn write_read_end(
 }
 
 /// Writes the content of a chain with this fate. Only the text of the envelope shows a content that is kept already.
-fn write_fate_content(
-    out: &mut Writer,
-    requests: &mut RequestTexts,
-    chain: Option<&Chain>,
-    fate: &Fate,
-)
+fn write_fate_content(out: &mut Writer, tokens: &mut Tokens, chain: Option<&Chain>, fate: &Fate)
     ensures { out.new ≡ out.old ++ fate_content (option_map (λ c. c.now) chain.entry) fate.now }
 {
     let Some(chain) = chain else {
@@ -203,7 +195,7 @@ fn write_fate_content(
         Fate::NotNew => {}
         Fate::First | Fate::Second | Fate::OneTooMany | Fate::Improper(_) => {
             out.put(", for ");
-            put_content(out, requests, chain)
+            put_content(out, tokens, chain)
         }
     }
 }
@@ -274,13 +266,6 @@ fn fault_text(as_data: bool, fault: &ChainFault) -> &'static str
             "not proper (bad-request): a request is not signed by its client, a client of the shape",
         ),
     }
-}
-
-/// Returns the word if `as_data`, otherwise the sentence.
-fn one_of(as_data: bool, word: &'static str, sentence: &'static str) -> &'static str
-    ensures { result.now ≡ one_of as_data word.now sentence.now }
-{
-    if as_data { word } else { sentence }
 }
 
 /// Writes the details of a chain's fate.

@@ -7,7 +7,7 @@ ghost use Rattle.dsr_notes.specs.declared.note.ChainFate.TheVariants.{Read as Re
 ghost use Rattle.dsr_slot.specs.declared.fate.Fate.TheVariants.{NotNew as KeptBefore};
 
 use crate::chain_lines::{write_data_end, write_shown_data, write_shown_words, write_words};
-use crate::requests::RequestTexts;
+use crate::tokens::Tokens;
 use dsr_chain::Chain;
 use dsr_names::{Refusal, Shape};
 use dsr_notes::ChainFate;
@@ -36,14 +36,14 @@ impl ChainText {
     /// Writes the texts about the chain, either data or words. `NoMemory` if memory runs out.
     pub(crate) fn of(
         alloc: Global,
-        requests: &mut RequestTexts,
+        tokens: &mut Tokens,
         shape: &Shape,
         chain: &Chain,
         as_data: bool,
     ) -> Result<ChainText, Refusal> {
-        let shown = show(alloc, requests, chain, as_data)?;
+        let shown = show(alloc, tokens, chain, as_data)?;
         let (slot, round) = (chain.slot(), chain.signature_count() as u8);
-        let not_new = end_of_not_new(alloc, requests, shape, as_data, &shown, slot, round)?;
+        let not_new = end_of_not_new(alloc, tokens, shape, as_data, &shown, slot, round)?;
         Ok(ChainText {
             as_data,
             shown,
@@ -57,14 +57,14 @@ impl ChainText {
 /// Writes the text that describes the chain. `NoMemory` if memory runs out.
 fn show(
     alloc: Global,
-    requests: &mut RequestTexts,
+    tokens: &mut Tokens,
     chain: &Chain,
     as_data: bool,
 ) -> Result<String, Refusal> {
     let mut shown = Writer::new(alloc);
     shown.reserve(ROOM);
     if as_data {
-        write_shown_data(&mut shown, requests, chain);
+        write_shown_data(&mut shown, tokens, chain);
     } else {
         write_shown_words(&mut shown, chain);
     }
@@ -74,7 +74,7 @@ fn show(
 /// Writes the end of the line of a chain that is not new in this round of its slot, and that `shown` describes. `NoMemory` if memory runs out.
 fn end_of_not_new(
     alloc: Global,
-    requests: &mut RequestTexts,
+    tokens: &mut Tokens,
     shape: &Shape,
     as_data: bool,
     shown: &String,
@@ -93,7 +93,7 @@ fn end_of_not_new(
     if as_data {
         write_data_end(&mut end, Some(shown), slot, &fate);
     } else {
-        write_words(&mut end, requests, shape, None, Some(shown), slot, &fate);
+        write_words(&mut end, tokens, shape, None, Some(shown), slot, &fate);
     }
     end.finish()
 }

@@ -6,7 +6,8 @@ ghost use Rattle.dsr_explain.specs.Waits.{AreBelow, IsWaitOfClient, IsWaitOfRepl
 
 use crate::nothing::write_nothing;
 use crate::standing::content_of;
-use crate::story::{KeptBy, Story};
+use crate::story::Story;
+use crate::summary::KeptBy;
 use crate::waiting::{write_next, write_waits};
 use crate::wanted::Wanted;
 use dsr_names::{Actor, ClientId, Refusal, ReplicaId};
@@ -62,18 +63,16 @@ impl Story {
     /// Writes what mattered although it was not refused, if all events are wanted.
     fn write_noticed(&self, out: &mut Writer) {
         if self.wanted.is_of_all() {
-            self.counts.write(out);
+            self.summary.write_noticed(out);
         }
     }
 
     /// Writes the outcome of each slot.
     fn write_slots(&self, out: &mut Writer) {
-        for slot in 0..self.kept.len() {
-            if !self.wanted.has_end_of(slot as u64) {
-                continue;
-            }
-            if let Some(kept) = self.kept.get(slot) {
-                write_slot(out, &self.stage, slot, kept);
+        let kept = self.summary.kept();
+        for slot in 0..kept.len() {
+            if self.wanted.has_end_of(slot as u64) {
+                write_slot(out, &self.stage, slot, &kept[slot]);
             }
         }
     }

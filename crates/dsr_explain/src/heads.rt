@@ -1,12 +1,12 @@
 //! The line of an event: its number, the line of the play that represents it, and who does what to whom.
 
-ghost use Rattle.std.specs.Prelude.{◌≡◌, ◌++◌, [], None, false, codes, IfOk, IfSome, IsTrue, OnOk, IsOkUnless, string_bytes};
-ghost use Rattle.dsr_reasons.specs.Reason.{actor_of, one_of};
+ghost use Rattle.std.specs.Prelude.{◌≡◌, ◌++◌, None, false, IfOk, IfSome, IsTrue, OnOk, IsOkUnless, string_bytes};
+ghost use Rattle.dsr_reasons.specs.Reason.{actor_of};
 ghost use Rattle.dsr_explain.specs.Heads.{text_after, text_from};
 ghost use Rattle.dsr_explain.specs.Told.{doing, done_line, place_text, refusal_text, refused_line, verb_of};
 
-use crate::names::Names;
 use crate::starts::{Start, write_start};
+use crate::tokens::Tokens;
 use crate::verb::Verb;
 use dsr_names::{Actor, Refusal};
 use dsr_reasons::{Writer, actor_of, other_of};
@@ -61,12 +61,12 @@ impl Head {
     }
 
     /// Writes the line of an event of this deed, which was done, from its number on; `shown` is the envelope that it posted or took.
-    fn write(&self, out: &mut Writer, names: &Names, event: &Event, shown: &String)
+    fn write(&self, out: &mut Writer, tokens: &Tokens, event: &Event, shown: &String)
         ensures { out.new ≡ out.old ++ text_from self.now.deed event.now (string_bytes shown.now) }
     {
         out.put_text(&self.after);
-        names.put(out, other_of(event));
-        write_end(out, self.deed.as_data, shown);
+        tokens.put_done(out, self.deed.as_data, other_of(event));
+        out.put_text(shown);
     }
 }
 
@@ -76,25 +76,23 @@ pub(crate) struct Heads {
     alloc: Global,
     start: Option<Start>,
     head: Option<Head>,
-    names: Names,
 }
 
 impl Heads {
-    /// Begins with the names of actors alone. `NoMemory` if memory runs out.
-    pub(crate) fn new(alloc: Global) -> Result<Heads, Refusal> {
-        let names = Names::new(alloc)?;
-        Ok(Heads {
+    /// Begins without any text.
+    pub(crate) fn new(alloc: Global) -> Heads {
+        Heads {
             alloc,
             start: None,
             head: None,
-            names,
-        })
+        }
     }
 
     /// Writes the line of the event with this number, which was done; `shown` is the envelope that it posted or took. `NoMemory` if memory runs out.
     pub(crate) fn write_done(
         &mut self,
         out: &mut Writer,
+        tokens: &Tokens,
         as_data: bool,
         number: u64,
         line: u64,
@@ -107,7 +105,7 @@ impl Heads {
         write_start(out, self.alloc, &mut self.start, as_data, line, number)?;
         let deed = Deed::of(as_data, line, event);
         let head = head_of(self.alloc, &mut self.head, &deed)?;
-        head.write(out, &self.names, event, shown);
+        head.write(out, tokens, event, shown);
         Ok(())
     }
 }
@@ -158,16 +156,6 @@ fn text_after(alloc: Global, deed: &Deed) -> Result<String, Refusal>
         text.put(deed.verb.text(false));
     }
     text.finish()
-}
-
-/// Writes the end of the line of an event that was done: the envelope.
-fn write_end(out: &mut Writer, as_data: bool, shown: &String)
-    ensures { out.new ≡ out.old ++ (one_of as_data (codes " done") [] ++ string_bytes shown.now) }
-{
-    if as_data {
-        out.put(" done");
-    }
-    out.put_text(shown);
 }
 
 /// Writes the line of an event that was refused; `shown` is what it was to post.

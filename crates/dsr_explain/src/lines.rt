@@ -14,9 +14,9 @@ ghost use Rattle.dsr_explain.specs.Lines.{about, kept_data, kept_words, note_lin
 
 use crate::chain_lines::write_chain;
 use crate::chain_texts::ChainText;
-use crate::pieces::{put_answer, put_content, put_decision, put_signers};
-use crate::requests::RequestTexts;
+use crate::pieces::{put_answer, put_content, put_decision};
 use crate::standing::decision_of;
+use crate::tokens::Tokens;
 use dsr_chain::Chain;
 use dsr_ledger::Reply;
 use dsr_names::Actor;
@@ -29,7 +29,7 @@ use dsr_world::{Event, Stage};
 /// Writes the line of the note, which is one of the event. `chains` are those of the envelope that it posted or took, and `texts` describe them.
 pub(crate) fn write_note(
     out: &mut Writer,
-    requests: &mut RequestTexts,
+    tokens: &mut Tokens,
     as_data: bool,
     stage: &Stage,
     event: &Event,
@@ -49,7 +49,7 @@ pub(crate) fn write_note(
             let text = text_at(texts, *place as usize);
             write_chain(
                 out,
-                requests,
+                tokens,
                 as_data,
                 stage.shape(),
                 at,
@@ -59,16 +59,16 @@ pub(crate) fn write_note(
                 fate,
             )
         }
-        Note::Kept(kept) => write_kept(out, requests, as_data, at, kept),
+        Note::Kept(kept) => write_kept(out, tokens, as_data, at, kept),
         Note::Closed { round } => write_closed(out, as_data, at, *round),
         Note::Decided { slot, kept } => {
-            write_decided(out, requests, as_data, stage, at, *slot, *kept)
+            write_decided(out, tokens, as_data, stage, at, *slot, *kept)
         }
         Note::Acted { place, request, .. } => {
-            write_acted(out, requests, as_data, at, *place, request)
+            write_acted(out, tokens, as_data, at, *place, request)
         }
-        Note::Stale { request, .. } => write_stale(out, requests, as_data, at, request),
-        Note::Held { request } => write_held(out, requests, as_data, at, request),
+        Note::Stale { request, .. } => write_stale(out, tokens, as_data, at, request),
+        Note::Held { request } => write_held(out, tokens, as_data, at, request),
         Note::Vote { count, needed } => write_vote(out, as_data, at, other, *count, *needed),
         Note::NoVote { why } => write_no_vote(out, as_data, at, other, *why),
         Note::Accepted { reply } => write_accepted(out, as_data, at, reply),
@@ -139,49 +139,49 @@ fn write_other_round(out: &mut Writer, as_data: bool, at: Actor, round: u64)
 }
 
 /// Writes that a chain was kept.
-fn write_kept(out: &mut Writer, requests: &mut RequestTexts, as_data: bool, at: Actor, kept: &Kept)
+fn write_kept(out: &mut Writer, tokens: &mut Tokens, as_data: bool, at: Actor, kept: &Kept)
     ensures { out.new ≡ out.old ++ kept_line as_data at kept.now }
 {
     let slot = kept.chain.slot();
     put_about(out, as_data, "kept ", at, " has kept of slot ", slot);
     if as_data {
-        write_kept_data(out, requests, kept);
+        write_kept_data(out, tokens, kept);
     } else {
-        write_kept_words(out, requests, kept);
+        write_kept_words(out, tokens, kept);
     }
     out.put("\n");
 }
 
 /// Writes how a chain was kept, as data: the round of its slot in which it was read, its signers and its content.
-fn write_kept_data(out: &mut Writer, requests: &mut RequestTexts, kept: &Kept)
+fn write_kept_data(out: &mut Writer, tokens: &mut Tokens, kept: &Kept)
     ensures { out.new ≡ out.old ++ kept_data kept.now }
 {
     out.put(" ");
     out.put_number(kept.round as u64);
-    write_signed(out, requests, &kept.chain)
+    write_signed(out, tokens, &kept.chain)
 }
 
 /// Writes who signed a chain, and its content, as data.
-fn write_signed(out: &mut Writer, requests: &mut RequestTexts, chain: &Chain)
+fn write_signed(out: &mut Writer, tokens: &mut Tokens, chain: &Chain)
     ensures { out.new ≡ out.old
         ++ (codes " " ++ (signers_text (signers_of chain.now.signatures) ++ (codes " " ++ content_text (content chain.now.value)))) }
 {
     out.put(" ");
-    put_signers(out, chain);
+    out.put_signers(chain.signers().as_slice());
     out.put(" ");
-    put_content(out, requests, chain)
+    put_content(out, tokens, chain)
 }
 
 /// Writes how a chain was kept, in words.
-fn write_kept_words(out: &mut Writer, requests: &mut RequestTexts, kept: &Kept)
+fn write_kept_words(out: &mut Writer, tokens: &mut Tokens, kept: &Kept)
     ensures { out.new ≡ out.old ++ kept_words kept.now }
 {
     out.put(": ");
-    put_content(out, requests, &kept.chain);
+    put_content(out, tokens, &kept.chain);
     out.put(", read in the slot's round ");
     out.put_number(kept.round as u64);
     out.put(", signed by ");
-    put_signers(out, &kept.chain)
+    out.put_signers(kept.chain.signers().as_slice());
 }
 
 /// Writes that a round is closed.
@@ -196,7 +196,7 @@ fn write_closed(out: &mut Writer, as_data: bool, at: Actor, round: u64)
 /// Writes what was decided for a slot, for which this many chains were kept.
 fn write_decided(
     out: &mut Writer,
-    requests: &mut RequestTexts,
+    tokens: &mut Tokens,
     as_data: bool,
     stage: &Stage,
     at: Actor,
@@ -208,16 +208,16 @@ fn write_decided(
 {
     put_about(out, as_data, "decide ", at, " decides slot ", slot);
     if as_data {
-        write_decided_data(out, requests, stage, &at, slot, kept)
+        write_decided_data(out, tokens, stage, &at, slot, kept)
     } else {
-        write_decided_words(out, requests, stage, &at, slot, kept)
+        write_decided_words(out, tokens, stage, &at, slot, kept)
     }
 }
 
 /// Writes what was decided for a slot, as data: for how many chains that were kept, and the content.
 fn write_decided_data(
     out: &mut Writer,
-    requests: &mut RequestTexts,
+    tokens: &mut Tokens,
     stage: &Stage,
     at: &Actor,
     slot: u64,
@@ -229,14 +229,14 @@ fn write_decided_data(
     out.put(" ");
     out.put_number(kept as u64);
     out.put(" ");
-    put_decided(out, requests, stage, at, slot);
+    put_decided(out, tokens, stage, at, slot);
     out.put("\n");
 }
 
 /// Writes what was decided for a slot, in words: the content, and why.
 fn write_decided_words(
     out: &mut Writer,
-    requests: &mut RequestTexts,
+    tokens: &mut Tokens,
     stage: &Stage,
     at: &Actor,
     slot: u64,
@@ -246,18 +246,18 @@ fn write_decided_words(
         ++ (codes ": " ++ (content_text (decided_content stage.now.shape (log_of stage.now.run) at.now slot) ++ (kept_text kept ++ codes "\n"))) }
 {
     out.put(": ");
-    put_decided(out, requests, stage, at, slot);
+    put_decided(out, tokens, stage, at, slot);
     out.put(reason_of(kept));
     out.put("\n");
 }
 
 /// Appends the content that the actor decided for the slot.
-fn put_decided(out: &mut Writer, requests: &mut RequestTexts, stage: &Stage, at: &Actor, slot: u64)
+fn put_decided(out: &mut Writer, tokens: &mut Tokens, stage: &Stage, at: &Actor, slot: u64)
     ensures { out.new ≡ out.old
         ++ content_text (decided_content stage.now.shape (log_of stage.now.run) at.now slot) }
 {
     match decision_of(stage, at, slot) {
-        Some(decision) => put_decision(out, requests, decision),
+        Some(decision) => put_decision(out, tokens, decision),
         None => out.put("idle"),
     }
 }
@@ -276,7 +276,7 @@ fn reason_of(kept: u8) -> &'static str
 /// Writes that a request acted, at this place of the history.
 fn write_acted(
     out: &mut Writer,
-    requests: &mut RequestTexts,
+    tokens: &mut Tokens,
     as_data: bool,
     at: Actor,
     place: u64,
@@ -287,12 +287,12 @@ fn write_acted(
     if as_data {
         put_about(out, true, "act ", at, "", place);
         out.put(" ");
-        requests.put(out, request);
+        tokens.put_request(out, request);
         out.put("\n");
         return;
     }
     out.put("    ");
-    requests.put(out, request);
+    tokens.put_request(out, request);
     out.put(" acts at ");
     out.put_name(at);
     out.put(", at place ");
@@ -301,44 +301,32 @@ fn write_acted(
 }
 
 /// Writes that a request did not act.
-fn write_stale(
-    out: &mut Writer,
-    requests: &mut RequestTexts,
-    as_data: bool,
-    at: Actor,
-    request: &Request,
-)
+fn write_stale(out: &mut Writer, tokens: &mut Tokens, as_data: bool, at: Actor, request: &Request)
     ensures { out.new ≡ out.old ++ stale_line as_data at request.now }
 {
     if as_data {
         out.put("stale ");
         out.put_name(at);
         out.put(" ");
-        requests.put(out, request);
+        tokens.put_request(out, request);
         out.put("\n");
         return;
     }
     out.put("    ");
-    requests.put(out, request);
+    tokens.put_request(out, request);
     out.put(" does not act at ");
     out.put_name(at);
     out.put(": a request of its client with this number or a greater one has acted already\n");
 }
 
 /// Writes that a replica holds a request.
-fn write_held(
-    out: &mut Writer,
-    requests: &mut RequestTexts,
-    as_data: bool,
-    at: Actor,
-    request: &Request,
-)
+fn write_held(out: &mut Writer, tokens: &mut Tokens, as_data: bool, at: Actor, request: &Request)
     ensures { out.new ≡ out.old ++ held_line as_data at request.now }
 {
     out.put_one(as_data, "hold ", "    ");
     out.put_name(at);
     out.put_one(as_data, " ", " holds the request ");
-    requests.put(out, request);
+    tokens.put_request(out, request);
     out.put("\n");
 }
 

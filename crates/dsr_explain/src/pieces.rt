@@ -2,16 +2,13 @@
 
 ghost use Rattle.std.specs.Prelude.{◌≡◌, ◌++◌, map};
 ghost use Rattle.dsr_base.specs.Joined.{more_joined};
-ghost use Rattle.dsr_names.specs.Actor.{actor_text};
 ghost use Rattle.dsr_request.specs.AnswerText.{answer_text, held_text};
 ghost use Rattle.dsr_request.specs.RequestText.{request_token};
 ghost use Rattle.dsr_request.specs.RequestsText.{requests_text};
 ghost use Rattle.dsr_desk.specs.ContentText.{content_text};
-ghost use Rattle.dsr_desk.specs.SignersText.{signers_text};
-ghost use Rattle.dsr_chain.specs.Chain.{signers_of};
 ghost use Rattle.dsr_chain.specs.Content.{content};
 
-use crate::requests::RequestTexts;
+use crate::tokens::Tokens;
 use dsr_chain::{Chain, SignedRequest};
 use dsr_names::Actor;
 use dsr_reasons::Writer;
@@ -33,40 +30,40 @@ pub(crate) fn place_of(actor: Actor) -> usize {
 }
 
 /// Appends the content of the chain: its requests, joined by commas, or that it is idle.
-pub(crate) fn put_content(out: &mut Writer, requests: &mut RequestTexts, chain: &Chain)
+pub(crate) fn put_content(out: &mut Writer, tokens: &mut Tokens, chain: &Chain)
     ensures { out.new ≡ out.old ++ content_text (content chain.now.value) }
 {
     match chain.signed() {
         [] => out.put("idle"),
-        signed => put_requests(out, requests, signed),
+        signed => put_requests(out, tokens, signed),
     }
 }
 
 /// Appends the content that was decided.
-pub(crate) fn put_decision(out: &mut Writer, requests: &mut RequestTexts, decision: &Decision)
+pub(crate) fn put_decision(out: &mut Writer, tokens: &mut Tokens, decision: &Decision)
     ensures { out.new ≡ out.old ++ content_text (content decision.now) }
 {
     match decision.content() {
         None => out.put("idle"),
-        Some(_) => put_requests(out, requests, decision.signed()),
+        Some(_) => put_requests(out, tokens, decision.signed()),
     }
 }
 
 /// Appends these requests, joined by commas.
-fn put_requests(out: &mut Writer, requests: &mut RequestTexts, signed: &[SignedRequest])
+fn put_requests(out: &mut Writer, tokens: &mut Tokens, signed: &[SignedRequest])
     ensures { out.new ≡ out.old ++ requests_text (map (λ s. s.request) signed.now) }
 {
     match signed {
         [] => {}
         [first, others @ ..] => {
-            requests.put(out, &first.request);
-            put_more(out, requests, others)
+            tokens.put_request(out, &first.request);
+            put_more(out, tokens, others)
         }
     }
 }
 
 /// Appends these requests, each after a comma.
-fn put_more(out: &mut Writer, requests: &mut RequestTexts, signed: &[SignedRequest])
+fn put_more(out: &mut Writer, tokens: &mut Tokens, signed: &[SignedRequest])
     ensures { out.new ≡ out.old
         ++ more_joined 44 request_token (map (λ s. s.request) signed.now) }
 {
@@ -74,36 +71,8 @@ fn put_more(out: &mut Writer, requests: &mut RequestTexts, signed: &[SignedReque
         [] => {}
         [first, others @ ..] => {
             out.put(",");
-            requests.put(out, &first.request);
-            put_more(out, requests, others)
-        }
-    }
-}
-
-/// Appends who signed the chain.
-pub(crate) fn put_signers(out: &mut Writer, chain: &Chain)
-    ensures { out.new ≡ out.old ++ signers_text (signers_of chain.now.signatures) }
-{
-    let signers = chain.signers();
-    match signers.as_slice() {
-        [] => out.put("-"),
-        [first, others @ ..] => {
-            out.put_name(*first);
-            put_others(out, others)
-        }
-    }
-}
-
-/// Appends these signers, each after a plus sign.
-fn put_others(out: &mut Writer, signers: &[Actor])
-    ensures { out.new ≡ out.old ++ more_joined 43 actor_text signers.now }
-{
-    match signers {
-        [] => {}
-        [first, others @ ..] => {
-            out.put("+");
-            out.put_name(*first);
-            put_others(out, others)
+            tokens.put_request(out, &first.request);
+            put_more(out, tokens, others)
         }
     }
 }

@@ -1,8 +1,8 @@
 //! The text of an envelope, put together from the texts of its requests. It is the one that a draft of the envelope has, for which there is no need to make
 //! the draft: most envelopes have no signature on a statement that does not fit its place.
 
-use crate::pieces::{put_answer, put_signers};
-use crate::requests::RequestTexts;
+use crate::pieces::put_answer;
+use crate::tokens::Tokens;
 use dsr_chain::{Chain, SignedRequest};
 use dsr_desk::Statement;
 use dsr_envelope::Envelope;
@@ -34,19 +34,19 @@ fn is_short_ask(ask: &SignedRequest) -> bool {
 }
 
 /// Writes the envelope, with each signature as its signer alone.
-pub(crate) fn write_short(out: &mut Writer, requests: &mut RequestTexts, envelope: &Envelope) {
+pub(crate) fn write_short(out: &mut Writer, tokens: &mut Tokens, envelope: &Envelope) {
     match envelope {
         Envelope::Empty => out.put("empty"),
         Envelope::Round { round, chains } => {
             out.put("round ");
             out.put_number(*round);
             for chain in chains.as_slice() {
-                put_chain(out, requests, chain);
+                put_chain(out, tokens, chain);
             }
         }
         Envelope::Ask(ask) => {
             out.put("ask ");
-            put_ask(out, requests, ask.signed());
+            put_ask(out, tokens, ask.signed());
         }
         Envelope::Reply(reply) => put_reply(out, reply),
         Envelope::Seen(front) => {
@@ -67,27 +67,27 @@ fn put_reply(out: &mut Writer, reply: &Reply) {
 }
 
 /// Writes the chain, with a space before it.
-fn put_chain(out: &mut Writer, requests: &mut RequestTexts, chain: &Chain) {
+fn put_chain(out: &mut Writer, tokens: &mut Tokens, chain: &Chain) {
     out.put(" ");
     out.put_number(chain.slot());
     out.put("/");
     match chain.signed() {
         [] => out.put("idle"),
         [first, others @ ..] => {
-            put_ask(out, requests, first);
+            put_ask(out, tokens, first);
             for ask in others {
                 out.put(",");
-                put_ask(out, requests, ask);
+                put_ask(out, tokens, ask);
             }
         }
     }
     out.put("/");
-    put_signers(out, chain)
+    out.put_signers(chain.signers().as_slice());
 }
 
 /// Writes the request with who signed it.
-fn put_ask(out: &mut Writer, requests: &mut RequestTexts, ask: &SignedRequest) {
-    requests.put(out, &ask.request);
+fn put_ask(out: &mut Writer, tokens: &mut Tokens, ask: &SignedRequest) {
+    tokens.put_request(out, &ask.request);
     out.put("~");
     out.put_name(ask.signature.signer());
 }

@@ -13,29 +13,25 @@ ghost use Rattle.dsr_explain.specs.Told.{HasBrokenOff, TellsEvents, TellsNotes, 
 ghost use Rattle.dsr_explain.specs.Wanted.{wants_note};
 
 use crate::chain_texts::ChainText;
-use crate::counts::NoteCounts;
 use crate::heads::{Heads, write_refused};
 use crate::lines::write_note;
 use crate::outlet::Outflow;
 use crate::places::Places;
-use crate::posts::PostLines;
-use crate::requests::RequestTexts;
+use crate::summary::Summary;
 use crate::texts::{Texts, end_of_refused};
+use crate::tokens::Tokens;
 use crate::wanted::Wanted;
 use dsr_chain::Chain;
 use dsr_envelope::{Envelope, Letter};
 use dsr_names::{Actor, Refusal, Shape, Sink};
 use dsr_notes::{Note, step_noted};
-use dsr_reasons::{Writer, actor_of, write_why};
+use dsr_reasons::{Writer, write_why};
 use dsr_world::{Event, Stage};
 use std::alloc::Global;
 use std::fmt::Write;
 
 /// How many bytes `make_room` reserves for each event.
 const ROOM_OF_AN_EVENT: usize = 176;
-
-/// For each replica, by its number, how many contents it kept for a slot before it decided the slot; `None` if it has not decided it.
-pub(crate) type KeptBy = [Option<u8>; 16];
 
 /// The explanation of a play so far, and the stage on which its events happen.
 #[derive(Drop)]
@@ -48,17 +44,14 @@ pub(crate) struct Story {
     /// The number of refused events, and the line of the first.
     pub(crate) refused: u64,
     pub(crate) first_refused: u64,
-    /// What else matters in the events so far, unless only refused events are wanted.
-    pub(crate) counts: NoteCounts,
+    /// What else was counted in the events so far.
+    pub(crate) summary: Summary,
     texts: Texts,
-    posts: PostLines,
-    requests: RequestTexts,
+    tokens: Tokens,
     /// What the lines of the last event that was done and of the next may share.
     heads: Heads,
     /// The notes of the last event; the next event uses their room.
     notes: Vec<Note>,
-    /// How many contents replicas kept, by slot, unless only refused events are wanted.
-    pub(crate) kept: Vec<KeptBy>,
 }
 
 impl Story {
@@ -77,9 +70,8 @@ impl Story {
     {
         let out = write_first_line(alloc, shape, wanted.data)?;
         let texts = Texts::new(alloc, wanted.data)?;
-        let posts = PostLines::new(alloc)?;
-        let requests = RequestTexts::new(alloc)?;
-        let heads = Heads::new(alloc)?;
+        let summary = Summary::new(alloc, wanted.data)?;
+        let tokens = Tokens::new(alloc, wanted.data)?;
         let stage = Stage::open(alloc, shape)?;
         Ok(Story {
             stage,
@@ -88,13 +80,11 @@ impl Story {
             outflow,
             refused: 0,
             first_refused: 0,
-            counts: NoteCounts::new(),
+            summary,
             texts,
-            posts,
-            requests,
-            heads,
+            tokens,
+            heads: Heads::new(alloc),
             notes: Vec::new(alloc),
-            kept: Vec::new(alloc),
         })
     }
 
@@ -173,7 +163,7 @@ impl Story {
     {
         match self.stage.step(alloc, event) {
             Ok(_) => {
-                self.posts.note(event, line);
+                self.summary.add_briefly(event, line);
                 Ok(())
             }
             Err(Refusal::NoMemory) => Err(Refusal::NoMemory),
@@ -219,23 +209,18 @@ impl Story {
         ensures outflow { self.new.outflow ≡ self.old.outflow }
         ensures stage { self.new.stage ≡ self.old.stage }
     {
-        self.posts.note(event, line);
-        let (actor, notes) = (actor_of(event), self.notes.as_slice());
+        let notes = self.notes.as_slice();
         let envelope = handled(&self.stage, event);
-        self.counts.add(&self.stage, &actor, envelope, line, notes);
-        count_kept(&mut self.kept, &actor, notes)?;
+        self.summary.add(&self.stage, event, envelope, line, notes)?;
         if !self.wanted.has_done(event, notes) {
             self.texts.forget(event);
             return Ok(());
         }
-        if let Some(envelope) = envelope {
-            let (requests, shape) = (&mut self.requests, self.stage.shape());
-            self.texts
-                .note_done(alloc, requests, shape, event, envelope)?;
-        }
-        let told = self.texts.told(event);
+        let (tokens, shape) = (&mut self.tokens, self.stage.shape());
+        let told = self.texts.told(alloc, tokens, shape, event, envelope)?;
         self.heads.write_done(
             &mut self.out,
+            &self.tokens,
             self.wanted.data,
             number,
             line,
@@ -244,7 +229,7 @@ impl Story {
         )?;
         write_wanted(
             &mut self.out,
-            &mut self.requests,
+            &mut self.tokens,
             &self.wanted,
             &self.stage,
             event,
@@ -276,7 +261,7 @@ impl Story {
         self.refused = self.refused.saturating_add(1);
         if self.wanted.has_refused(event) {
             let as_data = self.wanted.data;
-            let since = self.posts.full_since(event, refusal);
+            let since = self.summary.full_since(event, refusal);
             write_refusal(
                 &mut self.out,
                 alloc,
@@ -320,7 +305,7 @@ fn write_refusal(
 /// Writes the lines of those notes of the event that are wanted; `chains` are those of its envelope, and `texts` describe them.
 fn write_wanted(
     out: &mut Writer,
-    requests: &mut RequestTexts,
+    tokens: &mut Tokens,
     wanted: &Wanted,
     stage: &Stage,
     event: &Event,
@@ -334,14 +319,14 @@ fn write_wanted(
         (map (λ text. string_bytes text.shown) texts.now) (filter (wants_note wanted.now) notes.now) }
 {
     for note in notes {
-        write_if_wanted(out, requests, wanted, stage, event, chains, texts, note);
+        write_if_wanted(out, tokens, wanted, stage, event, chains, texts, note);
     }
 }
 
 /// Writes the line of the note of the event if it is wanted; `chains` are those of the event's envelope, and `texts` describe them.
 fn write_if_wanted(
     out: &mut Writer,
-    requests: &mut RequestTexts,
+    tokens: &mut Tokens,
     wanted: &Wanted,
     stage: &Stage,
     event: &Event,
@@ -356,16 +341,7 @@ fn write_if_wanted(
     ensures unwanted { wants_note wanted.now note.now ≡ false → out.new ≡ out.old }
 {
     if wanted.has_note(note) {
-        write_note(
-            out,
-            requests,
-            wanted.data,
-            stage,
-            event,
-            chains,
-            texts,
-            note,
-        );
+        write_note(out, tokens, wanted.data, stage, event, chains, texts, note);
     }
 }
 
@@ -429,23 +405,4 @@ fn write_first_line(alloc: Global, shape: Shape, as_data: bool) -> Result<Writer
 /// Returns the line of the first refused event: this line if none was refused before, otherwise the line of the first one before.
 fn first_line_of(refused: u64, first: u64, line: u64) -> u64 {
     if refused == 0 { line } else { first }
-}
-
-/// Stores how many contents the actor kept for a slot that it decided, if the notes have one.
-fn count_kept(kept: &mut Vec<KeptBy>, actor: &Actor, notes: &[Note]) -> Result<(), Refusal> {
-    let Actor::Replica(replica) = actor else {
-        return Ok(());
-    };
-    for note in notes {
-        if let Note::Decided { slot, kept: count } = note {
-            let place = *slot as usize;
-            if place >= kept.len() {
-                kept.push([None; 16])?;
-            }
-            if place < kept.len() {
-                kept[place][replica.number() as usize] = Some(*count);
-            }
-        }
-    }
-    Ok(())
 }

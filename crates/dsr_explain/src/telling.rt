@@ -79,6 +79,7 @@ fn tell_play<K: Outlet>(
     let Ok(_) = story.end(alloc, play.events().len()) else {
         return Err(Refusal::NoMemory);
     };
+    // The text and its way out are lent at the same time, for which both have to come from one reference.
     let ended = &mut story;
     let Ok(rest) = ended.out.whole() else {
         return Err(Refusal::NoMemory);

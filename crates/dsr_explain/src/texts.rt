@@ -2,8 +2,8 @@
 
 use crate::chain_texts::ChainText;
 use crate::pieces::{MOST_ACTORS, place_of};
-use crate::requests::RequestTexts;
 use crate::short::{is_short, write_short};
+use crate::tokens::Tokens;
 use dsr_envelope::{Envelope, Pick};
 use dsr_names::{Actor, ClientId, Refusal, Shape};
 use dsr_reasons::{Writer, actor_of, other_of};
@@ -29,13 +29,13 @@ impl Told {
     /// Writes the texts about the envelope, either data or words. `NoMemory` if memory runs out.
     fn of(
         alloc: Global,
-        requests: &mut RequestTexts,
+        tokens: &mut Tokens,
         shape: &Shape,
         envelope: &Envelope,
         as_data: bool,
     ) -> Result<Told, Refusal> {
-        let end = end_of(alloc, requests, envelope, as_data)?;
-        let chains = tell_chains(alloc, requests, shape, envelope, as_data)?;
+        let end = end_of(alloc, tokens, envelope, as_data)?;
+        let chains = tell_chains(alloc, tokens, shape, envelope, as_data)?;
         Ok(Told { end, chains })
     }
 
@@ -63,7 +63,7 @@ impl Told {
 /// Returns the end of the line of an event that posts or takes this envelope: its text. `NoMemory` if memory runs out.
 fn end_of(
     alloc: Global,
-    requests: &mut RequestTexts,
+    tokens: &mut Tokens,
     envelope: &Envelope,
     as_data: bool,
 ) -> Result<String, Refusal> {
@@ -73,7 +73,7 @@ fn end_of(
         end.put(end_of_none(as_data));
     } else if is_short(envelope) {
         end.put(before_draft(as_data));
-        write_short(&mut end, requests, envelope);
+        write_short(&mut end, tokens, envelope);
         end.put("\n");
     } else {
         let draft = Draft::of(alloc, envelope)?;
@@ -167,7 +167,7 @@ fn write_asks(out: &mut Writer, clients: &[ClientId]) {
 /// Writes the texts about each chain of the envelope.
 fn tell_chains(
     alloc: Global,
-    requests: &mut RequestTexts,
+    tokens: &mut Tokens,
     shape: &Shape,
     envelope: &Envelope,
     as_data: bool,
@@ -175,7 +175,7 @@ fn tell_chains(
     let mut told = Vec::new(alloc);
     if let Envelope::Round { chains, .. } = envelope {
         for chain in chains.as_slice() {
-            told.push(ChainText::of(alloc, requests, shape, chain, as_data)?)?;
+            told.push(ChainText::of(alloc, tokens, shape, chain, as_data)?)?;
         }
     }
     Ok(told)
@@ -207,16 +207,28 @@ impl Posted {
         self.count = self.count.saturating_add(1);
     }
 
-    /// Returns the texts about the envelope with this number, counted from 1.
-    fn told(&self, number: u64) -> Option<&Told> {
-        if number == self.count {
-            return self.last.as_ref();
+    /// Returns where the texts about the envelope with this number are, counted from 1; `None` if they were not written, or are forgotten. `poster` is
+    /// the place of the actor.
+    fn place_of(&self, poster: usize, number: u64) -> Option<Place> {
+        if number == self.count && self.last.is_some() {
+            return Some(Place::Last(poster));
         }
-        if number.saturating_add(1) == self.count {
-            return self.before.as_ref();
+        if number.saturating_add(1) == self.count && self.before.is_some() {
+            return Some(Place::Before(poster));
         }
         None
     }
+}
+
+/// Where the texts about an envelope are.
+#[derive(Clone, Copy)]
+enum Place {
+    /// It is the last one that the actor at this place posted to replicas.
+    Last(usize),
+    /// It is the one before the last.
+    Before(usize),
+    /// It was posted only to this box.
+    InBox(usize),
 }
 
 /// The texts about the contents of a box.
@@ -253,69 +265,94 @@ impl Texts {
         })
     }
 
-    /// Writes the texts about the envelope that this event, which was done, posted or took. `NoMemory` if memory runs out.
-    pub(crate) fn note_done(
+    /// Returns the texts about the envelope that this event, which was done, posted or took; writes them if they are not there. Without an envelope returns
+    /// those about none. `NoMemory` if memory runs out.
+    pub(crate) fn told(
         &mut self,
         alloc: Global,
-        requests: &mut RequestTexts,
+        tokens: &mut Tokens,
+        shape: &Shape,
+        event: &Event,
+        envelope: Option<&Envelope>,
+    ) -> Result<&Told, Refusal> {
+        let Some(envelope) = envelope else {
+            return Ok(&self.nothing);
+        };
+        let place = self.place_of_told(alloc, tokens, shape, event, envelope)?;
+        match self.at(place) {
+            Some(told) => Ok(told),
+            None => Ok(&self.nothing),
+        }
+    }
+
+    /// Returns where these texts are; writes them if they are not there.
+    fn place_of_told(
+        &mut self,
+        alloc: Global,
+        tokens: &mut Tokens,
         shape: &Shape,
         event: &Event,
         envelope: &Envelope,
-    ) -> Result<(), Refusal> {
+    ) -> Result<Place, Refusal> {
         if is_to_replica(event) {
-            return self.note_posted(alloc, requests, shape, event, envelope);
+            return self.note_posted(alloc, tokens, shape, event, envelope);
         }
         if let Event::Take { .. } = event {
             // The box may still hold an ask from before the client's last two requests; its texts have to be written anew.
-            if self.written(event).is_some() {
-                return Ok(());
+            if let Some(place) = self.place_of_taken(event) {
+                return Ok(place);
             }
         }
-        let told = Told::of(alloc, requests, shape, envelope, self.as_data)?;
+        let told = Told::of(alloc, tokens, shape, envelope, self.as_data)?;
         self.lay(event, Lying::Alone(told));
-        Ok(())
+        Ok(Place::InBox(box_of(event)))
     }
 
-    /// Writes the texts about the envelope that a loyal actor posted to a replica.
+    /// Writes the texts about the envelope that a loyal actor posted to a replica, and returns where they are.
     fn note_posted(
         &mut self,
         alloc: Global,
-        requests: &mut RequestTexts,
+        tokens: &mut Tokens,
         shape: &Shape,
         event: &Event,
         envelope: &Envelope,
-    ) -> Result<(), Refusal> {
-        let as_data = self.as_data;
-        let Some(posted) = self.posted.get_mut(poster_of(event)) else {
-            return Ok(());
+    ) -> Result<Place, Refusal> {
+        let (as_data, poster) = (self.as_data, poster_of(event));
+        let Some(posted) = self.posted.get_mut(poster) else {
+            return Ok(Place::Last(poster));
         };
         if !is_again(event) {
-            posted.put(Some(Told::of(alloc, requests, shape, envelope, as_data)?));
+            posted.put(Some(Told::of(alloc, tokens, shape, envelope, as_data)?));
         } else if posted.last.is_none() {
-            posted.last = Some(Told::of(alloc, requests, shape, envelope, as_data)?);
+            posted.last = Some(Told::of(alloc, tokens, shape, envelope, as_data)?);
         }
         let number = posted.count;
         self.lay(event, Lying::Posted(number));
-        Ok(())
+        Ok(Place::Last(poster))
     }
 
-    /// Returns the texts about the envelope that this event, which was done, posted or took; those about none if they were not written.
-    pub(crate) fn told(&self, event: &Event) -> &Told {
-        match self.written(event) {
-            Some(told) => told,
-            None => &self.nothing,
-        }
-    }
-
-    /// Returns these texts; `None` if they were not written.
-    fn written(&self, event: &Event) -> Option<&Told> {
-        if is_to_replica(event) {
-            return self.posted.get(poster_of(event))?.last.as_ref();
-        }
-        match self.boxes.get(box_of(event))? {
+    /// Returns where the texts about the envelope are that this event took; `None` if they were not written.
+    fn place_of_taken(&self, event: &Event) -> Option<Place> {
+        let place = box_of(event);
+        match self.boxes.get(place)? {
             Lying::Nothing => None,
-            Lying::Posted(number) => self.posted.get(poster_of(event))?.told(*number),
-            Lying::Alone(told) => Some(told),
+            Lying::Posted(number) => {
+                let poster = poster_of(event);
+                self.posted.get(poster)?.place_of(poster, *number)
+            }
+            Lying::Alone(_) => Some(Place::InBox(place)),
+        }
+    }
+
+    /// Returns the texts at this place; `None` if there are none.
+    fn at(&self, place: Place) -> Option<&Told> {
+        match place {
+            Place::Last(poster) => self.posted.get(poster)?.last.as_ref(),
+            Place::Before(poster) => self.posted.get(poster)?.before.as_ref(),
+            Place::InBox(place) => match self.boxes.get(place)? {
+                Lying::Alone(told) => Some(told),
+                Lying::Nothing | Lying::Posted(_) => None,
+            },
         }
     }
 

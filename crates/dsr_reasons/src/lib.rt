@@ -8,4 +8,4 @@ mod writer;
 
 pub use actors::{actor_of, other_of};
 pub use why::write_why;
-pub use writer::Writer;
+pub use writer::{Writer, one_of};

@@ -1,9 +1,11 @@
 //! A text that is written piece by piece.
 
-ghost use Rattle.std.specs.Prelude.{◌≡◌, ◌<◌, ◌+◌, ◌∷◌, ◌++◌, [], IfOk, IsOkUnless, string_bytes};
+ghost use Rattle.std.specs.Prelude.{◌≡◌, ◌<◌, ◌+◌, ◌∷◌, ◌++◌, [], false, true, IfOk, IsOkUnless, string_bytes};
 ghost use Rattle.std.specs.Fmt.{decimal};
+ghost use Rattle.dsr_base.specs.Joined.{more_joined};
 ghost use Rattle.dsr_names.specs.Actor.{actor_text};
 ghost use Rattle.dsr_request.specs.RequestText.{request_token};
+ghost use Rattle.dsr_desk.specs.SignersText.{signers_text};
 ghost use Rattle.dsr_desk.specs.StatementText.{statement_text};
 ghost use Rattle.dsr_reasons.specs.Reason.{one_of};
 ghost use Rattle.dsr_reasons.specs.Digits.{last_two};
@@ -65,7 +67,7 @@ impl Writer {
         ensures { self.new ≡ self.old ++ piece.now }
     {
         let is_put = self.text.push_str(piece).is_ok();
-        self.is_broken = self.is_broken || !is_put;
+        remember(&mut self.is_broken, is_put);
         self.pieces = self.pieces.and(&Piece::Text(piece), &self.text);
     }
 
@@ -73,11 +75,7 @@ impl Writer {
     pub fn put_one(&mut self, as_data: bool, word: &'static str, sentence: &'static str)
         ensures { self.new ≡ self.old ++ one_of as_data word.now sentence.now }
     {
-        if as_data {
-            self.put(word);
-        } else {
-            self.put(sentence);
-        }
+        self.put(one_of(as_data, word, sentence));
     }
 
     /// Appends the actor's name.
@@ -87,6 +85,33 @@ impl Writer {
         match actor {
             Actor::Replica(replica) => self.put_lettered('r', replica.number()),
             Actor::Client(client) => self.put_lettered('c', client.number()),
+        }
+    }
+
+    /// Appends the names of those who signed, joined by plus signs; a dash if there are none.
+    pub fn put_signers(&mut self, signers: &[Actor])
+        ensures { self.new ≡ self.old ++ signers_text signers.now }
+    {
+        match signers {
+            [] => self.put("-"),
+            [first, others @ ..] => {
+                self.put_name(*first);
+                self.put_others(others);
+            }
+        }
+    }
+
+    /// Appends these names, each after a plus sign.
+    fn put_others(&mut self, signers: &[Actor])
+        ensures { self.new ≡ self.old ++ more_joined 43 actor_text signers.now }
+    {
+        match signers {
+            [] => {}
+            [first, others @ ..] => {
+                self.put("+");
+                self.put_name(*first);
+                self.put_others(others);
+            }
         }
     }
 
@@ -106,7 +131,7 @@ impl Writer {
         ensures { self.new ≡ self.old ++ string_bytes text.now }
     {
         let is_put = self.text.push_str(text.as_str()).is_ok();
-        self.is_broken = self.is_broken || !is_put;
+        remember(&mut self.is_broken, is_put);
         self.pieces = self.pieces.and(&Piece::Shown, text);
     }
 
@@ -115,7 +140,7 @@ impl Writer {
         ensures { self.new ≡ self.old ++ request_token request.now }
     {
         let is_put = write!(self.text, "{request}").is_ok();
-        self.is_broken = self.is_broken || !is_put;
+        remember(&mut self.is_broken, is_put);
         self.pieces = self.pieces.and(&Piece::Request(*request), &self.text);
     }
 
@@ -124,7 +149,7 @@ impl Writer {
         ensures { self.new ≡ self.old ++ statement_text statement.now }
     {
         let is_put = write!(self.text, "{statement}").is_ok();
-        self.is_broken = self.is_broken || !is_put;
+        remember(&mut self.is_broken, is_put);
         self.pieces = self.pieces.and(&Piece::Statement(*statement), &self.text);
     }
 
@@ -142,7 +167,7 @@ impl Writer {
         ensures { self.new ≡ self.old ++ decimal number }
     {
         let is_put = self.text.push_str(Buffer::new().format(number)).is_ok();
-        self.is_broken = self.is_broken || !is_put;
+        remember(&mut self.is_broken, is_put);
         self.pieces = self.pieces.and(&Piece::Number(number), &self.text);
     }
 
@@ -180,7 +205,7 @@ impl Writer {
         ensures { self.new ≡ self.old ++ (character ∷ []) }
     {
         let is_put = self.text.push(character).is_ok();
-        self.is_broken = self.is_broken || !is_put;
+        remember(&mut self.is_broken, is_put);
         self.pieces = self.pieces.and(&Piece::Char(character), &self.text);
     }
 
@@ -222,8 +247,24 @@ impl Writer {
     }
 }
 
+/// Remembers that memory ran out, unless a piece was put.
+fn remember(is_broken: &mut bool, is_put: bool)
+    ensures { is_broken.new ≡ false → (is_broken.old ≡ false) × (is_put ≡ true) }
+{
+    if !is_put {
+        *is_broken = true;
+    }
+}
+
+/// Returns the word if `as_data`, otherwise the sentence.
+pub fn one_of(as_data: bool, word: &'static str, sentence: &'static str) -> &'static str
+    ensures { result.now ≡ one_of as_data word.now sentence.now }
+{
+    if as_data { word } else { sentence }
+}
+
 /// A piece that was put.
-#[derive(Clone, Copy, Debug)]
+#[derive(Clone, Copy)]
 pub(crate) enum Piece {
     Text(&'static str),
     Char(char),

@@ -16,13 +16,15 @@ use dsr_names::{ClientId, Refusal, Sink, Source, write_output};
 use dsr_record::{Record, read};
 use std::alloc::Global;
 use std::fmt::Write;
+use std::mem::forget;
 
 /// Reads a transcript, and writes the report on its run. Checks nothing before the end of the text, and writes nothing before it has
 /// checked all steps.
 ///
 /// `BadShape` and `BadText` say what is wrong with the text, and `NotARun` names the line of the first step that may not follow those before
 /// it. After them, and after `ReadFailed` and `NoMemory`, nothing was written; after `WriteFailed` a prefix of the report was. What was read
-/// is gone. `run_apply` says when `ReadFailed` and `WriteFailed` come, and how often the source and the sink are called at most.
+/// is gone. `run_apply` says when `ReadFailed` and `WriteFailed` come, and how often the source and the sink are called at most. The memory
+/// of the record is not freed: a program should end after the call.
 pub fn run_check<S: Source, K: Sink>(
     alloc: Global,
     source: &mut S,
@@ -41,6 +43,8 @@ pub fn run_check<S: Source, K: Sink>(
         Ok(report) => report,
         Err(refusal) => return Err(refusal),
     };
+    // The program ends soon, and to free a long record takes a while.
+    forget(recorded);
     match write_output(sink, report.as_bytes()) {
         Ok(()) => Ok(()),
         Err(refusal) => Err(refusal),

@@ -57,7 +57,7 @@ fn write_accepted(out: &mut String, stage: &Stage) -> Result<(), Refusal>
     Ok(())
 }
 
-/// Writes the replies that this client accepted, in their order.
+/// Writes the replies that this client accepted, in their order. `NoMemory` if memory runs out; some of the text may have been added then.
 pub fn write_replies(out: &mut String, client: ClientId, replies: &[Reply]) -> Result<(), Refusal>
     ensures text { OnOk result (string_bytes out.new ≡ string_bytes out.old ++ replies_text client (reverse replies.now)) }
     ensures refusal { IsOkUnless result Refusal.NoMemory }
@@ -129,7 +129,7 @@ fn write_decisions(
     Ok(())
 }
 
-/// Writes the requests that acted, each after its place.
+/// Writes the requests that acted, each after its place. `NoMemory` if memory runs out; some of the text may have been added then.
 pub fn write_history(out: &mut String, history: &[Request]) -> Result<(), Refusal>
     ensures text { OnOk result (string_bytes out.new ≡ string_bytes out.old ++ history_text (reverse history.now)) }
     ensures refusal { IsOkUnless result Refusal.NoMemory }

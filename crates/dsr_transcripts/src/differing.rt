@@ -5,7 +5,7 @@ ghost use Rattle.dsr_facts.specs.Difference.{IsDifference};
 ghost use Rattle.dsr_facts.specs.declared.difference.Difference.TheVariants.{OtherRound, Chains, OtherAsk};
 ghost use Rattle.dsr_transcripts.specs.Why.{ask_text, chain_text, chains_in, difference_text, new_ask_text, number_in, parted_of, parted_text, parting_end, parting_word, round_in, rounds_text};
 
-use crate::words::{put_numbers, put_signers};
+use crate::words::put_numbers;
 use dsr_chain::Chain;
 use dsr_envelope::Envelope;
 use dsr_facts::{Difference, Parting};
@@ -132,7 +132,7 @@ fn write_chain(out: &mut Writer, as_data: bool, number: u64, chain: &Chain, how:
     out.put_one(as_data, " ", ", of slot ");
     out.put_number(chain.slot());
     out.put_one(as_data, " ", " and signed by ");
-    put_signers(out, chain);
+    out.put_signers(chain.signers().as_slice());
     out.put_one(as_data, "", parting_end(how));
 }
 

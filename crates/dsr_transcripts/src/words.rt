@@ -1,15 +1,11 @@
 //! What the lines of an explanation have in common.
 
 ghost use Rattle.std.specs.Prelude.{◌≡◌, ◌++◌, IfOk, IsOkUnless, string_bytes};
-ghost use Rattle.dsr_base.specs.Joined.{more_joined};
 ghost use Rattle.dsr_names.specs.Actor.{actor_text};
-ghost use Rattle.dsr_desk.specs.SignersText.{signers_text};
-ghost use Rattle.dsr_chain.specs.Chain.{signers_of};
 ghost use Rattle.dsr_script.specs.EnvelopeText.{envelope_text};
 ghost use Rattle.dsr_reasons.specs.Reason.{one_of};
 ghost use Rattle.dsr_transcripts.specs.Why.{IsShown, numbers_text};
 
-use dsr_chain::Chain;
 use dsr_envelope::Envelope;
 use dsr_names::{Actor, Refusal};
 use dsr_reasons::Writer;
@@ -47,34 +43,6 @@ pub(crate) fn put_numbers(
     out.put_number(number);
     out.put_one(as_data, " ", between);
     out.put_number(other);
-}
-
-/// Writes who signed the chain.
-pub(crate) fn put_signers(out: &mut Writer, chain: &Chain)
-    ensures { out.new ≡ out.old ++ signers_text (signers_of chain.now.signatures) }
-{
-    let signers = chain.signers();
-    match signers.as_slice() {
-        [] => out.put("-"),
-        [first, others @ ..] => {
-            out.put_name(*first);
-            put_others(out, others)
-        }
-    }
-}
-
-/// Writes these signers, each after a plus sign.
-fn put_others(out: &mut Writer, signers: &[Actor])
-    ensures { out.new ≡ out.old ++ more_joined 43 actor_text signers.now }
-{
-    match signers {
-        [] => {}
-        [first, others @ ..] => {
-            out.put("+");
-            out.put_name(*first);
-            put_others(out, others)
-        }
-    }
 }
 
 /// Returns the envelope's text; a dash for an envelope beyond the limits, which has none.

@@ -1,8 +1,8 @@
-use Rattle.std.proofs.Common.{◌≡◌, ◌⊎◌, ◌++◌, ◌∙◌, ℕ, List, [], ap, arith, inl, inr, subst, sym}
+use Rattle.std.proofs.Common.{◌≡◌, ◌⊎◌, ◌∙◌, [], ap, arith, inl, inr, subst, sym}
 use Rattle.dsr_names.specs.declared.refusal.Refusal.TheVariants.{NoMemory, WriteFailed}
 use Rattle.dsr_explain.specs.Outlet.{HasGoneOut}
-use Rattle.dsr_explain.specs.Told.{HasBrokenOff, TellsEvent}
-use Rattle.dsr_explain.proofs.BreakLemmas.{one_more, prefix_some, still_some}
+use Rattle.dsr_explain.specs.Told.{HasBrokenOff}
+use Rattle.dsr_explain.proofs.BreakLemmas.{for_start, one_more, prefix_some, still_some}
 use Rattle.dsr_explain.proofs.story.Story.tell_events.Goals as goal
 
 pub loop-place-preserved : goal.loop-place-preserved
@@ -16,10 +16,8 @@ loop-place-preserved g c =
     let s1 = g.K.Sink.output c.loop-place.sink in
     let s2 = g.K.Sink.output c.pass_part.new.sink in
     let passed = c.in-Ok-pass_part.ensures in
-    let one = subst (λ wanted. (text : List ℕ) × TellsEvent wanted c.loop-place.place start.stage.shape after.stage.run before.stage.run event text
-    × (after.out ≡ before.out ++ text)) kept.3
-    (subst (λ shape. (text : List ℕ) × TellsEvent before.wanted c.loop-place.place shape after.stage.run before.stage.run event text
-    × (after.out ≡ before.out ++ text)) kept.4 c.in-Ok-tell.ensures.told) in
+    let one = for_start start.wanted before.wanted start.stage.shape before.stage.shape c.loop-place.place after.stage.run before.stage.run event before.out after.out
+    kept.3 kept.4 c.in-Ok-tell.ensures.told in
     let parts = ap (λ flow. flow.in_parts) c.in-Ok-tell.ensures.outflow ∙ kept.5 in
     let gone = subst (λ b. HasGoneOut b after.out c.pass_part.new.text s1 s2) parts passed.sent in
     let whole : (s2 ≡ s1) ⊎ (c.pass_part.new.text ≡ []) = elim passed.whole [
@@ -49,10 +47,8 @@ returns-in-Err-clause-broke_off g c =
     let s0 = g.K.Sink.output c.args.sink.now in
     let s1 = g.K.Sink.output c.loop-place.sink in
     let s2 = g.K.Sink.output c.pass_part.new.sink in
-    let one = subst (λ wanted. (text : List ℕ) × TellsEvent wanted c.loop-place.place start.stage.shape after.stage.run before.stage.run event text
-    × (after.out ≡ before.out ++ text)) kept.3
-    (subst (λ shape. (text : List ℕ) × TellsEvent before.wanted c.loop-place.place shape after.stage.run before.stage.run event text
-    × (after.out ≡ before.out ++ text)) kept.4 c.in-Ok-tell.ensures.told) in
+    let one = for_start start.wanted before.wanted start.stage.shape before.stage.shape c.loop-place.place after.stage.run before.stage.run event before.out after.out
+    kept.3 kept.4 c.in-Ok-tell.ensures.told in
     let first = c.args.self.now in
     let kept_so_far = subst (λ w. HasBrokenOff w first.stage.shape first.stage.run c.args.events.now first.out NoMemory s0 s1) c.make_room.ensures.wanted
     (subst (λ st. HasBrokenOff start.wanted st.shape st.run c.args.events.now first.out NoMemory s0 s1) c.make_room.ensures.stage
