@@ -4,11 +4,15 @@
 use dsr_base::Exact;
 use dsr_envelope::Envelope;
 use dsr_ledger::Reply;
-use dsr_names::Actor;
+use dsr_names::{Actor, Refusal};
 use dsr_notes::{ChainFate, Note};
 use dsr_reasons::Writer;
 use dsr_slot::Fate;
 use dsr_world::Stage;
+use std::alloc::Global;
+
+/// For each replica, by its number, how many contents it kept for a slot before it decided the slot; `None` if it has not decided it.
+pub(crate) type KeptBy = [Option<u8>; 16];
 
 /// How often something happened, and the line in which it did so first.
 #[derive(Clone, Copy)]
@@ -66,11 +70,13 @@ pub(crate) struct NoteCounts {
     no_vote: Count,
     /// For each client, by its number, the first vote on its outstanding request.
     first_votes: [Option<FirstVote>; 32],
+    /// By slot, how many contents replicas kept.
+    kept: Vec<KeptBy>,
 }
 
 impl NoteCounts {
     /// Creates the counts before any event.
-    pub(crate) fn new() -> NoteCounts {
+    pub(crate) fn new(alloc: Global) -> NoteCounts {
         NoteCounts {
             other_round: Count::NONE,
             improper: Count::NONE,
@@ -81,10 +87,11 @@ impl NoteCounts {
             unlike_which: 0,
             no_vote: Count::NONE,
             first_votes: [None; 32],
+            kept: Vec::new(alloc),
         }
     }
 
-    /// Counts what these notes tell of an event of this line, which was done last. `actor` posted or took the envelope.
+    /// Counts what these notes tell about an event of this line, which was done last. `actor` posted or took the envelope. `NoMemory` if memory runs out.
     pub(crate) fn add(
         &mut self,
         stage: &Stage,
@@ -92,7 +99,7 @@ impl NoteCounts {
         envelope: Option<&Envelope>,
         line: u64,
         notes: &[Note],
-    ) {
+    ) -> Result<(), Refusal> {
         let mut has_proposed_nothing = false;
         for note in notes {
             match note {
@@ -103,17 +110,20 @@ impl NoteCounts {
                 Note::Vote { .. } => self.add_vote(actor, envelope, line),
                 Note::NoVote { .. } => self.add_no_vote(stage, actor, line),
                 Note::Accepted { .. } => self.forget_vote(actor),
-                Note::Kept(_)
-                | Note::Closed { .. }
-                | Note::Decided { .. }
-                | Note::Acted { .. }
-                | Note::Held { .. } => {}
+                Note::Decided { slot, kept } => self.add_kept(actor, *slot, *kept)?,
+                Note::Kept(_) | Note::Closed { .. } | Note::Acted { .. } | Note::Held { .. } => {}
             }
         }
         // A sender may hold several requests, each of which has a note.
         if has_proposed_nothing {
             self.unproposed.add(line);
         }
+        Ok(())
+    }
+
+    /// Returns, by slot, how many contents replicas kept.
+    pub(crate) fn kept(&self) -> &[KeptBy] {
+        self.kept.as_slice()
     }
 
     /// Writes the line of each of these things that happened.
@@ -130,6 +140,21 @@ impl NoteCounts {
         self.write_unlike(out);
         self.no_vote
             .write(out, "taken envelopes that give a waiting client no vote");
+    }
+
+    /// Stores how many contents the actor kept for a slot that it decided.
+    fn add_kept(&mut self, actor: &Actor, slot: u64, count: u8) -> Result<(), Refusal> {
+        let Actor::Replica(replica) = actor else {
+            return Ok(());
+        };
+        let place = slot as usize;
+        if place >= self.kept.len() {
+            self.kept.push([None; 16])?;
+        }
+        if place < self.kept.len() {
+            self.kept[place][replica.number() as usize] = Some(count);
+        }
+        Ok(())
     }
 
     /// Counts a chain with this fate, if it is not proper or its slot is not in flight.

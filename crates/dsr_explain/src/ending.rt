@@ -4,10 +4,10 @@ ghost use Rattle.std.specs.Prelude.{◌≡◌, ℕ, ◌<◌, ◌++◌, [], true,
 ghost use Rattle.dsr_run.specs.Step.{log_of};
 ghost use Rattle.dsr_explain.specs.Waits.{AreBelow, IsWaitOfClient, IsWaitOfReplica, TellsWaits};
 
+use crate::counts::KeptBy;
 use crate::nothing::write_nothing;
 use crate::standing::content_of;
 use crate::story::Story;
-use crate::summary::KeptBy;
 use crate::waiting::{write_next, write_waits};
 use crate::wanted::Wanted;
 use dsr_names::{Actor, ClientId, Refusal, ReplicaId};

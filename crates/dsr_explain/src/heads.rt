@@ -17,7 +17,7 @@ use std::alloc::Global;
 const ROOM: usize = 48;
 
 /// What several events may share: whether they are written as data, the line of the play that represents them, the actor, and what it does.
-#[derive(Clone, Copy, PartialEq, Eq)]
+#[derive(Clone, Copy)]
 pub struct Deed {
     pub(crate) as_data: bool,
     pub(crate) line: u64,
@@ -39,6 +39,19 @@ impl Deed {
             verb: Verb::of(event),
             actor: actor_of(event),
         }
+    }
+
+    /// Tells whether this is what `of` returns. It makes no value, since it is asked for each event.
+    fn is_of(&self, as_data: bool, line: u64, event: &Event) -> bool
+        ensures as_data { IsTrue result → self.now.as_data ≡ as_data }
+        ensures line { IsTrue result → self.now.line ≡ line }
+        ensures verb { IsTrue result → self.now.verb ≡ verb_of event.now }
+        ensures actor { IsTrue result → self.now.actor ≡ actor_of event.now }
+    {
+        self.line == line
+            && self.as_data == as_data
+            && self.verb == Verb::of(event)
+            && self.actor == actor_of(event)
     }
 }
 
@@ -103,20 +116,28 @@ impl Heads {
         ensures refusal { IsOkUnless result Refusal.NoMemory }
     {
         write_start(out, self.alloc, &mut self.start, as_data, line, number)?;
-        let deed = Deed::of(as_data, line, event);
-        let head = head_of(self.alloc, &mut self.head, &deed)?;
+        let head = head_of(self.alloc, &mut self.head, as_data, line, event)?;
         head.write(out, tokens, event, shown);
         Ok(())
     }
 }
 
-/// Returns the texts of these events: the last ones if they are theirs, otherwise new ones, which become the last. `NoMemory` if memory runs out.
-fn head_of<'a>(alloc: Global, last: &'a mut Option<Head>, deed: &Deed) -> Result<&'a Head, Refusal>
-    ensures same { IfOk result (λ head. head.now.deed ≡ deed.now) }
+/// Returns the text of the event's deed: the last one if it is that, otherwise a new one, which becomes the last. `NoMemory` if memory runs out.
+fn head_of<'a>(
+    alloc: Global,
+    last: &'a mut Option<Head>,
+    as_data: bool,
+    line: u64,
+    event: &Event,
+) -> Result<&'a Head, Refusal>
+    ensures as_data { IfOk result (λ head. head.now.deed.as_data ≡ as_data) }
+    ensures line { IfOk result (λ head. head.now.deed.line ≡ line) }
+    ensures verb { IfOk result (λ head. head.now.deed.verb ≡ verb_of event.now) }
+    ensures actor { IfOk result (λ head. head.now.deed.actor ≡ actor_of event.now) }
     ensures refusal { IsOkUnless result Refusal.NoMemory }
 {
-    if !is_of(last, deed) {
-        *last = Some(Head::of(alloc, deed)?);
+    if !is_of(last, as_data, line, event) {
+        *last = Some(Head::of(alloc, &Deed::of(as_data, line, event))?);
     }
     match last {
         Some(head) => Ok(head),
@@ -124,13 +145,16 @@ fn head_of<'a>(alloc: Global, last: &'a mut Option<Head>, deed: &Deed) -> Result
     }
 }
 
-/// Tells whether there are texts and they are those of these events.
-fn is_of(last: &Option<Head>, deed: &Deed) -> bool
-    ensures some { IfSome last.now (λ head. IsTrue result → head.deed ≡ deed.now) }
+/// Tells whether there is a text and it is that of the event's deed.
+fn is_of(last: &Option<Head>, as_data: bool, line: u64, event: &Event) -> bool
+    ensures as_data { IfSome last.now (λ head. IsTrue result → head.deed.as_data ≡ as_data) }
+    ensures line { IfSome last.now (λ head. IsTrue result → head.deed.line ≡ line) }
+    ensures verb { IfSome last.now (λ head. IsTrue result → head.deed.verb ≡ verb_of event.now) }
+    ensures actor { IfSome last.now (λ head. IsTrue result → head.deed.actor ≡ actor_of event.now) }
     ensures none { last.now ≡ None → result ≡ false }
 {
     match last {
-        Some(head) => head.deed == *deed,
+        Some(head) => head.deed.is_of(as_data, line, event),
         None => false,
     }
 }

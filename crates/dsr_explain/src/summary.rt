@@ -1,17 +1,14 @@
 //! What an explanation in words tells at its end about all events: what mattered though nothing was refused, and how many contents were kept; and since which
 //! line a box is full.
 
-use crate::counts::NoteCounts;
+use crate::counts::{KeptBy, NoteCounts};
 use crate::posts::PostLines;
 use dsr_envelope::Envelope;
-use dsr_names::{Actor, Refusal};
+use dsr_names::Refusal;
 use dsr_notes::Note;
 use dsr_reasons::{Writer, actor_of};
 use dsr_world::{Event, Stage};
 use std::alloc::Global;
-
-/// For each replica, by its number, how many contents it kept for a slot before it decided the slot; `None` if it has not decided it.
-pub(crate) type KeptBy = [Option<u8>; 16];
 
 /// What was counted in the events so far. Data have none of it, so nothing is counted for them.
 #[derive(Drop)]
@@ -19,7 +16,6 @@ pub(crate) struct Summary {
     as_data: bool,
     counts: NoteCounts,
     posts: PostLines,
-    kept: Vec<KeptBy>,
 }
 
 impl Summary {
@@ -27,9 +23,8 @@ impl Summary {
     pub(crate) fn new(alloc: Global, as_data: bool) -> Result<Summary, Refusal> {
         Ok(Summary {
             as_data,
-            counts: NoteCounts::new(),
+            counts: NoteCounts::new(alloc),
             posts: PostLines::new(alloc)?,
-            kept: Vec::new(alloc),
         })
     }
 
@@ -45,10 +40,9 @@ impl Summary {
         if self.as_data {
             return Ok(());
         }
-        let actor = actor_of(event);
         self.posts.note(event, line);
-        self.counts.add(stage, &actor, envelope, line, notes);
-        count_kept(&mut self.kept, &actor, notes)
+        self.counts
+            .add(stage, &actor_of(event), envelope, line, notes)
     }
 
     /// Counts an event of this line, which was done, if only refused events are wanted.
@@ -70,25 +64,6 @@ impl Summary {
 
     /// Returns, by slot, how many contents replicas kept.
     pub(crate) fn kept(&self) -> &[KeptBy] {
-        self.kept.as_slice()
+        self.counts.kept()
     }
-}
-
-/// Stores how many contents the actor kept for a slot that it decided, if the notes have one.
-fn count_kept(kept: &mut Vec<KeptBy>, actor: &Actor, notes: &[Note]) -> Result<(), Refusal> {
-    let Actor::Replica(replica) = actor else {
-        return Ok(());
-    };
-    for note in notes {
-        if let Note::Decided { slot, kept: count } = note {
-            let place = *slot as usize;
-            if place >= kept.len() {
-                kept.push([None; 16])?;
-            }
-            if place < kept.len() {
-                kept[place][replica.number() as usize] = Some(*count);
-            }
-        }
-    }
-    Ok(())
 }

@@ -304,8 +304,9 @@ impl Texts {
             }
         }
         let told = Told::of(alloc, tokens, shape, envelope, self.as_data)?;
-        self.lay(event, Lying::Alone(told));
-        Ok(Place::InBox(box_of(event)))
+        let place = box_of(event, poster_of(event));
+        self.lay(place, Lying::Alone(told));
+        Ok(Place::InBox(place))
     }
 
     /// Writes the texts about the envelope that a loyal actor posted to a replica, and returns where they are.
@@ -327,19 +328,17 @@ impl Texts {
             posted.last = Some(Told::of(alloc, tokens, shape, envelope, as_data)?);
         }
         let number = posted.count;
-        self.lay(event, Lying::Posted(number));
+        self.lay(box_of(event, poster), Lying::Posted(number));
         Ok(Place::Last(poster))
     }
 
     /// Returns where the texts about the envelope are that this event took; `None` if they were not written.
     fn place_of_taken(&self, event: &Event) -> Option<Place> {
-        let place = box_of(event);
+        let poster = poster_of(event);
+        let place = box_of(event, poster);
         match self.boxes.get(place)? {
             Lying::Nothing => None,
-            Lying::Posted(number) => {
-                let poster = poster_of(event);
-                self.posted.get(poster)?.place_of(poster, *number)
-            }
+            Lying::Posted(number) => self.posted.get(poster)?.place_of(poster, *number),
             Lying::Alone(_) => Some(Place::InBox(place)),
         }
     }
@@ -361,7 +360,8 @@ impl Texts {
         if let Event::Take { .. } = event {
             return;
         }
-        let lying = match self.posted.get_mut(poster_of(event)) {
+        let poster = poster_of(event);
+        let lying = match self.posted.get_mut(poster) {
             Some(posted) if is_to_replica(event) => {
                 if !is_again(event) {
                     posted.put(None);
@@ -370,13 +370,13 @@ impl Texts {
             }
             _ => Lying::Nothing,
         };
-        self.lay(event, lying);
+        self.lay(box_of(event, poster), lying);
     }
 
-    /// Puts this into the event's box.
-    fn lay(&mut self, event: &Event, lying: Lying) {
-        if let Some(place) = self.boxes.get_mut(box_of(event)) {
-            *place = lying;
+    /// Puts this into the box at this place.
+    fn lay(&mut self, place: usize, lying: Lying) {
+        if let Some(held) = self.boxes.get_mut(place) {
+            *held = lying;
         }
     }
 }
@@ -426,15 +426,13 @@ fn poster_of(event: &Event) -> usize {
     }
 }
 
-/// Returns the place of the box that the event fills or empties.
-fn box_of(event: &Event) -> usize {
+/// Returns the place of the box that the event fills or empties; `poster` is the place of the actor whose box it is.
+fn box_of(event: &Event, poster: usize) -> usize {
     let taker = match event {
         Event::Take { .. } => place_of(actor_of(event)),
         _ => place_of(other_of(event)),
     };
-    poster_of(event)
-        .saturating_mul(MOST_ACTORS)
-        .saturating_add(taker)
+    poster.saturating_mul(MOST_ACTORS).saturating_add(taker)
 }
 
 /// Creates a record of no posts for each poster.

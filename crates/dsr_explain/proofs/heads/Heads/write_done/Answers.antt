@@ -3,13 +3,11 @@ use Rattle.std.specs.Fmt.{decimal}
 use Rattle.std.specs.Prelude.{string_bytes}
 use Rattle.dsr_explain.proofs.HeadLemmas.{line_is}
 use Rattle.dsr_explain.specs.Heads.{text_before, text_from}
-use Rattle.dsr_explain.specs.declared.heads.Deed.{Deed}
 use Rattle.dsr_explain.proofs.heads.Heads.write_done.Goals as goal
 
 pub returns-clause-text : goal.returns-clause-text
 returns-clause-text c =
-    let is = c.in_ok-head.ensures.same in
-    let of = c.of-deed.ensures in
+    let is = c.in_ok-head.ensures in
     let old = c.args.out.now in
     let begin = text_before c.args.as_data c.args.line ++ decimal c.args.number in
     let deed = c.in_ok-head.head.now.deed in
@@ -18,5 +16,4 @@ returns-clause-text c =
     ∙ (ap (λ t. t ++ end) c.in_ok-write_start.ensures.text
     ∙ (append_assoc old begin end
     ∙ ap (λ line. old ++ line)
-    (line_is c.args.as_data c.args.line c.args.number c.args.event.now (string_bytes c.args.shown.now) deed (ap (λ (d : Deed). d.as_data) is ∙ of.as_data)
-    (ap (λ (d : Deed). d.line) is ∙ of.line) (ap (λ (d : Deed). d.verb) is ∙ of.verb) (ap (λ (d : Deed). d.actor) is ∙ of.actor))))
+    (line_is c.args.as_data c.args.line c.args.number c.args.event.now (string_bytes c.args.shown.now) deed is.as_data is.line is.verb is.actor)))
