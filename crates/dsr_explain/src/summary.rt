@@ -1,5 +1,5 @@
-//! What an explanation in words tells at its end about all events: what mattered though nothing was refused, and how many contents were kept; and since which
-//! line a box is full.
+//! What an explanation in words says at its end about all events: what mattered although nothing was refused, and how many contents were kept. Also the
+//! lines since which boxes are full.
 
 use crate::counts::{KeptBy, NoteCounts};
 use crate::posts::PostLines;
@@ -45,7 +45,7 @@ impl Summary {
             .add(stage, &actor_of(event), envelope, line, notes)
     }
 
-    /// Counts an event of this line, which was done, if only refused events are wanted.
+    /// Notes an event of this line, which was done, if only refused events are explained.
     pub(crate) fn add_briefly(&mut self, event: &Event, line: u64) {
         if !self.as_data {
             self.posts.note(event, line);
@@ -57,7 +57,7 @@ impl Summary {
         self.posts.full_since(event, refusal)
     }
 
-    /// Writes what mattered in the events though it was not refused.
+    /// Writes what mattered in the events although nothing was refused.
     pub(crate) fn write_noticed(&self, out: &mut Writer) {
         self.counts.write(out);
     }

@@ -223,11 +223,11 @@ impl Posted {
 /// Where the texts about an envelope are.
 #[derive(Clone, Copy)]
 enum Place {
-    /// It is the last one that the actor at this place posted to replicas.
+    /// The envelope is the last one that the actor at this place posted to replicas.
     Last(usize),
-    /// It is the one before the last.
+    /// The envelope is the one before the last.
     Before(usize),
-    /// It was posted only to this box.
+    /// The envelope was posted only to this box.
     InBox(usize),
 }
 
@@ -285,7 +285,7 @@ impl Texts {
         }
     }
 
-    /// Returns where these texts are; writes them if they are not there.
+    /// Returns where the texts about the envelope are; writes them if they are not there.
     fn place_of_told(
         &mut self,
         alloc: Global,

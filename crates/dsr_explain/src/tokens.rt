@@ -13,15 +13,15 @@ use std::alloc::Global;
 /// The maximum number of clients.
 const MOST_CLIENTS: usize = 32;
 
-/// An actor with the texts that have its name.
+/// An actor, and two texts that have its name.
 #[derive(Drop)]
 struct Name {
     actor: Actor,
-    /// The beginning of the data about a chain that it took.
+    /// How the data about a chain begin that it took.
     chain: String,
     ghost is_chain: { string_bytes chain ≡ chain_name actor },
     as_data: bool,
-    /// What it is in the line of an event that was done and concerns it.
+    /// Its name in the line of an event that was done with it; in data the word for that follows.
     done: String,
     ghost is_done: { string_bytes done ≡ done_name as_data actor },
 }
@@ -54,7 +54,7 @@ impl Tokens {
         })
     }
 
-    /// Appends the beginning of the data about a chain that the actor took.
+    /// Appends how the data about a chain begin that the actor took.
     pub(crate) fn put_chain(&self, out: &mut Writer, actor: Actor)
         ensures { out.new ≡ out.old ++ chain_name actor }
     {
@@ -64,7 +64,7 @@ impl Tokens {
         }
     }
 
-    /// Appends the name of the actor whom an event concerns that was done, and in data the word for that.
+    /// Appends the name of the actor with whom an event was done; in data the word for that follows.
     pub(crate) fn put_done(&self, out: &mut Writer, as_data: bool, actor: Actor)
         ensures { out.new ≡ out.old ++ done_name as_data actor }
     {
@@ -145,7 +145,7 @@ fn write_name(alloc: Global, as_data: bool, actor: &Actor) -> Result<Name, Refus
     })
 }
 
-/// Appends the beginning of the data about a chain that the actor took.
+/// Appends how the data about a chain begin that the actor took.
 pub(crate) fn put_chain(out: &mut Writer, actor: Actor)
     ensures { out.new ≡ out.old ++ chain_name actor }
 {
@@ -153,7 +153,7 @@ pub(crate) fn put_chain(out: &mut Writer, actor: Actor)
     out.put_name(actor);
 }
 
-/// Appends the name of the actor whom an event concerns that was done, and in data the word for that.
+/// Appends the name of the actor with whom an event was done; in data the word for that follows.
 fn put_done(out: &mut Writer, as_data: bool, actor: Actor)
     ensures { out.new ≡ out.old ++ done_name as_data actor }
 {

@@ -19,8 +19,8 @@ use std::alloc::Global;
 use std::fmt::Write;
 use std::marker::Model;
 
-/// A text that is written piece by piece. If memory runs out, the writer remembers it: its user checks once, when it asks for the whole text, and not
-/// after each piece.
+/// A text that is written piece by piece, for which its calls allocate. If memory runs out, the writer remembers it: its user checks once, when it asks
+/// for the whole text, and not after each piece.
 ///
 /// Contracts see a writer as all pieces that were put, including those for which memory was refused.
 #[derive(Drop)]
@@ -247,7 +247,7 @@ impl Writer {
     }
 }
 
-/// Remembers that memory ran out, unless a piece was put.
+/// Remembers that memory ran out if a piece was not put.
 fn remember(is_broken: &mut bool, is_put: bool)
     ensures { is_broken.new ≡ false → (is_broken.old ≡ false) × (is_put ≡ true) }
 {
