@@ -36,11 +36,11 @@ text_after deed =
     (codes " " ++ (decimal deed.line ++ (codes " " ++ (verb_text true deed.verb ++ (codes " " ++ (actor_text deed.actor ++ codes " "))))))
     (codes ": " ++ (actor_text deed.actor ++ verb_text false deed.verb))
 
--- the name of the actor with whom an event was done; in data the word for that follows
+-- the name of the other actor of an event that was done; in data, followed by "done"
 abbrev pub done_name : Bool → Actor → List ℕ
 done_name is_data other = actor_text other ++ one_of is_data (codes " done") []
 
--- how the data about a chain begin that this actor took
+-- the start of the data line for a chain that this actor took
 abbrev pub chain_name : Actor → List ℕ
 chain_name at = codes "chain " ++ actor_text at
 

@@ -56,7 +56,7 @@ struct FirstVote {
     line: u64,
 }
 
-/// How often each of these things happened.
+/// How often each of these things happened, and how many contents replicas kept.
 #[derive(Drop)]
 pub(crate) struct NoteCounts {
     other_round: Count,

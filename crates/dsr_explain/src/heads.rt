@@ -41,7 +41,7 @@ impl Deed {
         }
     }
 
-    /// Tells whether `of` would return this deed. It makes none, since it is asked for each event.
+    /// Tells whether `of` would return this deed, without making one: it is called for each event.
     fn is_of(&self, as_data: bool, line: u64, event: &Event) -> bool
         ensures as_data { IsTrue result → self.now.as_data ≡ as_data }
         ensures line { IsTrue result → self.now.line ≡ line }

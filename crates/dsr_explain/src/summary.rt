@@ -10,7 +10,7 @@ use dsr_reasons::{Writer, actor_of};
 use dsr_world::{Event, Stage};
 use std::alloc::Global;
 
-/// What was counted in the events so far. Data have none of it, so nothing is counted for them.
+/// What was counted in the events so far. Nothing is counted for data, which have no summary.
 #[derive(Drop)]
 pub(crate) struct Summary {
     as_data: bool,
@@ -52,7 +52,8 @@ impl Summary {
         }
     }
 
-    /// Returns the line of the post that fills the event's box, if the event was refused because the box is full.
+    /// Returns the line of the post that fills the event's box, if the event was refused because the box is full. It is right only for words: for data no
+    /// post is noted.
     pub(crate) fn full_since(&self, event: &Event, refusal: &Refusal) -> Option<u64> {
         self.posts.full_since(event, refusal)
     }

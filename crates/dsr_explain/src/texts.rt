@@ -207,8 +207,8 @@ impl Posted {
         self.count = self.count.saturating_add(1);
     }
 
-    /// Returns where the texts about the envelope with this number are, counted from 1; `None` if they were not written, or are forgotten. `poster` is
-    /// the place of the actor.
+    /// Returns the place of the texts about the envelope with this number, counted from 1; `None` if there are none, or none any more. `poster` is the
+    /// actor's place.
     fn place_of(&self, poster: usize, number: u64) -> Option<Place> {
         if number == self.count && self.last.is_some() {
             return Some(Place::Last(poster));
@@ -220,7 +220,7 @@ impl Posted {
     }
 }
 
-/// Where the texts about an envelope are.
+/// The place of the texts about an envelope.
 #[derive(Clone, Copy)]
 enum Place {
     /// The envelope is the last one that the actor at this place posted to replicas.
@@ -265,8 +265,8 @@ impl Texts {
         })
     }
 
-    /// Returns the texts about the envelope that this event, which was done, posted or took; writes them if they are not there. Without an envelope returns
-    /// those about none. `NoMemory` if memory runs out.
+    /// Returns the texts about the envelope that this event, which was done, posted or took; writes them if they are missing. Without an envelope, returns
+    /// the texts about none. `NoMemory` if memory runs out.
     pub(crate) fn told(
         &mut self,
         alloc: Global,
@@ -285,7 +285,7 @@ impl Texts {
         }
     }
 
-    /// Returns where the texts about the envelope are; writes them if they are not there.
+    /// Returns the place of the texts about the envelope; writes the texts if they are missing.
     fn place_of_told(
         &mut self,
         alloc: Global,
@@ -309,7 +309,7 @@ impl Texts {
         Ok(Place::InBox(place))
     }
 
-    /// Writes the texts about the envelope that a loyal actor posted to a replica, and returns where they are.
+    /// Writes the texts about the envelope that a loyal actor posted to a replica, and returns their place.
     fn note_posted(
         &mut self,
         alloc: Global,
@@ -332,7 +332,7 @@ impl Texts {
         Ok(Place::Last(poster))
     }
 
-    /// Returns where the texts about the envelope are that this event took; `None` if they were not written.
+    /// Returns the place of the texts about the envelope that this event took; `None` if there are none.
     fn place_of_taken(&self, event: &Event) -> Option<Place> {
         let poster = poster_of(event);
         let place = box_of(event, poster);

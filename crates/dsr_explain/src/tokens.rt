@@ -17,11 +17,11 @@ const MOST_CLIENTS: usize = 32;
 #[derive(Drop)]
 struct Name {
     actor: Actor,
-    /// How the data about a chain begin that it took.
+    /// The start of the data line for a chain that it took.
     chain: String,
     ghost is_chain: { string_bytes chain ≡ chain_name actor },
     as_data: bool,
-    /// Its name in the line of an event that was done with it; in data the word for that follows.
+    /// Its name as the other actor of an event that was done; in data, followed by `done`.
     done: String,
     ghost is_done: { string_bytes done ≡ done_name as_data actor },
 }
@@ -54,7 +54,7 @@ impl Tokens {
         })
     }
 
-    /// Appends how the data about a chain begin that the actor took.
+    /// Appends the start of the data line for a chain that the actor took.
     pub(crate) fn put_chain(&self, out: &mut Writer, actor: Actor)
         ensures { out.new ≡ out.old ++ chain_name actor }
     {
@@ -64,7 +64,7 @@ impl Tokens {
         }
     }
 
-    /// Appends the name of the actor with whom an event was done; in data the word for that follows.
+    /// Appends the name of the other actor of an event that was done; in data, followed by `done`.
     pub(crate) fn put_done(&self, out: &mut Writer, as_data: bool, actor: Actor)
         ensures { out.new ≡ out.old ++ done_name as_data actor }
     {
@@ -145,7 +145,7 @@ fn write_name(alloc: Global, as_data: bool, actor: &Actor) -> Result<Name, Refus
     })
 }
 
-/// Appends how the data about a chain begin that the actor took.
+/// Appends the start of the data line for a chain that the actor took.
 pub(crate) fn put_chain(out: &mut Writer, actor: Actor)
     ensures { out.new ≡ out.old ++ chain_name actor }
 {
@@ -153,7 +153,7 @@ pub(crate) fn put_chain(out: &mut Writer, actor: Actor)
     out.put_name(actor);
 }
 
-/// Appends the name of the actor with whom an event was done; in data the word for that follows.
+/// Appends the name of the other actor of an event that was done; in data, followed by `done`.
 fn put_done(out: &mut Writer, as_data: bool, actor: Actor)
     ensures { out.new ≡ out.old ++ done_name as_data actor }
 {
