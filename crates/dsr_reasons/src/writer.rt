@@ -5,6 +5,8 @@ ghost use Rattle.std.specs.Fmt.{decimal};
 ghost use Rattle.dsr_base.specs.Joined.{more_joined};
 ghost use Rattle.dsr_names.specs.Actor.{actor_text};
 ghost use Rattle.dsr_request.specs.RequestText.{request_token};
+ghost use Rattle.dsr_request.specs.RequestsText.{requests_text};
+ghost use Rattle.dsr_desk.specs.ContentText.{content_text};
 ghost use Rattle.dsr_desk.specs.SignersText.{signers_text};
 ghost use Rattle.dsr_desk.specs.StatementText.{statement_text};
 ghost use Rattle.dsr_reasons.specs.Reason.{one_of};
@@ -12,7 +14,7 @@ ghost use Rattle.dsr_reasons.specs.Digits.{last_two};
 
 use dsr_desk::Statement;
 use dsr_names::{Actor, Refusal};
-use dsr_request::Request;
+use dsr_request::{Request, Requests};
 use http_server::Log;
 use itoa::Buffer;
 use std::alloc::Global;
@@ -148,9 +150,57 @@ impl Writer {
     pub fn put_statement(&mut self, statement: &Statement)
         ensures { self.new ≡ self.old ++ statement_text statement.now }
     {
-        let is_put = write!(self.text, "{statement}").is_ok();
-        remember(&mut self.is_broken, is_put);
-        self.pieces = self.pieces.and(&Piece::Statement(*statement), &self.text);
+        match statement {
+            Statement::Ask(request) => self.put_request(request),
+            Statement::Link {
+                slot,
+                value,
+                before,
+            } => {
+                self.put_number(*slot);
+                self.put("/");
+                self.put_content(value);
+                self.put("/");
+                self.put_signers(before.as_slice());
+            }
+        }
+    }
+
+    /// Appends the content of a slot: its requests, joined by commas, or that it is idle.
+    fn put_content(&mut self, content: &Option<Requests>)
+        ensures { self.new ≡ self.old ++ content_text content.now }
+    {
+        match content {
+            None => self.put("idle"),
+            Some(requests) => self.put_requests(requests.as_slice()),
+        }
+    }
+
+    /// Appends these requests, joined by commas.
+    fn put_requests(&mut self, requests: &[Request])
+        ensures { self.new ≡ self.old ++ requests_text requests.now }
+    {
+        match requests {
+            [] => {}
+            [first, others @ ..] => {
+                self.put_request(first);
+                self.put_more(others);
+            }
+        }
+    }
+
+    /// Appends these requests, each after a comma.
+    fn put_more(&mut self, requests: &[Request])
+        ensures { self.new ≡ self.old ++ more_joined 44 request_token requests.now }
+    {
+        match requests {
+            [] => {}
+            [first, others @ ..] => {
+                self.put(",");
+                self.put_request(first);
+                self.put_more(others);
+            }
+        }
     }
 
     /// Appends the letter and the number. Requires a letter of ASCII, and a number below 100.
@@ -270,7 +320,6 @@ pub(crate) enum Piece {
     Char(char),
     Number(u64),
     Request(Request),
-    Statement(Statement),
     /// The text beside it in the list.
     Shown,
 }

@@ -3,9 +3,8 @@ use Rattle.std.specs.Prelude.{◌≡◌, ◌++◌, ◌∷◌, [], false, ℕ, Li
 use Rattle.std.specs.Fmt.{decimal}
 use Rattle.std.specs.declared.string.String.{String}
 use Rattle.dsr_request.specs.RequestText.{request_token}
-use Rattle.dsr_desk.specs.StatementText.{statement_text}
 use Rattle.dsr_reasons.specs.declared.writer.Piece.{Piece}
-use Rattle.dsr_reasons.specs.declared.writer.Piece.TheVariants.{Text, Char, Number, Request, Statement, Shown}
+use Rattle.dsr_reasons.specs.declared.writer.Piece.TheVariants.{Text, Char, Number, Request, Shown}
 use Rattle.dsr_reasons.specs.declared.writer.Writer.TheInside.{Inside}
 
 -- what a piece is; `text` is noted with it
@@ -14,7 +13,6 @@ piece_text (Text word) text = word.now
 piece_text (Char character) text = character ∷ []
 piece_text (Number number) text = decimal number
 piece_text (Request request) text = request_token request
-piece_text (Statement statement) text = statement_text statement
 piece_text Shown text = text
 
 -- what these pieces are, one after another
