@@ -5,20 +5,44 @@ use dsr_names::Refusal;
 use dsr_trouble::Counts;
 use std::alloc::Global;
 
+/// A line of a play.
+#[derive(Drop)]
+pub(crate) struct Line<'a> {
+    /// Its number, counted from 1.
+    pub(crate) number: u64,
+    /// Its text, without the line feed.
+    text: &'a [u8],
+}
+
+impl Line<'_> {
+    /// Returns the text of the envelope, if this is a line `plant A B ENVELOPE` or `plants A ENVELOPE`.
+    pub(crate) fn envelope(&self) -> Option<&str> {
+        let (word, rest) = split_once(self.text, b' ')?;
+        let (_, rest) = split_once(rest, b' ')?;
+        let envelope = if word == b"plants".as_slice() {
+            rest
+        } else {
+            split_once(rest, b' ')?.1
+        };
+        str::from_utf8(envelope).ok()
+    }
+}
+
 /// The lines of a play, read as far as the last event for which a line was asked.
 #[derive(Drop)]
 pub(crate) struct Places<'a> {
     counts: Counts<'a>,
     /// The lines that were not read yet.
     rest: &'a [u8],
-    /// The number of the last line that was read, counted from 1, and how many events it and those before it represent.
-    line: u64,
+    /// The number and the text of the last line that was read, and how many events it and those before it represent.
+    number: u64,
+    text: &'a [u8],
     end: usize,
 }
 
-impl Places<'_> {
+impl<'a> Places<'a> {
     /// Reads the header of the play's text.
-    pub(crate) fn new(text: &[u8]) -> Places<'_> {
+    pub(crate) fn new(text: &'a [u8]) -> Places<'a> {
         let (header, lines) = match split_once(text, b'\n') {
             Some((header, lines)) => (header, lines),
             None => (text, text),
@@ -26,13 +50,14 @@ impl Places<'_> {
         Places {
             counts: Counts::new(header),
             rest: lines,
-            line: 1,
+            number: 1,
+            text: header,
             end: 0,
         }
     }
 
     /// Returns the line that represents the event at this place. No earlier place may be asked for afterwards. `NoMemory` if memory runs out.
-    pub(crate) fn line_of(&mut self, alloc: Global, place: usize) -> Result<u64, Refusal> {
+    pub(crate) fn line_of(&mut self, alloc: Global, place: usize) -> Result<Line<'a>, Refusal> {
         // A text has no more lines than bytes.
         for _ in 0..self.rest.len() {
             if place < self.end {
@@ -40,14 +65,18 @@ impl Places<'_> {
             }
             self.read_line(alloc)?;
         }
-        Ok(self.line)
+        Ok(Line {
+            number: self.number,
+            text: self.text,
+        })
     }
 
     /// Reads the next line, if there is one.
     fn read_line(&mut self, alloc: Global) -> Result<(), Refusal> {
-        if let Some((line, rest)) = split_once(self.rest, b'\n') {
-            let count = self.counts.count(alloc, line)?;
-            self.line = self.line.saturating_add(1);
+        if let Some((text, rest)) = split_once(self.rest, b'\n') {
+            let count = self.counts.count(alloc, text)?;
+            self.number = self.number.saturating_add(1);
+            self.text = text;
             self.end = self.end.saturating_add(count);
             self.rest = rest;
         }

@@ -1,22 +1,22 @@
 //! Explains a play event by event, in a new stage.
 
-ghost use Rattle.std.specs.Prelude.{◌≡◌, ◌≢◌, ◌+◌, ◌≤◌, ◌++◌, ℕ, List, Err, IfErr, IfOk, OnErr, OnOk, IsOkUnless, string_bytes, filter, length, map, [], true, false, option_map};
+ghost use Rattle.std.specs.Prelude.{◌≡◌, ◌≢◌, ◌+◌, ◌≤◌, ◌++◌, ℕ, List, Err, IfErr, IfOk, OnErr, OnOk, IsOkUnless, IsTrue, string_bytes, filter, length, map, [], true, false, option_map};
 ghost use Rattle.dsr_reasons.specs.Reason.{TellsCause, actor_of, other_of};
 ghost use Rattle.dsr_run.specs.Step.{log_of};
 ghost use Rattle.dsr_world.specs.Event.{MayBeDone};
 ghost use Rattle.dsr_explain.specs.Lines.{note_line, note_lines};
 ghost use Rattle.dsr_explain.specs.Letters.{box_of, handled};
 ghost use Rattle.dsr_names.specs.Streams.{CanFailToTake, SentAll, SentPrefix};
-ghost use Rattle.dsr_explain.specs.Outlet.{HasGoneOut};
+ghost use Rattle.dsr_explain.specs.Outlet.{HasGoneOut, IsUnsure};
 ghost use Rattle.dsr_explain.specs.Telling.{GoesOn};
-ghost use Rattle.dsr_explain.specs.Told.{HasBrokenOff, TellsEvents, TellsNotes, TellsRefusal, TellsWanted, chains_in_some, first_line, last_chains, last_envelope, refused_line};
+ghost use Rattle.dsr_explain.specs.Told.{HasBrokenOff, LeftOfExplanation, TellsEvents, TellsNotes, TellsPlay, TellsRefusal, TellsWanted, chains_in_some, first_line, last_chains, last_envelope, refused_line};
 ghost use Rattle.dsr_explain.specs.Wanted.{wants_note};
 
 use crate::chain_texts::ChainText;
 use crate::heads::{Heads, write_refused};
 use crate::lines::write_note;
 use crate::outlet::Outflow;
-use crate::places::Places;
+use crate::places::{Line, Places};
 use crate::summary::Summary;
 use crate::texts::{Texts, end_of_refused};
 use crate::tokens::Tokens;
@@ -26,14 +26,14 @@ use dsr_envelope::{Envelope, Letter};
 use dsr_names::{Actor, Refusal, Shape, Sink};
 use dsr_notes::{Note, step_noted};
 use dsr_reasons::{Writer, write_why};
-use dsr_world::{Event, Stage};
+use dsr_world::{Event, Play, Stage};
 use std::alloc::Global;
 use std::fmt::Write;
 
 /// How many bytes `make_room` reserves for each event.
 const ROOM_OF_AN_EVENT: usize = 176;
 
-/// The explanation of a play so far, and the stage on which its events happen.
+/// The explanation of a play so far, and the stage on which its events happen. It is never freed.
 #[derive(Drop)]
 pub(crate) struct Story {
     pub(crate) stage: Stage,
@@ -88,9 +88,39 @@ impl Story {
         })
     }
 
+    /// Explains the play with this text: its events, and then the end. `NoMemory` if memory runs out, and `WriteFailed` if writing fails. Requires that the
+    /// story has just begun.
+    pub(crate) fn tell_play<K: Sink>(
+        &mut self,
+        alloc: Global,
+        text: &[u8],
+        play: &Play,
+        sink: &mut K,
+    ) -> Result<(), Refusal>
+        requires shape { self.old.stage.shape ≡ play.now.shape }
+        requires empty { self.old.stage.run ≡ [] }
+        requires begun { self.old.out ≡ first_line self.old.wanted.data play.now.shape }
+        requires unsure { IsTrue self.old.outflow.in_parts → IsUnsure (K.output sink.old) }
+        ensures told { OnOk result ((told : List ℕ) × TellsPlay self.old.wanted play.now told × SentAll told (K.output sink.old) (K.output sink.new)) }
+        ensures refused { IfErr result (λ refusal. LeftOfExplanation self.old.wanted play.now refusal (K.output sink.old) (K.output sink.new)) }
+        ensures calls { (K.output sink.new).calls ≤ (K.output sink.old).calls + self.old.outflow.calls }
+    {
+        match self.tell_events(alloc, text, play.events(), sink) {
+            Ok(_) => {}
+            Err(refusal) => return Err(refusal),
+        }
+        let Ok(_) = self.end(alloc, play.events().len()) else {
+            return Err(Refusal::NoMemory);
+        };
+        let Ok(rest) = self.out.whole() else {
+            return Err(Refusal::NoMemory);
+        };
+        self.outflow.pass_rest(rest, sink)
+    }
+
     /// Explains the events of the play with this text, in turn; a long text goes out in parts. `NoMemory` if memory runs out, and `WriteFailed` if
     /// writing fails; the story must not be used then.
-    pub(crate) fn tell_events<K: Sink>(
+    fn tell_events<K: Sink>(
         &mut self,
         alloc: Global,
         text: &[u8],
@@ -116,7 +146,7 @@ impl Story {
             let Ok(line) = places.line_of(alloc, place) else {
                 return Err(Refusal::NoMemory);
             };
-            let Ok(_) = self.tell(alloc, place as u64, line, &events[place]) else {
+            let Ok(_) = self.tell(alloc, place as u64, &line, &events[place]) else {
                 return Err(Refusal::NoMemory);
             };
             match self.outflow.pass_part(&mut self.out, sink) {
@@ -140,7 +170,13 @@ impl Story {
     }
 
     /// Makes the event with this number, which this line represents, happen, and explains it. `NoMemory` if memory runs out.
-    fn tell(&mut self, alloc: Global, number: u64, line: u64, event: &Event) -> Result<(), Refusal>
+    fn tell(
+        &mut self,
+        alloc: Global,
+        number: u64,
+        line: &Line,
+        event: &Event,
+    ) -> Result<(), Refusal>
         ensures { GoesOn number event.now result self.old self.new }
     {
         if self.wanted.refused {
@@ -155,7 +191,7 @@ impl Story {
         &mut self,
         alloc: Global,
         number: u64,
-        line: u64,
+        line: &Line,
         event: &Event,
     ) -> Result<(), Refusal>
         requires { self.old.wanted.refused ≡ true }
@@ -163,7 +199,7 @@ impl Story {
     {
         match self.stage.step(alloc, event) {
             Ok(_) => {
-                self.summary.add_briefly(event, line);
+                self.summary.add_briefly(event, line.number);
                 Ok(())
             }
             Err(Refusal::NoMemory) => Err(Refusal::NoMemory),
@@ -176,7 +212,7 @@ impl Story {
         &mut self,
         alloc: Global,
         number: u64,
-        line: u64,
+        line: &Line,
         event: &Event,
     ) -> Result<(), Refusal>
         requires { self.old.wanted.refused ≡ false }
@@ -198,7 +234,7 @@ impl Story {
         &mut self,
         alloc: Global,
         number: u64,
-        line: u64,
+        line: &Line,
         event: &Event,
     ) -> Result<(), Refusal>
         requires { handled self.old.stage.shape self.old.stage.run event.now ≡ last_envelope self.old.stage.run }
@@ -211,7 +247,8 @@ impl Story {
     {
         let notes = self.notes.as_slice();
         let envelope = handled(&self.stage, event);
-        self.summary.add(&self.stage, event, envelope, line, notes)?;
+        self.summary
+            .add(&self.stage, event, envelope, line.number, notes)?;
         if !self.wanted.has_done(event, notes) {
             self.texts.forget(event);
             return Ok(());
@@ -223,7 +260,7 @@ impl Story {
             &self.tokens,
             self.wanted.data,
             number,
-            line,
+            line.number,
             event,
             told.end(),
         )?;
@@ -245,7 +282,7 @@ impl Story {
         &mut self,
         alloc: Global,
         number: u64,
-        line: u64,
+        line: &Line,
         event: &Event,
         refusal: &Refusal,
     ) -> Result<(), Refusal>
@@ -257,7 +294,7 @@ impl Story {
         ensures outflow { self.new.outflow ≡ self.old.outflow }
         ensures stage { self.new.stage ≡ self.old.stage }
     {
-        self.first_refused = first_line_of(self.refused, self.first_refused, line);
+        self.first_refused = first_line_of(self.refused, self.first_refused, line.number);
         self.refused = self.refused.saturating_add(1);
         if self.wanted.has_refused(event) {
             let as_data = self.wanted.data;
@@ -287,17 +324,17 @@ fn write_refusal(
     as_data: bool,
     stage: &Stage,
     number: u64,
-    line: u64,
+    line: &Line,
     event: &Event,
     refusal: &Refusal,
     since: Option<u64>,
 ) -> Result<(), Refusal>
     requires { ¬ MayBeDone stage.now.shape (log_of stage.now.run) event.now }
     ensures { OnOk result ((shown : List ℕ) × TellsCause stage.now.shape (log_of stage.now.run) event.now as_data
-        (out.old ++ refused_line as_data number line event.now refusal.now shown) out.new) }
+        (out.old ++ refused_line as_data number line.now.number event.now refusal.now shown) out.new) }
 {
-    let shown = end_of_refused(alloc, event, as_data, since)?;
-    write_refused(out, as_data, number, line, event, refusal, &shown);
+    let shown = end_of_refused(alloc, event, line, as_data, since)?;
+    write_refused(out, as_data, number, line.number, event, refusal, &shown);
     write_why(out, as_data, stage, event);
     Ok(())
 }

@@ -31,7 +31,12 @@ pub fn explain<K: Outlet>(
     ensures calls { (K.output sink.new).calls ≤ (K.output sink.old).calls + most_calls }
 {
     match Play::read(alloc, text) {
-        Ok(play) => tell_play(alloc, text, play, wanted, sink),
+        Ok(play) => {
+            let told = tell_play(alloc, text, &play, wanted, sink);
+            // The program ends soon, and to free a long play takes a while.
+            forget(play);
+            told
+        }
         Err(Refusal::NoMemory) => Err(Refusal::NoMemory),
         Err(refusal) => tell_trouble(alloc, text, refusal, sink),
     }
@@ -57,36 +62,22 @@ fn tell_trouble<K: Sink>(
     Err(refusal)
 }
 
-/// Writes what is wanted about this play, which the text encodes.
+/// Writes what is wanted about this play, which the text encodes. The stage on which its events happen is not freed.
 fn tell_play<K: Outlet>(
     alloc: Global,
     text: &[u8],
-    play: Play,
+    play: &Play,
     wanted: &Wanted,
     sink: &mut K,
 ) -> Result<(), Refusal>
-    ensures told { OnOk result ((told : List ℕ) × TellsPlay wanted.now play told × SentAll told (K.output sink.old) (K.output sink.new)) }
-    ensures refused { IfErr result (λ refusal. LeftOfExplanation wanted.now play refusal (K.output sink.old) (K.output sink.new)) }
+    ensures told { OnOk result ((told : List ℕ) × TellsPlay wanted.now play.now told × SentAll told (K.output sink.old) (K.output sink.new)) }
+    ensures refused { IfErr result (λ refusal. LeftOfExplanation wanted.now play.now refusal (K.output sink.old) (K.output sink.new)) }
     ensures calls { (K.output sink.new).calls ≤ (K.output sink.old).calls + most_calls }
 {
     let Ok(mut story) = Story::begin(alloc, play.shape(), wanted, Outflow::to(sink)) else {
         return Err(Refusal::NoMemory);
     };
-    match story.tell_events(alloc, text, play.events(), sink) {
-        Ok(_) => {}
-        Err(refusal) => return Err(refusal),
-    }
-    let Ok(_) = story.end(alloc, play.events().len()) else {
-        return Err(Refusal::NoMemory);
-    };
-    // The text and its way out are lent at the same time, for which both have to come from one reference.
-    let ended = &mut story;
-    let Ok(rest) = ended.out.whole() else {
-        return Err(Refusal::NoMemory);
-    };
-    let told = ended.outflow.pass_rest(rest, sink);
-    // The program ends soon, and to free the stage of a long play takes a while.
+    let told = story.tell_play(alloc, text, play, sink);
     forget(story);
-    forget(play);
     told
 }

@@ -2,6 +2,7 @@
 
 use crate::chain_texts::ChainText;
 use crate::pieces::{MOST_ACTORS, place_of};
+use crate::places::Line;
 use crate::short::{is_short, write_short};
 use crate::tokens::Tokens;
 use dsr_envelope::{Envelope, Pick};
@@ -83,17 +84,18 @@ fn end_of(
 }
 
 /// Returns the end of the line of an event that was refused: what it was to post, if the event says so, after, in words, the line since which its box is
-/// full, if there is one. `NoMemory` if memory runs out.
+/// full, if there is one. `line` represents the event. `NoMemory` if memory runs out.
 pub(crate) fn end_of_refused(
     alloc: Global,
     event: &Event,
+    line: &Line,
     as_data: bool,
     since: Option<u64>,
 ) -> Result<String, Refusal> {
     let mut end = Writer::new(alloc);
     write_since(&mut end, as_data, since);
     match event {
-        Event::Plant { draft, .. } => write_draft(&mut end, alloc, draft, as_data)?,
+        Event::Plant { draft, .. } => write_planted(&mut end, alloc, draft, line, as_data)?,
         Event::Post { pick, .. } if !as_data => write_choice(&mut end, alloc, &pick.pick())?,
         _ => end.put(end_of_none(as_data)),
     }
@@ -126,10 +128,32 @@ fn write_draft(
 ) -> Result<(), Refusal> {
     let mut text = String::new(alloc);
     write!(text, "{draft}")?;
-    out.put(before_draft(as_data));
-    out.put_text(&text);
-    out.put("\n");
+    write_envelope(out, &text, as_data);
     Ok(())
+}
+
+/// Writes the end of the line of a plant: the envelope of this draft, whose text is a copy of that in the line of the play. `NoMemory` if memory runs out.
+fn write_planted(
+    out: &mut Writer,
+    alloc: Global,
+    draft: &Draft,
+    line: &Line,
+    as_data: bool,
+) -> Result<(), Refusal> {
+    let Some(envelope) = line.envelope() else {
+        return write_draft(out, alloc, draft, as_data);
+    };
+    let mut text = String::new(alloc);
+    text.push_str(envelope)?;
+    write_envelope(out, &text, as_data);
+    Ok(())
+}
+
+/// Writes the end of an event's line: the envelope with this text.
+fn write_envelope(out: &mut Writer, text: &String, as_data: bool) {
+    out.put(before_draft(as_data));
+    out.put_text(text);
+    out.put("\n");
 }
 
 /// Returns what is between an event and its envelope.

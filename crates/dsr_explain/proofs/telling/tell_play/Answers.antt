@@ -1,92 +1,28 @@
-use Rattle.std.proofs.Common.{◌≡◌, ◌++◌, ◌∙◌, ℕ, List, ap, arith, refl, subst, sym}
-use Rattle.std.specs.Prelude.{IsTrue, OnErr, false, length}
-use Rattle.dsr_names.specs.Streams.{CanFailToTake, SentAll}
-use Rattle.dsr_names.specs.declared.refusal.Refusal.TheVariants.{NoMemory}
-use Rattle.dsr_explain.specs.Outlet.{HasGoneOut}
-use Rattle.dsr_explain.specs.Told.{TellsPlay, first_line}
-use Rattle.dsr_explain.proofs.BreakLemmas.{left_broken, of_play, starved, unsent}
-use Rattle.dsr_explain.proofs.PartLemmas.{all_gone, gone_on, none_gone}
-use Rattle.dsr_explain.proofs.ToldLemmas.{on_ok, told_whole}
+use Rattle.std.proofs.Common.{◌∙◌, ℕ, List, ap, arith, subst, sym}
+use Rattle.std.specs.Prelude.{IfErr, IsTrue, OnOk}
+use Rattle.dsr_names.specs.Streams.{SentAll}
+use Rattle.dsr_explain.specs.Told.{LeftOfExplanation, TellsPlay, first_line}
 use Rattle.dsr_explain.proofs.telling.tell_play.Goals as goal
 
+pub tell_play-told-requires : goal.tell_play-told-requires
+tell_play-told-requires g c = record {
+  shape = c.in-Ok.ensures.shape ∙ c.shape.ensures;
+  empty = c.in-Ok.ensures.empty;
+  begun = c.in-Ok.ensures.out
+      ∙ (ap (first_line c.args.wanted.now.data) c.shape.ensures ∙ ap (λ w. first_line w.data c.args.play.now.shape) (sym c.in-Ok.ensures.wanted));
+  unsure = λ yes. c.to.ensures.parts (subst (λ f. IsTrue f.in_parts) c.in-Ok.ensures.outflow yes);
+}
+
+-- the filter of the story is the one that is wanted
 pub returns : goal.returns
 returns g c =
-    let play = c.args.play in
-    let wanted = c.args.wanted.now in
+    let play = c.args.play.now in
     let s0 = g.K.Sink.output c.args.sink.now in
-    let s1 = g.K.Sink.output c.tell_events.new.sink in
-    let s2 = g.K.Sink.output c.pass_rest-told.new.sink in
-    let begun = c.in-Ok.story in
-    let mid = c.tell_events.new.self in
-    let rest = c.in-Ok-whole.rest.now in
-    let told = c.in-Ok-tell_events.ensures.told in
-    let end = c.in-Ok-end.ensures.told in
-    let ends = end.0 ++ (end.1 ++ end.2) in
-    let first = begun.out ++ told.0 in
-    let total = first ++ ends in
-    let parts = begun.outflow.in_parts in
-    let tells = told_whole wanted begun.wanted mid.wanted play begun.stage.shape mid.stage.shape c.events.result.now mid.stage.run begun.stage.run
-    begun.out first total
-    c.in-Ok.ensures.wanted c.in-Ok-tell_events.ensures.wanted (c.in-Ok.ensures.shape ∙ c.shape.ensures) c.in-Ok-tell_events.ensures.shape
-    c.events.ensures.same c.in-Ok.ensures.empty (c.in-Ok.ensures.out ∙ ap (first_line wanted.data) c.shape.ensures)
-    (told.0, told.1, refl) (end.0, end.1, end.2, end.3, end.4, refl) in
-    let gone = gone_on parts first mid.out ends rest s0 s1 s1 told.2
-    (subst (λ t. HasGoneOut parts (mid.out ++ ends) t s1 s1) (sym (c.in-Ok-whole.ensures.whole ∙ end.5)) (none_gone parts (mid.out ++ ends) s1)) in
-    let flow = ap (λ f. f.in_parts) c.in-Ok-end.ensures.outflow ∙ c.in-Ok-tell_events.ensures.parts in
-    let failed = subst (λ b. OnErr c.pass_rest-told.result (b ≡ false → CanFailToTake (length rest) s1)) flow c.pass_rest-told.ensures.failed in
+    let s1 = g.K.Sink.output c.tell_play-told.new.sink in
     record {
-      told = on_ok c.pass_rest-told.result (SentAll rest s1 s2) ((text : List ℕ) × TellsPlay wanted play text × SentAll text s0 s2)
-          (λ sent. (total, tells, all_gone parts total rest s0 s1 s2 gone sent)) c.pass_rest-told.ensures.all;
-      refused = unsent c.pass_rest-told.result wanted play parts total rest s0 s1 s2
-          (λ yes. c.to.ensures.parts (subst (λ f. IsTrue f.in_parts) c.in-Ok.ensures.outflow yes))
-          (λ none. ap (g.K.Sink.output) (c.in-Ok-tell_events.ensures.at_once none).1) tells gone
-          c.pass_rest-told.ensures.refusal failed c.pass_rest-told.ensures.prefix;
-      calls = omega (
-        arith,
-        c.pass_rest-told.ensures.calls,
-        ap (λ f. f.calls) c.in-Ok-end.ensures.outflow,
-        c.in-Ok-tell_events.ensures.calls,
-        ap (λ f. f.calls) c.in-Ok.ensures.outflow,
-        c.to.ensures.calls,
-      );
+      told = subst (λ w. OnOk c.tell_play-told.result ((told : List ℕ) × TellsPlay w play told × SentAll told s0 s1)) c.in-Ok.ensures.wanted
+          c.tell_play-told.ensures.told;
+      refused = subst (λ w. IfErr c.tell_play-told.result (λ refusal. LeftOfExplanation w play refusal s0 s1)) c.in-Ok.ensures.wanted
+          c.tell_play-told.ensures.refused;
+      calls = omega (arith, c.tell_play-told.ensures.calls, ap (λ f. f.calls) c.in-Ok.ensures.outflow, c.to.ensures.calls);
     }
-
--- writing failed while the events were told, or memory ran out
-pub returns-in-Err-clause-refused : goal.returns-in-Err-clause-refused
-returns-in-Err-clause-refused g c =
-    let play = c.args.play in
-    let wanted = c.args.wanted.now in
-    let s0 = g.K.Sink.output c.args.sink.now in
-    let s1 = g.K.Sink.output c.tell_events.new.sink in
-    let begun = c.in-Ok.story in
-    left_broken wanted play s0 s1 c.in-Err.refusal begun.outflow.in_parts
-    (λ yes. c.to.ensures.parts (subst (λ f. IsTrue f.in_parts) c.in-Ok.ensures.outflow yes))
-    (λ none. (c.in-Err.ensures.at_once none).0)
-    (of_play wanted begun.wanted play begun.stage.shape begun.stage.run c.events.result.now begun.out c.in-Err.refusal s0 s1
-    c.in-Ok.ensures.wanted (c.in-Ok.ensures.shape ∙ c.shape.ensures) c.in-Ok.ensures.empty c.events.ensures.same
-    (c.in-Ok.ensures.out ∙ ap (first_line wanted.data) c.shape.ensures) c.in-Err.ensures.broke_off)
-
--- memory ran out at the end, or while the events were written
-pub returns-in_default-end-clause-refused : goal.returns-in_default-end-clause-refused
-returns-in_default-end-clause-refused g c =
-    let play = c.args.play in
-    let wanted = c.args.wanted.now in
-    let s0 = g.K.Sink.output c.args.sink.now in
-    let s1 = g.K.Sink.output c.tell_events.new.sink in
-    let begun = c.in-Ok.story in
-    starved wanted play s0 s1
-    (of_play wanted begun.wanted play begun.stage.shape begun.stage.run c.events.result.now begun.out NoMemory s0 s1
-    c.in-Ok.ensures.wanted (c.in-Ok.ensures.shape ∙ c.shape.ensures) c.in-Ok.ensures.empty c.events.ensures.same
-    (c.in-Ok.ensures.out ∙ ap (first_line wanted.data) c.shape.ensures) c.in-Ok-tell_events.ensures.so_far)
-
-pub returns-in_default-whole-clause-refused : goal.returns-in_default-whole-clause-refused
-returns-in_default-whole-clause-refused g c =
-    let play = c.args.play in
-    let wanted = c.args.wanted.now in
-    let s0 = g.K.Sink.output c.args.sink.now in
-    let s1 = g.K.Sink.output c.tell_events.new.sink in
-    let begun = c.in-Ok.story in
-    starved wanted play s0 s1
-    (of_play wanted begun.wanted play begun.stage.shape begun.stage.run c.events.result.now begun.out NoMemory s0 s1
-    c.in-Ok.ensures.wanted (c.in-Ok.ensures.shape ∙ c.shape.ensures) c.in-Ok.ensures.empty c.events.ensures.same
-    (c.in-Ok.ensures.out ∙ ap (first_line wanted.data) c.shape.ensures) c.in-Ok-tell_events.ensures.so_far)

@@ -10,9 +10,9 @@ returns-then-has_refused-clause-told c =
     let s = c.args.self.now in
     on_ok c.write_refusal.result
     ((shown : List ℕ) × TellsCause s.stage.shape (log_of s.stage.run) c.args.event.now s.wanted.data
-    (s.out ++ refused_line s.wanted.data c.args.number c.args.line c.args.event.now c.args.refusal.now shown) c.write_refusal.new.out)
+    (s.out ++ refused_line s.wanted.data c.args.number c.args.line.now.number c.args.event.now c.args.refusal.now shown) c.write_refusal.new.out)
     ((text : List ℕ) × TellsRefusal s.wanted c.args.number s.stage.shape s.stage.run c.args.event.now c.args.refusal.now text
     × (c.write_refusal.new.out ≡ s.out ++ text))
-    (λ cause. refusal_told s.wanted c.args.number c.args.line s.stage.shape s.stage.run c.args.event.now c.args.refusal.now
+    (λ cause. refusal_told s.wanted c.args.number c.args.line.now.number s.stage.shape s.stage.run c.args.event.now c.args.refusal.now
     s.out c.write_refusal.new.out (c.has_refused.ensures.0 c.if-has_refused.true) cause)
     c.write_refusal.ensures
