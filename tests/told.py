@@ -247,6 +247,15 @@ def fault_of_sayings(lines, ends, nowhere):
     return next((f"it says `{text}`" for text in nowhere.split("\n") if text and text in written), None)
 
 
+def fault_of_refused_plants(lines, told):
+    """What is told otherwise than these lines of the refused events of a play with these lines, or what is wrong with its data; or None."""
+    play = lines_text(["dsr-play 1 3 1 1 r0", *lines.split("\n")])
+    status, text, errors = program("explain --refused", play)
+    if status != 0 or errors:
+        return f"status {status}, {errors!r}"
+    return fault_of_same([line for line in text.decode().splitlines() if line.startswith("line ")], told.split("\n")) or fault_of_lines(play)
+
+
 def fault_of_counts(lines, counts):
     """What is wrong with the lines at the end that count something, of a play with these lines; or None."""
     status, text, told = program("explain", lines_text(["dsr-play 1 3 1 2 r2", *lines.split("\n")]))
@@ -334,6 +343,8 @@ def explanations(report, is_written):
         report.judge(f"why {lines!r} is refused", fault_of_reason(lines, *told), None)
     for lines, *told in TABLES["sayings"]:
         report.judge(f"what is told of {lines!r}", fault_of_sayings(lines, *told), None)
+    for lines, told in TABLES["refused plants"]:
+        report.judge(f"the refused plants of {lines!r}", fault_of_refused_plants(lines, told), None)
     for lines, counts in TABLES["counts"]:
         report.judge(f"what is counted of {lines!r}", fault_of_counts(lines, counts), None)
     for text, line, column, expected in TABLES["no plays"]:
