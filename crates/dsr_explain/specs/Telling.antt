@@ -5,8 +5,8 @@ use Rattle.dsr_play.specs.declared.event.Event.{Event}
 use Rattle.dsr_explain.specs.Told.{TellsEvent}
 use Rattle.dsr_explain.specs.declared.story.Story.{Story}
 
--- what the event with this number changes in the story: unless memory runs out, the text gains what is told about the event; the filter, the outflow and
--- the shape stay the same
+-- how the event with this number changes the story: unless memory runs out, the text about the event is appended; the filter, the outflow and the shape stay
+-- the same
 pub record GoesOn {T : Type 0} (number : ℕ) (event : Event) (result : Result T Refusal) (before after : Story) : Type 0 where
   pub told : OnOk result ((told : List ℕ)
       × TellsEvent before.wanted number before.stage.shape after.stage.run before.stage.run event told

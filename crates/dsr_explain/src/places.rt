@@ -15,7 +15,8 @@ pub(crate) struct Line<'a> {
 }
 
 impl Line<'_> {
-    /// Returns the text of the envelope, if this is a line `plant A B ENVELOPE` or `plants A ENVELOPE`.
+    /// Returns the text of the envelope that this line plants: what follows the actors in `plant A B ENVELOPE`, or the actor in `plants A ENVELOPE`. For a
+    /// line of another kind the result means nothing.
     pub(crate) fn envelope(&self) -> Option<&str> {
         let (word, rest) = split_once(self.text, b' ')?;
         let (_, rest) = split_once(rest, b' ')?;

@@ -33,7 +33,7 @@ use std::fmt::Write;
 /// How many bytes `make_room` reserves for each event.
 const ROOM_OF_AN_EVENT: usize = 176;
 
-/// The explanation of a play so far, and the stage on which its events happen. It is never freed.
+/// The explanation of a play so far, and the stage on which its events happen. It is never freed; `forget` requires `Drop`.
 #[derive(Drop)]
 pub(crate) struct Story {
     pub(crate) stage: Stage,

@@ -140,6 +140,7 @@ fn write_planted(
     line: &Line,
     as_data: bool,
 ) -> Result<(), Refusal> {
+    // Each line that plants has an envelope; without one the draft's own text would do.
     let Some(envelope) = line.envelope() else {
         return write_draft(out, alloc, draft, as_data);
     };
