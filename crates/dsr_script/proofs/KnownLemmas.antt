@@ -1,8 +1,7 @@
 -- What is known after signatures were noted.
-use Rattle.std.proofs.Common.{◌≡◌, ◌↔◌, ◌++◌, All, Bool, true, false, List, [], ◌∷◌, Some, ◌⊎◌, inl, inr, refl, ap, sym, subst, ◌∙◌}
-use Rattle.std.specs.Prelude.{◌||◌, flat_map, map, IsSome, IfSome, cond, if◌then◌else◌}
+use Rattle.std.proofs.Common.{◌≡◌, ◌↔◌, ◌++◌, Bool, true, false, List, [], ◌∷◌, Some, ◌⊎◌, inl, inr, refl, ap, sym, subst, ◌∙◌}
+use Rattle.std.specs.Prelude.{◌||◌, flat_map, IsSome, IfSome, cond, if◌then◌else◌}
 use Rattle.std.specs.List.{find, list_any}
-use Rattle.std.proofs.lemmas.List.Elements.{All-head, All-tail}
 use Rattle.dsr_base.specs.Member.{In, here, there}
 use Rattle.dsr_base.proofs.MemberLemmas.{In-append_cases, In-append_left, In-append_right, In-one}
 use Rattle.indexmap.specs.IndexSet.{insert_key}
@@ -16,54 +15,41 @@ use Rattle.dsr_script.specs.Known.{StandFor}
 use Rattle.dsr_script.specs.Support.Carried.{carried, on_chain}
 use Rattle.dsr_script.specs.Support.Noted.{noted, noted_all, beside}
 use Rattle.dsr_script.specs.Support.SaidEquality.{said_eq, said_eq-Decides}
-use Rattle.dsr_script.specs.Support.Sought.{said_of, sought_eq, IsSeen}
-use Rattle.dsr_script.specs.declared.sought.Sought.{Sought}
 
--- ---- a key for a signature
+-- ---- a set of signatures
 
--- the signatures after a key was put
-pub keys_noted : (ks : List Sought) (s : Sought) → map said_of (insert_key sought_eq ks s) ≡ noted (map said_of ks) (said_of s)
+-- the signatures after one was put in
+pub keys_noted : (xs : List Signature) (s : Signature) → insert_key said_eq xs s ≡ noted xs s
 keys_noted [] s = refl
-keys_noted (k ∷ ks) s = by (sought_eq s k) (list_any (sought_eq s) ks) (keys_noted ks s)
+keys_noted (x ∷ xs) s = by (said_eq s x) (list_any (said_eq s) xs) (keys_noted xs s)
   where
-    by : (b c : Bool) → map said_of (if c then ks else ks ++ s ∷ []) ≡ noted (map said_of ks) (said_of s)
-        → map said_of (if b || c then k ∷ ks else k ∷ (ks ++ s ∷ []))
-        ≡ (if b then said_of k ∷ map said_of ks else said_of k ∷ noted (map said_of ks) (said_of s))
+    by : (b c : Bool) → (if c then xs else xs ++ s ∷ []) ≡ noted xs s
+        → (if b || c then x ∷ xs else x ∷ (xs ++ s ∷ [])) ≡ (if b then x ∷ xs else x ∷ noted xs s)
     by true c rest = refl
-    by false true rest = ap (λ xs. said_of k ∷ xs) rest
-    by false false rest = ap (λ xs. said_of k ∷ xs) rest
+    by false true rest = ap (λ ys. x ∷ ys) rest
+    by false false rest = ap (λ ys. x ∷ ys) rest
 
--- the key that is found says what is asked for
-pub found_says : (ks : List Sought) (s : Sought) → IfSome (find (sought_eq s) ks) (λ k. said_of k ≡ said_of s)
+-- the signature that is found is the one that is looked up
+pub found_says : (xs : List Signature) (s : Signature) → IfSome (find (said_eq s) xs) (λ x. x ≡ s)
 found_says [] s = tt
-found_says (k ∷ ks) s = by (sought_eq s k) refl (found_says ks s)
+found_says (x ∷ xs) s = by (said_eq s x) refl (found_says xs s)
   where
-    by : (b : Bool) → sought_eq s k ≡ b → IfSome (find (sought_eq s) ks) (λ x. said_of x ≡ said_of s)
-        → IfSome (cond b (Some k) (find (sought_eq s) ks)) (λ x. said_of x ≡ said_of s)
-    by true same rest = sym ((said_eq-Decides (said_of s) (said_of k)).0 same)
+    by : (b : Bool) → said_eq s x ≡ b → IfSome (find (said_eq s) xs) (λ y. y ≡ s) → IfSome (cond b (Some x) (find (said_eq s) xs)) (λ y. y ≡ s)
+    by true same rest = sym ((said_eq-Decides s x).0 same)
     by false other rest = rest
 
--- and is a signature
-pub found_seen : (ks : List Sought) (s : Sought) → All IsSeen ks → IfSome (find (sought_eq s) ks) IsSeen
-found_seen [] s seen = tt
-found_seen (k ∷ ks) s seen = by (sought_eq s k) (found_seen ks s (All-tail IsSeen k ks seen))
-  where
-    by : (b : Bool) → IfSome (find (sought_eq s) ks) IsSeen → IfSome (cond b (Some k) (find (sought_eq s) ks)) IsSeen
-    by true rest = All-head IsSeen k ks seen
-    by false rest = rest
-
--- and one is found exactly if a key says that
-pub found_in : (ks : List Sought) (s : Sought) → IsSome (find (sought_eq s) ks) ↔ In (said_of s) (map said_of ks)
+-- and one is found exactly if it is there
+pub found_in : (xs : List Signature) (s : Signature) → IsSome (find (said_eq s) xs) ↔ In s xs
 found_in [] s = (λ h. absurd cc, λ h. elim h [ ])
-found_in (k ∷ ks) s = by (sought_eq s k) refl (found_in ks s)
+found_in (x ∷ xs) s = by (said_eq s x) refl (found_in xs s)
   where
-    by : (b : Bool) → sought_eq s k ≡ b → (IsSome (find (sought_eq s) ks) ↔ In (said_of s) (map said_of ks))
-        → IsSome (cond b (Some k) (find (sought_eq s) ks)) ↔ In (said_of s) (said_of k ∷ map said_of ks)
-    by true same rest = (λ h. here (sym ((said_eq-Decides (said_of s) (said_of k)).0 same)), λ h. refl)
+    by : (b : Bool) → said_eq s x ≡ b → (IsSome (find (said_eq s) xs) ↔ In s xs)
+        → IsSome (cond b (Some x) (find (said_eq s) xs)) ↔ In s (x ∷ xs)
+    by true same rest = (λ h. here (sym ((said_eq-Decides s x).0 same)), λ h. refl)
     by false other rest = (
       λ h. there (rest.0 h),
       λ h. elim h [
-        | here is ↦ absurd (let yes : sought_eq s k ≡ true = (said_eq-Decides (said_of s) (said_of k)).1 (sym is) in cc)
+        | here is ↦ absurd (let yes : said_eq s x ≡ true = (said_eq-Decides s x).1 (sym is) in cc)
         | there later ↦ rest.1 later
       ],
     )

@@ -10,7 +10,7 @@ pub mod Noted
 pub mod PlaceEquality
 pub mod PlaceHash
 pub mod PlainSaid
+pub mod Said
 pub mod SaidEquality
 pub mod SaidHash
-pub mod Sought
 pub mod SpelledText

@@ -1,18 +1,22 @@
-ghost use Rattle.std.specs.Prelude.{◌≡◌, ◌↔◌, IfOk, IsTrue, IsOkUnless};
+ghost use Rattle.std.specs.Prelude.{◌≡◌, ◌↔◌, None, Some, if◌then◌else◌, IfOk, IsTrue, IsOkUnless, box_value};
 ghost use Rattle.std.specs.Option.{option_map};
-ghost use Rattle.dsr_script.specs.SignatureText.{spelled_at};
+ghost use Rattle.dsr_base.specs.Reads.{Reads};
+ghost use Rattle.dsr_desk.specs.StatementText.{IsStatement};
+ghost use Rattle.dsr_desk.specs.Support.StatementEquality.{statement_eq};
+ghost use Rattle.dsr_script.specs.SignatureText.{spelled_at, spelled_text};
 ghost use Rattle.dsr_script.specs.Support.Links.{said_in};
-ghost use Rattle.dsr_script.specs.Support.SpelledText.{short_form};
+ghost use Rattle.dsr_script.specs.Support.Said.{said_of};
+ghost use Rattle.dsr_script.specs.Support.SpelledText.{IsSpelled, closed_text, short_form, long_form, pair_of};
 
 use crate::said::Said;
-use crate::spelled::Spelled;
+use dsr_base::split_once;
 use dsr_desk::Statement;
 use dsr_names::{Actor, Refusal};
 use std::alloc::Global;
 use std::marker::Model;
 
-/// What a text says about a signature, in little room: a statement other than the one that fits
-/// the place is behind a handle.
+/// What a text says about a signature: its signer, and its statement if that is not the one that fits the place. Such a statement is
+/// behind a handle, since few signatures have one.
 #[derive(Drop)]
 pub(crate) struct Brief {
     signer: Actor,
@@ -30,17 +34,26 @@ impl Model for Brief {
 }
 
 impl Brief {
-    /// Makes this from what a text says. `NoMemory` if memory runs out.
-    pub(crate) fn of(alloc: Global, spelled: &Spelled) -> Result<Brief, Refusal>
-        ensures same { IfOk result (λ brief. brief ≡ spelled.now) }
+    /// Reads what a text says about a signature, like `r0` or `r0(0/idle/r1)`. The inner `None` means exactly that the bytes are not
+    /// such a text. `NoMemory` if memory runs out.
+    pub(crate) fn read(alloc: Global, bytes: &[u8]) -> Result<Option<Brief>, Refusal>
+        ensures read { IfOk result (λ brief. Reads IsSpelled spelled_text bytes.now brief) }
         ensures refusal { IsOkUnless result Refusal.NoMemory }
     {
-        let other = match spelled.other() {
-            Some(statement) => Some(Box::new(alloc, statement)?),
-            None => None,
-        };
+        match split_once(bytes, b'(') {
+            None => Ok(short_form_of(Actor::read(bytes))),
+            Some((signer, rest)) => long_form_of(alloc, Actor::read(signer), read_closed(rest)),
+        }
+    }
+
+    /// Makes what a text says about the signature at the place that this statement fits. `NoMemory` if memory runs out.
+    pub(crate) fn at(alloc: Global, said: &Said<'_>, fitting: &Statement) -> Result<Brief, Refusal>
+        ensures same { IfOk result (λ brief. brief ≡ spelled_at fitting.now (said_of said.now)) }
+        ensures refusal { IsOkUnless result Refusal.NoMemory }
+    {
+        let other = other_than(alloc, said.statement(), fitting)?;
         Ok(Brief {
-            signer: spelled.signer(),
+            signer: said.signer(),
             other,
         })
     }
@@ -72,9 +85,19 @@ impl Brief {
         }
     }
 
+    /// Tells whether a text names only the signer, since the signature is on the statement that fits.
+    pub(crate) fn is_short(&self) -> bool
+        ensures { IsTrue result ↔ (self.now.other ≡ None) }
+    {
+        match self.other() {
+            None => true,
+            Some(_) => false,
+        }
+    }
+
     /// Returns what the signature says, at the place that this statement fits.
-    pub(crate) fn said_in(&self, fitting: &Statement) -> Said
-        ensures { result ≡ said_in fitting.now self.now }
+    pub(crate) fn said_in<'a>(&'a self, fitting: &'a Statement) -> Said<'a>
+        ensures { said_of result ≡ said_in fitting.now self.now }
     {
         match &self.other {
             Some(other) => Said::by(self.signer, other),
@@ -91,5 +114,59 @@ impl Brief {
             Some(other) => !other.same(fitting),
             None => true,
         }
+    }
+}
+
+/// Returns the statement; `None` if it equals the one that fits. `NoMemory` if memory runs out.
+fn other_than(
+    alloc: Global,
+    statement: &Statement,
+    fitting: &Statement,
+) -> Result<Option<Box<Statement, Global>>, Refusal>
+    ensures other { IfOk result (λ other. option_map box_value other ≡ (if statement_eq statement.now fitting.now then None else Some statement.now)) }
+    ensures refusal { IsOkUnless result Refusal.NoMemory }
+{
+    if statement == fitting {
+        Ok(None)
+    } else {
+        Ok(Some(Box::new(alloc, statement.copy())?))
+    }
+}
+
+/// Reads a statement with a closing parenthesis after it.
+fn read_closed(bytes: &[u8]) -> Option<Statement>
+    ensures { Reads IsStatement closed_text bytes.now result }
+{
+    match bytes {
+        [within @ .., b')'] => Statement::read(within),
+        _ => None,
+    }
+}
+
+/// Makes what a text says about this signer's signature on the statement that fits.
+fn short_form_of(signer: Option<Actor>) -> Option<Brief>
+    ensures { result ≡ option_map short_form signer }
+{
+    match signer {
+        Some(signer) => Some(Brief::by(signer)),
+        None => None,
+    }
+}
+
+/// Makes what a text says about this signer's signature on this other statement. `NoMemory` if memory runs out.
+fn long_form_of(
+    alloc: Global,
+    signer: Option<Actor>,
+    other: Option<Statement>,
+) -> Result<Option<Brief>, Refusal>
+    ensures made { IfOk result (λ brief. brief ≡ option_map long_form (pair_of signer other)) }
+    ensures refusal { IsOkUnless result Refusal.NoMemory }
+{
+    match (signer, other) {
+        (Some(signer), Some(other)) => Ok(Some(Brief {
+            signer,
+            other: Some(Box::new(alloc, other)?),
+        })),
+        _ => Ok(None),
     }
 }

@@ -1,11 +1,12 @@
 ghost use Rattle.std.specs.Prelude.{◌≡◌, ◌≤◌, ◌↔◌, ◌⊎◌, [], All, Any, Err, length, IfOk, IfErr, IfSome, IsSome, IsTrue, IsOkUnless};
-ghost use Rattle.dsr_chain.specs.Support.SignedLists.{value_of as value_in};
+ghost use Rattle.dsr_chain.specs.Support.SignedLists.{value_of as value_in, content_of as content_in};
 ghost use Rattle.dsr_envelope.specs.Limits.{IsEnvelope};
 ghost use Rattle.dsr_script.specs.Held.{IsHeldOrKnown, IsUnforged};
 ghost use Rattle.dsr_script.specs.Support.Described.{described};
 ghost use Rattle.dsr_desk.specs.declared.statement.Statement.TheVariants.{Link};
 ghost use Rattle.dsr_script.specs.Support.Links.{said_by, said_in};
-ghost use Rattle.dsr_script.specs.Support.Carried.{IsHeldRequest, IsHeldChain, IsHeldEnvelope};
+ghost use Rattle.dsr_script.specs.Support.Carried.{IsByHolder, IsHeldRequest, IsHeldChain, IsHeldEnvelope};
+ghost use Rattle.dsr_script.specs.Support.Said.{said_of};
 
 use crate::brief::Brief;
 use crate::draft::Draft;
@@ -98,13 +99,47 @@ fn are_chains_held(chains: &[SaidChain], keys: &[Key], known: &Known) -> bool
 fn is_chain_held(chain: &SaidChain, keys: &[Key], known: &Known) -> bool
     ensures { IsTrue result ↔ IsHeldChain keys.now known.now.signatures chain.now }
 {
-    let content = content_of(chain.asks());
-    are_links_held(chain.slot(), &content, chain.links(), keys, known)
+    are_links_held(chain.slot(), chain.asks(), chain.links(), keys, known)
         && chain.asks().iter().all(|ask| is_ask_held(ask, keys, known))
 }
 
-/// Tells whether none of these signatures, which a chain with this slot and content describes, is forged.
+/// Tells whether none of these signatures, which a chain with this slot and these requests describes, is forged. What they say takes much
+/// room, so the code makes it only if some signer's key is not among the keys.
 fn are_links_held(
+    slot: u64,
+    asks: &[SaidRequest],
+    links: &[Brief],
+    keys: &[Key],
+    known: &Known,
+) -> bool
+    requires asks { length asks.now ≤ 8 }
+    requires links { length links.now ≤ 16 }
+    ensures { IsTrue result ↔ All (IsHeldOrKnown keys.now known.now.signatures) (said_by slot (content_in asks.now) [] links.now) }
+{
+    are_signers_held(links, keys) || are_links_held_in(slot, &content_of(asks), links, keys, known)
+}
+
+/// Tells whether the keys of all signers are among these.
+fn are_signers_held(links: &[Brief], keys: &[Key]) -> bool
+    ensures { IsTrue result ↔ All (IsByHolder keys.now) links.now }
+{
+    for link in links {
+        if !is_signer_held(link, keys) {
+            return false;
+        }
+    }
+    true
+}
+
+/// Tells whether the key of the signer is among these.
+fn is_signer_held(link: &Brief, keys: &[Key]) -> bool
+    ensures { IsTrue result ↔ IsByHolder keys.now link.now }
+{
+    key_of(keys, link.signer()).is_some()
+}
+
+/// Tells whether none of these signatures, which a chain with this slot and content describes, is forged.
+fn are_links_held_in(
     slot: u64,
     content: &Option<Requests>,
     links: &[Brief],
@@ -126,7 +161,7 @@ fn are_links_held(
 
 /// Tells whether the signature that a chain with this slot and content describes after these signers is not forged. What it says in
 /// full takes much room, so the code makes that only if none of the keys is the signer's.
-fn is_link_held(
+pub(crate) fn is_link_held(
     slot: u64,
     content: &Option<Requests>,
     before: &Signers,
@@ -136,22 +171,24 @@ fn is_link_held(
 ) -> bool
     ensures { IsTrue result ↔ IsHeldOrKnown keys.now known.now.signatures (said_in (Link slot content.now before.now) link.now) }
 {
-    key_of(keys, link.signer()).is_some()
-        || known
-            .find(&link.said_in(&link_at(slot, content, *before)))
-            .is_some()
+    if is_signer_held(link, keys) {
+        return true;
+    }
+    let fitting = link_at(slot, content, *before);
+    known.find(&link.said_in(&fitting)).is_some()
 }
 
 /// Tells whether the signature beside the request is not forged.
 fn is_ask_held(ask: &SaidRequest, keys: &[Key], known: &Known) -> bool
     ensures { IsTrue result ↔ IsHeldRequest keys.now known.now.signatures ask.now }
 {
-    key_of(keys, ask.brief().signer()).is_some() || known.find(&ask.said()).is_some()
+    let fitting = ask.fitting();
+    is_held(&ask.said_in(&fitting), keys, known)
 }
 
 /// Tells whether the signature is by the holder of one of the keys, or is known.
-pub(crate) fn is_held(said: &Said, keys: &[Key], known: &Known) -> bool
-    ensures { IsTrue result ↔ IsHeldOrKnown keys.now known.now.signatures said.now }
+pub(crate) fn is_held(said: &Said<'_>, keys: &[Key], known: &Known) -> bool
+    ensures { IsTrue result ↔ IsHeldOrKnown keys.now known.now.signatures (said_of said.now) }
 {
     key_of(keys, said.signer()).is_some() || known.find(said).is_some()
 }
@@ -239,8 +276,8 @@ fn signatures_of(
     let mut signatures = Vec::with_capacity(alloc, links.len())?;
     let mut before = Signers::new();
     for link in links {
-        let said = link.said_in(&link_at(slot, content, before));
-        signatures.push(signature_of(&said, keys, known))?;
+        let fitting = link_at(slot, content, before);
+        signatures.push(signature_of(&link.said_in(&fitting), keys, known))?;
         before.push(link.signer());
     }
     Ok(signatures)
@@ -251,19 +288,20 @@ fn request_of(said: &SaidRequest, keys: &[Key], known: &Known) -> SignedRequest
     requires { IsHeldOrKnown keys.now known.now.signatures said.now.signature }
     ensures { result ≡ said.now }
 {
+    let fitting = said.fitting();
     SignedRequest {
         request: said.request(),
-        signature: signature_of(&said.said(), keys, known),
+        signature: signature_of(&said.said_in(&fitting), keys, known),
     }
 }
 
 /// Returns the signature that says this: signs with the signer's key if it is among the keys, else takes the known one.
-fn signature_of(said: &Said, keys: &[Key], known: &Known) -> Signature
-    requires { IsHeldOrKnown keys.now known.now.signatures said.now }
-    ensures { result ≡ said.now }
+fn signature_of(said: &Said<'_>, keys: &[Key], known: &Known) -> Signature
+    requires { IsHeldOrKnown keys.now known.now.signatures (said_of said.now) }
+    ensures { result ≡ said_of said.now }
 {
     match key_of(keys, said.signer()) {
         Some(key) => key.sign(said.statement().copy()),
-        None => known.find(said).unwrap(),
+        None => known.find(said).unwrap().copy(),
     }
 }

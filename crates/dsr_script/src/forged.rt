@@ -7,10 +7,11 @@ ghost use Rattle.dsr_envelope.specs.Envelope.{Carries, IsOn};
 ghost use Rattle.dsr_script.specs.Held.{IsHeldOrKnown, IsUnforged};
 ghost use Rattle.dsr_script.specs.Support.Described.{described};
 ghost use Rattle.dsr_script.specs.Support.Links.{said_by};
+ghost use Rattle.dsr_script.specs.Support.Said.{said_of};
 ghost use Rattle.dsr_script.specs.Support.Carried.{IsOnOne};
 
 use crate::brief::Brief;
-use crate::building::is_held;
+use crate::building::{is_held, is_link_held};
 use crate::draft::Draft;
 use crate::known::Known;
 use crate::plan::Plan;
@@ -111,9 +112,9 @@ fn forged_link(
     match links {
         [] => None,
         [link, rest @ ..] => {
-            let said = link.said_in(&link_at(slot, content, *before));
-            if let Some(forged) = forged_of(&said, keys, known) {
-                return Some(forged);
+            if !is_link_held(slot, content, before, link, keys, known) {
+                let fitting = link_at(slot, content, *before);
+                return Some(forged_of(&link.said_in(&fitting)));
             }
             let mut after = *before;
             after.push(link.signer());
@@ -145,20 +146,21 @@ fn forged_request(ask: &SaidRequest, keys: &[Key], known: &Known) -> Option<Forg
     ensures forged { IfSome result (λ forged. ¬ IsHeldOrKnown keys.now known.now.signatures (signed forged.signer forged.statement)) }
     ensures none { IfNone result (IsHeldOrKnown keys.now known.now.signatures ask.now.signature) }
 {
-    forged_of(&ask.said(), keys, known)
+    let fitting = ask.fitting();
+    let said = ask.said_in(&fitting);
+    if is_held(&said, keys, known) {
+        None
+    } else {
+        Some(forged_of(&said))
+    }
 }
 
-/// Returns the described signature; `None` if it is not forged.
-fn forged_of(said: &Said, keys: &[Key], known: &Known) -> Option<Forged>
-    ensures carried { IfSome result (λ forged. said.now ≡ signed forged.signer forged.statement) }
-    ensures forged { IfSome result (λ forged. ¬ IsHeldOrKnown keys.now known.now.signatures (signed forged.signer forged.statement)) }
-    ensures none { IfNone result (IsHeldOrKnown keys.now known.now.signatures said.now) }
+/// Returns the forged signature that this describes.
+fn forged_of(said: &Said<'_>) -> Forged
+    ensures { signed result.signer result.statement ≡ said_of said.now }
 {
-    if is_held(said, keys, known) {
-        return None;
-    }
-    Some(Forged {
+    Forged {
         signer: said.signer(),
         statement: said.statement().copy(),
-    })
+    }
 }

@@ -4,9 +4,10 @@ ghost use Rattle.dsr_desk.specs.Signature.{Signature};
 ghost use Rattle.dsr_envelope.specs.declared.envelope.Envelope.{Envelope};
 ghost use Rattle.dsr_script.specs.Support.Carried.{carried, on_chain};
 ghost use Rattle.dsr_script.specs.Support.Noted.{noted, noted_all, beside};
+ghost use Rattle.dsr_script.specs.Support.Said.{said_of};
 
 use crate::said::Said;
-use crate::sought::Sought;
+use crate::seen::Seen;
 use dsr_chain::{Chain, SignedRequest};
 use dsr_desk::Signature;
 use dsr_envelope::Envelope;
@@ -24,21 +25,16 @@ const MOST_CARRIED: usize = 768;
 /// The signatures that were seen, which can be sent on: a set, in which a signature is found by a hash of what it says.
 #[derive(Drop)]
 pub struct Known {
-    seen: IndexSet<Sought>,
+    seen: IndexSet<Seen>,
 }
 
 impl Model for Known {
-    ghost use Rattle.std.specs.Prelude.{All, map};
     ghost use Rattle.indexmap.specs.IndexSet.{spare};
     ghost use Rattle.dsr_script.specs.Known.{Known};
 
     ghost Value = { Known };
 
-    ghost use Rattle.dsr_script.specs.Support.Sought.{said_of, IsSeen};
-
-    ghost view = { λ k. record { signatures = map said_of k.seen.keys; room = spare k.seen } };
-
-    ghost invariant = { λ k. All IsSeen k.seen.keys };
+    ghost view = { λ k. record { signatures = k.seen.keys; room = spare k.seen } };
 }
 
 impl Known {
@@ -81,14 +77,13 @@ impl Known {
     }
 
     /// Returns the known signature that says this; `None` if no known one does.
-    pub(crate) fn find(&self, said: &Said) -> Option<Signature>
-        ensures found { IfSome result (λ signature. signature ≡ said.now) }
-        ensures when { IsSome result ↔ In said.now self.now.signatures }
+    pub(crate) fn find(&self, said: &Said<'_>) -> Option<&Signature>
+        ensures found { IfSome result (λ signature. signature.now ≡ said_of said.now) }
+        ensures when { IsSome result ↔ In (said_of said.now) self.now.signatures }
     {
-        match self.seen.get(&Sought::Asked(*said)) {
+        match self.seen.get(said) {
             None => None,
-            Some(Sought::Seen(signature)) => Some(signature.copy()),
-            Some(Sought::Asked(_)) => None,
+            Some(seen) => Some(seen.signature()),
         }
     }
 
@@ -182,6 +177,6 @@ impl Known {
         ensures noted { self.new.signatures ≡ noted self.old.signatures signature.now }
         ensures room { self.old.room ≤ self.new.room + 1 }
     {
-        self.seen.insert(Sought::Seen(signature.copy())).unwrap();
+        self.seen.insert(Seen::of(signature.copy())).unwrap();
     }
 }

@@ -20,9 +20,8 @@ mod said_hash;
 mod said_text;
 mod same;
 mod script;
+mod seen;
 mod serve_line;
-mod sought;
-mod spelled;
 
 pub use building::build;
 pub use draft::Draft;

@@ -5,12 +5,13 @@ ghost use Rattle.dsr_chain.specs.declared.signed_request.SignedRequest.{SignedRe
 ghost use Rattle.dsr_envelope.specs.Limits.{IsSigned};
 ghost use Rattle.dsr_script.specs.ChainText.{signed_text};
 ghost use Rattle.dsr_script.specs.Support.AskText.{ask_parts};
+ghost use Rattle.dsr_script.specs.Support.Links.{said_in};
+ghost use Rattle.dsr_script.specs.Support.Said.{said_of};
 ghost use Rattle.dsr_desk.specs.declared.statement.Statement.TheVariants.{Ask};
 ghost use Rattle.dsr_script.specs.SignatureText.{spelled_at};
 ghost use Rattle.dsr_script.specs.Support.SpelledText.{pair_of};
 
 use crate::brief::Brief;
-use crate::spelled::Spelled;
 use dsr_base::split_once;
 use dsr_chain::SignedRequest;
 use dsr_desk::{Signature, Statement};
@@ -19,42 +20,29 @@ use dsr_request::Request;
 use std::alloc::Global;
 use std::marker::Model;
 
-/// What a signature says: its signer and its statement. Anybody can make one, and it is not a signature.
-#[derive(Clone, Copy, Debug, PartialEq, Eq)]
-pub(crate) struct Said {
+/// What a signature says: its signer and its statement, which is lent. Anybody can make one, and it is not a signature.
+#[derive(Drop)]
+pub(crate) struct Said<'a> {
     signer: Actor,
-    statement: Statement,
+    statement: &'a Statement,
 }
 
-impl Model for Said {
-    ghost use Rattle.dsr_desk.specs.Signature.{Signature};
-
-    ghost Value = { Signature };
-
-    ghost view = { λ s. record { signer = s.signer; statement = s.statement } };
-
-    ghost inverse = { λ s. record { signer = s.signer; statement = s.statement } };
-}
-
-impl Said {
+impl<'a> Said<'a> {
     /// Returns what the signature says.
-    pub(crate) fn of(signature: &Signature) -> Said
-        ensures { result ≡ signature.now }
+    pub(crate) fn of(signature: &'a Signature) -> Said<'a>
+        ensures { said_of result ≡ signature.now }
     {
         Said {
             signer: signature.signer(),
-            statement: signature.statement().copy(),
+            statement: signature.statement(),
         }
     }
 
     /// Returns what this signer's signature on the statement says.
-    pub(crate) fn by(signer: Actor, statement: &Statement) -> Said
-        ensures { result ≡ signed signer statement.now }
+    pub(crate) fn by(signer: Actor, statement: &'a Statement) -> Said<'a>
+        ensures { said_of result ≡ signed signer statement.now }
     {
-        Said {
-            signer,
-            statement: statement.copy(),
-        }
+        Said { signer, statement }
     }
 
     /// Returns the signer.
@@ -65,11 +53,29 @@ impl Said {
     }
 
     /// Returns the statement.
-    pub(crate) fn statement(&self) -> &Statement
-        ensures { result.now ≡ self.now.statement }
+    pub(crate) fn statement(&self) -> &'a Statement
+        ensures { result.now ≡ self.now.statement.now }
     {
-        &self.statement
+        self.statement
     }
+}
+
+impl PartialEq for Said<'_> {
+    ghost use Rattle.dsr_script.specs.Support.Said.{query_eq, query_eq-per};
+
+    ghost eq = { query_eq };
+
+    ghost laws = { query_eq-per };
+
+    fn eq(&self, other: &Said<'_>) -> bool {
+        self.signer == other.signer && self.statement == other.statement
+    }
+}
+
+impl Eq for Said<'_> {
+    ghost use Rattle.dsr_script.specs.Support.Said.{query_eq-equiv};
+
+    ghost laws = { query_eq-equiv };
 }
 
 /// A request with what a text says about the signature beside it.
@@ -100,9 +106,8 @@ impl SaidRequest {
         ensures same { IfOk result (λ said. said ≡ signed.now) }
         ensures refusal { IsOkUnless result Refusal.NoMemory }
     {
-        let said = Said::of(&signed.signature);
-        let spelled = Spelled::at(&said, &Statement::Ask(signed.request));
-        let brief = Brief::of(alloc, &spelled)?;
+        let fitting = Statement::Ask(signed.request);
+        let brief = Brief::at(alloc, &Said::of(&signed.signature), &fitting)?;
         Ok(SaidRequest {
             request: signed.request,
             brief,
@@ -117,32 +122,26 @@ impl SaidRequest {
     {
         match split_once(bytes, b'~') {
             None => Ok(None),
-            Some((request, spelled)) => {
-                SaidRequest::of_parts(alloc, Request::read(request), Spelled::read(spelled))
+            Some((request, brief)) => {
+                let brief = Brief::read(alloc, brief)?;
+                Ok(SaidRequest::of_parts(Request::read(request), brief))
             }
         }
     }
 
     /// Makes this from both parts. `None` if one is missing, or the second is the long form of a signature on the request.
-    /// `NoMemory` if memory runs out.
-    fn of_parts(
-        alloc: Global,
-        request: Option<Request>,
-        spelled: Option<Spelled>,
-    ) -> Result<Option<SaidRequest>, Refusal>
-        ensures made { IfOk result (λ ask. (x : SignedRequest) → (ask ≡ Some x) ↔ (pair_of request spelled ≡ Some (ask_parts x))) }
-        ensures refusal { IsOkUnless result Refusal.NoMemory }
+    fn of_parts(request: Option<Request>, brief: Option<Brief>) -> Option<SaidRequest>
+        ensures { (x : SignedRequest) → (result ≡ Some x) ↔ (pair_of request brief ≡ Some (ask_parts x)) }
     {
-        match (request, spelled) {
-            (Some(request), Some(spelled)) => {
-                let brief = Brief::of(alloc, &spelled)?;
+        match (request, brief) {
+            (Some(request), Some(brief)) => {
                 if brief.is_said(&Statement::Ask(request)) {
-                    Ok(Some(SaidRequest { request, brief }))
+                    Some(SaidRequest { request, brief })
                 } else {
-                    Ok(None)
+                    None
                 }
             }
-            _ => Ok(None),
+            _ => None,
         }
     }
 
@@ -153,11 +152,19 @@ impl SaidRequest {
         self.request
     }
 
-    /// Returns what the signature beside it says.
-    pub(crate) fn said(&self) -> Said
-        ensures { result ≡ self.now.signature }
+    /// Returns the statement that fits beside it: that its client asks it.
+    pub(crate) fn fitting(&self) -> Statement
+        ensures { result ≡ Ask self.now.request }
     {
-        self.brief.said_in(&Statement::Ask(self.request))
+        Statement::Ask(self.request)
+    }
+
+    /// Returns what the signature beside it says, given the statement that fits there.
+    pub(crate) fn said_in<'a>(&'a self, fitting: &'a Statement) -> Said<'a>
+        requires { fitting.now ≡ Ask self.now.request }
+        ensures { said_of result ≡ self.now.signature }
+    {
+        self.brief.said_in(fitting)
     }
 
     /// Returns what a text says about the signature beside it.

@@ -10,7 +10,6 @@ ghost use Rattle.dsr_script.specs.Support.SpelledText.{short_form};
 
 use crate::brief::Brief;
 use crate::said::{Said, SaidRequest};
-use crate::spelled::Spelled;
 use dsr_chain::{Chain, SignedRequest};
 use dsr_desk::{Signers, Statement};
 use dsr_names::{Actor, Refusal};
@@ -172,11 +171,8 @@ fn links_compared(alloc: Global, chain: &Chain) -> Result<Vec<Brief>, Refusal>
     let mut before = Signers::new();
     for place in 0..count {
         let signature = chain.signature(place);
-        let spelled = Spelled::at(
-            &Said::of(&signature),
-            &link_at(chain.slot(), &content, before),
-        );
-        links.push(Brief::of(alloc, &spelled)?)?;
+        let fitting = link_at(chain.slot(), &content, before);
+        links.push(Brief::at(alloc, &Said::of(&signature), &fitting)?)?;
         before.push(signature.signer());
     }
     Ok(links)

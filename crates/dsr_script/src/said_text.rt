@@ -1,6 +1,6 @@
 //! Reads the parts of drafts.
 
-ghost use Rattle.std.specs.Prelude.{◌≡◌, refl, ◌↔◌, ◌≤◌, [], Some, length, IfOk, IfSome, IsTrue, IsOkUnless};
+ghost use Rattle.std.specs.Prelude.{◌≡◌, refl, ◌↔◌, ◌≤◌, [], All, None, Some, length, IfOk, IfSome, IsTrue, IsOkUnless};
 ghost use Rattle.std.specs.Option.{option_map};
 ghost use Rattle.std.proofs.Common.{lit<};
 ghost use Rattle.dsr_base.specs.Joined.{joined_or_dash, AreUpTo};
@@ -18,7 +18,6 @@ ghost use Rattle.dsr_script.specs.Support.SpelledText.{IsSpelled, spelled_apart,
 use crate::brief::Brief;
 use crate::said::SaidRequest;
 use crate::said_chain::{SaidChain, link_at};
-use crate::spelled::Spelled;
 use dsr_base::{split_once, split_outside};
 use dsr_desk::{MOST_SIGNERS, Signers};
 use dsr_names::{Refusal, read_num};
@@ -37,10 +36,7 @@ impl Item for Brief {
     const MARK: u8 = b'+';
 
     fn read(alloc: Global, bytes: &[u8]) -> Result<Option<Brief>, Refusal> {
-        match Spelled::read(bytes) {
-            Some(spelled) => Ok(Some(Brief::of(alloc, &spelled)?)),
-            None => Ok(None),
-        }
+        Brief::read(alloc, bytes)
     }
 
     ghost apart = { spelled_apart };
@@ -125,8 +121,7 @@ fn chain_of_parts(
 {
     match (slot, asks, links) {
         (Some(slot), Some(asks), Some(links)) => {
-            let content = content_of(asks.as_slice());
-            if are_links(slot, &content, links.as_slice()) {
+            if are_links(slot, asks.as_slice(), links.as_slice()) {
                 Ok(Some(SaidChain::of_parts(slot, asks, links)))
             } else {
                 Ok(None)
@@ -160,8 +155,25 @@ fn read_links(alloc: Global, bytes: &[u8]) -> Result<Option<Vec<Brief>>, Refusal
     read_items(alloc, bytes, MOST_SIGNERS)
 }
 
-/// Tells whether a text says these about signatures of a chain with this slot and content: whether none is the long form of what fits its place.
-fn are_links(slot: u64, content: &Option<Requests>, links: &[Brief]) -> bool
+/// Tells whether a text says these about signatures of a chain with this slot and these requests: whether none is the long form of what
+/// fits its place. What fits takes much room, so the code makes it only to compare another statement with it.
+fn are_links(slot: u64, asks: &[SaidRequest], links: &[Brief]) -> bool
+    requires asks { length asks.now ≤ 8 }
+    requires links { length links.now ≤ 16 }
+    ensures { IsTrue result ↔ (links.now ≡ spelled_links slot (content_in asks.now) [] (said_by slot (content_in asks.now) [] links.now)) }
+{
+    are_short(links) || are_links_in(slot, &content_of(asks), links)
+}
+
+/// Tells whether these name only signers.
+fn are_short(links: &[Brief]) -> bool
+    ensures { IsTrue result ↔ All (λ link. link.other ≡ None) links.now }
+{
+    links.iter().all(|link| link.is_short())
+}
+
+/// Tells the same of a chain with this slot and content.
+fn are_links_in(slot: u64, content: &Option<Requests>, links: &[Brief]) -> bool
     requires { length links.now ≤ 16 }
     ensures { IsTrue result ↔ (links.now ≡ spelled_links slot content.now [] (said_by slot content.now [] links.now)) }
 {

@@ -1,5 +1,5 @@
 -- The list of the signatures that an envelope carries.
-use Rattle.std.specs.Prelude.{List, [], ◌∷◌, ◌++◌, flat_map, All}
+use Rattle.std.specs.Prelude.{◌≡◌, List, [], ◌∷◌, ◌++◌, flat_map, All, Any}
 use Rattle.dsr_names.specs.declared.actor.Actor.{Actor}
 use Rattle.dsr_desk.specs.Signature.{Signature}
 use Rattle.dsr_chain.specs.Chain.{Chain}
@@ -10,6 +10,7 @@ use Rattle.dsr_envelope.specs.declared.envelope.Envelope.{Envelope}
 use Rattle.dsr_envelope.specs.declared.envelope.Envelope.TheVariants.{Empty, Round, Ask, Reply, Seen}
 use Rattle.dsr_chain.specs.declared.signed_request.SignedRequest.{SignedRequest}
 use Rattle.dsr_script.specs.Held.{IsHeldOrKnown}
+use Rattle.dsr_script.specs.SignatureText.{Spelled}
 use Rattle.dsr_script.specs.Support.Noted.{beside}
 
 -- those on a chain: its own, then those beside the requests of its value
@@ -23,6 +24,10 @@ carried (Round round chains) = flat_map on_chain chains
 carried (Ask request) = request.signature ∷ []
 carried (Reply reply) = []
 carried (Seen front) = []
+
+-- what a text says about a signature is that the holder of one of these keys signed
+pub record IsByHolder (holders : List Actor) (x : Spelled) : Type 0 where
+  pub signer : Any (λ holder. holder ≡ x.signer) holders
 
 -- the signature beside the request is by the holder of one of the keys, or is known
 abbrev pub IsHeldRequest : List Actor → List Signature → SignedRequest → Type 0

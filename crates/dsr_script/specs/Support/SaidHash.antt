@@ -11,9 +11,7 @@ use Rattle.dsr_request.specs.Request.{Request}
 use Rattle.dsr_desk.specs.Signature.{Signature}
 use Rattle.dsr_desk.specs.declared.statement.Statement.{Statement}
 use Rattle.dsr_desk.specs.declared.statement.Statement.TheVariants.{Ask, Link}
-use Rattle.dsr_script.specs.declared.sought.Sought.{Sought}
-use Rattle.dsr_script.specs.Support.SaidEquality.{said_eq-Decides}
-use Rattle.dsr_script.specs.Support.Sought.{said_of, sought_eq}
+use Rattle.dsr_script.specs.Support.SaidEquality.{said_eq, said_eq-Decides}
 
 -- the actor: a replica's number, or a client's after those of replicas
 abbrev pub actor_fed : Actor → fed.HashWrites
@@ -49,10 +47,6 @@ statement_fed (Link slot value before) = fed.u64 slot ++ (content_fed value ++ f
 abbrev pub said_fed : Signature → fed.HashWrites
 said_fed s = actor_fed s.signer ++ statement_fed s.statement
 
--- the same for what is looked up
-abbrev pub sought_fed : Sought → fed.HashWrites
-sought_fed sought = said_fed (said_of sought)
-
 -- equal ones are hashed alike
-pub sought_fed_alike : (a b : Sought) → sought_eq a b ≡ true → sought_fed a ≡ sought_fed b
-sought_fed_alike a b h = ap said_fed ((said_eq-Decides (said_of a) (said_of b)).0 h)
+pub said_fed_alike : (a b : Signature) → said_eq a b ≡ true → said_fed a ≡ said_fed b
+said_fed_alike a b h = ap said_fed ((said_eq-Decides a b).0 h)

@@ -3,6 +3,7 @@ use Rattle.std.proofs.lemmas.List.{drop_more}
 use Rattle.dsr_desk.specs.declared.statement.Statement.TheVariants.{Link}
 use Rattle.dsr_script.specs.Held.{IsHeldOrKnown}
 use Rattle.dsr_script.specs.Support.Links.{said_in, said_by}
+use Rattle.dsr_script.specs.Support.Said.{said_of}
 use Rattle.dsr_script.proofs.BriefLemmas.{HeldOn, held_on, first_held}
 use Rattle.dsr_script.proofs.building.signatures_of.Goals as goal
 
@@ -14,8 +15,8 @@ signature_of-requires c =
     let x = c.link-item.result in
     let left : drop i links ≡ x ∷ drop (i + 1) links = drop_more links i x c.loop-link-test.true ∙ ap (λ y. y ∷ drop (i + 1) links) (sym c.link-item.is) in
     let held = subst (HeldOn c.args.slot c.args.content.now P links c.loop-link.before) left c.loop-link.invariant.held in
-    let said : c.said_in-said.result ≡ said_in (Link c.args.slot c.args.content.now c.loop-link.before) x =
-    c.said_in-said.ensures ∙ ap (λ fitting. said_in fitting x) c.link_at.ensures in
+    let said : said_of c.said_in.result ≡ said_in (Link c.args.slot c.args.content.now c.loop-link.before) x =
+    c.said_in.ensures ∙ ap (λ fitting. said_in fitting x) c.link_at-fitting.ensures in
     subst P (sym said) (first_held c.args.slot c.args.content.now P links c.loop-link.before x (drop (i + 1) links) held c.requires.held)
 
 pub loop-link-preserved : goal.loop-link-preserved
@@ -31,7 +32,7 @@ loop-link-preserved c =
     let one = said_in (Link slot content before) x in
     let left : drop i links ≡ x ∷ drop (i + 1) links = drop_more links i x c.loop-link-test.true ∙ ap (λ y. y ∷ drop (i + 1) links) (sym c.link-item.is) in
     let held = subst (HeldOn slot content P links before) left c.loop-link.invariant.held in
-    let said : c.said_in-said.result ≡ one = c.said_in-said.ensures ∙ ap (λ fitting. said_in fitting x) c.link_at.ensures in
+    let said : said_of c.said_in.result ≡ one = c.said_in.ensures ∙ ap (λ fitting. said_in fitting x) c.link_at-fitting.ensures in
     let pushed_result : c.push.new.self.items ≡ done ++ c.signature_of.result ∷ [] = search rules in
     let pushed : c.push.new.self.items ≡ done ++ one ∷ [] = pushed_result ∙ ap (λ s. done ++ s ∷ []) (c.signature_of.ensures ∙ said) in
     let signed : c.push-in-loop-link.new.self ≡ before ++ x.signer ∷ [] = c.push-in-loop-link.ensures ∙ ap (λ a. before ++ a ∷ []) c.signer.ensures in

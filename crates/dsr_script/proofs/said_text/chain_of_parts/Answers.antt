@@ -7,7 +7,7 @@ pub returns-then-are_links-clause-made : goal.returns-then-are_links-clause-made
 returns-then-are_links-clause-made c =
     rw (c.in-Some-Some-Some.is-0, c.in-Some-Some-Some.is-1, c.in-Some-Some-Some.is-2)
     (chain_made c.in-Some-Some-Some.slot c.in-Some-Some-Some.asks.items c.in-Some-Some-Some.links.items
-    (rw (c.content_of-content.ensures, c.as_slice.ensures.value, c.as_slice-in-Some-Some-Some.ensures.value) at c.are_links.ensures.0 c.if-are_links.true)
+    (rw (c.as_slice.ensures.value, c.as_slice-in-Some-Some-Some.ensures.value) at c.are_links.ensures.0 c.if-are_links.true)
     c.of_parts.result c.of_parts.ensures)
 
 pub returns-else-are_links-clause-made : goal.returns-else-are_links-clause-made
@@ -16,4 +16,4 @@ returns-else-are_links-clause-made c =
     (chain_unmade c.in-Some-Some-Some.slot c.in-Some-Some-Some.asks.items c.in-Some-Some-Some.links.items
     (λ short.
     false≢true (sym c.if-are_links.false
-    ∙ (rw (c.content_of-content.ensures, c.as_slice.ensures.value, c.as_slice-in-Some-Some-Some.ensures.value) at c.are_links.ensures).1 short)))
+    ∙ (rw (c.as_slice.ensures.value, c.as_slice-in-Some-Some-Some.ensures.value) at c.are_links.ensures).1 short)))

@@ -1,7 +1,7 @@
 use Rattle.std.proofs.Common.{◌≡◌, length, drop}
 use Rattle.dsr_script.specs.Held.{IsHeldOrKnown}
 use Rattle.dsr_script.proofs.BriefLemmas.{HeldOn}
-use Rattle.dsr_script.proofs.building.are_links_held.Given as goal
+use Rattle.dsr_script.proofs.building.are_links_held_in.Given as goal
 
 -- nothing so far is forged
 abbrev pub invariant-loop-link : goal.invariant-loop-link

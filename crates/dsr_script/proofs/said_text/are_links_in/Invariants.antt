@@ -1,6 +1,6 @@
 use Rattle.std.proofs.Common.{◌≡◌, length, drop}
 use Rattle.dsr_script.proofs.BriefLemmas.{ShortOn}
-use Rattle.dsr_script.proofs.said_text.are_links.Given as goal
+use Rattle.dsr_script.proofs.said_text.are_links_in.Given as goal
 
 -- nothing so far is long
 abbrev pub invariant-loop-link : goal.invariant-loop-link
