@@ -14,14 +14,14 @@ use Rattle.dsr_envelope.specs.declared.envelope.Envelope.TheVariants.{Empty, Rou
 use Rattle.dsr_script.specs.Known.{StandFor}
 use Rattle.dsr_script.specs.Support.Carried.{carried, on_chain}
 use Rattle.dsr_script.specs.Support.Noted.{noted, noted_all, beside}
-use Rattle.dsr_script.specs.Support.SaidEquality.{said_eq, said_eq-Decides}
+use Rattle.dsr_script.specs.Support.SignatureEquality.{signature_eq, signature_eq-Decides}
 
 -- ---- a set of signatures
 
 -- the signatures after one was put in
-pub keys_noted : (xs : List Signature) (s : Signature) → insert_key said_eq xs s ≡ noted xs s
+pub keys_noted : (xs : List Signature) (s : Signature) → insert_key signature_eq xs s ≡ noted xs s
 keys_noted [] s = refl
-keys_noted (x ∷ xs) s = by (said_eq s x) (list_any (said_eq s) xs) (keys_noted xs s)
+keys_noted (x ∷ xs) s = by (signature_eq s x) (list_any (signature_eq s) xs) (keys_noted xs s)
   where
     by : (b c : Bool) → (if c then xs else xs ++ s ∷ []) ≡ noted xs s
         → (if b || c then x ∷ xs else x ∷ (xs ++ s ∷ [])) ≡ (if b then x ∷ xs else x ∷ noted xs s)
@@ -30,26 +30,26 @@ keys_noted (x ∷ xs) s = by (said_eq s x) (list_any (said_eq s) xs) (keys_noted
     by false false rest = ap (λ ys. x ∷ ys) rest
 
 -- the signature that is found is the one that is looked up
-pub found_says : (xs : List Signature) (s : Signature) → IfSome (find (said_eq s) xs) (λ x. x ≡ s)
+pub found_says : (xs : List Signature) (s : Signature) → IfSome (find (signature_eq s) xs) (λ x. x ≡ s)
 found_says [] s = tt
-found_says (x ∷ xs) s = by (said_eq s x) refl (found_says xs s)
+found_says (x ∷ xs) s = by (signature_eq s x) refl (found_says xs s)
   where
-    by : (b : Bool) → said_eq s x ≡ b → IfSome (find (said_eq s) xs) (λ y. y ≡ s) → IfSome (cond b (Some x) (find (said_eq s) xs)) (λ y. y ≡ s)
-    by true same rest = sym ((said_eq-Decides s x).0 same)
+    by : (b : Bool) → signature_eq s x ≡ b → IfSome (find (signature_eq s) xs) (λ y. y ≡ s) → IfSome (cond b (Some x) (find (signature_eq s) xs)) (λ y. y ≡ s)
+    by true same rest = sym ((signature_eq-Decides s x).0 same)
     by false other rest = rest
 
 -- and one is found exactly if it is there
-pub found_in : (xs : List Signature) (s : Signature) → IsSome (find (said_eq s) xs) ↔ In s xs
+pub found_in : (xs : List Signature) (s : Signature) → IsSome (find (signature_eq s) xs) ↔ In s xs
 found_in [] s = (λ h. absurd cc, λ h. elim h [ ])
-found_in (x ∷ xs) s = by (said_eq s x) refl (found_in xs s)
+found_in (x ∷ xs) s = by (signature_eq s x) refl (found_in xs s)
   where
-    by : (b : Bool) → said_eq s x ≡ b → (IsSome (find (said_eq s) xs) ↔ In s xs)
-        → IsSome (cond b (Some x) (find (said_eq s) xs)) ↔ In s (x ∷ xs)
-    by true same rest = (λ h. here (sym ((said_eq-Decides s x).0 same)), λ h. refl)
+    by : (b : Bool) → signature_eq s x ≡ b → (IsSome (find (signature_eq s) xs) ↔ In s xs)
+        → IsSome (cond b (Some x) (find (signature_eq s) xs)) ↔ In s (x ∷ xs)
+    by true same rest = (λ h. here (sym ((signature_eq-Decides s x).0 same)), λ h. refl)
     by false other rest = (
       λ h. there (rest.0 h),
       λ h. elim h [
-        | here is ↦ absurd (let yes : said_eq s x ≡ true = (said_eq-Decides s x).1 (sym is) in cc)
+        | here is ↦ absurd (let yes : signature_eq s x ≡ true = (signature_eq-Decides s x).1 (sym is) in cc)
         | there later ↦ rest.1 later
       ],
     )
@@ -59,10 +59,10 @@ found_in (x ∷ xs) s = by (said_eq s x) refl (found_in xs s)
 -- after one signature was noted
 pub In-noted : (xs : List Signature) (y s : Signature) → In s (noted xs y) ↔ (In s xs ⊎ (y ≡ s))
 In-noted [] y s = (λ h. inr (In-one s y h), λ h. elim h [ inl old ↦ elim old [ ] | inr is ↦ here is ])
-In-noted (x ∷ xs) y s = by (said_eq y x) refl (In-noted xs y s)
+In-noted (x ∷ xs) y s = by (signature_eq y x) refl (In-noted xs y s)
   where
-    by : (b : Bool) → said_eq y x ≡ b → (In s (noted xs y) ↔ (In s xs ⊎ (y ≡ s))) → In s (if b then x ∷ xs else x ∷ noted xs y) ↔ (In s (x ∷ xs) ⊎ (y ≡ s))
-    by true same rest = (λ h. inl h, λ h. elim h [ inl old ↦ old | inr is ↦ here (sym ((said_eq-Decides y x).0 same) ∙ is) ])
+    by : (b : Bool) → signature_eq y x ≡ b → (In s (noted xs y) ↔ (In s xs ⊎ (y ≡ s))) → In s (if b then x ∷ xs else x ∷ noted xs y) ↔ (In s (x ∷ xs) ⊎ (y ≡ s))
+    by true same rest = (λ h. inl h, λ h. elim h [ inl old ↦ old | inr is ↦ here (sym ((signature_eq-Decides y x).0 same) ∙ is) ])
     by false other rest = (
       λ h. elim h [
         | here is ↦ inl (here is)

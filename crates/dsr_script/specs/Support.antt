@@ -11,6 +11,6 @@ pub mod PlaceEquality
 pub mod PlaceHash
 pub mod PlainSaid
 pub mod Said
-pub mod SaidEquality
-pub mod SaidHash
+pub mod SignatureEquality
+pub mod SignatureHash
 pub mod SpelledText

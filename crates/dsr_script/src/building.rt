@@ -103,8 +103,8 @@ fn is_chain_held(chain: &SaidChain, keys: &[Key], known: &Known) -> bool
         && chain.asks().iter().all(|ask| is_ask_held(ask, keys, known))
 }
 
-/// Tells whether none of these signatures, which a chain with this slot and these requests describes, is forged. What they say takes much
-/// room, so the code makes it only if some signer's key is not among the keys.
+/// Tells whether none of these signatures, which a chain with this slot and these requests describes, is forged. The content takes much
+/// room, so the code makes it only if some signer's key is missing.
 fn are_links_held(
     slot: u64,
     asks: &[SaidRequest],
@@ -119,7 +119,7 @@ fn are_links_held(
     are_signers_held(links, keys) || are_links_held_in(slot, &content_of(asks), links, keys, known)
 }
 
-/// Tells whether the keys of all signers are among these.
+/// Tells whether each signer's key is among the keys.
 fn are_signers_held(links: &[Brief], keys: &[Key]) -> bool
     ensures { IsTrue result ↔ All (IsByHolder keys.now) links.now }
 {
@@ -131,7 +131,7 @@ fn are_signers_held(links: &[Brief], keys: &[Key]) -> bool
     true
 }
 
-/// Tells whether the key of the signer is among these.
+/// Tells whether the signer's key is among the keys.
 fn is_signer_held(link: &Brief, keys: &[Key]) -> bool
     ensures { IsTrue result ↔ IsByHolder keys.now link.now }
 {

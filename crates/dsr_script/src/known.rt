@@ -6,8 +6,8 @@ ghost use Rattle.dsr_script.specs.Support.Carried.{carried, on_chain};
 ghost use Rattle.dsr_script.specs.Support.Noted.{noted, noted_all, beside};
 ghost use Rattle.dsr_script.specs.Support.Said.{said_of};
 
+use crate::known_signature::KnownSignature;
 use crate::said::Said;
-use crate::seen::Seen;
 use dsr_chain::{Chain, SignedRequest};
 use dsr_desk::Signature;
 use dsr_envelope::Envelope;
@@ -25,7 +25,7 @@ const MOST_CARRIED: usize = 768;
 /// The signatures that were seen, which can be sent on: a set, in which a signature is found by a hash of what it says.
 #[derive(Drop)]
 pub struct Known {
-    seen: IndexSet<Seen>,
+    seen: IndexSet<KnownSignature>,
 }
 
 impl Model for Known {
@@ -83,7 +83,7 @@ impl Known {
     {
         match self.seen.get(said) {
             None => None,
-            Some(seen) => Some(seen.signature()),
+            Some(known) => Some(known.signature()),
         }
     }
 
@@ -177,6 +177,8 @@ impl Known {
         ensures noted { self.new.signatures ≡ noted self.old.signatures signature.now }
         ensures room { self.old.room ≤ self.new.room + 1 }
     {
-        self.seen.insert(Seen::of(signature.copy())).unwrap();
+        self.seen
+            .insert(KnownSignature::of(signature.copy()))
+            .unwrap();
     }
 }

@@ -8,6 +8,7 @@ mod draft;
 mod draft_text;
 mod forged;
 mod known;
+mod known_signature;
 mod laws;
 mod ops;
 mod place;
@@ -20,7 +21,6 @@ mod said_hash;
 mod said_text;
 mod same;
 mod script;
-mod seen;
 mod serve_line;
 
 pub use building::build;

@@ -5,7 +5,6 @@ ghost use Rattle.dsr_chain.specs.declared.signed_request.SignedRequest.{SignedRe
 ghost use Rattle.dsr_envelope.specs.Limits.{IsSigned};
 ghost use Rattle.dsr_script.specs.ChainText.{signed_text};
 ghost use Rattle.dsr_script.specs.Support.AskText.{ask_parts};
-ghost use Rattle.dsr_script.specs.Support.Links.{said_in};
 ghost use Rattle.dsr_script.specs.Support.Said.{said_of};
 ghost use Rattle.dsr_desk.specs.declared.statement.Statement.TheVariants.{Ask};
 ghost use Rattle.dsr_script.specs.SignatureText.{spelled_at};
@@ -20,7 +19,7 @@ use dsr_request::Request;
 use std::alloc::Global;
 use std::marker::Model;
 
-/// What a signature says: its signer and its statement, which is lent. Anybody can make one, and it is not a signature.
+/// What a signature says: its signer, and a reference to its statement. Anybody can make one, and it is not a signature.
 #[derive(Drop)]
 pub(crate) struct Said<'a> {
     signer: Actor,
@@ -61,11 +60,11 @@ impl<'a> Said<'a> {
 }
 
 impl PartialEq for Said<'_> {
-    ghost use Rattle.dsr_script.specs.Support.Said.{query_eq, query_eq-per};
+    ghost use Rattle.dsr_script.specs.Support.Said.{said_eq, said_eq-per};
 
-    ghost eq = { query_eq };
+    ghost eq = { said_eq };
 
-    ghost laws = { query_eq-per };
+    ghost laws = { said_eq-per };
 
     fn eq(&self, other: &Said<'_>) -> bool {
         self.signer == other.signer && self.statement == other.statement
@@ -73,9 +72,9 @@ impl PartialEq for Said<'_> {
 }
 
 impl Eq for Said<'_> {
-    ghost use Rattle.dsr_script.specs.Support.Said.{query_eq-equiv};
+    ghost use Rattle.dsr_script.specs.Support.Said.{said_eq-equiv};
 
-    ghost laws = { query_eq-equiv };
+    ghost laws = { said_eq-equiv };
 }
 
 /// A request with what a text says about the signature beside it.
@@ -152,14 +151,14 @@ impl SaidRequest {
         self.request
     }
 
-    /// Returns the statement that fits beside it: that its client asks it.
+    /// Returns the statement that fits the signature beside it: its client's ask for it.
     pub(crate) fn fitting(&self) -> Statement
         ensures { result ≡ Ask self.now.request }
     {
         Statement::Ask(self.request)
     }
 
-    /// Returns what the signature beside it says, given the statement that fits there.
+    /// Returns what the signature beside it says. Requires that this is the statement that fits there.
     pub(crate) fn said_in<'a>(&'a self, fitting: &'a Statement) -> Said<'a>
         requires { fitting.now ≡ Ask self.now.request }
         ensures { said_of result ≡ self.now.signature }

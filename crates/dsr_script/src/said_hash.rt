@@ -2,8 +2,8 @@
 //! differ in only one part, and each must still be found at once.
 
 ghost use Rattle.std.specs.Prelude.{◌≡◌, fold, flat_map};
-ghost use Rattle.dsr_script.specs.Support.SaidHash.{actor_fed, op_fed, request_fed};
-ghost use Rattle.dsr_script.specs.Support.Said.{query_fed, query_fed_alike};
+ghost use Rattle.dsr_script.specs.Support.SignatureHash.{actor_fed, op_fed, request_fed};
+ghost use Rattle.dsr_script.specs.Support.Said.{said_fed, said_fed_alike};
 
 use crate::said::Said;
 use dsr_desk::Statement;
@@ -12,9 +12,9 @@ use dsr_request::{Op, Request};
 use std::hash::{Hash, Hasher};
 
 impl Hash for Said<'_> {
-    ghost hash_input = { query_fed };
+    ghost hash_input = { said_fed };
 
-    ghost respects_eq = { query_fed_alike };
+    ghost respects_eq = { said_fed_alike };
 
     fn hash<H: Hasher>(&self, state: &mut H) {
         feed_actor(&self.signer(), state);

@@ -155,8 +155,8 @@ fn read_links(alloc: Global, bytes: &[u8]) -> Result<Option<Vec<Brief>>, Refusal
     read_items(alloc, bytes, MOST_SIGNERS)
 }
 
-/// Tells whether a text says these about signatures of a chain with this slot and these requests: whether none is the long form of what
-/// fits its place. What fits takes much room, so the code makes it only to compare another statement with it.
+/// Tells whether none of these is the long form of what fits its place in a chain with this slot and these requests. What fits takes much
+/// room, so the code makes it only if one of these has another statement.
 fn are_links(slot: u64, asks: &[SaidRequest], links: &[Brief]) -> bool
     requires asks { length asks.now ≤ 8 }
     requires links { length links.now ≤ 16 }
@@ -172,7 +172,7 @@ fn are_short(links: &[Brief]) -> bool
     links.iter().all(|link| link.is_short())
 }
 
-/// Tells the same of a chain with this slot and content.
+/// Tells whether none of these is the long form of what fits its place in a chain with this slot and content.
 fn are_links_in(slot: u64, content: &Option<Requests>, links: &[Brief]) -> bool
     requires { length links.now ≤ 16 }
     ensures { IsTrue result ↔ (links.now ≡ spelled_links slot content.now [] (said_by slot content.now [] links.now)) }

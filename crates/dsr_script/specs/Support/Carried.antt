@@ -25,7 +25,7 @@ carried (Ask request) = request.signature ∷ []
 carried (Reply reply) = []
 carried (Seen front) = []
 
--- what a text says about a signature is that the holder of one of these keys signed
+-- the signer that the text names holds one of these keys
 pub record IsByHolder (holders : List Actor) (x : Spelled) : Type 0 where
   pub signer : Any (λ holder. holder ≡ x.signer) holders
 

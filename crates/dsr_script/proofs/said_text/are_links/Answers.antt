@@ -1,4 +1,4 @@
-use Rattle.std.proofs.Common.{[], refl}
+use Rattle.std.proofs.Common.{[]}
 use Rattle.dsr_chain.specs.Support.SignedLists.{content_of}
 use Rattle.dsr_script.proofs.BriefLemmas.{short_each}
 use Rattle.dsr_script.proofs.said_text.are_links.Goals as goal

@@ -11,7 +11,7 @@ use Rattle.dsr_request.specs.Request.{Request}
 use Rattle.dsr_desk.specs.Signature.{Signature}
 use Rattle.dsr_desk.specs.declared.statement.Statement.{Statement}
 use Rattle.dsr_desk.specs.declared.statement.Statement.TheVariants.{Ask, Link}
-use Rattle.dsr_script.specs.Support.SaidEquality.{said_eq, said_eq-Decides}
+use Rattle.dsr_script.specs.Support.SignatureEquality.{signature_eq, signature_eq-Decides}
 
 -- the actor: a replica's number, or a client's after those of replicas
 abbrev pub actor_fed : Actor → fed.HashWrites
@@ -44,9 +44,9 @@ statement_fed (Ask request) = request_fed request
 statement_fed (Link slot value before) = fed.u64 slot ++ (content_fed value ++ flat_map actor_fed before)
 
 -- what is hashed
-abbrev pub said_fed : Signature → fed.HashWrites
-said_fed s = actor_fed s.signer ++ statement_fed s.statement
+abbrev pub signature_fed : Signature → fed.HashWrites
+signature_fed s = actor_fed s.signer ++ statement_fed s.statement
 
 -- equal ones are hashed alike
-pub said_fed_alike : (a b : Signature) → said_eq a b ≡ true → said_fed a ≡ said_fed b
-said_fed_alike a b h = ap said_fed ((said_eq-Decides a b).0 h)
+pub signature_fed_alike : (a b : Signature) → signature_eq a b ≡ true → signature_fed a ≡ signature_fed b
+signature_fed_alike a b h = ap signature_fed ((signature_eq-Decides a b).0 h)
