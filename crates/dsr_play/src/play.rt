@@ -8,6 +8,7 @@ use dsr_names::{Refusal, Shape};
 use dsr_text::{TakesLines, read_header, take_lines};
 use std::alloc::Global;
 use std::marker::Model;
+use std::mem::forget;
 
 /// The most events of a play.
 pub const MOST_EVENTS: usize = 1_000_000;
@@ -69,6 +70,11 @@ impl Play {
         ensures few { length result.now ≤ 1000000 }
     {
         self.events.as_slice()
+    }
+
+    /// Leaves the play in memory, which is never freed then. This is for a program that ends soon, since to free a long play takes a while.
+    pub fn leave(self) {
+        forget(self);
     }
 }
 

@@ -1,5 +1,5 @@
 -- How the parts of a world represent its run, event by event.
-use Rattle.std.proofs.Common.{◌≡◌, ◌↔◌, ℕ, suc, ◌<◌, ◌^◌, ◌&&◌, ◌||◌, not, nat_lt, Bool, true, false, List, [], ◌∷◌, ◌++◌, Option, None, Some, length, length-append, reverse, if◌then◌else◌, ◌⊎◌, inl, inr, refl, ap, sym, ◌∙◌, arith}
+use Rattle.std.proofs.Common.{◌≡◌, ◌↔◌, ℕ, zero, suc, ◌<◌, ◌^◌, ◌&&◌, ◌||◌, not, nat_lt, Bool, true, false, List, [], ◌∷◌, ◌++◌, Option, None, Some, length, length-append, reverse, if◌then◌else◌, ◌⊎◌, inl, inr, refl, ap, sym, ◌∙◌, arith}
 use Rattle.std.specs.Prelude.{Any, slice_get, slice_set}
 use Rattle.std.specs.Option.{option_map, is_none}
 use Rattle.std.proofs.lemmas.Bool.{true≢false}
@@ -7,6 +7,7 @@ use Rattle.std.proofs.lemmas.Bool.Decides.{nat_tests}
 use Rattle.std.proofs.lemmas.List.{reverse-append, append-nil}
 use Rattle.std.proofs.lemmas.Option.{none-some}
 use Rattle.dsr_base.specs.Member.{In}
+use Rattle.dsr_base.proofs.MemberLemmas.{In-from_place}
 use Rattle.dsr_names.specs.Shape.{Shape, IsActor, IsAllowed, IsLoyal}
 use Rattle.dsr_names.specs.declared.actor.Actor.{Actor}
 use Rattle.dsr_names.specs.declared.actor.Actor.TheVariants.{Replica, Client}
@@ -17,23 +18,25 @@ use Rattle.dsr_envelope.specs.declared.envelope.Envelope.{Envelope}
 use Rattle.dsr_envelope.specs.declared.entry.Entry.TheVariants.{Post as PostEntry}
 use Rattle.dsr_envelope.specs.declared.pick.Pick.{Pick}
 use Rattle.dsr_envelope.specs.Envelope.{Carries}
-use Rattle.dsr_envelope.specs.Log.{posted_to, taken_from}
+use Rattle.dsr_envelope.specs.Log.{due, posted_to, rounds, taken_from}
 use Rattle.dsr_envelope.specs.Pick.{IsPick}
+use Rattle.dsr_envelope.specs.declared.pick.Pick.TheVariants.{Plain, From, Begin}
 use Rattle.dsr_chain.specs.declared.signed_request.SignedRequest.{SignedRequest}
 use Rattle.dsr_envelope.specs.declared.envelope.Envelope.TheVariants.{Empty, Round, Ask, Reply, Seen}
 use Rattle.dsr_client.specs.State.{State, asked_beside, state_after, outstanding, accepted}
-use Rattle.dsr_run.proofs.Lemmas.{log_cases}
+use Rattle.dsr_replica.specs.Conduct.{chosen, envelope_to, is_due}
+use Rattle.dsr_run.proofs.Lemmas.{log_cases, posted_entry}
 use Rattle.dsr_play.specs.declared.event.Event.TheVariants.{Post}
 use Rattle.dsr_node.specs.Conduct.{is_actor, is_traitor_of, are_clients, is_exhausted, post_of}
 use Rattle.dsr_world.specs.Event.{is_full, is_used_up, refusal_of, first_of, Answers, HasDone}
-use Rattle.dsr_run.specs.Run.{IsNextStep}
+use Rattle.dsr_run.specs.Run.{IsNextStep, IsTraitor}
 use Rattle.dsr_run.specs.Step.{Step, Logs, log_of}
 use Rattle.dsr_base.specs.Boxes.{box_at, row_of, with_box, with_item}
 use Rattle.dsr_world.specs.Support.Boxes.{held_in, IsBoxOf}
 use Rattle.dsr_node.proofs.Lemmas.{honest_plays}
 use Rattle.dsr_node.specs.Node.{CanPost, Plays, post_refusal}
 use Rattle.dsr_names.specs.Places.{place_of}
-use Rattle.dsr_world.specs.Support.StageFields.{AreParts}
+use Rattle.dsr_world.specs.Support.StageFields.{AreParts, is_posted_again}
 use Rattle.dsr_run.specs.Known.{KnowsAll}
 use Rattle.dsr_node.specs.Conduct.{HasSpelledOp}
 use Rattle.dsr_base.specs.declared.boxes.MailBox.{MailBox}
@@ -183,6 +186,32 @@ module _ (shape : Shape) (run : List Step) (nodes : List Node) (rows : List (Lis
       loyal_is : (a : Actor) → IsActor shape a → is_traitor_of shape a ≡ false → IsLoyal shape a
       loyal_is (Replica q) inside good = (inside, good)
       loyal_is (Client c) inside good = inside
+
+  -- a replica has already posted to replica 0 what it posts to any other replica
+  posted_first : (p q : ℕ) (pick : Pick) (x : Envelope) → envelope_to shape (Replica p) (log_of run (Replica p)) (suc q) pick ≡ Some x
+      → In x (posted_to (Replica 0) (log_of run (Replica p)))
+  posted_first p q pick x e = by_test (is_due (due shape (log_of run (Replica p))) (suc q)) pick e
+    where
+      by_test : (b : Bool) (how : Pick) → (if b then chosen shape (Replica p) (log_of run (Replica p)) (suc q) how else None) ≡ Some x
+          → In x (posted_to (Replica 0) (log_of run (Replica p)))
+      by_test false how given = absurd (none-some x given)
+      by_test true Plain given = In-from_place x (posted_to (Replica 0) (log_of run (Replica p))) (rounds shape (log_of run (Replica p))) given
+      by_test true (From clients) given = absurd (none-some x given)
+      by_test true (Begin op) given = absurd (none-some x given)
+
+  -- so the signatures in it are known
+  pub known_again : (from to : Actor) (pick : Pick) (x : Envelope) → is_posted_again from to ≡ true → IsActor shape from → is_traitor_of shape from ≡ false
+      → post_of shape (log_of run from) from to pick ≡ Some x → (holder : Actor) → Any (λ h. h ≡ holder) keys → (s : Signature) → Carries x s → In s known
+  known_again (Replica p) (Replica zero) pick x again actor honest e holder held s carries = absurd (true≢false (sym again))
+  known_again (Replica p) (Client c) pick x again actor honest e holder held s carries = absurd (true≢false (sym again))
+  known_again (Client c) to pick x again actor honest e holder held s carries = absurd (true≢false (sym again))
+  known_again (Replica p) (Replica (suc q)) pick x again actor honest e holder held s carries = by_holder holder ((are.held holder).0 held)
+    where
+      by_holder : (h : Actor) → IsTraitor shape h → In s known
+      by_holder (Client c) traitor = absurd traitor
+      by_holder (Replica t) traitor =
+          (are.knows t traitor).all s (Replica p) (actor, honest)
+          (record { to = Replica 0; envelope = x; posted = posted_entry (Replica 0) (log_of run (Replica p)) x (posted_first p q pick x e); carried = carries })
 
   -- the row and the box of a pair of actors
   pub row_long : (from to : Actor) → IsActor shape from → IsActor shape to → place_of shape to < length (row_of rows (place_of shape from))

@@ -1,10 +1,10 @@
-ghost use Rattle.std.specs.Prelude.{◌≡◌, ◌↔◌, ◌⊎◌, ℕ, ◌<◌, None, Some, Any, IfOk, OnOk, OnErr, IsOkUnless, IsSome, length, slice_index_or};
+ghost use Rattle.std.specs.Prelude.{◌≡◌, ◌↔◌, ◌⊎◌, ℕ, ◌<◌, true, false, None, Some, Any, IfOk, OnOk, OnErr, IsOkUnless, IsSome, length, slice_index_or};
 ghost use Rattle.dsr_base.specs.Member.{In};
 ghost use Rattle.dsr_base.specs.Boxes.{box_at, row_of};
 ghost use Rattle.dsr_names.specs.declared.actor.Actor.{Actor};
 ghost use Rattle.dsr_desk.specs.Signature.{Signature};
 ghost use Rattle.dsr_envelope.specs.Envelope.{Carries};
-ghost use Rattle.dsr_world.specs.Support.StageFields.{kept_of, with_letter};
+ghost use Rattle.dsr_world.specs.Support.StageFields.{is_posted_again, kept_of, with_letter};
 
 use dsr_base::Boxes;
 use dsr_desk::Key;
@@ -61,17 +61,35 @@ pub(crate) fn lent(boxes: &Boxes<Letter>, from: usize, to: usize) -> &Letter
     }
 }
 
-/// Notes the signatures of a loyal actor's post as known. Without a traitor's key it notes nothing, because nobody could send them
-/// on. `NoMemory` if memory runs out: then nothing changes.
-pub(crate) fn learn(known: &mut Known, keys: &[Key], envelope: &Envelope) -> Result<(), Refusal>
-    ensures learned { (holder : Actor) → Any (λ h. h ≡ holder) keys.now → (s : Signature)
+/// Notes the signatures of a loyal actor's post as known. It notes nothing of a replica's post to a replica other than replica 0: the same
+/// was posted to replica 0, so those signatures are already known. Without a traitor's key it notes nothing, because nobody could send
+/// them on. `NoMemory` if memory runs out: then nothing changes.
+pub(crate) fn learn(
+    known: &mut Known,
+    keys: &[Key],
+    from: &Actor,
+    to: &Actor,
+    envelope: &Envelope,
+) -> Result<(), Refusal>
+    ensures learned { is_posted_again from.now to.now ≡ false → (holder : Actor) → Any (λ h. h ≡ holder) keys.now → (s : Signature)
         → OnOk result (In s known.new.signatures ↔ (In s known.old.signatures ⊎ Carries envelope.now s)) }
+    ensures again { is_posted_again from.now to.now ≡ true → known.new.signatures ≡ known.old.signatures }
     ensures stays { OnErr result (known.new.signatures ≡ known.old.signatures) }
     ensures refusal { IsOkUnless result Refusal.NoMemory }
 {
-    if keys.is_empty() {
+    if keys.is_empty() || is_posted_again(from, to) {
         Ok(())
     } else {
         known.learn(envelope)
+    }
+}
+
+/// Tells whether a replica posts to a replica other than replica 0. A loyal one has posted the same to replica 0 already.
+fn is_posted_again(from: &Actor, to: &Actor) -> bool
+    ensures { result ≡ is_posted_again from.now to.now }
+{
+    match (from, to) {
+        (Actor::Replica(_), Actor::Replica(taker)) => taker.number() > 0,
+        _ => false,
     }
 }

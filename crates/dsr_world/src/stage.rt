@@ -54,6 +54,7 @@ use dsr_script::{Draft, Forged, Known, build, forged_in};
 use dsr_slot::Decision;
 use std::alloc::Global;
 use std::marker::Model;
+use std::mem::forget;
 
 /// All actors of a shape and the boxes between them, without a record of their steps, which are a run. A loyal actor is a real
 /// replica or client; a traitor posts anything that forges nothing. Only proofs know the run; a `World` keeps it too.
@@ -297,6 +298,11 @@ impl Stage {
         self.run_in(alloc, events, &mut nothing)
     }
 
+    /// Leaves the stage in memory, which is never freed then. This is for a program that ends soon, since to free a long run takes a while.
+    pub fn leave(self) {
+        forget(self);
+    }
+
     /// Makes the event happen as `step` does, and adds its step to the entries if they are kept.
     pub(crate) fn step_in(
         &mut self,
@@ -384,7 +390,13 @@ impl Stage {
         let again = kept_of(to, &letter)?;
         self.replies.note(to, &letter)?;
         let copy = entries.make_room_for(&letter)?;
-        learn(&mut self.known, self.keys.as_slice(), letter.envelope())?;
+        learn(
+            &mut self.known,
+            self.keys.as_slice(),
+            from,
+            to,
+            letter.envelope(),
+        )?;
         self.nodes[poster].posted(*to, *pick);
         keep_letter(&mut self.letters, poster, again);
         self.steps.add_post(from, to, &letter);
@@ -510,7 +522,13 @@ impl Stage {
         let envelope = Envelope::Seen(self.nodes[poster].seen());
         let letter = Letter::of(alloc, envelope)?;
         let copy = entries.make_room_for(&letter)?;
-        learn(&mut self.known, self.keys.as_slice(), letter.envelope())?;
+        learn(
+            &mut self.known,
+            self.keys.as_slice(),
+            from,
+            to,
+            letter.envelope(),
+        )?;
         self.steps.add_post(from, to, &letter);
         self.boxes.put(poster, taker, letter);
         entries.keep_post(from, to, copy);

@@ -1,5 +1,5 @@
 -- How the fields of a stage represent it (this project).
-use Rattle.std.specs.Prelude.{◌≡◌, ◌↔◌, ℕ, zero, suc, ◌+◌, ◌++◌, ◌∷◌, ◌<◌, true, [], List, Option, None, Some, Any, if◌then◌else◌, length, slice_index_or, slice_set}
+use Rattle.std.specs.Prelude.{◌≡◌, ◌↔◌, ℕ, zero, suc, ◌+◌, ◌++◌, ◌∷◌, ◌<◌, Bool, true, false, [], List, Option, None, Some, Any, if◌then◌else◌, length, slice_index_or, slice_set}
 use Rattle.dsr_names.specs.Places.{place_of}
 use Rattle.dsr_names.specs.Shape.{Shape, is_traitor, IsActor, IsLoyal}
 use Rattle.dsr_names.specs.declared.actor.Actor.{Actor}
@@ -51,6 +51,13 @@ abbrev pub kept_of : Actor → Envelope → Option Envelope
 kept_of (Replica zero) x = Some x
 kept_of (Replica (suc q)) x = None
 kept_of (Client c) x = None
+
+-- whether a replica posts to a replica other than replica 0; a loyal one has posted the same to replica 0 already
+abbrev pub is_posted_again : Actor → Actor → Bool
+is_posted_again (Replica p) (Replica zero) = false
+is_posted_again (Replica p) (Replica (suc q)) = true
+is_posted_again (Replica p) (Client c) = false
+is_posted_again (Client c) to = false
 
 -- the stored letters after a post: a letter to be stored is now at the poster's place
 abbrev pub with_letter : ℕ → Option Envelope → List (Option Envelope) → List (Option Envelope)

@@ -1,5 +1,6 @@
-use Rattle.std.proofs.Common.{◌≡◌, ◌↔◌, ◌⊎◌, ◌∷◌, ◌<◌, ◌^◌, None, Some, length, reverse, ap, ap₂, sym, ◌∙◌, subst}
+use Rattle.std.proofs.Common.{◌≡◌, ◌↔◌, ◌⊎◌, inl, inr, ◌∷◌, ◌<◌, ◌^◌, None, Some, length, reverse, ap, ap₂, sym, ◌∙◌, subst}
 use Rattle.std.specs.Prelude.{Any, slice_set, slice_index_or}
+use Rattle.std.proofs.lemmas.Bool.{cases_Bool}
 use Rattle.dsr_base.specs.Member.{In}
 use Rattle.dsr_names.specs.declared.actor.Actor.{Actor}
 use Rattle.dsr_desk.specs.Signature.{Signature}
@@ -12,9 +13,9 @@ use Rattle.dsr_run.specs.Step.{log_of}
 use Rattle.dsr_base.specs.Boxes.{row_of, box_at, with_box, with_item}
 use Rattle.dsr_node.specs.Node.{Plays}
 use Rattle.dsr_names.specs.Places.{place_of}
-use Rattle.dsr_world.specs.Support.StageFields.{with_letter, AreParts, AreLetters}
+use Rattle.dsr_world.specs.Support.StageFields.{is_posted_again, with_letter, AreParts, AreLetters}
 use Rattle.dsr_world.specs.Stage.{Stage}
-use Rattle.dsr_world.proofs.Worlds.{can_post, cleared, conduct_cleared, row_long, posts_few, parts_after_post, done_post}
+use Rattle.dsr_world.proofs.Worlds.{can_post, cleared, conduct_cleared, known_again, row_long, posts_few, parts_after_post, done_post}
 use Rattle.dsr_world.proofs.Repeating.{letters_posted}
 use Rattle.dsr_world.proofs.stage.Stage.post.Goals as goal
 
@@ -74,8 +75,20 @@ invariant_of-self-2 c =
     let same : c.envelope.result.now ≡ c.in-Ok.letter = c.envelope.ensures in
     let learned : (holder : Actor) → Any (λ h. h ≡ holder) a.keys.items → (s : Signature)
     → In s c.learn.new.known.signatures ↔ (In s a.known.signatures ⊎ Carries c.in-Ok.letter s) =
-    λ holder h s. subst (λ y. In s c.learn.new.known.signatures ↔ (In s a.known.signatures ⊎ Carries y s)) same
-    (c.in_ok-learn.ensures.learned holder (subst (Any (λ h. h ≡ holder)) (sym c.as_slice.ensures.value) h) s) in
+    λ holder h s. elim (cases_Bool (is_posted_again from to)) [
+      | inl again ↦
+          let known = c.in_ok-learn.ensures.again again in (
+            λ now. inl (subst (In s) known now),
+            λ was. elim was [
+              | inl old ↦ subst (In s) (sym known) old
+              | inr carries ↦ subst (In s) (sym known)
+                  (known_again a.shape run a.nodes.items a.boxes a.keys.items a.known.signatures c.self.invariant.0 from to pick c.in-Ok.letter again
+                  is.actor is.honest given holder h s carries)
+            ],
+          )
+      | inr new ↦ subst (λ y. In s c.learn.new.known.signatures ↔ (In s a.known.signatures ⊎ Carries y s)) same
+          (c.in_ok-learn.ensures.learned new holder (subst (Any (λ h. h ≡ holder)) (sym c.as_slice.ensures.value) h) s)
+    ] in
     let parts = parts_after_post a.shape run a.nodes.items a.boxes a.keys.items a.known.signatures c.self.invariant.0 from to pick c.in-Ok.letter c.posted.new.self
     c.learn.new.known.signatures c.n-n.ensures.allowed c.look_at.ensures.pick c.look_at.ensures.spelled is given plays learned in
     let went : c.add_post.new.self ≡ (from, PostEntry to c.in-Ok.letter) ∷ run = c.add_post.ensures in

@@ -15,7 +15,7 @@ use Rattle.dsr_run.specs.Step.{log_of}
 use Rattle.dsr_base.specs.Boxes.{box_at, with_box, with_item}
 use Rattle.dsr_node.specs.Node.{Plays}
 use Rattle.dsr_names.specs.Places.{place_of}
-use Rattle.dsr_world.specs.Support.StageFields.{AreParts, AreLetters}
+use Rattle.dsr_world.specs.Support.StageFields.{is_posted_again, AreParts, AreLetters}
 use Rattle.dsr_world.specs.Stage.{Stage}
 use Rattle.dsr_world.proofs.WorldPosts.{cleared_tell, parts_after_tell, done_tell}
 use Rattle.dsr_world.proofs.Repeating.{letters_told}
@@ -57,7 +57,7 @@ invariant_of-self-2 c =
     let learned : (holder : Actor) → Any (λ h. h ≡ holder) a.keys.items → (s : Signature)
     → In s c.learn.new.known.signatures ↔ (In s a.known.signatures ⊎ Carries x s) =
     λ holder h s. subst (λ y. In s c.learn.new.known.signatures ↔ (In s a.known.signatures ⊎ Carries y s)) same
-    (c.in_ok-learn.ensures.learned holder (subst (Any (λ h. h ≡ holder)) (sym c.as_slice.ensures.value) h) s) in
+    (c.in_ok-learn.ensures.learned (ap₂ is_posted_again is.from_is is.to_is) holder (subst (Any (λ h. h ≡ holder)) (sym c.as_slice.ensures.value) h) s) in
     let parts = parts_after_tell a.shape run a.nodes.items a.boxes a.keys.items a.known.signatures c.self.invariant.0 is.c is.d
     c.learn.new.known.signatures c.n-n.ensures.allowed (subst (IsActor a.shape) is.from_is is.actor) (subst (IsActor a.shape) is.to_is is.other) is.apart
     (ap₂ (is_used_up (log_of run)) (sym is.from_is) (sym is.to_is) ∙ is.used) (ap₂ (is_full (log_of run)) (sym is.from_is) (sym is.to_is) ∙ is.room) learned in
