@@ -6,13 +6,13 @@ those of `DOCUMENTS`. A name in capital letters in a path represents any name, a
 
 tables: the tables of docs/tables/, which are generated from the sources: what is promised call by call, law by law, and what must be believed.
 
-crates.md           What each crate is, what it stands on and what it offers.
+crates.md           What each crate is, what it uses and what it offers.
 calls.md            The contract of each public call: what the line above it says, and the names of its clauses.
 laws.md             The laws, likewise.
 models.md           What contracts see of each type.
 definitions.md      For each chosen promise of tests/written/promises.txt the definitions that the contracts of its functions name, those that these
-                    name, and so on, as far as they stand in a `specs/` of this repository; and the types of the code that they name. The tests of
-                    equality in `specs/Support/` are left out, as docs/READING.md says. Beside each promise stands how many lines these have,
+                    name, and so on, as far as they are in a `specs/` of this repository; and the types of the code that they name. The tests of
+                    equality in `specs/Support/` are left out, as docs/READING.md says. Beside each promise is the number of their lines,
                     without comments.
 meanings.md         Each definition with the line of plain meaning above it.
 wrong-bodies.md     The edits that the prover must refuse.
@@ -78,7 +78,7 @@ def declared_type(crate, name):
 
 
 def place_of(module, name):
-    """The file of a definition, and whether it is one of definitions; None where it is not to be listed."""
+    """The file of a definition, and whether it is one of definitions; None if it is not to be listed."""
     parts = module.split(".")
     if not parts[1].startswith("dsr_") or parts[2] != "specs" or "Support" in parts:
         return None
@@ -153,12 +153,12 @@ def definitions_table(all_crates):
         rows.append(f"| {title} | {counts[False]} | {counts[True]} |")
         parts.append(f"## {title}\n\n{text}")
     head = f"# What must be believed\n\n{MADE}\nFor each chosen promise the definitions on which its contracts rest, file by file. "
-    head += "What types show stands in [models.md](models.md), what each means in [meanings.md](meanings.md).\n\n"
+    head += "[models.md](models.md) says what contracts see of a type, and [meanings.md](meanings.md) what each definition means.\n\n"
     return head + table(["Promise", "Lines of definitions", "Lines of types of the code"], rows) + "\n" + "\n".join(parts)
 
 
 def clauses(listed, at_length=0):
-    """The clauses by their names, each with the definitions that it names, or with its text where that is short enough."""
+    """The clauses by their names, each with the definitions that it names, or with its text if that is short enough."""
     shown = []
     for clause in listed:
         name = f"`{clause.name}`" if clause.name else ""
@@ -197,9 +197,9 @@ def rows_of_calls(crate):
 
 
 def calls_table(all_crates):
-    head = f"# Public calls and their contracts\n\n{MADE}\nThe second column is what stands above the call. A clause stands with the definitions " \
+    head = f"# Public calls and their contracts\n\n{MADE}\nThe second column is the line above the call. After the name of a clause are the definitions " \
         "that it names. Beside these clauses each call is proved to be free of overflow and of reads out of range, and to return, unless it " \
-        "takes a bound `Wait`. The laws stand in [laws.md](laws.md), how a clause is read in [READING.md](../READING.md).\n"
+        "takes a bound `Wait`. [laws.md](laws.md) has the laws, and [READING.md](../READING.md) says how to read a clause.\n"
     texts = sections(all_crates, ["Call", "What it does", "Requires", "Ensures"], rows_of_calls)
     return "\n".join([head, *texts])
 
@@ -210,8 +210,8 @@ def rows_of_laws(crate):
 
 
 def laws_table(all_crates):
-    head = f"# Laws\n\n{MADE}\nA law is a public function whose contract is all that matters. The second column is what stands above it. A clause " \
-        "stands with the definitions that it names. Laws require nothing but what they say.\n"
+    head = f"# Laws\n\n{MADE}\nA law is a public function whose contract is all that matters. The second column is the line above it. After the name of " \
+        "a clause are the definitions that it names. Laws require nothing but what they say.\n"
     return "\n".join([head, *sections(all_crates, ["Law", "What it says", "Clauses"], rows_of_laws)])
 
 
@@ -223,7 +223,7 @@ def rows_of_models(crate):
 
 def models_table(all_crates):
     head = f"# What contracts see of a type\n\n{MADE}\nA value is seen as the second column says, read off its fields by the third. The fourth is the " \
-        "invariant that each value keeps, which the prover checks. A public type that stands in no table is seen as it is " \
+        "invariant that each value keeps, which the prover checks. A public type that is in no table is seen as it is " \
         "declared, each part by its own model.\n"
     return "\n".join([head, *sections(all_crates, ["Type", "Seen as", "View", "Invariant"], rows_of_models)])
 
@@ -234,8 +234,8 @@ def crates_table(all_crates):
         names = sorted(crate.offers, key=lambda name: (name.islower(), name))
         below = ", ".join(f"`{name}`" for name in crate.stands_on)
         rows.append(f"| `{crate.name}` | {cell(crate.says)} | {below} | {', '.join(f'`{name}`' for name in names)} |")
-    return f"# The crates\n\n{MADE}\nLowest first, as crates.txt has them. Each stands on those that its row names, and on std.\n\n" + \
-        table(["Crate", "What it is", "Stands on", "Offers"], rows)
+    return f"# The crates\n\n{MADE}\nLowest first, as crates.txt has them. Each uses those that its row names, and std.\n\n" + \
+        table(["Crate", "What it is", "Uses", "Offers"], rows)
 
 
 def meanings_in(path):
@@ -277,7 +277,7 @@ def wrong_bodies_table(all_crates):
         rows = [f"| *{edited}* | {', '.join(names)} |" for edited, names in sorted(files.items())]
         if rows:
             parts.append(f"## `{crate.name}`\n\n" + table(["File", "Edits"], rows))
-    head = f"# Wrong bodies that the prover refuses\n\n{MADE}\n{count} edits of the code, or of a definition where the file is one of `specs/`, each named for what " \
+    head = f"# Wrong bodies that the prover refuses\n\n{MADE}\n{count} edits of the code, or of a definition if the file is one of `specs/`, each named for what " \
         "it breaks. `tests/edits.py` tries them, and `tests/refused.txt` records where each was refused.\n\n"
     return head + "\n".join(parts)
 
