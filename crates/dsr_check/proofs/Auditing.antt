@@ -1,14 +1,14 @@
 -- What a step that may be next finds in an audit, and how the audit represents the run with it.
-use Rattle.std.proofs.Common.{zero, suc, ◌≡◌, ◌↔◌, ℕ, ◌<◌, Bool, true, false, List, [], ◌∷◌, ◌++◌, Option, None, Some, length, length-append, append-nil, ◌⊎◌, inl, inr, refl, ap, sym, ◌∙◌, subst, arith}
+use Rattle.std.proofs.Common.{zero, suc, ◌≡◌, ◌↔◌, ℕ, ◌<◌, Bool, true, false, List, [], ◌∷◌, ◌++◌, Option, None, Some, length, length-append, append-nil, ◌⊎◌, inl, inr, if◌then◌else◌, refl, ap, sym, ◌∙◌, subst, arith}
 use Rattle.std.specs.Bool.{OnFalse, OnTrue}
 use Rattle.std.specs.Prelude.{Any, IfNone, OnSome, slice_set, slice_index_or}
-use Rattle.std.proofs.lemmas.Bool.{true≢false}
+use Rattle.std.proofs.lemmas.Bool.{true≢false, cases_Bool}
 use Rattle.std.proofs.lemmas.List.{append_cancel_left}
 use Rattle.std.proofs.lemmas.Option.{none-some, same_Some}
 use Rattle.dsr_base.specs.Boxes.{box_at, row_of, with_box, with_item, without_item}
 use Rattle.dsr_base.specs.Member.{In, here}
 use Rattle.dsr_base.specs.declared.boxes.MailBox.{MailBox}
-use Rattle.dsr_base.proofs.MemberLemmas.{In-append_right}
+use Rattle.dsr_base.proofs.MemberLemmas.{In-append_right, In-from_place}
 use Rattle.dsr_names.specs.Places.{place_of}
 use Rattle.dsr_names.specs.Shape.{Shape, is_traitor, IsActor, IsAllowed, IsLoyal}
 use Rattle.dsr_names.specs.declared.actor.Actor.{Actor}
@@ -20,9 +20,10 @@ use Rattle.dsr_envelope.specs.declared.entry.Entry.{Entry}
 use Rattle.dsr_envelope.specs.declared.entry.Entry.TheVariants.{Post, Take}
 use Rattle.dsr_envelope.specs.Envelope.{Carries}
 use Rattle.dsr_envelope.specs.Limits.{IsEnvelope}
-use Rattle.dsr_envelope.specs.Log.{posted_to, taken_from}
-use Rattle.dsr_envelope.specs.declared.pick.Pick.TheVariants.{Plain}
-use Rattle.dsr_replica.specs.Conduct.{envelope_to}
+use Rattle.dsr_envelope.specs.Log.{due, posted_to, rounds, taken_from}
+use Rattle.dsr_envelope.specs.declared.pick.Pick.{Pick}
+use Rattle.dsr_envelope.specs.declared.pick.Pick.TheVariants.{Plain, From, Begin}
+use Rattle.dsr_replica.specs.Conduct.{chosen, envelope_to, is_due}
 use Rattle.dsr_script.specs.Held.{IsUnforged}
 use Rattle.dsr_run.specs.Known.{KnowsAll}
 use Rattle.dsr_run.specs.OwnStep.{KeepsOwn}
@@ -30,7 +31,7 @@ use Rattle.dsr_run.specs.Run.{HasPosted, IsMadeOrPosted, IsNextStep, IsRun, IsTr
 use Rattle.dsr_run.specs.Step.{Step, Logs, log_of}
 use Rattle.dsr_run.proofs.Lemmas.{loyal_next_within, actors_within, all_made, step_made, known_posted, known_still, posted_entry, posted_within}
 use Rattle.dsr_check.specs.declared.audit.Audit.{Audit}
-use Rattle.dsr_check.specs.Support.Audit.{AreFirsts, AreParts, ForgesNone, IsPosted, Holds, IsBoxOf, IsFirstOf, IsOpen, held_in}
+use Rattle.dsr_check.specs.Support.Audit.{AreFirsts, AreParts, ForgesNone, IsPosted, Holds, IsBoxOf, IsFirstOf, IsOpen, held_in, is_posted_again}
 use Rattle.dsr_check.specs.Support.Party.{CanGet, Plays, PostsWithin}
 use Rattle.dsr_check.specs.declared.held.Held.{Held}
 use Rattle.dsr_check.specs.declared.party.Party.{Party}
@@ -351,15 +352,50 @@ module _ (shape : Shape) (run : List Step) (parties : List Party) (rows : List (
   posts_within allowed p q inside party.Traitor plays = tt
   posts_within allowed p q inside (party.Client x) plays = elim plays [ ]
 
+  -- a replica has already posted to replica 0 what it posts to any other replica
+  posted_first : (p q : ℕ) (pick : Pick) (x : Envelope) → envelope_to shape (Replica p) (log_of run (Replica p)) (suc q) pick ≡ Some x
+      → In x (posted_to (Replica 0) (log_of run (Replica p)))
+  posted_first p q pick x e = by_test (is_due (due shape (log_of run (Replica p))) (suc q)) pick e
+    where
+      by_test : (b : Bool) (how : Pick) → (if b then chosen shape (Replica p) (log_of run (Replica p)) (suc q) how else None) ≡ Some x
+          → In x (posted_to (Replica 0) (log_of run (Replica p)))
+      by_test false how given = absurd (none-some x given)
+      by_test true Plain given = In-from_place x (posted_to (Replica 0) (log_of run (Replica p))) (rounds shape (log_of run (Replica p))) given
+      by_test true (From clients) given = absurd (none-some x given)
+      by_test true (Begin op) given = absurd (none-some x given)
+
+  -- so the signatures in it are known
+  known_again : (from to : Actor) (x : Envelope) → is_posted_again from to ≡ true → IsLoyal shape from → KeepsOwn shape from (log_of run from) (Post to x)
+      → (holder : Actor) → Any (λ h. h ≡ holder) keys → (s : Signature) → Carries x s → In s known
+  known_again (Replica p) (Replica zero) x again loyal keeps holder held s carries = absurd (true≢false (sym again))
+  known_again (Replica p) (Client c) x again loyal keeps holder held s carries = absurd (true≢false (sym again))
+  known_again (Client c) to x again loyal keeps holder held s carries = absurd (true≢false (sym again))
+  known_again (Replica p) (Replica (suc q)) x again loyal keeps holder held s carries = by_holder holder ((are.held holder).0 held)
+    where
+      by_holder : (h : Actor) → IsTraitor shape h → In s known
+      by_holder (Client c) traitor = elim traitor [ ]
+      by_holder (Replica t) traitor =
+          let next = (keeps loyal.1).0 in
+          (are.knows t traitor).all s (Replica p) loyal
+          (record { to = Replica 0; envelope = x; posted = posted_entry (Replica 0) (log_of run (Replica p)) x (posted_first p q next.0 x next.1.1); carried = carries })
+
   -- what is known after a post
-  pub knows_after : (from to : Actor) (x : Envelope) (new : List Signature) → IsActor shape from
-      → (IsLoyal shape from → (holder : Actor) → Any (λ h. h ≡ holder) keys → (s : Signature) → In s new ↔ (In s known ⊎ Carries x s))
-      → ((¬ IsLoyal shape from) → new ≡ known) → KnowsAll shape (log_of ((from, Post to x) ∷ run)) new
-  knows_after from to x new inside learned stays = elim (loyal_or_traitor shape from inside) [
-    | inl loyal ↦ knows_loyal from to x new loyal (learned loyal)
+  pub knows_after : (from to : Actor) (x : Envelope) (new : List Signature) → IsActor shape from → KeepsOwn shape from (log_of run from) (Post to x)
+      → (IsLoyal shape from → is_posted_again from to ≡ false → (holder : Actor) → Any (λ h. h ≡ holder) keys → (s : Signature) → In s new ↔ (In s known ⊎ Carries x s))
+      → ((IsLoyal shape from → is_posted_again from to ≡ true) → new ≡ known) → KnowsAll shape (log_of ((from, Post to x) ∷ run)) new
+  knows_after from to x new inside keeps learned stays = elim (loyal_or_traitor shape from inside) [
+    | inl loyal ↦ elim (cases_Bool (is_posted_again from to)) [
+      | inl again ↦
+          subst (KnowsAll shape (log_of ((from, Post to x) ∷ run))) (sym (stays (λ good. again)))
+          (knows_loyal from to x known loyal (λ holder held s. (
+            λ old. inl old,
+            λ h. elim h [ inl old ↦ old | inr carries ↦ known_again from to x again loyal keeps holder held s carries ],
+          )))
+      | inr first ↦ knows_loyal from to x new loyal (learned loyal first)
+    ]
     | inr traitor ↦
         let bad : ¬ IsLoyal shape from = λ loyal. not_both shape from loyal traitor in
-        subst (KnowsAll shape (log_of ((from, Post to x) ∷ run))) (sym (stays bad)) (knows_traitor from to x bad)
+        subst (KnowsAll shape (log_of ((from, Post to x) ∷ run))) (sym (stays (λ loyal. absurd (bad loyal)))) (knows_traitor from to x bad)
   ]
 
   -- after a post

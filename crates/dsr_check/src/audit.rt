@@ -1,5 +1,5 @@
 ghost use Rattle.std.specs.Bool.{OnFalse, OnTrue};
-ghost use Rattle.std.specs.Prelude.{◌≡◌, ◌<◌, None, Some, slice_index_or, ◌⊎◌, ◌↔◌, ◌∷◌, ℕ, [], List, Any, IfOk, IfSome, IfNone, OnOk, OnSome, IsTrue, IsOkUnless, length, reverse};
+ghost use Rattle.std.specs.Prelude.{◌≡◌, ◌<◌, true, false, None, Some, slice_index_or, ◌⊎◌, ◌↔◌, ◌∷◌, ℕ, [], List, Any, IfOk, IfSome, IfNone, OnOk, OnSome, IsTrue, IsOkUnless, length};
 ghost use Rattle.dsr_base.specs.Member.{In};
 ghost use Rattle.dsr_names.specs.Shape.{IsActor, IsLoyal};
 ghost use Rattle.dsr_base.specs.Boxes.{box_at};
@@ -15,7 +15,7 @@ ghost use Rattle.dsr_run.specs.OwnStep.{KeepsOwn};
 ghost use Rattle.dsr_run.specs.Run.{IsNextStep};
 ghost use Rattle.dsr_run.specs.Step.{Step, log_of};
 ghost use Rattle.dsr_check.specs.declared.party.Party.{Party as AParty};
-ghost use Rattle.dsr_check.specs.Support.Audit.{ForgesNone, IsPosted, Holds, IsFirstOf, IsOpen, with_first, Stands, StandsFor, box_of};
+ghost use Rattle.dsr_check.specs.Support.Audit.{ForgesNone, IsPosted, Holds, IsFirstOf, IsOpen, is_posted_again, with_first, Stands, StandsFor, box_of};
 
 use crate::casting::all_parties;
 use crate::held::Held;
@@ -339,6 +339,7 @@ impl<'a> Audit<'a> {
             self.keys.as_slice(),
             &self.shape,
             from,
+            to,
             held.envelope.envelope(),
         )?;
         let first = first_of(to, &held)?;
@@ -368,23 +369,35 @@ fn made_by(
     }
 }
 
-/// Notes the signatures of a post as known if its poster is loyal and traitors could send them on. `NoMemory` if memory runs out.
+/// Notes the signatures of a post as known if its poster is loyal and traitors could send them on. It notes nothing of a replica's post to a
+/// replica other than replica 0: the same was posted to replica 0, so those signatures are already known. `NoMemory` if memory runs out.
 fn learn(
     known: &mut Known,
     keys: &[Key],
     shape: &Shape,
     from: &Actor,
+    to: &Actor,
     envelope: &Envelope,
 ) -> Result<(), Refusal>
-    ensures learned { IsLoyal shape.now from.now → (holder : Actor) → Any (λ h. h ≡ holder) keys.now → (s : Signature)
+    ensures learned { IsLoyal shape.now from.now → is_posted_again from.now to.now ≡ false → (holder : Actor) → Any (λ h. h ≡ holder) keys.now → (s : Signature)
         → OnOk result (In s known.new.signatures ↔ (In s known.old.signatures ⊎ Carries envelope.now s)) }
-    ensures stays { (¬ IsLoyal shape.now from.now) → OnOk result (known.new.signatures ≡ known.old.signatures) }
+    ensures stays { (IsLoyal shape.now from.now → is_posted_again from.now to.now ≡ true) → OnOk result (known.new.signatures ≡ known.old.signatures) }
     ensures refusal { IsOkUnless result Refusal.NoMemory }
 {
-    if keys.is_empty() || !shape.is_loyal(*from) {
+    if keys.is_empty() || is_posted_again(from, to) || !shape.is_loyal(*from) {
         return Ok(());
     }
     known.learn(envelope)
+}
+
+/// Tells whether a replica posts to a replica other than replica 0. A loyal one has posted the same to replica 0 already.
+fn is_posted_again(from: &Actor, to: &Actor) -> bool
+    ensures { result ≡ is_posted_again from.now to.now }
+{
+    match (from, to) {
+        (Actor::Replica(_), Actor::Replica(taker)) => taker.number() > 0,
+        _ => false,
+    }
 }
 
 /// Returns `count` entries, all `None`: nothing is stored. `NoMemory` if memory runs out.

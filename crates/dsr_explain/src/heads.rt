@@ -182,7 +182,7 @@ fn text_after(alloc: Global, deed: &Deed) -> Result<String, Refusal>
     text.finish()
 }
 
-/// Writes the line of an event that was refused; `shown` is what it was to post.
+/// Writes the line of a refused event; `shown` is its end. `NoMemory` if memory ran out while `shown` was written.
 pub(crate) fn write_refused(
     out: &mut Writer,
     as_data: bool,
@@ -190,13 +190,14 @@ pub(crate) fn write_refused(
     line: u64,
     event: &Event,
     refusal: &Refusal,
-    shown: &String,
-)
-    ensures { out.new ≡ out.old ++ refused_line as_data number line event.now refusal.now (string_bytes shown.now) }
+    shown: &Writer,
+) -> Result<(), Refusal>
+    ensures written { OnOk result (out.new ≡ out.old ++ refused_line as_data number line event.now refusal.now shown.now) }
+    ensures refusal { IsOkUnless result Refusal.NoMemory }
 {
     write_place(out, as_data, number, line);
     write_refusal(out, as_data, event, refusal);
-    out.put_text(shown);
+    out.put_all_of(shown)
 }
 
 /// Writes how the event was refused, and what it did not do.

@@ -6,7 +6,7 @@ ghost use Rattle.dsr_run.specs.Step.{log_of};
 ghost use Rattle.dsr_world.specs.Event.{MayBeDone};
 ghost use Rattle.dsr_explain.specs.Lines.{note_line, note_lines};
 ghost use Rattle.dsr_explain.specs.Letters.{box_of, handled};
-ghost use Rattle.dsr_names.specs.Streams.{CanFailToTake, SentAll, SentPrefix};
+ghost use Rattle.dsr_names.specs.Streams.{SentAll};
 ghost use Rattle.dsr_explain.specs.Outlet.{HasGoneOut, IsUnsure};
 ghost use Rattle.dsr_explain.specs.Telling.{GoesOn};
 ghost use Rattle.dsr_explain.specs.Told.{HasBrokenOff, LeftOfExplanation, TellsEvents, TellsNotes, TellsPlay, TellsRefusal, TellsWanted, chains_in_some, first_line, last_chains, last_envelope, refused_line};
@@ -18,7 +18,7 @@ use crate::lines::write_note;
 use crate::outlet::Outflow;
 use crate::places::{Line, Places};
 use crate::summary::Summary;
-use crate::texts::{Texts, end_of_refused};
+use crate::texts::{RefusedEnd, Texts};
 use crate::tokens::Tokens;
 use crate::wanted::Wanted;
 use dsr_chain::Chain;
@@ -33,8 +33,7 @@ use std::fmt::Write;
 /// How many bytes `make_room` reserves for each event.
 const ROOM_OF_AN_EVENT: usize = 176;
 
-/// The explanation of a play so far, and the stage on which its events happen. It is never freed; `forget` requires `Drop`.
-#[derive(Drop)]
+/// The explanation of a play so far, and the stage on which its events happen, which is never freed.
 pub(crate) struct Story {
     pub(crate) stage: Stage,
     pub(crate) wanted: Wanted,
@@ -50,6 +49,7 @@ pub(crate) struct Story {
     tokens: Tokens,
     /// What the lines of the last event that was done and of the next may share.
     heads: Heads,
+    refused_end: RefusedEnd,
     /// The notes of the last event; the next event uses their room.
     notes: Vec<Note>,
 }
@@ -84,8 +84,28 @@ impl Story {
             texts,
             tokens,
             heads: Heads::new(alloc),
+            refused_end: RefusedEnd::new(alloc),
             notes: Vec::new(alloc),
         })
+    }
+
+    /// Ends the story, and leaves its stage in memory.
+    pub(crate) fn leave(self) {
+        let Story {
+            stage,
+            wanted: _wanted,
+            out: _out,
+            outflow: _outflow,
+            refused: _refused,
+            first_refused: _first_refused,
+            summary: _summary,
+            texts: _texts,
+            tokens: _tokens,
+            heads: _heads,
+            refused_end: _refused_end,
+            notes: _notes,
+        } = self;
+        stage.leave();
     }
 
     /// Explains the play with this text: its events, and then the end. `NoMemory` if memory runs out, and `WriteFailed` if writing fails. Requires that the
@@ -301,6 +321,7 @@ impl Story {
             let since = self.summary.full_since(event, refusal);
             write_refusal(
                 &mut self.out,
+                &mut self.refused_end,
                 alloc,
                 as_data,
                 &self.stage,
@@ -320,6 +341,7 @@ impl Story {
 /// memory runs out.
 fn write_refusal(
     out: &mut Writer,
+    end: &mut RefusedEnd,
     alloc: Global,
     as_data: bool,
     stage: &Stage,
@@ -333,8 +355,8 @@ fn write_refusal(
     ensures { OnOk result ((shown : List ℕ) × TellsCause stage.now.shape (log_of stage.now.run) event.now as_data
         (out.old ++ refused_line as_data number line.now.number event.now refusal.now shown) out.new) }
 {
-    let shown = end_of_refused(alloc, event, line, as_data, since)?;
-    write_refused(out, as_data, number, line.number, event, refusal, &shown);
+    let shown = end.write(alloc, event, line, as_data, since)?;
+    write_refused(out, as_data, number, line.number, event, refusal, shown)?;
     write_why(out, as_data, stage, event);
     Ok(())
 }

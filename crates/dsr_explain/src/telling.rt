@@ -11,7 +11,6 @@ use dsr_names::{Refusal, Sink, write_output};
 use dsr_trouble::trouble_of;
 use dsr_world::Play;
 use std::alloc::Global;
-use std::mem::forget;
 
 /// Runs the play that the text encodes on a new stage, and writes what is wanted about it: the events, each with its line, what came of it and
 /// why; then the outcome of each slot, and who waits for whom. If the text is not a play, writes the line, the column and what was expected there, and
@@ -33,8 +32,7 @@ pub fn explain<K: Outlet>(
     match Play::read(alloc, text) {
         Ok(play) => {
             let told = tell_play(alloc, text, &play, wanted, sink);
-            // The program ends soon, and to free a long play takes a while.
-            forget(play);
+            play.leave();
             told
         }
         Err(Refusal::NoMemory) => Err(Refusal::NoMemory),
@@ -78,6 +76,6 @@ fn tell_play<K: Outlet>(
         return Err(Refusal::NoMemory);
     };
     let told = story.tell_play(alloc, text, play, sink);
-    forget(story);
+    story.leave();
     told
 }

@@ -83,23 +83,62 @@ fn end_of(
     end.finish()
 }
 
-/// Returns the end of the line of an event that was refused: what it was to post, if the event says so, after, in words, the line since which its box is
-/// full, if there is one. `line` represents the event. `NoMemory` if memory runs out.
-pub(crate) fn end_of_refused(
-    alloc: Global,
-    event: &Event,
-    line: &Line,
-    as_data: bool,
-    since: Option<u64>,
-) -> Result<String, Refusal> {
-    let mut end = Writer::new(alloc);
-    write_since(&mut end, as_data, since);
-    match event {
-        Event::Plant { draft, .. } => write_planted(&mut end, alloc, draft, line, as_data)?,
-        Event::Post { pick, .. } if !as_data => write_choice(&mut end, alloc, &pick.pick())?,
-        _ => end.put(end_of_none(as_data)),
+/// The end of the line of the event that was refused last. The next one is written in its room.
+#[derive(Drop)]
+pub(crate) struct RefusedEnd {
+    end: Writer,
+    /// The text of the last envelope that was to be planted.
+    planted: String,
+}
+
+impl RefusedEnd {
+    /// Creates an empty one. It takes no memory.
+    pub(crate) fn new(alloc: Global) -> RefusedEnd {
+        RefusedEnd {
+            end: Writer::new(alloc),
+            planted: String::new(alloc),
+        }
     }
-    end.finish()
+
+    /// Writes and returns the end of the line of this event: what it was to post, if the event says so, after, in words, the line since which its box is
+    /// full, if there is one. `line` represents the event. If memory runs out, returns `NoMemory`, or a writer that `put_all_of` refuses.
+    pub(crate) fn write(
+        &mut self,
+        alloc: Global,
+        event: &Event,
+        line: &Line,
+        as_data: bool,
+        since: Option<u64>,
+    ) -> Result<&Writer, Refusal> {
+        self.end.clear();
+        write_since(&mut self.end, as_data, since);
+        match event {
+            Event::Plant { draft, .. } => self.write_planted(alloc, draft, line, as_data)?,
+            Event::Post { pick, .. } if !as_data => {
+                write_choice(&mut self.end, alloc, &pick.pick())?
+            }
+            _ => self.end.put(end_of_none(as_data)),
+        }
+        Ok(&self.end)
+    }
+
+    /// Writes the end of the line of a plant: the envelope of this draft, whose text is a copy of that in the line of the play. `NoMemory` if memory runs out.
+    fn write_planted(
+        &mut self,
+        alloc: Global,
+        draft: &Draft,
+        line: &Line,
+        as_data: bool,
+    ) -> Result<(), Refusal> {
+        // Each line that plants has an envelope; without one the draft's own text would do.
+        let Some(envelope) = line.envelope() else {
+            return write_draft(&mut self.end, alloc, draft, as_data);
+        };
+        self.planted.clear();
+        self.planted.push_str(envelope)?;
+        write_envelope(&mut self.end, &self.planted, as_data);
+        Ok(())
+    }
 }
 
 /// Writes the line since which the box is full, in words, if there is one.
@@ -128,24 +167,6 @@ fn write_draft(
 ) -> Result<(), Refusal> {
     let mut text = String::new(alloc);
     write!(text, "{draft}")?;
-    write_envelope(out, &text, as_data);
-    Ok(())
-}
-
-/// Writes the end of the line of a plant: the envelope of this draft, whose text is a copy of that in the line of the play. `NoMemory` if memory runs out.
-fn write_planted(
-    out: &mut Writer,
-    alloc: Global,
-    draft: &Draft,
-    line: &Line,
-    as_data: bool,
-) -> Result<(), Refusal> {
-    // Each line that plants has an envelope; without one the draft's own text would do.
-    let Some(envelope) = line.envelope() else {
-        return write_draft(out, alloc, draft, as_data);
-    };
-    let mut text = String::new(alloc);
-    text.push_str(envelope)?;
     write_envelope(out, &text, as_data);
     Ok(())
 }

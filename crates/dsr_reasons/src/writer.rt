@@ -1,6 +1,6 @@
 //! A text that is written piece by piece.
 
-ghost use Rattle.std.specs.Prelude.{◌≡◌, ◌<◌, ◌+◌, ◌∷◌, ◌++◌, [], false, true, IfOk, IsOkUnless, string_bytes};
+ghost use Rattle.std.specs.Prelude.{◌≡◌, ◌<◌, ◌+◌, ◌∷◌, ◌++◌, [], false, true, IfOk, OnErr, OnOk, IsOkUnless, string_bytes};
 ghost use Rattle.std.specs.Fmt.{decimal};
 ghost use Rattle.dsr_base.specs.Joined.{more_joined};
 ghost use Rattle.dsr_names.specs.Actor.{actor_text};
@@ -135,6 +135,19 @@ impl Writer {
         let is_put = self.text.push_str(text.as_str()).is_ok();
         remember(&mut self.is_broken, is_put);
         self.pieces = self.pieces.and(&Piece::Shown, text);
+    }
+
+    /// Appends all that was put into the other writer. `NoMemory` if memory ran out while the other was written: then nothing is appended.
+    pub fn put_all_of(&mut self, other: &Writer) -> Result<(), Refusal>
+        ensures put { OnOk result (self.new ≡ self.old ++ other.now) }
+        ensures stays { OnErr result (self.new ≡ self.old) }
+        ensures refusal { IsOkUnless result Refusal.NoMemory }
+    {
+        if other.is_broken {
+            return Err(Refusal::NoMemory);
+        }
+        self.put_text(&other.text);
+        Ok(())
     }
 
     /// Appends the request.

@@ -1,5 +1,5 @@
 -- How an audit represents the run that it has followed (this project).
-use Rattle.std.specs.Prelude.{◌≡◌, ◌↔◌, ℕ, zero, suc, ◌+◌, ◌++◌, ◌∷◌, ◌<◌, ◌^◌, true, [], List, Option, None, Some, Any, length, slice_index_or, slice_set}
+use Rattle.std.specs.Prelude.{◌≡◌, ◌↔◌, ℕ, zero, suc, ◌+◌, ◌++◌, ◌∷◌, ◌<◌, ◌^◌, Bool, true, false, [], List, Option, None, Some, Any, length, slice_index_or, slice_set}
 use Rattle.dsr_base.specs.Boxes.{AreSquare, box_at}
 use Rattle.dsr_base.specs.declared.boxes.MailBox.{MailBox}
 use Rattle.dsr_names.specs.Places.{place_of}
@@ -68,6 +68,13 @@ abbrev pub IsFirstOf : Actor → Held → Option Held → Type 0
 IsFirstOf (Replica zero) held kept = (first : Held) × (kept ≡ Some first) × (first.draft.now ≡ held.draft.now) × (first.envelope ≡ held.envelope)
 IsFirstOf (Replica (suc q)) held kept = kept ≡ None
 IsFirstOf (Client c) held kept = kept ≡ None
+
+-- whether a replica posts to a replica other than replica 0; a loyal one has posted the same to replica 0 already
+abbrev pub is_posted_again : Actor → Actor → Bool
+is_posted_again (Replica p) (Replica zero) = false
+is_posted_again (Replica p) (Replica (suc q)) = true
+is_posted_again (Replica p) (Client c) = false
+is_posted_again (Client c) to = false
 
 -- the box from one actor to another
 abbrev pub box_of : Audit → Actor → Actor → MailBox Held

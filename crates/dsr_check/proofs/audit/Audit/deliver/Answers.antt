@@ -16,10 +16,10 @@ returns-clause-next c run parties h =
     let to = c.args.to.now in
     let held = c.args.held in
     let knows = knows_after a.shape run parties a.boxes a.notary.items a.keys.items a.known.signatures a.firsts.items h.before from to held.envelope c.learn.new.known.signatures
-    h.actor
-    (λ loyal holder is s. subst (λ e. In s c.learn.new.known.signatures ↔ (In s a.known.signatures ⊎ Carries e s)) c.envelope.ensures
-    (c.in_ok-learn.ensures.learned loyal holder (subst (Any (λ h. h ≡ holder)) (sym c.as_slice.ensures.value) is) s))
-    (λ bad. c.in_ok-learn.ensures.stays bad) in
+    h.actor h.keeps
+    (λ loyal first holder is s. subst (λ e. In s c.learn.new.known.signatures ↔ (In s a.known.signatures ⊎ Carries e s)) c.envelope.ensures
+    (c.in_ok-learn.ensures.learned loyal first holder (subst (Any (λ h. h ≡ holder)) (sym c.as_slice.ensures.value) is) s))
+    (λ same. c.in_ok-learn.ensures.stays same) in
     let kept = subst (AreFirsts a.shape (log_of ((from, Post to held.envelope) ∷ run)))
     (ap (λ k. with_first a.firsts.items k c.in_ok-first.first) (sym c.place-poster.ensures) ∙ sym c.keep_first.ensures)
     (firsts_posted a.shape run a.firsts.items h.before.kept from to held c.in_ok-first.first h.recorded h.actor c.in_ok-first.ensures.first) in
