@@ -377,7 +377,7 @@ module _ (shape : Shape) (run : List Step) (parties : List Party) (rows : List (
       by_holder (Replica t) traitor =
           let next = (keeps loyal.1).0 in
           (are.knows t traitor).all s (Replica p) loyal
-          (record { to = Replica 0; envelope = x; posted = posted_entry (Replica 0) (log_of run (Replica p)) x (posted_first p q next.0 x next.1.1); carried = carries })
+          (record { to = Replica 0; envelope = x; posted = posted_entry (Replica 0) (log_of run (Replica p)) x (posted_first p q next.0 x next.2); carried = carries })
 
   -- what is known after a post
   pub knows_after : (from to : Actor) (x : Envelope) (new : List Signature) → IsActor shape from → KeepsOwn shape from (log_of run from) (Post to x)
