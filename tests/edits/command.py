@@ -32,7 +32,7 @@ from collections import namedtuple
 from concurrent.futures import ThreadPoolExecutor, as_completed
 
 from edits.bundles import refused_in_bundles
-from edits.record import FOLDER_OF_RT, Outcome, Record, Repository, applied, key_of, outcomes, read_record, write_record
+from edits.record import FOLDER_OF_RT, Outcome, Record, Repository, applied, key_of, logic_of, outcomes, read_record, write_record
 from edits.room import Room, libraries
 from kit import report
 from kit.program import TOP
@@ -252,7 +252,7 @@ def tell_of_record(report, edits, asked):
 def judge(room, asked):
     """Tries what is asked for, and gives how many edits passed, failed and were skipped."""
     version = subprocess.run(["rt", "version"], stdout=subprocess.PIPE, text=True, check=True).stdout.strip()
-    repository = Repository(room.top, version)
+    repository = Repository(room.top, logic_of(version))
     edits, faults = repository.edits()
     for fault in faults:
         say(f"FAILED: {fault}")

@@ -2,10 +2,10 @@
 them, and tests/refused.txt. Nothing here runs a prover.
 
 The record has a line for each edit that was refused: CRATE/EDIT, a sum, and the place at which it was refused. The sum is a SHA-256
-over all that the refusal rests on: the toolchain's line (`rt version`), HANDLES, of the edit's crate and of each below it the row in
-crates.txt and every file of src/, specs/ and proofs/, the text of the edit, and what it makes of the files that it changes. Of a source
+over all that the refusal rests on: the logic in which the toolchain proves (`logic_of`), HANDLES, of the edit's crate and of each below it the
+row in crates.txt and every file of src/, specs/ and proofs/, the text of the edit, and what it makes of the files that it changes. Of a source
 counts what a prover reads of it (lexing.py). So an edit whose sum stands in the record was refused over exactly these sources, but for
-comments. A line with any other sum says nothing.
+comments, by a toolchain of this logic. A line with any other sum says nothing.
 """
 
 import hashlib
@@ -32,6 +32,12 @@ Edit = namedtuple("Edit", "crate name path")
 Record = namedtuple("Record", "sum place")
 # What came of an edit: where it was refused, or what is wrong.
 Outcome = namedtuple("Outcome", "place fault")
+
+
+def logic_of(version):
+    """The logic that a toolchain proves in, from the line of `rt version`: its name, `logic` and a sum. The name changes with each of its releases, also if only
+    its commands differ; releases with the same sum prove by the same rules."""
+    return version.partition("logic ")[2] or version
 
 
 def key_of(edit):
@@ -90,8 +96,8 @@ def applied(edit, folder):
 class Repository:
     """The sources of a repository, as far as refusals rest on them."""
 
-    def __init__(self, top, version):
-        self.top, self.version = top, version
+    def __init__(self, top, logic):
+        self.top, self.logic = top, logic
         self.rows = rows_of(f"{top}/crates.txt")
         self.sums = {}
 
@@ -120,7 +126,7 @@ class Repository:
 
     def sum_of(self, edit):
         """The sum over all that the refusal of this edit rests on."""
-        parts = [self.version.encode(), bytes_of(f"{self.top}/HANDLES", b"none")]
+        parts = [self.logic.encode(), bytes_of(f"{self.top}/HANDLES", b"none")]
         for crate in sorted([*self.below(edit.crate), edit.crate]):
             parts += [crate.encode(), self.sum_of_crate(crate).encode()]
         texts, fault = applied(edit.path, f"{self.top}/crates/{edit.crate}")

@@ -14,7 +14,7 @@ import unittest
 
 from edits import bundles, command
 from edits.lexing import read_of
-from edits.record import Edit, Outcome, Record, Repository, key_of, outcomes, read_record, write_record
+from edits.record import Edit, Outcome, Record, Repository, key_of, logic_of, outcomes, read_record, write_record
 from kit import report
 from kit.program import text_of
 
@@ -57,10 +57,10 @@ class Made(unittest.TestCase):
         write(f"{self.top}/{path}", text)
 
     def edits(self):
-        return Repository(self.top, VERSION).edits()
+        return Repository(self.top, logic_of(VERSION)).edits()
 
     def sums(self, version=VERSION):
-        repository = Repository(self.top, version)
+        repository = Repository(self.top, logic_of(version))
         return {key_of(edit): repository.sum_of(edit) for edit in repository.edits()[0]}
 
     def changed_by(self, path, text):
@@ -130,13 +130,17 @@ class Sums(Made):
     def test_what_was_built_does_not_count(self):
         self.assertEqual(self.changed_by("crates/low/out/rlib/stamp", "1\n"), set())
 
-    def test_the_toolchain_counts(self):
-        before, after = self.sums(), self.sums("toolchain-2 logic 0123")
-        self.assertTrue(all(before[key] != after[key] for key in before))
+    def test_the_logic_of_the_toolchain_counts_and_not_its_name(self):
+        before = self.sums()
+        self.assertEqual(before, self.sums("toolchain-2 logic 0123"))
+        for other in ("toolchain-1 logic 0124", "toolchain-1", "toolchain-2"):
+            after = self.sums(other)
+            self.assertTrue(all(before[key] != after[key] for key in before), other)
+        self.assertNotEqual(self.sums("toolchain-1"), self.sums("toolchain-2"))
 
     def test_below_is_whole_and_lowest_first(self):
         self.write("crates.txt", "top: high\nhigh: low\nlow:\nside: top low\n")
-        self.assertEqual(Repository(self.top, VERSION).below("side"), ["low", "high", "top"])
+        self.assertEqual(Repository(self.top, logic_of(VERSION)).below("side"), ["low", "high", "top"])
 
 
 class Comments(unittest.TestCase):
