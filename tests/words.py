@@ -1,7 +1,7 @@
 #!/usr/bin/env python3
 """The words of the command line: tests/words.py, with no arguments.
 
-1. `dsr --version` prints the version and the toolchain that `rt version` prints, and README.md names that toolchain.
+1. `dsr --version` prints the version and the logic of the toolchain, as `rt version` names it, and README.md names that logic.
 2. Each help is the text in tests/helps/, to the byte, and short enough to be shown. So is what is said of an unknown word; a word too long to be shown
    is not.
 3. The lists of words of tests/written/words.txt; each list of at most two words of a vocabulary; and 2,000 others drawn by chance, most of them longer.
@@ -18,6 +18,7 @@ import re
 import shlex
 import sys
 
+from edits.record import logic_of
 from kit import inputs
 from kit.program import bytes_of, difference, fault_of, name_of, program, run, shown, text_of
 from kit.report import main
@@ -192,10 +193,10 @@ def fault_of_long_word():
 
 def fault_of_version():
     """What is wrong with the version, or None."""
-    toolchain = run(["rt", "version"])[1].decode().strip()
-    fault = fault_of("--version", b"", (0, f"dsr {VERSION} ({toolchain})\n".encode(), b""))
-    is_named = f"`{toolchain}`" in " ".join(text_of("README.md").split())
-    return fault or (None if is_named else f"README.md does not name {toolchain}")
+    logic = logic_of(run(["rt", "version"])[1].decode().strip())
+    fault = fault_of("--version", b"", (0, f"dsr {VERSION} (rattle logic {logic})\n".encode(), b""))
+    is_named = f"`logic {logic}`" in " ".join(text_of("README.md").split())
+    return fault or (None if is_named else f"README.md does not name the logic {logic}")
 
 
 def words(report, _):

@@ -1,4 +1,5 @@
-"""What a prover reads of a source: its text without comments, and without what an empty line or a space at a line's end adds.
+"""What a prover reads of a source: its text without comments, without hints on inlining that have a line of their own, and without what an empty line or a
+space at a line's end adds. The hints are for LLVM alone, and change no proof.
 
 In a .rt file comments are Rust's: `//` to the line's end, nested `/* */`, doc comments among them. What follows `requires`, `ensures` and `ghost`, which are
 no names, in braces or as `ghost use`, is antt's text. In an .antt file comments are `--` to the line's end, and nested `{- -}`. antt's layout goes by columns:
@@ -38,6 +39,7 @@ BRACES = re.compile(r"""
     | (?P<opens>\{)
     | (?P<closes>\}) (?: \s*(?:=|\bby\b)\s*(?P<more>\{) )?
     """, re.X)
+HINT = re.compile(r" *#\[(?:inline(?:\((?:always|never)\))?|cold)\]")
 NOT_IN_IMPORTS = re.compile(r'"|--|//|/\*|\{-')
 NESTED = {"/*": re.compile(r"/\*|\*/"), "{-": re.compile(r"\{-|-\}")}
 # A text is a NUL in what is left of a source, so that no line of it is taken for one of the source; no source has one of its own.
@@ -114,7 +116,7 @@ def read_of(path, source):
         text = source.decode()
         if tokens and not (tokens is RUST and hands_comments_on(text)):
             left, texts = without_comments(text, tokens)
-            lines = (line.rstrip(" ") for line in left.split("\n"))
+            lines = (line.rstrip(" ") for line in left.split("\n") if not (tokens is RUST and HINT.fullmatch(line.rstrip(" "))))
             return [b"read", *(part.encode() for part in ("\n".join(filter(None, lines)), *texts))]
     except (Unclear, UnicodeDecodeError):
         pass

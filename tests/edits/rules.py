@@ -161,6 +161,11 @@ class Comments(unittest.TestCase):
     def test_comments_of_rust(self):
         self.same("a.rt", "let a = b / c;\n", "let a = b / c; // d \"\n", "//! e\n\n/// f '\nlet a = b / c;   \n\n", "/* g\n*/\nlet a = b / c;\n")
 
+    def test_hints_on_inlining(self):
+        self.same("a.rt", "a\nfn b() {}\n", "a\n#[inline]\nfn b() {}\n", "a\n    #[inline(never)] // c\nfn b() {}\n", "a\n#[inline(always)]\n#[cold]\nfn b() {}\n")
+        self.other("a.rt", "a\nb\n", "a\n#[inline] b\n", "a\n#![inline]\nb\n", "a\n#[inline(sometimes)]\nb\n", "a\n#[test]\nb\n", 'a\n"\n#[inline]\n"\nb\n')
+        self.other("a.antt", "a\nb\n", "a\n#[inline]\nb\n")
+
     def test_nested_comments(self):
         self.same("a.rt", "a\n", "/* b /* c */ d */\na\n", "a\n/** /* */ /* /* \" */ */ ' */\n")
         self.same("a.antt", "a\n", "{- b {- c -} d -}\na\n", "a -- {-\n", "{- -- -}\na\n")

@@ -1,9 +1,9 @@
 -- The texts that the program shows for words that ask for the version or the help, or are unknown (this project).
 use Rattle.std.specs.Prelude.{◌≡◌, ◌++◌, ◌≤◌, List, ℕ, codes, length}
 
--- the version line: the program's version, and the toolchain that it is proved with
+-- the version line: the program's version, and the logic in which it is proved
 abbrev pub version_line : List ℕ
-version_line = codes "dsr 1.0.0 (rattle-kit-13f logic dac8208d650f15bf)\n"
+version_line = codes "dsr 1.0.0 (rattle logic dac8208d650f15bf)\n"
 
 -- the first sentence of each help
 abbrev pub title : List ℕ

@@ -22,8 +22,8 @@ pub use narrowing::Narrowing;
 use std::alloc::{AllocError, Global};
 use std::convert::AsStr;
 
-/// The version line: the program's version, and the name that `rt version` gives to the toolchain of its proof.
-const VERSION: &str = "dsr 1.0.0 (rattle-kit-13f logic dac8208d650f15bf)\n";
+/// The version line: the program's version, and the logic in which it is proved, as `rt version` names it.
+const VERSION: &str = "dsr 1.0.0 (rattle logic dac8208d650f15bf)\n";
 
 /// The first sentence of each help.
 const TITLE: &str = "dsr keeps a directory of named registers, each free or holding a number.";

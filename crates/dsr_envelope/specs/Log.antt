@@ -23,7 +23,7 @@ taken_from a [] = []
 taken_from a (Post to envelope ∷ older) = taken_from a older
 taken_from a (Take from envelope ∷ older) = if actor_eq from a then taken_from a older ++ envelope ∷ [] else taken_from a older
 
--- what is due with the other replicas: posts to the replicas 0 to n-1, then takes from the replicas 0 to n-1, and so on
+-- what is due with the replicas: posts to the replicas 0 to n-1, then takes from the replicas 0 to n-1, and so on
 abbrev pub due : Shape → List Entry → Due
 due shape [] = PostTo 0
 due shape (Post (Replica q) envelope ∷ older) = if suc q == shape.n then TakeFrom 0 else PostTo (suc q)

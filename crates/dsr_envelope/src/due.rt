@@ -3,7 +3,7 @@ ghost use Rattle.std.proofs.Common.{rules};
 use dsr_base::Exact;
 use dsr_names::ReplicaId;
 
-/// What a loyal replica does next with the other replicas.
+/// What a loyal replica does next with the replicas.
 #[derive(Clone, Copy, Debug, PartialEq, Eq)]
 pub enum Due {
     /// It posts to this replica.

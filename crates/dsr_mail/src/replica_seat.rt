@@ -88,7 +88,7 @@ impl ReplicaSeat {
         *replica
     }
 
-    /// Returns what it does next with the other replicas.
+    /// Returns what it does next with the replicas.
     pub fn due(&self) -> Due
         ensures same { result ≡ due self.now.shape self.now.log }
         ensures conduct { IsLoyalLog self.now.shape self.now.actor self.now.log }

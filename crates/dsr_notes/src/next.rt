@@ -1,4 +1,4 @@
-//! What a loyal replica does next with the other replicas.
+//! What a loyal replica does next with the replicas.
 
 ghost use Rattle.std.specs.Prelude.{◌≡◌, ◌<◌, ◌↔◌, IsSome, IfSome};
 ghost use Rattle.dsr_names.specs.Shape.{IsActor, IsLoyal};
@@ -12,7 +12,7 @@ use dsr_envelope::Due;
 use dsr_names::{Actor, ReplicaId};
 use dsr_world::Stage;
 
-/// The next step of a loyal replica with the other replicas.
+/// The next step of a loyal replica with the replicas.
 #[derive(Clone, Copy, Debug)]
 pub struct Next {
     /// What is due.
@@ -23,7 +23,7 @@ pub struct Next {
     pub is_there: bool,
 }
 
-/// Returns what the replica does next with the other replicas; `None` exactly if it is no loyal replica of the shape.
+/// Returns what the replica does next with the replicas; `None` exactly if it is no loyal replica of the shape.
 pub fn next_of(stage: &Stage, replica: ReplicaId) -> Option<Next>
     ensures next { IfSome result (IsNextOf stage.now.shape (log_of stage.now.run) replica) }
     ensures some { IsSome result ↔ IsLoyal stage.now.shape (ReplicaNumber replica) }

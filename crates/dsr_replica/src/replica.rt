@@ -98,7 +98,7 @@ impl Replica {
         self.flights.shape()
     }
 
-    /// Returns what it does next with the other replicas.
+    /// Returns what it does next with the replicas.
     pub fn due(&self) -> Due
         ensures same { result ≡ self.now.next }
         ensures stands { (log : List Entry) → StandsFor self.now log → result ≡ due self.now.shape log }

@@ -15,7 +15,7 @@ use std::alloc::Global;
 /// A call at a replica.
 #[derive(Clone, Copy)]
 enum Call {
-    /// `due`: what it does next with the other replicas.
+    /// `due`: what it does next with the replicas.
     Due,
     /// `in-flight`: the slots in flight.
     InFlight,
