@@ -38,6 +38,7 @@ pub enum Node {
 impl Node {
     /// Returns the refusal of a post to this actor by this choice, or `None` if it may be made: `NotDue` if the protocol has no such
     /// post now, else `Exhausted` if a counter would pass its limit. Allocates nothing. Requires that the node is not a traitor.
+    #[inline(always)]
     pub fn refusal(&self, to: Actor, pick: Pick) -> Option<Refusal>
         requires { IsHonest self.now }
         ensures same { (shape : Shape) (me : Actor) (log : List Entry) → Plays shape me log self.now
@@ -51,6 +52,7 @@ impl Node {
     }
 
     /// Makes the envelope that it posts to this actor by this choice. `NoMemory` if memory runs out. Requires that nothing refuses the post.
+    #[inline(always)]
     pub fn envelope_for(&self, alloc: Global, to: Actor, pick: Pick) -> Result<Envelope, Refusal>
         requires { CanPost self.now to pick }
         ensures given { (shape : Shape) (me : Actor) (log : List Entry) → Plays shape me log self.now
@@ -65,6 +67,7 @@ impl Node {
     }
 
     /// Posts to this actor by this choice. Requires that nothing refuses the post.
+    #[inline(always)]
     pub fn posted(&mut self, to: Actor, pick: Pick)
         requires { CanPost self.old to pick }
         ensures plays { (shape : Shape) (me : Actor) (log : List Entry) (envelope : Envelope) → Plays shape me log self.old
@@ -87,6 +90,7 @@ impl Node {
 
     /// Makes room for what it may take. `NoMemory` if that is refused: then nothing changes, except that there may be more room. If
     /// there is room already, it cannot fail.
+    #[inline(always)]
     pub fn room(&mut self) -> Result<(), Refusal>
         ensures plays { (shape : Shape) (me : Actor) (log : List Entry) → Plays shape me log self.old → Plays shape me log self.new }
         ensures room { OnOk result (HasRoomToTake self.new) }
@@ -159,6 +163,7 @@ impl Node {
 
     /// Takes the envelope from this actor, and returns the reply that a client accepts with it, if any. It is for callers that own
     /// the envelope and have made room (`room`); `take` is for those to whom it is lent. Requires that the node can take it.
+    #[inline(always)]
     pub fn taken(&mut self, from: Actor, envelope: Envelope) -> Option<Reply>
         requires { CanTake self.old from envelope }
         ensures plays { (shape : Shape) (me : Actor) (log : List Entry) → Plays shape me log self.old

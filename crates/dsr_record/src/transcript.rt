@@ -1,7 +1,6 @@
 //! Reads the texts of records.
 
-ghost use Rattle.std.specs.Prelude.{◌≡◌, ◌↔◌, ◌++◌, ◌∷◌, Err, IfOk, IfErr, IfNone, IfSome, IsOkUnless, IsTrue};
-ghost use Rattle.dsr_base.specs.Split.{IsAbsent};
+ghost use Rattle.std.specs.Prelude.{◌≡◌, ◌↔◌, Err, IfOk, IfErr, IsOkUnless, IsTrue};
 ghost use Rattle.dsr_base.specs.Reads.{Reads};
 ghost use Rattle.dsr_text.specs.Lines.{IsTextRefusal};
 ghost use Rattle.dsr_record.specs.Record.{Record as ARecord};
@@ -12,6 +11,7 @@ use crate::last_reads::LastReads;
 use crate::noted::{NotedEntry, NotedStep};
 use crate::record::{Record, is_step_of};
 use crate::version::Version;
+use dsr_base::split_once;
 use dsr_names::{Actor, Refusal, Shape};
 use dsr_script::Draft;
 use dsr_text::{TakesLines, read_header, take_lines};
@@ -92,19 +92,6 @@ impl NotedStep {
     }
 }
 
-/// Cuts at the first space: returns what is before it, and what is after it. `None` exactly if there is none. It goes from byte to byte, which takes less time
-/// than `split_once` if the space comes soon, as it does after the words of a line.
-fn split_word(bytes: &[u8]) -> Option<(&[u8], &[u8])>
-    ensures found { IfSome result (λ parts. bytes.now ≡ parts.0.now ++ 32 ∷ parts.1.now) }
-    ensures first { IfSome result (λ parts. IsAbsent 32 parts.0.now) }
-    ensures absent { IfNone result (IsAbsent 32 bytes.now) }
-{
-    match bytes.iter().position(|byte| *byte == b' ') {
-        Some(place) => Some((&bytes[..place], &bytes[place + 1..])),
-        None => None,
-    }
-}
-
 /// Reads a line's text, like `NotedStep::read`.
 fn read_step(
     alloc: Global,
@@ -114,7 +101,7 @@ fn read_step(
     ensures read { IfOk result (λ step. Reads IsSpelledStep step_text bytes.now step) }
     ensures refusal { IsOkUnless result Refusal.NoMemory }
 {
-    let Some((actor, rest)) = split_word(bytes) else {
+    let Some((actor, rest)) = split_once(bytes, b' ') else {
         return Ok(None);
     };
     let Some(actor) = Actor::read(actor) else {
@@ -136,7 +123,7 @@ fn read_entry(
     ensures read { IfOk result (λ entry. Reads IsNoted noted_text bytes.now entry) }
     ensures refusal { IsOkUnless result Refusal.NoMemory }
 {
-    let Some((word, rest)) = split_word(bytes) else {
+    let Some((word, rest)) = split_once(bytes, b' ') else {
         return Ok(None);
     };
     if word == b"post".as_slice() {
@@ -180,7 +167,7 @@ fn read_end(
     ensures read { IfOk result (λ end. Reads IsEnd end_text bytes.now end) }
     ensures refusal { IsOkUnless result Refusal.NoMemory }
 {
-    let Some((other, envelope)) = split_word(bytes) else {
+    let Some((other, envelope)) = split_once(bytes, b' ') else {
         return Ok(None);
     };
     let Some(other) = Actor::read(other) else {

@@ -190,6 +190,7 @@ impl Replica {
     }
 
     /// Notes the post to this replica by this choice. Requires that it is allowed.
+    #[inline(always)]
     pub fn posted(&mut self, to: ReplicaId, pick: Pick)
         requires { Allows self.old to pick }
         ensures stands { (log : List Entry) (envelope : Envelope) → StandsFor self.old log
@@ -262,6 +263,7 @@ impl Replica {
 
     /// Takes the envelope from this replica if none of its chains would be kept, and returns true. Otherwise changes nothing and
     /// returns false, and `taken` takes it. So most envelopes need no copy. Allocates nothing. Requires what `taken` requires.
+    #[inline(always)]
     pub fn passed_over(&mut self, from: ReplicaId, envelope: &Envelope) -> bool
         requires due { self.old.next ≡ TakeFrom from }
         requires room { HasRoom self.old }
@@ -387,6 +389,7 @@ impl Replica {
 
     /// Notes the post to this replica by this choice. Requires that it is allowed. It is apart from `posted`, because the proof of
     /// `stands` there builds on this contract.
+    #[inline(always)]
     fn post(&mut self, to: ReplicaId, pick: Pick)
         requires { Allows self.old to pick }
         ensures { (value : SlotValue) → value_for self.old to pick ≡ Some value
@@ -422,6 +425,7 @@ impl Replica {
 
     /// Makes due what follows the take from this replica, and closes the round after the last one. Requires that this
     /// take is due, and room for what it may decide.
+    #[inline(always)]
     fn go_on_after(&mut self, from: ReplicaId)
         requires due { self.old.next ≡ TakeFrom from }
         requires room { HasRoom self.old }

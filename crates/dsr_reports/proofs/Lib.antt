@@ -1,2 +1,3 @@
+mod DecidedLemmas
 pub mod PlayedLemmas
 mod VerdictLemmas

@@ -1,3 +1,4 @@
 pub mod Checked
 pub mod Played
 pub mod Report
+pub mod Support

@@ -76,10 +76,13 @@ dash_text (value ∷ older) = []
 abbrev pub slot_text : ℕ → SlotValue → List ℕ
 slot_text slot value = codes " " ++ content_text (content value)
 
--- the line of what a replica decided, slot by slot
+-- what a replica decided, slot by slot
+abbrev pub slots_text : List SlotValue → List ℕ
+slots_text values = dash_text values ++ texts_of slot_text values
+
+-- the line of what a replica decided
 abbrev pub decided_line : ℕ → List SlotValue → List ℕ
-decided_line replica values =
-    codes "decided " ++ (replica_text replica ++ (dash_text values ++ (texts_of slot_text values ++ codes "\n")))
+decided_line replica values = codes "decided " ++ (replica_text replica ++ (slots_text values ++ codes "\n"))
 
 -- the line of what a loyal replica decided; nothing for a traitor
 abbrev pub decided_of : Shape → Logs → ℕ → List ℕ

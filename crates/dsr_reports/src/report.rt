@@ -1,8 +1,14 @@
 //! Writes the outcome of a play in lines of text.
 
-ghost use Rattle.std.specs.Prelude.{◌≡◌, ◌<◌, ◌++◌, IfOk, OnOk, IsOkUnless, reverse, string_bytes};
+ghost use Rattle.std.specs.Prelude.{◌≡◌, ◌<◌, ◌++◌, IfOk, OnOk, IsOkUnless, codes, length, reverse, string_bytes};
+ghost use Rattle.dsr_names.specs.Actor.{replica_text};
+ghost use Rattle.dsr_names.specs.Shape.{IsLoyal};
+ghost use Rattle.dsr_names.specs.declared.actor.Actor.TheVariants.{Replica as ReplicaNumber};
+ghost use Rattle.dsr_run.specs.Agreement.{HasAgreement};
+ghost use Rattle.dsr_run.specs.History.{decided_at};
 ghost use Rattle.dsr_run.specs.Step.{log_of};
-ghost use Rattle.dsr_reports.specs.Report.{report_text, end_text, replies_text, accepted_line, accepted_text, seen_text, decided_line, decided_text, history_text};
+ghost use Rattle.dsr_reports.specs.Support.Spelled.{IsSpelledAt};
+ghost use Rattle.dsr_reports.specs.Report.{report_text, end_text, replies_text, accepted_line, accepted_text, seen_text, decided_text, history_text, slots_text};
 
 use dsr_desk::Content;
 use dsr_ledger::Reply;
@@ -23,7 +29,7 @@ pub(crate) fn report_of(alloc: Global, stage: &Stage, end: &RunEnd) -> Result<St
     write_end(&mut report, end)?;
     write_accepted(&mut report, stage)?;
     write_seen(&mut report, stage)?;
-    write_decided(&mut report, stage)?;
+    write_decided(alloc, &mut report, stage)?;
     write_history(&mut report, stage.history())?;
     Ok(report)
 }
@@ -93,40 +99,86 @@ fn write_seen(out: &mut String, stage: &Stage) -> Result<(), Refusal>
     Ok(())
 }
 
-/// Writes what each loyal replica decided.
-fn write_decided(out: &mut String, stage: &Stage) -> Result<(), Refusal>
+/// What replicas that closed this many slots decided, as text.
+#[derive(Drop)]
+struct Spelled {
+    slots: usize,
+    text: String,
+}
+
+/// Writes what each loyal replica decided. Loyal replicas agree: those that closed as many slots decided the same, which is spelled once for all of them.
+fn write_decided(alloc: Global, out: &mut String, stage: &Stage) -> Result<(), Refusal>
     ensures text { OnOk result (string_bytes out.new ≡ string_bytes out.old ++ decided_text stage.now.shape (log_of stage.now.run)) }
     ensures refusal { IsOkUnless result Refusal.NoMemory }
 {
+    // For the proof: the steps are a run, and at most f replicas are traitors.
+    stage.steps_are_a_run();
+    let _n = stage.shape().n();
+    let mut spelled = spell(alloc, &[])?;
     for number in 0..stage.shape().n() {
         let replica = replica(number);
         // A traitor is asked for nothing.
         if let Ok(decisions) = stage.decided(replica) {
-            write_decisions(out, replica, decisions)?;
+            spelled = spelled_for(alloc, stage, replica, decisions, spelled)?;
+            write_decisions(out, replica, &spelled.text)?;
         }
     }
     Ok(())
 }
 
-/// Writes what this replica decided, slot by slot.
-fn write_decisions(
-    out: &mut String,
+/// Returns what this loyal replica decided, as text: what is spelled, if that is of as many slots. `NoMemory` if memory runs out.
+fn spelled_for(
+    alloc: Global,
+    stage: &Stage,
     replica: ReplicaId,
     decisions: &[Decision],
-) -> Result<(), Refusal>
-    ensures text { OnOk result (string_bytes out.new ≡ string_bytes out.old ++ decided_line replica (reverse decisions.now)) }
+    spelled: Spelled,
+) -> Result<Spelled, Refusal>
+    requires agree { HasAgreement stage.now.shape stage.now.run }
+    requires loyal { IsLoyal stage.now.shape (ReplicaNumber replica) }
+    requires decided { decisions.now ≡ reverse (decided_at stage.now.shape (log_of stage.now.run) replica) }
+    requires spelled { IsSpelledAt stage.now spelled }
+    ensures text { IfOk result (λ s. string_bytes s.text ≡ slots_text (decided_at stage.now.shape (log_of stage.now.run) replica)) }
+    ensures spelled { IfOk result (IsSpelledAt stage.now) }
+    ensures refusal { IsOkUnless result Refusal.NoMemory }
+{
+    if decisions.len() == spelled.slots {
+        Ok(spelled)
+    } else {
+        spell(alloc, decisions)
+    }
+}
+
+/// Writes what this replica decided, which is spelled already.
+fn write_decisions(out: &mut String, replica: ReplicaId, spelled: &String) -> Result<(), Refusal>
+    ensures text { OnOk result (string_bytes out.new
+        ≡ string_bytes out.old ++ (codes "decided " ++ (replica_text replica ++ (string_bytes spelled.now ++ codes "\n")))) }
     ensures refusal { IsOkUnless result Refusal.NoMemory }
 {
     write!(out, "decided {replica}")?;
+    out.push_str(spelled)?;
+    out.push('\n')?;
+    Ok(())
+}
+
+/// Spells what a replica decided, slot by slot. `NoMemory` if memory runs out.
+fn spell(alloc: Global, decisions: &[Decision]) -> Result<Spelled, Refusal>
+    ensures slots { IfOk result (λ spelled. spelled.slots ≡ length decisions.now) }
+    ensures text { IfOk result (λ spelled. string_bytes spelled.text ≡ slots_text (reverse decisions.now)) }
+    ensures refusal { IsOkUnless result Refusal.NoMemory }
+{
+    let mut text = String::new(alloc);
     if decisions.is_empty() {
-        write!(out, " -")?;
+        text.push_str(" -")?;
     }
     for decision in decisions {
         let content = Content(decision.content());
-        write!(out, " {content}")?;
+        write!(text, " {content}")?;
     }
-    writeln!(out)?;
-    Ok(())
+    Ok(Spelled {
+        slots: decisions.len(),
+        text,
+    })
 }
 
 /// Writes the requests that acted, each after its place. `NoMemory` if memory runs out; some of the text may have been added then.

@@ -77,6 +77,7 @@ impl Entries {
     }
 
     /// Adds a post if steps are kept. Requires that there is room then.
+    #[inline(always)]
     pub(crate) fn keep_post(&mut self, from: &Actor, to: &Actor, copy: Option<Letter>)
         requires { self.old.are_kept ≡ true → vec_len self.old.items < vec_capacity self.old.items }
         ensures kept { self.new.are_kept ≡ self.old.are_kept }

@@ -64,6 +64,7 @@ pub(crate) fn lent(boxes: &Boxes<Letter>, from: usize, to: usize) -> &Letter
 /// Notes the signatures of a loyal actor's post as known. It notes nothing of a replica's post to a replica other than replica 0: the same
 /// was posted to replica 0, so those signatures are already known. Without a traitor's key it notes nothing, because nobody could send
 /// them on. `NoMemory` if memory runs out: then nothing changes.
+#[inline(always)]
 pub(crate) fn learn(
     known: &mut Known,
     keys: &[Key],
