@@ -5,7 +5,7 @@ The record has a line for each edit that was refused: CRATE/EDIT, a sum, and the
 over all that the refusal rests on: the logic in which the toolchain proves (`logic_of`), HANDLES, of the edit's crate and of each below it the
 row in crates.txt and every file of src/, specs/ and proofs/, the text of the edit, and what it makes of the files that it changes. Of a source
 counts what a prover reads of it (lexing.py). So an edit whose sum stands in the record was refused over exactly these sources, but for
-comments, by a toolchain of this logic. A line with any other sum says nothing.
+comments and hints on inlining, by a toolchain of this logic. A line with any other sum says nothing.
 """
 
 import hashlib
