@@ -99,14 +99,14 @@ fn write_seen(out: &mut String, stage: &Stage) -> Result<(), Refusal>
     Ok(())
 }
 
-/// What replicas that closed this many slots decided, as text.
+/// What each loyal replica that closed `slots` slots decided, as text.
 #[derive(Drop)]
 struct Spelled {
     slots: usize,
     text: String,
 }
 
-/// Writes what each loyal replica decided. Loyal replicas agree: those that closed as many slots decided the same, which is spelled once for all of them.
+/// Writes what each loyal replica decided. By agreement, those that closed equally many slots decided the same, so this is spelled once for all of them.
 fn write_decided(alloc: Global, out: &mut String, stage: &Stage) -> Result<(), Refusal>
     ensures text { OnOk result (string_bytes out.new ≡ string_bytes out.old ++ decided_text stage.now.shape (log_of stage.now.run)) }
     ensures refusal { IsOkUnless result Refusal.NoMemory }
@@ -126,7 +126,7 @@ fn write_decided(alloc: Global, out: &mut String, stage: &Stage) -> Result<(), R
     Ok(())
 }
 
-/// Returns what this loyal replica decided, as text: what is spelled, if that is of as many slots. `NoMemory` if memory runs out.
+/// Returns what this loyal replica decided, as text: `spelled` again if it is of as many slots, otherwise a new one. `NoMemory` if memory runs out.
 fn spelled_for(
     alloc: Global,
     stage: &Stage,
