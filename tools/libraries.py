@@ -13,10 +13,12 @@ is raised, and the caller uses rt's own commands.
 import contextlib
 import importlib.machinery
 import importlib.util
+import inspect
 import os
 import re
 import shutil
 import signal
+import subprocess
 import sys
 import tempfile
 import threading
@@ -81,6 +83,36 @@ def each_once(walk):
                 del seen.stamps
 
     return stamp
+
+
+def takes_names():
+    """Whether this toolchain's `rt ci` takes names of crates, and so can prove some of them ahead. One that does not answers with its usage."""
+    with tempfile.TemporaryDirectory(prefix="dsr-nothing-") as folder:
+        run = subprocess.run(["rt", "ci", "no_such_crate"], cwd=folder, stdin=subprocess.DEVNULL, stdout=subprocess.PIPE, stderr=subprocess.STDOUT, text=True,
+                             errors="replace")
+    return not run.stdout.startswith("usage:")
+
+
+def quick_commands(folder):
+    """Makes in this folder the toolchain's commands, with `each_once` for stamps, and gives the folder to put first on the path. Without it rt takes ten minutes until
+    it begins to check a crate with many below it. None if the toolchain takes names, which needs it not, or is not as it is reckoned with here."""
+    command = shutil.which("rt")
+    own = os.path.dirname(os.path.realpath(command or "rt"))
+    try:
+        with open(f"{own}/rtlib.py", encoding="utf-8") as file:
+            text = file.read()
+        if takes_names() or not re.search(r"^import threading$", text, re.M) or not re.search(r"^class Crate\b", text, re.M):
+            return None
+        os.makedirs(f"{folder}/bin")
+        for kit, to in ((os.path.dirname(own), folder), (own, f"{folder}/bin")):
+            for name in set(os.listdir(kit)) - {"bin", "rt", "rtlib.py"}:
+                os.symlink(f"{kit}/{name}", f"{to}/{name}")
+        shutil.copy2(f"{own}/rt", f"{folder}/bin")
+        with open(f"{folder}/bin/rtlib.py", "w", encoding="utf-8") as file:
+            file.write(f"{text}\n\n{inspect.getsource(each_once)}\n\nCrate.stamp = each_once(Crate.stamp)\n")
+    except OSError:
+        return None
+    return f"{folder}/bin"
 
 
 def crates_of(module, top):

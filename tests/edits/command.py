@@ -288,5 +288,8 @@ def main(words):
     else:
         asked = asked_by(words)
         with tempfile.TemporaryDirectory(prefix="edits-") as folder:
+            quick = libraries.quick_commands(f"{folder}/kit")
+            if quick:
+                os.environ["PATH"] = f"{quick}{os.pathsep}{os.environ['PATH']}"
             counts.add(*judge(Room(folder), asked))
     return counts.ended()
