@@ -95,7 +95,7 @@ def takes_names():
 
 def quick_commands(folder):
     """Makes in this folder the toolchain's commands, with `each_once` for stamps, and gives the folder to put first on the path. Without it rt takes ten minutes until
-    it begins to check a crate with many below it. None if the toolchain takes names, which needs it not, or is not as it is reckoned with here."""
+    it begins to check a crate with many below it. None if `rt ci` takes names, as such a toolchain does not need this, or if it is not as expected here."""
     command = shutil.which("rt")
     own = os.path.dirname(os.path.realpath(command or "rt"))
     try:
