@@ -2,3 +2,4 @@ pub mod Event
 pub mod Play
 pub mod PlayText
 pub mod Support
+pub mod TakenEvents

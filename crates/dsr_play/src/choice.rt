@@ -47,6 +47,16 @@ impl Choice {
         }
     }
 
+    /// Returns the choice, and leaves the plain one in its place.
+    pub(crate) fn take(&mut self) -> Choice
+        ensures taken { result ≡ self.old }
+        ensures plain { self.new ≡ Plain }
+    {
+        Choice {
+            other: self.other.take(),
+        }
+    }
+
     /// Returns the choice.
     pub fn pick(&self) -> Pick
         ensures { result ≡ self.now }

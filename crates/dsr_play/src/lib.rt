@@ -12,4 +12,5 @@ pub use choice::Choice;
 pub use event::Event;
 pub use laws::each_event_has_a_line;
 pub use play::{MOST_EVENTS, Play};
+pub use play_events::TakesEvents;
 pub use play_line::PlayLine;

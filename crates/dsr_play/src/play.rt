@@ -3,6 +3,7 @@ ghost use Rattle.dsr_play.specs.PlayText.{events_of};
 ghost use Rattle.dsr_play.specs.Play.{Play as APlay, Spells, IsPlayRefusal};
 
 use crate::event::Event;
+use crate::play_events::TakesEvents;
 use crate::play_line::PlayLine;
 use dsr_names::{Refusal, Shape};
 use dsr_text::{TakesLines, read_header, take_lines};
@@ -113,8 +114,24 @@ impl Reading {
         ensures shape { self.new.shape ≡ self.old.shape }
         ensures refusal { IsOkUnless result Refusal.NoMemory }
     {
-        line.add_events(alloc, &self.shape, &mut self.events)?;
+        let shape = self.shape;
+        line.give_events(alloc, &shape, self)?;
         Ok(self.events.len() <= MOST_EVENTS)
+    }
+}
+
+impl TakesEvents for Reading {
+    ghost use Rattle.std.specs.Prelude.{◌≡◌};
+
+    ghost shape = { λ play. play.shape };
+
+    ghost took = { λ play events. play.events ≡ events };
+
+    fn take_event(&mut self, _alloc: Global, event: Event) -> Result<(), Refusal> {
+        match self.events.push(event) {
+            Ok(()) => Ok(()),
+            Err(_) => Err(Refusal::NoMemory),
+        }
     }
 }
 

@@ -1,69 +1,64 @@
-ghost use Rattle.std.specs.Prelude.{◌≡◌, ◌<◌, ◌∷◌, ◌++◌, [], OnOk, IsOkUnless};
+ghost use Rattle.std.specs.Prelude.{◌≡◌, ◌<◌, ◌∷◌, ◌++◌, [], List, OnOk, IsOkUnless};
+ghost use Rattle.dsr_names.specs.Shape.{Shape as AShape};
 ghost use Rattle.dsr_names.specs.declared.actor.Actor.TheVariants.{Replica};
 ghost use Rattle.dsr_envelope.specs.declared.pick.Pick.TheVariants.{Plain};
+ghost use Rattle.dsr_play.specs.declared.event.Event.{Event as AnEvent};
 ghost use Rattle.dsr_play.specs.declared.event.Event.TheVariants.{Post, Plant, Take};
-ghost use Rattle.dsr_play.specs.PlayText.{events_of, pick_for, posts_by, takes_at, with_each, with_each_loyal};
+ghost use Rattle.dsr_play.specs.PlayText.{events_of, posts_by, takes_at, with_each, with_each_loyal};
+ghost use Rattle.dsr_play.specs.TakenEvents.{TakesMore};
 
 use crate::choice::Choice;
 use crate::event::Event;
 use crate::play_line::PlayLine;
-use dsr_envelope::Pick;
 use dsr_names::{Actor, Refusal, ReplicaId, Shape};
 use dsr_script::Draft;
 use std::alloc::Global;
 
+/// What takes events, one after another.
+pub trait TakesEvents {
+    // the shape of the world in which the events happen
+    ghost shape: { Self → AShape };
+
+    // these events were taken, in this order
+    ghost took: { Self → List AnEvent → Type 0 };
+
+    /// Takes one more event. `NoMemory` if memory runs out.
+    fn take_event(&mut self, alloc: Global, event: Event) -> Result<(), Refusal>
+        ensures took { OnOk result (TakesMore took self.old self.new (event ∷ [])) }
+        ensures shape { shape self.new ≡ shape self.old }
+        ensures refusal { IsOkUnless result Refusal.NoMemory };
+}
+
 impl PlayLine {
-    /// Adds the events that the line represents in a world of this shape, in order. `NoMemory` if memory runs out: then some of them
-    /// may have been added.
-    pub fn add_events(
+    /// Gives the events that the line represents in a world of this shape, in order. `NoMemory` if memory runs out: then some of them
+    /// may have been taken.
+    pub fn give_events<T: TakesEvents>(
         self,
         alloc: Global,
         shape: &Shape,
-        events: &mut Vec<Event>,
+        taker: &mut T,
     ) -> Result<(), Refusal>
-        ensures added { OnOk result (events.new.items ≡ events.old.items ++ events_of shape.now self) }
+        ensures took { OnOk result (TakesMore T.took taker.old taker.new (events_of shape.now self)) }
+        ensures shape { T.shape taker.new ≡ T.shape taker.old }
         ensures refusal { IsOkUnless result Refusal.NoMemory }
     {
         match self {
-            PlayLine::One(event) => add(event, events),
-            PlayLine::Posts { by, pick } => add_posts(
-                alloc,
-                shape,
-                &Actor::Replica(by),
-                &pick,
-                events,
-            ),
-            PlayLine::PostsAll => add_all_posts(alloc, shape, events),
-            PlayLine::Plants { by, draft } => add_plants(
-                alloc,
-                shape,
-                &Actor::Replica(by),
-                &draft,
-                events,
-            ),
-            PlayLine::Takes { at } => add_takes(shape, &at, events),
-            PlayLine::TakesAll => add_all_takes(shape, events),
-            PlayLine::Asks { by, pick } => add_posts(
-                alloc,
-                shape,
-                &Actor::Client(by),
-                &pick,
-                events,
-            ),
-            PlayLine::Hears { from } => add_hears(shape, &Actor::Client(from), events),
-            PlayLine::Replies { to } => add_replies(shape, &Actor::Client(to), events),
+            PlayLine::One(event) => taker.take_event(alloc, event),
+            PlayLine::Posts { by, pick } => {
+                give_posts(alloc, shape, &Actor::Replica(by), pick, taker)
+            }
+            PlayLine::PostsAll => give_all_posts(alloc, shape, taker),
+            PlayLine::Plants { by, draft } => {
+                give_plants(alloc, shape, &Actor::Replica(by), &draft, taker)
+            }
+            PlayLine::Takes { at } => give_takes(alloc, shape, &at, taker),
+            PlayLine::TakesAll => give_all_takes(alloc, shape, taker),
+            PlayLine::Asks { by, pick } => {
+                give_posts(alloc, shape, &Actor::Client(by), pick, taker)
+            }
+            PlayLine::Hears { from } => give_hears(alloc, shape, &Actor::Client(from), taker),
+            PlayLine::Replies { to } => give_replies(alloc, shape, &Actor::Client(to), taker),
         }
-    }
-}
-
-/// Adds the event. `NoMemory` if memory runs out.
-fn add(event: Event, events: &mut Vec<Event>) -> Result<(), Refusal>
-    ensures added { OnOk result (events.new.items ≡ events.old.items ++ event ∷ []) }
-    ensures refusal { IsOkUnless result Refusal.NoMemory }
-{
-    match events.push(event) {
-        Ok(()) => Ok(()),
-        Err(_) => Err(Refusal::NoMemory),
     }
 }
 
@@ -78,133 +73,141 @@ fn replica_of(number: u8) -> Actor
     }
 }
 
-/// Returns the choice of the post to the replica with this number: the post to replica 0 has `pick`, the others are plain.
-fn pick_for(pick: &Pick, number: u8) -> Pick
-    ensures { result ≡ pick_for pick.now number }
-{
-    if number == 0 { *pick } else { Pick::Plain }
-}
-
-/// Adds the actor's posts to each replica, the first with this choice.
-fn add_posts(
+/// Gives the actor's posts to each replica, the first with this choice and the others with the plain one.
+fn give_posts<T: TakesEvents>(
     alloc: Global,
     shape: &Shape,
     by: &Actor,
-    pick: &Pick,
-    events: &mut Vec<Event>,
+    mut pick: Choice,
+    taker: &mut T,
 ) -> Result<(), Refusal>
-    ensures added { OnOk result (events.new.items ≡ events.old.items ++ posts_by shape.now by.now pick.now) }
+    ensures took { OnOk result (TakesMore T.took taker.old taker.new (posts_by shape.now by.now pick)) }
+    ensures shape { T.shape taker.new ≡ T.shape taker.old }
     ensures refusal { IsOkUnless result Refusal.NoMemory }
 {
     for number in 0..shape.n() {
-        let to = replica_of(number);
-        let pick = Choice::of(alloc, pick_for(pick, number))?;
-        add(
-            Event::Post {
-                from: *by,
-                to,
-                pick,
-            },
-            events,
-        )?;
+        let event = Event::Post {
+            from: *by,
+            to: replica_of(number),
+            pick: pick.take(),
+        };
+        taker.take_event(alloc, event)?;
     }
     Ok(())
 }
 
-/// Adds the posts of each loyal replica to each replica.
-fn add_all_posts(alloc: Global, shape: &Shape, events: &mut Vec<Event>) -> Result<(), Refusal>
-    ensures added { OnOk result (events.new.items ≡ events.old.items ++ with_each_loyal shape.now (λ p. posts_by shape.now (Replica p) Plain)) }
+/// Gives the posts of each loyal replica to each replica.
+fn give_all_posts<T: TakesEvents>(
+    alloc: Global,
+    shape: &Shape,
+    taker: &mut T,
+) -> Result<(), Refusal>
+    ensures took { OnOk result (TakesMore T.took taker.old taker.new (with_each_loyal shape.now (λ p. posts_by shape.now (Replica p) Plain))) }
+    ensures shape { T.shape taker.new ≡ T.shape taker.old }
     ensures refusal { IsOkUnless result Refusal.NoMemory }
 {
     for number in 0..shape.n() {
         if shape.is_loyal(replica_of(number)) {
-            add_posts(alloc, shape, &replica_of(number), &Pick::Plain, events)?;
+            give_posts(alloc, shape, &replica_of(number), Choice::plain(), taker)?;
         }
     }
     Ok(())
 }
 
-/// Adds the actor's plants: the draft, for each replica.
-fn add_plants(
+/// Gives the actor's plants: the draft, for each replica.
+fn give_plants<T: TakesEvents>(
     alloc: Global,
     shape: &Shape,
     from: &Actor,
     draft: &Draft,
-    events: &mut Vec<Event>,
+    taker: &mut T,
 ) -> Result<(), Refusal>
-    ensures added { OnOk result (events.new.items
-        ≡ events.old.items ++ with_each shape.now.n (λ q. Plant from.now (Replica q) draft.now ∷ [])) }
+    ensures took { OnOk result (TakesMore T.took taker.old taker.new (with_each shape.now.n (λ q. Plant from.now (Replica q) draft.now ∷ []))) }
+    ensures shape { T.shape taker.new ≡ T.shape taker.old }
     ensures refusal { IsOkUnless result Refusal.NoMemory }
 {
     for number in 0..shape.n() {
-        let to = replica_of(number);
-        let draft = draft.try_copy()?;
-        add(
-            Event::Plant {
-                from: *from,
-                to,
-                draft,
-            },
-            events,
-        )?;
+        let event = Event::Plant {
+            from: *from,
+            to: replica_of(number),
+            draft: draft.try_copy()?,
+        };
+        taker.take_event(alloc, event)?;
     }
     Ok(())
 }
 
-/// Adds the actor's takes from each replica.
-fn add_takes(shape: &Shape, at: &Actor, events: &mut Vec<Event>) -> Result<(), Refusal>
-    ensures added { OnOk result (events.new.items ≡ events.old.items ++ takes_at shape.now at.now) }
+/// Gives the actor's takes from each replica.
+fn give_takes<T: TakesEvents>(
+    alloc: Global,
+    shape: &Shape,
+    at: &Actor,
+    taker: &mut T,
+) -> Result<(), Refusal>
+    ensures took { OnOk result (TakesMore T.took taker.old taker.new (takes_at shape.now at.now)) }
+    ensures shape { T.shape taker.new ≡ T.shape taker.old }
     ensures refusal { IsOkUnless result Refusal.NoMemory }
 {
     for number in 0..shape.n() {
         let from = replica_of(number);
-        add(Event::Take { at: *at, from }, events)?;
+        taker.take_event(alloc, Event::Take { at: *at, from })?;
     }
     Ok(())
 }
 
-/// Adds the takes of each replica from each replica.
-fn add_all_takes(shape: &Shape, events: &mut Vec<Event>) -> Result<(), Refusal>
-    ensures added { OnOk result (events.new.items ≡ events.old.items ++ with_each shape.now.n (λ p. takes_at shape.now (Replica p))) }
+/// Gives the takes of each replica from each replica.
+fn give_all_takes<T: TakesEvents>(
+    alloc: Global,
+    shape: &Shape,
+    taker: &mut T,
+) -> Result<(), Refusal>
+    ensures took { OnOk result (TakesMore T.took taker.old taker.new (with_each shape.now.n (λ p. takes_at shape.now (Replica p)))) }
+    ensures shape { T.shape taker.new ≡ T.shape taker.old }
     ensures refusal { IsOkUnless result Refusal.NoMemory }
 {
     for number in 0..shape.n() {
-        add_takes(shape, &replica_of(number), events)?;
+        give_takes(alloc, shape, &replica_of(number), taker)?;
     }
     Ok(())
 }
 
-/// Adds the takes of each replica from the actor.
-fn add_hears(shape: &Shape, from: &Actor, events: &mut Vec<Event>) -> Result<(), Refusal>
-    ensures added { OnOk result (events.new.items
-        ≡ events.old.items ++ with_each shape.now.n (λ q. Take (Replica q) from.now ∷ [])) }
+/// Gives the takes of each replica from the actor.
+fn give_hears<T: TakesEvents>(
+    alloc: Global,
+    shape: &Shape,
+    from: &Actor,
+    taker: &mut T,
+) -> Result<(), Refusal>
+    ensures took { OnOk result (TakesMore T.took taker.old taker.new (with_each shape.now.n (λ q. Take (Replica q) from.now ∷ []))) }
+    ensures shape { T.shape taker.new ≡ T.shape taker.old }
     ensures refusal { IsOkUnless result Refusal.NoMemory }
 {
     for number in 0..shape.n() {
         let at = replica_of(number);
-        add(Event::Take { at, from: *from }, events)?;
+        taker.take_event(alloc, Event::Take { at, from: *from })?;
     }
     Ok(())
 }
 
-/// Adds the posts of each loyal replica to the actor.
-fn add_replies(shape: &Shape, to: &Actor, events: &mut Vec<Event>) -> Result<(), Refusal>
-    ensures added { OnOk result (events.new.items
-        ≡ events.old.items ++ with_each_loyal shape.now (λ p. Post (Replica p) to.now Plain ∷ [])) }
+/// Gives the posts of each loyal replica to the actor.
+fn give_replies<T: TakesEvents>(
+    alloc: Global,
+    shape: &Shape,
+    to: &Actor,
+    taker: &mut T,
+) -> Result<(), Refusal>
+    ensures took { OnOk result (TakesMore T.took taker.old taker.new (with_each_loyal shape.now (λ p. Post (Replica p) to.now Plain ∷ []))) }
+    ensures shape { T.shape taker.new ≡ T.shape taker.old }
     ensures refusal { IsOkUnless result Refusal.NoMemory }
 {
     for number in 0..shape.n() {
         if shape.is_loyal(replica_of(number)) {
-            let from = replica_of(number);
-            let pick = Choice::plain();
-            add(
-                Event::Post {
-                    from,
-                    to: *to,
-                    pick,
-                },
-                events,
-            )?;
+            let event = Event::Post {
+                from: replica_of(number),
+                to: *to,
+                pick: Choice::plain(),
+            };
+            taker.take_event(alloc, event)?;
         }
     }
     Ok(())

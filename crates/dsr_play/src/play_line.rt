@@ -27,7 +27,7 @@ pub enum PlayLine {
         /// The replica that posts.
         by: ReplicaId,
         /// What it chooses for its post to replica 0.
-        pick: Pick,
+        pick: Choice,
     },
     /// The posts of each loyal replica to each replica.
     PostsAll,
@@ -50,7 +50,7 @@ pub enum PlayLine {
         /// The client that posts.
         by: ClientId,
         /// What it chooses for its post to replica 0.
-        pick: Pick,
+        pick: Choice,
     },
     /// The takes of each replica from a client.
     Hears {
@@ -91,13 +91,13 @@ fn read_rest(alloc: Global, word: &[u8], rest: &[u8]) -> Result<Option<PlayLine>
     } else if word == b"tell".as_slice() {
         Ok(read_tell(rest))
     } else if word == b"posts".as_slice() {
-        Ok(read_posts(rest))
+        read_posts(alloc, rest)
     } else if word == b"plants".as_slice() {
         read_plants(alloc, rest)
     } else if word == b"takes".as_slice() {
         Ok(read_takes(rest))
     } else if word == b"asks".as_slice() {
-        Ok(read_asks(rest))
+        read_asks(alloc, rest)
     } else if word == b"hears".as_slice() {
         Ok(read_hears(rest))
     } else if word == b"replies".as_slice() {
@@ -187,37 +187,43 @@ fn tell_line(ends: Option<(Actor, Actor)>) -> Option<PlayLine>
 }
 
 /// Reads the posts of replicas, from the text after the line's word.
-fn read_posts(rest: &[u8]) -> Option<PlayLine>
-    ensures { Reads (IsLineOf (codes "posts")) line_rest rest.now result }
+fn read_posts(alloc: Global, rest: &[u8]) -> Result<Option<PlayLine>, Refusal>
+    ensures read { IfOk result (Reads (IsLineOf (codes "posts")) line_rest rest.now) }
+    ensures refusal { IsOkUnless result Refusal.NoMemory }
 {
     if rest == b"*".as_slice() {
-        Some(PlayLine::PostsAll)
-    } else {
-        posts_line(read_choice(rest))
+        return Ok(Some(PlayLine::PostsAll));
     }
+    let line = posts_line(alloc, read_choice(rest))?;
+    Ok(line)
 }
 
 /// Makes the line with the posts of this replica with this choice; `None` for a client, for a choice that only clients make, and
-/// without a choice.
-fn posts_line(choice: Option<(Actor, Pick)>) -> Option<PlayLine>
-    ensures { result ≡ posts_line choice }
+/// without a choice. `NoMemory` if memory runs out.
+fn posts_line(alloc: Global, choice: Option<(Actor, Pick)>) -> Result<Option<PlayLine>, Refusal>
+    ensures line { IfOk result (λ line. line ≡ posts_line choice) }
+    ensures refusal { IsOkUnless result Refusal.NoMemory }
 {
-    let (by, pick) = choice?;
-    match by {
-        Actor::Replica(by) => replicas_line(by, pick),
-        Actor::Client(_) => None,
+    match choice {
+        None => Ok(None),
+        Some((by, pick)) => match by {
+            Actor::Replica(by) => replicas_line(alloc, by, pick),
+            Actor::Client(_) => Ok(None),
+        },
     }
 }
 
-/// Makes the line with the posts of this replica with this choice; `None` for a choice that only clients make.
-fn replicas_line(by: ReplicaId, pick: Pick) -> Option<PlayLine>
-    ensures { result ≡ posts_line (Some (Replica by, pick)) }
+/// Makes the line with the posts of this replica with this choice; `None` for a choice that only clients make. `NoMemory` if memory
+/// runs out.
+fn replicas_line(alloc: Global, by: ReplicaId, pick: Pick) -> Result<Option<PlayLine>, Refusal>
+    ensures line { IfOk result (λ line. line ≡ posts_line (Some (Replica by, pick))) }
+    ensures refusal { IsOkUnless result Refusal.NoMemory }
 {
-    match pick {
-        Pick::Plain => Some(PlayLine::Posts { by, pick }),
-        Pick::From(_) => Some(PlayLine::Posts { by, pick }),
-        Pick::Begin(_) => None,
+    if let Pick::Begin(_) = pick {
+        return Ok(None);
     }
+    let pick = Choice::of(alloc, pick)?;
+    Ok(Some(PlayLine::Posts { by, pick }))
 }
 
 /// Reads an envelope planted for each replica, from the text after the line's word.
@@ -251,33 +257,40 @@ fn read_takes(rest: &[u8]) -> Option<PlayLine>
 }
 
 /// Reads the posts of a client, from the text after the line's word.
-fn read_asks(rest: &[u8]) -> Option<PlayLine>
-    ensures { Reads (IsLineOf (codes "asks")) line_rest rest.now result }
+fn read_asks(alloc: Global, rest: &[u8]) -> Result<Option<PlayLine>, Refusal>
+    ensures read { IfOk result (Reads (IsLineOf (codes "asks")) line_rest rest.now) }
+    ensures refusal { IsOkUnless result Refusal.NoMemory }
 {
-    asks_line(read_choice(rest))
+    let line = asks_line(alloc, read_choice(rest))?;
+    Ok(line)
 }
 
 /// Makes the line with the posts of this client with this choice; `None` for a replica, for a choice that only replicas make, and
-/// without a choice.
-fn asks_line(choice: Option<(Actor, Pick)>) -> Option<PlayLine>
-    ensures { result ≡ asks_line choice }
+/// without a choice. `NoMemory` if memory runs out.
+fn asks_line(alloc: Global, choice: Option<(Actor, Pick)>) -> Result<Option<PlayLine>, Refusal>
+    ensures line { IfOk result (λ line. line ≡ asks_line choice) }
+    ensures refusal { IsOkUnless result Refusal.NoMemory }
 {
-    let (by, pick) = choice?;
-    match by {
-        Actor::Client(by) => clients_line(by, pick),
-        Actor::Replica(_) => None,
+    match choice {
+        None => Ok(None),
+        Some((by, pick)) => match by {
+            Actor::Client(by) => clients_line(alloc, by, pick),
+            Actor::Replica(_) => Ok(None),
+        },
     }
 }
 
-/// Makes the line with the posts of this client with this choice; `None` for a choice that only replicas make.
-fn clients_line(by: ClientId, pick: Pick) -> Option<PlayLine>
-    ensures { result ≡ asks_line (Some (Client by, pick)) }
+/// Makes the line with the posts of this client with this choice; `None` for a choice that only replicas make. `NoMemory` if memory
+/// runs out.
+fn clients_line(alloc: Global, by: ClientId, pick: Pick) -> Result<Option<PlayLine>, Refusal>
+    ensures line { IfOk result (λ line. line ≡ asks_line (Some (Client by, pick))) }
+    ensures refusal { IsOkUnless result Refusal.NoMemory }
 {
-    match pick {
-        Pick::Plain => Some(PlayLine::Asks { by, pick }),
-        Pick::From(_) => None,
-        Pick::Begin(_) => Some(PlayLine::Asks { by, pick }),
+    if let Pick::From(_) = pick {
+        return Ok(None);
     }
+    let pick = Choice::of(alloc, pick)?;
+    Ok(Some(PlayLine::Asks { by, pick }))
 }
 
 /// Reads takes from a client, from the text after the line's word.

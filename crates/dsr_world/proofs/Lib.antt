@@ -1,6 +1,5 @@
 mod Blindness
 mod Ending
-mod Joining
 mod Keeping
 pub mod NextSteps
 mod Opening

@@ -4,7 +4,6 @@ pub mod Boxes
 pub mod EntriesFields
 pub mod PlayingFields
 pub mod RunEndEquality
-pub mod RunEndFields
 pub mod StageFields
 pub mod StepsFields
 pub mod WorldFields

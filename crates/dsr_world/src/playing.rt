@@ -1,17 +1,19 @@
-ghost use Rattle.std.specs.Prelude.{◌≡◌, ◌↔◌, ◌∷◌, [], List, IfOk, IfErr, IsTrue, IsOkUnless};
+ghost use Rattle.std.specs.Prelude.{◌≡◌, ◌↔◌, ◌≤◌, ◌+◌, ◌∷◌, [], List, IfOk, IfErr, IsTrue, IsOkUnless};
 ghost use Rattle.dsr_play.specs.Play.{IsPlayRefusal};
 ghost use Rattle.dsr_play.specs.PlayText.{CanFollow};
+ghost use Rattle.dsr_play.specs.TakenEvents.{TakesMore};
 ghost use Rattle.dsr_play.specs.declared.play_line.PlayLine.{PlayLine as ALine};
 ghost use Rattle.dsr_run.specs.Agreement.{HasAgreement};
 ghost use Rattle.dsr_run.specs.Right.{IsRight};
 ghost use Rattle.dsr_run.specs.Run.{IsRun};
 ghost use Rattle.dsr_world.specs.Playing.{WasPlayed};
-ghost use Rattle.dsr_world.specs.Support.PlayingFields.{Gives};
+ghost use Rattle.dsr_world.specs.Support.PlayingFields.{Gives, Took};
 
+use crate::entries::Entries;
 use crate::run_end::RunEnd;
 use crate::stage::Stage;
 use dsr_names::{Refusal, Shape};
-use dsr_play::{Event, MOST_EVENTS, PlayLine};
+use dsr_play::{Event, MOST_EVENTS, PlayLine, TakesEvents};
 use dsr_text::{TakesLines, read_header, take_lines};
 use std::alloc::Global;
 use std::marker::Model;
@@ -25,8 +27,8 @@ pub struct Played {
     pub end: RunEnd,
 }
 
-/// Reads a play, as `Play::read` does, and makes the events of each line happen on a new stage as soon as the line is read: those of
-/// one line at a time are in memory. Refused events are skipped; if memory runs out for an event, it is refused with `NoMemory`, and
+/// Reads a play, as `Play::read` does, and makes each event happen on a new stage as soon as its line is read: one event at a time is in
+/// memory. Refused events are skipped; if memory runs out for an event, it is refused with `NoMemory`, and
 /// counted in `starved` too.
 ///
 /// `BadShape` if the header's shape is outside the limits, whatever follows it. `BadText` names the first bad line, counted from 1: a
@@ -50,13 +52,13 @@ pub fn play_text(alloc: Global, text: &[u8]) -> Result<Played, Refusal>
     }
 }
 
-/// A play while its lines are read and played: the stage, how the events so far ended, and room for the events of one line.
+/// A play while its lines are read and played: the stage, how the events so far ended, and a list of entries that keeps no step.
 /// Contracts see it as the stage and the end.
 #[derive(Drop)]
 struct Playing {
     stage: Stage,
     end: RunEnd,
-    events: Vec<Event>,
+    nothing: Entries,
 }
 
 impl Model for Playing {
@@ -82,27 +84,41 @@ impl Playing {
         Ok(Playing {
             stage,
             end: RunEnd::new(),
-            events: Vec::new(alloc),
+            nothing: Entries::not_kept(alloc),
         })
     }
 
-    /// Makes the events of the line happen and returns true. If the events are more than 1,000,000 with them, makes none of them happen
-    /// and returns false. `NoMemory` if there is no memory to list them: then none of them happened.
+    /// Makes the events of the line happen, and returns whether the events are then at most 1,000,000. If they are more, no play has them.
+    /// `NoMemory` if there is no memory for an event: then some of them may have happened.
     fn play(&mut self, alloc: Global, line: PlayLine) -> Result<bool, Refusal>
         ensures taken { IfOk result (λ can. IsTrue can → (lines : List ALine) → Gives self.old lines → Gives self.new (line ∷ lines)) }
         ensures when { IfOk result (λ can. (lines : List ALine) → Gives self.old lines → IsTrue can ↔ CanFollow self.old.stage.shape lines line) }
         ensures shape { self.new.stage.shape ≡ self.old.stage.shape }
         ensures refusal { IsOkUnless result Refusal.NoMemory }
     {
-        self.events.clear();
-        line.add_events(alloc, self.stage.shape(), &mut self.events)?;
-        let before = self.end.done + self.end.refused;
-        if self.events.len() > MOST_EVENTS - before as usize {
-            return Ok(false);
+        let shape = *self.stage.shape();
+        line.give_events(alloc, &shape, self)?;
+        Ok(self.has_room())
+    }
+
+    /// Makes the event happen, and counts how it ended. After more than 1,000,000 events it does nothing, since no play has them.
+    #[inline(always)]
+    fn happen(&mut self, alloc: Global, event: &Event)
+        ensures took { TakesMore Took self.old self.new (event.now ∷ []) }
+        ensures shape { self.new.stage.shape ≡ self.old.stage.shape }
+    {
+        if !self.has_room() {
+            return;
         }
-        let end = self.stage.run(alloc, self.events.as_slice());
-        self.end = self.end.then(end);
-        Ok(true)
+        let outcome = self.stage.step_in(alloc, event, &mut self.nothing).err();
+        self.end.add(outcome);
+    }
+
+    /// Returns whether at most 1,000,000 events happened.
+    fn has_room(&self) -> bool
+        ensures { IsTrue result ↔ self.now.end.done + self.now.end.refused ≤ 1000000 }
+    {
+        self.end.done + self.end.refused <= MOST_EVENTS as u64
     }
 
     /// Returns the stage and how the events ended.
@@ -122,11 +138,23 @@ impl Playing {
     }
 }
 
+impl TakesEvents for Playing {
+    ghost shape = { λ played. played.stage.shape };
+
+    ghost took = { Took };
+
+    #[inline(always)]
+    fn take_event(&mut self, alloc: Global, event: Event) -> Result<(), Refusal> {
+        self.happen(alloc, &event);
+        Ok(())
+    }
+}
+
 impl TakesLines for Playing {
     type Line = PlayLine;
 
     ghost use Rattle.dsr_play.specs.PlayText.{plays};
-    ghost use Rattle.dsr_world.specs.Support.PlayingFields.{Gives};
+    ghost use Rattle.dsr_world.specs.Support.PlayingFields.{Gives, Took};
 
     ghost kind = { plays };
 

@@ -281,23 +281,6 @@ impl Stage {
         self.step_in(alloc, event, &mut nothing)
     }
 
-    /// Makes each of the events happen in turn, skipping refused ones, and returns how many were done and refused. If memory runs out
-    /// for an event, it is refused with `NoMemory`, and counted in `starved` too.
-    pub fn run(&mut self, alloc: Global, events: &[Event]) -> RunEnd
-        ensures ended { HasEnded self.old.shape self.new.run self.old.run events.now result }
-        ensures all { result.done + result.refused ≡ length events.now }
-        ensures grew { Extends self.new.run self.old.run }
-        ensures done { length self.new.run ≡ result.done + length self.old.run }
-        ensures shape { self.new.shape ≡ self.old.shape }
-        ensures run { IsRun self.new.shape self.new.run }
-        ensures agreement { HasAgreement self.new.shape self.new.run }
-        ensures right { IsRight self.new.shape self.new.run }
-        ensures linearizable { IsLinearizable self.new.shape self.new.run }
-    {
-        let mut nothing = Entries::not_kept(alloc);
-        self.run_in(alloc, events, &mut nothing)
-    }
-
     /// Leaves the stage in memory, which is never freed then. This is for a program that ends soon, since to free a long run takes a while.
     pub fn leave(self) {
         forget(self);
@@ -328,7 +311,8 @@ impl Stage {
         }
     }
 
-    /// Makes the events happen as `run` does, and adds their steps to the entries if they are kept.
+    /// Makes each of the events happen in turn, skipping refused ones, and returns how many were done and refused; adds their steps to
+    /// the entries if they are kept. If memory runs out for an event, it is refused with `NoMemory`, and counted in `starved` too.
     pub(crate) fn run_in(
         &mut self,
         alloc: Global,
@@ -350,7 +334,7 @@ impl Stage {
         let mut end = RunEnd::new();
         for event in events {
             let outcome = self.step_in(alloc, event, entries).err();
-            end = end.with(outcome);
+            end.add(outcome);
         }
         // For the proof: at most f replicas are traitors.
         let _n = self.shape.n();

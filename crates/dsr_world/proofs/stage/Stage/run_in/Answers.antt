@@ -11,8 +11,8 @@ use Rattle.dsr_run.specs.Step.{log_of}
 use Rattle.dsr_run.proofs.Lemmas.{all_right, linearized}
 use Rattle.dsr_world.proofs.stage.Stage.run_in.Goals as goal
 
-pub with-end-requires-clause-few : goal.with-end-requires-clause-few
-with-end-requires-clause-few c =
+pub add-requires-clause-few : goal.add-requires-clause-few
+add-requires-clause-few c =
     let world = c.args.self.now in
     let inside = c.loop-event-test.true in
     let few : length c.args.events.now ≤ 18446744073709551615 = search rules in
@@ -35,9 +35,9 @@ loop-event-preserved c =
       unchanged = search rules;
     }) c.err-outcome.ensures.value) in (
       ended_next world.shape world.run c.args.events.now c.step_in.new.self.run c.loop-event.self.run c.loop-event.event-index c.event-item.result c.err-outcome.result
-          c.loop-event.end c.with-end.result c.loop-event-test.true c.event-item.is c.loop-event.invariant.0 outcome c.with-end.ensures.counts,
+          c.loop-event.end c.add.new.self c.loop-event-test.true c.event-item.is c.loop-event.invariant.0 outcome c.add.ensures.counts,
       c.step_in.ensures.shape ∙ shape_is,
-      c.with-end.ensures.starved,
+      c.add.ensures.starved,
       c.step_in.ensures.kept ∙ c.loop-event.invariant.3,
       λ are. still_of c.step_in.result c.loop-event.entries c.step_in.new.entries c.loop-event.self c.step_in.new.self c.step_in.ensures.kept c.step_in.ensures.added
           c.step_in.ensures.left c.step_in.ensures.unchanged (c.loop-event.invariant.4 are),

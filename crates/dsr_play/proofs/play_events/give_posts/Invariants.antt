@@ -1,0 +1,13 @@
+use Rattle.std.proofs.Common.{◌≡◌, [], ◌∷◌}
+use Rattle.dsr_names.specs.declared.actor.Actor.TheVariants.{Replica}
+use Rattle.dsr_play.specs.declared.event.Event.TheVariants.{Post}
+use Rattle.dsr_play.specs.PlayText.{with_each, pick_for}
+use Rattle.dsr_play.specs.TakenEvents.{TakesMore}
+use Rattle.dsr_play.proofs.play_events.give_posts.Given as goal
+
+-- the events of the replicas before this one are taken
+abbrev pub invariant-loop-number : goal.invariant-loop-number
+invariant-loop-number g l =
+    TakesMore g.T.TakesEvents.took l.fn.taker l.taker (with_each l.number (λ q. Post l.by (Replica q) (pick_for l.fn.pick q) ∷ []))
+    × (g.T.TakesEvents.shape l.taker ≡ g.T.TakesEvents.shape l.fn.taker)
+    × (l.pick ≡ pick_for l.fn.pick l.number)
