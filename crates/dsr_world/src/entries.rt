@@ -2,6 +2,7 @@ ghost use Rattle.std.specs.Prelude.{◌≡◌, ◌<◌, ◌∷◌, [], Some, tru
 ghost use Rattle.dsr_envelope.specs.declared.entry.Entry.TheVariants.{Post as PostEntry, Take as TakeEntry};
 ghost use Rattle.dsr_envelope.specs.declared.envelope.Envelope.{Envelope};
 
+use crate::local_letter::LocalLetter;
 use dsr_envelope::{Entry, Letter};
 use dsr_names::{Actor, Refusal};
 use std::alloc::Global;
@@ -59,9 +60,10 @@ impl Entries {
         }
     }
 
-    /// Makes room for one more step, and returns a copy of its letter to keep, if steps are kept. `NoMemory` if memory runs out or one more
+    /// Makes room for one more step, and returns a handle of its letter to keep, if steps are kept. `NoMemory` if memory runs out or one more
     /// handle is refused.
-    pub(crate) fn make_room_for(&mut self, letter: &Letter) -> Result<Option<Letter>, Refusal>
+    #[inline(always)]
+    pub(crate) fn make_room_for(&mut self, letter: &LocalLetter) -> Result<Option<Letter>, Refusal>
         ensures kept { self.new.are_kept ≡ self.old.are_kept }
         ensures same { self.new.items.items ≡ self.old.items.items }
         ensures room { OnOk result (self.new.are_kept ≡ true → vec_len self.new.items < vec_capacity self.new.items) }
@@ -72,7 +74,7 @@ impl Entries {
             return Ok(None);
         }
         self.make_room()?;
-        let copy = letter.try_copy()?;
+        let copy = letter.letter().try_copy()?;
         Ok(Some(copy))
     }
 
@@ -95,6 +97,7 @@ impl Entries {
     }
 
     /// Adds a take if steps are kept. Requires that there is room then.
+    #[inline(always)]
     pub(crate) fn keep_take(&mut self, at: &Actor, from: &Actor, copy: Option<Letter>)
         requires { self.old.are_kept ≡ true → vec_len self.old.items < vec_capacity self.old.items }
         ensures kept { self.new.are_kept ≡ self.old.are_kept }

@@ -6,15 +6,16 @@ ghost use Rattle.dsr_desk.specs.Signature.{Signature};
 ghost use Rattle.dsr_envelope.specs.Envelope.{Carries};
 ghost use Rattle.dsr_world.specs.Support.StageFields.{is_posted_again, kept_of, with_letter};
 
+use crate::local_letter::LocalLetter;
 use dsr_base::Boxes;
 use dsr_desk::Key;
-use dsr_envelope::{Envelope, Letter};
+use dsr_envelope::Envelope;
 use dsr_names::{Actor, Refusal};
 use dsr_script::Known;
 use std::alloc::Global;
 
 /// Returns `count` entries, all `None`: no letter is stored. `NoMemory` if memory runs out.
-pub(crate) fn no_letters(alloc: Global, count: usize) -> Result<Vec<Option<Letter>>, Refusal>
+pub(crate) fn no_letters(alloc: Global, count: usize) -> Result<Vec<Option<LocalLetter>>, Refusal>
     ensures count { IfOk result (λ letters. length letters.items ≡ count) }
     ensures none { IfOk result (λ letters. (place : ℕ) → slice_index_or letters.items place None ≡ None) }
     ensures refusal { IsOkUnless result Refusal.NoMemory }
@@ -28,7 +29,7 @@ pub(crate) fn no_letters(alloc: Global, count: usize) -> Result<Vec<Option<Lette
 
 /// Returns a copy of the letter if it is to be stored: if it is posted to replica 0. `NoMemory`
 /// if one more handle is refused.
-pub(crate) fn kept_of(to: &Actor, letter: &Letter) -> Result<Option<Letter>, Refusal>
+pub(crate) fn kept_of(to: &Actor, letter: &LocalLetter) -> Result<Option<LocalLetter>, Refusal>
     ensures kept { IfOk result (λ kept. kept ≡ kept_of to.now letter.now) }
     ensures refusal { IsOkUnless result Refusal.NoMemory }
 {
@@ -39,7 +40,12 @@ pub(crate) fn kept_of(to: &Actor, letter: &Letter) -> Result<Option<Letter>, Ref
 }
 
 /// Stores the letter of a post at its poster's place; does nothing for `None`.
-pub(crate) fn keep_letter(letters: &mut Vec<Option<Letter>>, place: usize, letter: Option<Letter>)
+#[inline(always)]
+pub(crate) fn keep_letter(
+    letters: &mut Vec<Option<LocalLetter>>,
+    place: usize,
+    letter: Option<LocalLetter>,
+)
     requires { place < length letters.old.items }
     ensures { letters.new.items ≡ with_letter place letter letters.old.items }
 {
@@ -49,7 +55,7 @@ pub(crate) fn keep_letter(letters: &mut Vec<Option<Letter>>, place: usize, lette
 }
 
 /// Returns the letter in the box from one actor to another. Requires that the box holds one.
-pub(crate) fn lent(boxes: &Boxes<Letter>, from: usize, to: usize) -> &Letter
+pub(crate) fn lent(boxes: &Boxes<LocalLetter>, from: usize, to: usize) -> &LocalLetter
     requires inside { from < length boxes.now }
     requires row { to < length (row_of boxes.now from) }
     requires full { IsSome (box_at boxes.now from to).item }

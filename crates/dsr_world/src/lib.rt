@@ -6,6 +6,7 @@ mod blind;
 mod entries;
 mod first_nodes;
 mod letters;
+mod local_letter;
 mod playing;
 mod replies;
 mod roles;

@@ -2,7 +2,8 @@ ghost use Rattle.std.specs.Prelude.{◌≡◌, IfOk, IfSome, IsOk, IsOkUnless};
 ghost use Rattle.dsr_node.specs.Node.{IsReplicaNumber};
 
 use crate::letters::no_letters;
-use dsr_envelope::{Envelope, Letter};
+use crate::local_letter::LocalLetter;
+use dsr_envelope::Envelope;
 use dsr_names::{Actor, Refusal};
 use std::alloc::Global;
 
@@ -10,7 +11,7 @@ use std::alloc::Global;
 /// one to post it posts this letter again. No outcome depends on what is stored here: a post reuses a letter only if it is the same.
 #[derive(Drop)]
 pub(crate) struct Replies {
-    last: Vec<Option<Letter>>,
+    last: Vec<Option<LocalLetter>>,
 }
 
 impl Replies {
@@ -29,19 +30,19 @@ impl Replies {
         alloc: Global,
         to: &Actor,
         envelope: Envelope,
-    ) -> Result<Letter, Refusal>
+    ) -> Result<LocalLetter, Refusal>
         ensures same { IfOk result (λ letter. letter ≡ envelope) }
         ensures refusal { IsOkUnless result Refusal.NoMemory }
     {
         match self.same_before(to, &envelope) {
             Some(letter) => letter.try_copy(),
-            None => Letter::of(alloc, envelope),
+            None => LocalLetter::of(alloc, envelope),
         }
     }
 
     /// Notes the letter of a post to a client; a post to a replica is not noted. `NoMemory` if one more handle is refused, which only
     /// a post to a client needs.
-    pub(crate) fn note(&mut self, to: &Actor, letter: &Letter) -> Result<(), Refusal>
+    pub(crate) fn note(&mut self, to: &Actor, letter: &LocalLetter) -> Result<(), Refusal>
         ensures refusal { IsOkUnless result Refusal.NoMemory }
         ensures replica { IsReplicaNumber to.now → IsOk result }
     {
@@ -55,7 +56,7 @@ impl Replies {
     }
 
     /// Returns the last letter to this actor if it holds this envelope. `None` if it holds another, and for a replica.
-    fn same_before(&self, to: &Actor, envelope: &Envelope) -> Option<&Letter>
+    fn same_before(&self, to: &Actor, envelope: &Envelope) -> Option<&LocalLetter>
         ensures { IfSome result (λ letter. letter.now ≡ envelope.now) }
     {
         let Actor::Client(client) = to else {

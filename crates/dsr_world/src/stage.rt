@@ -36,6 +36,7 @@ ghost use Rattle.dsr_world.specs.Support.EntriesFields.{AreOf};
 use crate::entries::Entries;
 use crate::first_nodes::{client_node, keep, replica_node};
 use crate::letters::{keep_letter, kept_of, learn, lent, no_letters};
+use crate::local_letter::LocalLetter;
 use crate::replies::Replies;
 use crate::roles::{are_clients, is_own_client, is_traitor, look_at};
 use crate::run_end::RunEnd;
@@ -62,11 +63,11 @@ use std::mem::forget;
 pub struct Stage {
     shape: Shape,
     nodes: Vec<Node>,
-    boxes: Boxes<Letter>,
+    boxes: Boxes<LocalLetter>,
     keys: Vec<Key>,
     known: Known,
     /// The letter that each loyal actor last posted to replica 0, at the actor's place; `None` if no such letter is stored.
-    letters: Vec<Option<Letter>>,
+    letters: Vec<Option<LocalLetter>>,
     replies: Replies,
     steps: Steps,
 }
@@ -194,7 +195,8 @@ impl Stage {
         ensures { option_map (λ letter. letter.now) result ≡ in_box (log_of self.now.run) from.now to.now }
     {
         let (poster, taker) = (self.shape.place(from), self.shape.place(to));
-        self.boxes.item(poster, taker)
+        let local = self.boxes.item(poster, taker)?;
+        Some(local.letter())
     }
 
     /// Returns the letter that was taken last; `None` before the first take.
@@ -286,7 +288,9 @@ impl Stage {
         forget(self);
     }
 
-    /// Makes the event happen as `step` does, and adds its step to the entries if they are kept.
+    /// Makes the event happen as `step` does, and adds its step to the entries if they are kept. It and what it calls are inlined where the
+    /// kind of the event is known, as in the lines of a play: only one branch of each is left there.
+    #[inline(always)]
     pub(crate) fn step_in(
         &mut self,
         alloc: Global,
@@ -342,6 +346,7 @@ impl Stage {
     }
 
     /// Makes a loyal actor post.
+    #[inline(always)]
     fn post(
         &mut self,
         alloc: Global,
@@ -392,13 +397,14 @@ impl Stage {
     /// Makes the letter of a loyal actor's post, which nothing refuses. What a replica posts to replica 0 it posts as the same letter
     /// to the others in that round, and a client's ask of replica 0 goes to the others as the same letter. `NoMemory` if memory runs
     /// out or one more handle is refused.
+    #[inline(always)]
     fn letter_for(
         &self,
         alloc: Global,
         from: &Actor,
         to: &Actor,
         pick: &Pick,
-    ) -> Result<Letter, Refusal>
+    ) -> Result<LocalLetter, Refusal>
         requires { refusal_of self.now.shape (log_of self.now.run) (Post from.now to.now pick.now) ≡ None }
         ensures given { IfOk result (λ letter. post_of self.now.shape (log_of self.now.run from.now) from.now to.now pick.now ≡ Some letter) }
         ensures refusal { IsOkUnless result Refusal.NoMemory }
@@ -415,7 +421,8 @@ impl Stage {
 
     /// Returns the letter that a loyal actor posted to replica 0 and now posts again: a replica's of the round in progress, to another
     /// replica, or a client's ask with the outstanding request. `None` for any other post, and if no such letter is stored.
-    fn posted_before(&self, from: &Actor, to: &Actor, pick: &Pick) -> Option<&Letter>
+    #[inline(always)]
+    fn posted_before(&self, from: &Actor, to: &Actor, pick: &Pick) -> Option<&LocalLetter>
         requires { refusal_of self.now.shape (log_of self.now.run) (Post from.now to.now pick.now) ≡ None }
         ensures { IfSome result (λ letter. post_of self.now.shape (log_of self.now.run from.now) from.now to.now pick.now ≡ Some letter.now) }
     {
@@ -429,7 +436,7 @@ impl Stage {
     }
 
     /// Returns the stored ask that a client posted to replica 0; `None` if the client does not have its request outstanding.
-    fn asked_before(&self, client: ClientId) -> Option<&Letter>
+    fn asked_before(&self, client: ClientId) -> Option<&LocalLetter>
         requires { client < self.now.shape.m }
         ensures { IfSome result (λ letter. ask_to self.now.shape client (log_of self.now.run (ClientNumber client)) Plain ≡ Some letter.now) }
     {
@@ -443,6 +450,7 @@ impl Stage {
     }
 
     /// Makes an actor take.
+    #[inline(always)]
     fn take(
         &mut self,
         alloc: Global,
@@ -478,7 +486,8 @@ impl Stage {
         Ok(reply)
     }
 
-    /// Makes a client post its seen front to another.
+    /// Makes a client post its seen front to another. It is separate from `step`, as few events are of its kind.
+    #[inline(never)]
     fn tell(
         &mut self,
         alloc: Global,
@@ -504,7 +513,7 @@ impl Stage {
         let _n = self.shape.n();
         let (poster, taker) = (self.shape.place(from), self.shape.place(to));
         let envelope = Envelope::Seen(self.nodes[poster].seen());
-        let letter = Letter::of(alloc, envelope)?;
+        let letter = LocalLetter::of(alloc, envelope)?;
         let copy = entries.make_room_for(&letter)?;
         learn(
             &mut self.known,
@@ -548,7 +557,7 @@ impl Stage {
         // For the proof: at most f replicas are traitors.
         let _n = self.shape.n();
         let (poster, taker) = (self.shape.place(from), self.shape.place(to));
-        let letter = Letter::of(alloc, envelope)?;
+        let letter = LocalLetter::of(alloc, envelope)?;
         let copy = entries.make_room_for(&letter)?;
         self.steps.add_post(from, to, &letter);
         self.boxes.put(poster, taker, letter);
@@ -584,6 +593,7 @@ impl Stage {
     }
 
     /// Returns the refusal of a loyal actor's post; `None` if the post is allowed.
+    #[inline(always)]
     fn post_refusal(&self, from: &Actor, to: &Actor, pick: &Pick) -> Option<Refusal>
         ensures { result ≡ refusal_of self.now.shape (log_of self.now.run) (Post from.now to.now pick.now) }
     {

@@ -3,6 +3,7 @@ ghost use Rattle.std.specs.Option.{option_map};
 ghost use Rattle.dsr_envelope.specs.declared.entry.Entry.TheVariants.{Post as PostEntry, Take as TakeEntry};
 ghost use Rattle.dsr_world.specs.Stage.{last_taken};
 
+use crate::local_letter::LocalLetter;
 use dsr_envelope::Letter;
 use dsr_names::Actor;
 use http_server::Log;
@@ -18,8 +19,8 @@ pub(crate) enum Act {
 /// The steps so far, as proofs read them: of all steps only the letter that was taken last is stored.
 #[derive(Drop)]
 pub(crate) struct Steps {
-    log: Log<Act, Letter>,
-    taken: Option<Letter>,
+    log: Log<Act, LocalLetter>,
+    taken: Option<LocalLetter>,
 }
 
 impl Model for Steps {
@@ -49,11 +50,12 @@ impl Steps {
     pub(crate) fn last_taken(&self) -> Option<&Letter>
         ensures { option_map (λ letter. letter.now) result ≡ last_taken self.now }
     {
-        self.taken.as_ref()
+        let local = self.taken.as_ref()?;
+        Some(local.letter())
     }
 
     /// Adds the post of a letter.
-    pub(crate) fn add_post(&mut self, from: &Actor, to: &Actor, letter: &Letter)
+    pub(crate) fn add_post(&mut self, from: &Actor, to: &Actor, letter: &LocalLetter)
         ensures { self.new ≡ (from.now, PostEntry to.now letter.now) ∷ self.old }
     {
         let act = Act::Post {
@@ -64,7 +66,7 @@ impl Steps {
     }
 
     /// Adds the take of a letter, and stores the letter in place of the one before.
-    pub(crate) fn add_take(&mut self, at: &Actor, from: &Actor, letter: Letter)
+    pub(crate) fn add_take(&mut self, at: &Actor, from: &Actor, letter: LocalLetter)
         ensures { self.new ≡ (at.now, TakeEntry from.now letter) ∷ self.old }
     {
         let act = Act::Take {
