@@ -14,7 +14,7 @@ ghost use Rattle.dsr_explain.specs.Lines.{about, kept_data, kept_words, note_lin
 
 use crate::chain_lines::write_chain;
 use crate::chain_texts::ChainText;
-use crate::pieces::{put_answer, put_content, put_decision};
+use crate::pieces::{put_content, put_decision};
 use crate::standing::decision_of;
 use crate::tokens::Tokens;
 use dsr_chain::Chain;
@@ -407,11 +407,11 @@ fn write_accepted(out: &mut Writer, as_data: bool, at: Actor, reply: &Reply)
         out.put(" ");
         out.put_number(reply.place);
         out.put(" ");
-        put_answer(out, &reply.answer);
+        out.put_answer(&reply.answer);
         out.put("\n");
     } else {
         out.put(": ");
-        put_answer(out, &reply.answer);
+        out.put_answer(&reply.answer);
         out.put(", at place ");
         out.put_number(reply.place);
         out.put("\n");

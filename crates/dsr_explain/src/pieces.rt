@@ -2,7 +2,6 @@
 
 ghost use Rattle.std.specs.Prelude.{◌≡◌, ◌++◌, map};
 ghost use Rattle.dsr_base.specs.Joined.{more_joined};
-ghost use Rattle.dsr_request.specs.AnswerText.{answer_text, held_text};
 ghost use Rattle.dsr_request.specs.RequestText.{request_token};
 ghost use Rattle.dsr_request.specs.RequestsText.{requests_text};
 ghost use Rattle.dsr_desk.specs.ContentText.{content_text};
@@ -12,7 +11,6 @@ use crate::tokens::Tokens;
 use dsr_chain::{Chain, SignedRequest};
 use dsr_names::Actor;
 use dsr_reasons::Writer;
-use dsr_request::Answer;
 use dsr_slot::Decision;
 
 /// The maximum number of replicas.
@@ -74,25 +72,5 @@ fn put_more(out: &mut Writer, tokens: &mut Tokens, signed: &[SignedRequest])
             tokens.put_request(out, &first.request);
             put_more(out, tokens, others)
         }
-    }
-}
-
-/// Appends the answer.
-pub(crate) fn put_answer(out: &mut Writer, answer: &Answer)
-    ensures { out.new ≡ out.old ++ answer_text answer.now }
-{
-    let (words, held) = answer.parts();
-    out.put(words);
-    put_held(out, held);
-}
-
-/// Appends what a register held, if the answer's text has that.
-fn put_held(out: &mut Writer, held: Option<Option<u64>>)
-    ensures { out.new ≡ out.old ++ held_text held }
-{
-    match held {
-        None => {}
-        Some(None) => out.put("none"),
-        Some(Some(value)) => out.put_number(value),
     }
 }

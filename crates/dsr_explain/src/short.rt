@@ -1,7 +1,6 @@
 //! The text of an envelope, put together from the texts of its requests. It is the one that a draft of the envelope has, for which there is no need to make
 //! the draft: most envelopes have no signature on a statement that does not fit its place.
 
-use crate::pieces::put_answer;
 use crate::tokens::Tokens;
 use dsr_chain::{Chain, SignedRequest};
 use dsr_desk::Statement;
@@ -63,7 +62,7 @@ fn put_reply(out: &mut Writer, reply: &Reply) {
     out.put(" ");
     out.put_number(reply.place);
     out.put(" ");
-    put_answer(out, &reply.answer);
+    out.put_answer(&reply.answer);
 }
 
 /// Writes the chain, with a space before it.

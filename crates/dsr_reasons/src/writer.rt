@@ -4,6 +4,9 @@ ghost use Rattle.std.specs.Prelude.{◌≡◌, ◌<◌, ◌+◌, ◌∷◌, ◌+
 ghost use Rattle.std.specs.Fmt.{decimal};
 ghost use Rattle.dsr_base.specs.Joined.{more_joined};
 ghost use Rattle.dsr_names.specs.Actor.{actor_text};
+ghost use Rattle.dsr_names.specs.Token.{old_text};
+ghost use Rattle.dsr_request.specs.AnswerText.{answer_text};
+ghost use Rattle.dsr_request.specs.OpText.{op_text};
 ghost use Rattle.dsr_request.specs.RequestText.{request_token};
 ghost use Rattle.dsr_request.specs.RequestsText.{requests_text};
 ghost use Rattle.dsr_desk.specs.ContentText.{content_text};
@@ -14,11 +17,10 @@ ghost use Rattle.dsr_reasons.specs.Digits.{last_two};
 
 use dsr_desk::Statement;
 use dsr_names::{Actor, Refusal};
-use dsr_request::{Request, Requests};
+use dsr_request::{Answer, Name, Op, Request, Requests};
 use http_server::Log;
 use itoa::Buffer;
 use std::alloc::Global;
-use std::fmt::Write;
 use std::marker::Model;
 
 /// A text that is written piece by piece, for which its calls allocate. If memory runs out, the writer remembers it: its user checks once, when it asks
@@ -154,9 +156,62 @@ impl Writer {
     pub fn put_request(&mut self, request: &Request)
         ensures { self.new ≡ self.old ++ request_token request.now }
     {
-        let is_put = write!(self.text, "{request}").is_ok();
-        remember(&mut self.is_broken, is_put);
-        self.pieces = self.pieces.and(&Piece::Request(*request), &self.text);
+        self.put_name(Actor::Client(request.client()));
+        self.put("#");
+        self.put_number(request.number());
+        self.put(":");
+        self.put_op(&request.op());
+    }
+
+    /// Appends the operation, with colons between its parts.
+    fn put_op(&mut self, op: &Op)
+        ensures { self.new ≡ self.old ++ op_text 58 op.now }
+    {
+        match op {
+            Op::Read { name } => {
+                self.put("read:");
+                self.put_register(name);
+            }
+            Op::Write { name, value } => {
+                self.put("write:");
+                self.put_register(name);
+                self.put(":");
+                self.put_number(*value);
+            }
+            Op::Swap { name, from, to } => {
+                self.put("swap:");
+                self.put_register(name);
+                self.put(":");
+                self.put_held(*from);
+                self.put(":");
+                self.put_number(*to);
+            }
+            Op::Remove { name } => {
+                self.put("remove:");
+                self.put_register(name);
+            }
+        }
+    }
+
+    /// Appends the answer.
+    pub fn put_answer(&mut self, answer: &Answer)
+        ensures { self.new ≡ self.old ++ answer_text answer.now }
+    {
+        let (words, held) = answer.parts();
+        self.put(words);
+        if let Some(held) = held {
+            self.put_held(held);
+        }
+    }
+
+    /// Appends what a register holds: a number, or that it holds none.
+    fn put_held(&mut self, held: Option<u64>)
+        ensures { self.new ≡ self.old ++ old_text held }
+    {
+        match held {
+            None => self.put("none"),
+            Some(number) => self.put_number(number),
+        }
     }
 
     /// Appends the statement.
@@ -180,7 +235,7 @@ impl Writer {
     }
 
     /// Appends the content of a slot: its requests, joined by commas, or that it is idle.
-    fn put_content(&mut self, content: &Option<Requests>)
+    pub fn put_content(&mut self, content: &Option<Requests>)
         ensures { self.new ≡ self.old ++ content_text content.now }
     {
         match content {
@@ -223,6 +278,15 @@ impl Writer {
     {
         self.put_char(letter);
         self.put_short(number as u64);
+    }
+
+    /// Appends the register's name.
+    fn put_register(&mut self, name: &Name)
+        ensures { self.new ≡ self.old ++ name.now }
+    {
+        let is_put = self.text.push_str(name.as_str()).is_ok();
+        remember(&mut self.is_broken, is_put);
+        self.pieces = self.pieces.and(&Piece::Register(*name), &self.text);
     }
 
     /// Appends the number.
@@ -332,7 +396,7 @@ pub(crate) enum Piece {
     Text(&'static str),
     Char(char),
     Number(u64),
-    Request(Request),
+    Register(Name),
     /// The text beside it in the list.
     Shown,
 }

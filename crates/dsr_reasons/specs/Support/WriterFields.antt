@@ -2,9 +2,8 @@
 use Rattle.std.specs.Prelude.{◌≡◌, ◌++◌, ◌∷◌, [], false, ℕ, List, string_bytes}
 use Rattle.std.specs.Fmt.{decimal}
 use Rattle.std.specs.declared.string.String.{String}
-use Rattle.dsr_request.specs.RequestText.{request_token}
 use Rattle.dsr_reasons.specs.declared.writer.Piece.{Piece}
-use Rattle.dsr_reasons.specs.declared.writer.Piece.TheVariants.{Text, Char, Number, Request, Shown}
+use Rattle.dsr_reasons.specs.declared.writer.Piece.TheVariants.{Text, Char, Number, Register, Shown}
 use Rattle.dsr_reasons.specs.declared.writer.Writer.TheInside.{Inside}
 
 -- what a piece is; `text` is noted with it
@@ -12,7 +11,7 @@ abbrev pub piece_text : Piece → List ℕ → List ℕ
 piece_text (Text word) text = word.now
 piece_text (Char character) text = character ∷ []
 piece_text (Number number) text = decimal number
-piece_text (Request request) text = request_token request
+piece_text (Register name) text = name
 piece_text Shown text = text
 
 -- what these pieces are, one after another
