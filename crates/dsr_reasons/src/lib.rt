@@ -1,5 +1,5 @@
 //! Why an event of a play is refused, as text: a line of data or of words, proved to the letter. `dsr_facts` finds the cause. It also
-//! has the writer with which explanations write their lines.
+//! has the writer with which reports and explanations write their lines.
 #![tactic(auto)]
 
 mod actors;

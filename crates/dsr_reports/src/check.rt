@@ -1,6 +1,7 @@
 //! Reads a transcript and reports on its run.
 
-ghost use Rattle.std.specs.Prelude.{◌≡◌, ◌+◌, ◌++◌, ◌≤◌, List, IfOk, IfErr, OnOk, IsOkUnless, reverse, string_bytes};
+ghost use Rattle.std.specs.Prelude.{◌≡◌, ◌+◌, ◌++◌, ◌≤◌, List, IfOk, IfErr, OnOk, IsOkUnless, codes, reverse, string_bytes};
+ghost use Rattle.std.specs.Fmt.{decimal};
 ghost use Rattle.dsr_names.specs.Limits.{most_calls};
 ghost use Rattle.dsr_names.specs.Streams.{streams};
 ghost use Rattle.dsr_names.specs.Shape.{Shape};
@@ -13,9 +14,9 @@ use crate::report::{write_history, write_reply};
 use dsr_check::{Verdict, check};
 use dsr_ledger::Reply;
 use dsr_names::{ClientId, Refusal, Sink, Source, write_output};
+use dsr_reasons::Writer;
 use dsr_record::{Record, read};
 use std::alloc::Global;
-use std::fmt::Write;
 use std::mem::forget;
 
 /// Reads a transcript, and writes the report on its run. Checks nothing before the end of the text, and writes nothing before it has
@@ -71,21 +72,27 @@ fn report_of(alloc: Global, verdict: &Verdict) -> Result<String, Refusal>
     ensures text { (shape : Shape) (run : List Step) → IsVerdict shape run verdict.now → IfOk result (λ report. string_bytes report ≡ run_text shape run) }
     ensures refusal { IsOkUnless result Refusal.NoMemory }
 {
-    let mut report = String::new(alloc);
-    let entries = verdict.entries();
-    writeln!(report, "run {entries}")?;
-    write_accepted(&mut report, verdict.accepted())?;
-    write_history(&mut report, verdict.history())?;
-    Ok(report)
+    let mut report = Writer::new(alloc);
+    write_count(&mut report, verdict.entries());
+    write_accepted(&mut report, verdict.accepted());
+    write_history(&mut report, verdict.history());
+    report.finish()
+}
+
+/// Writes the line of how many steps the run has.
+fn write_count(out: &mut Writer, steps: u64)
+    ensures { out.new ≡ out.old ++ (codes "run " ++ (decimal steps ++ codes "\n")) }
+{
+    out.put("run ");
+    out.put_number(steps);
+    out.put("\n");
 }
 
 /// Writes the replies, each with its client.
-fn write_accepted(out: &mut String, accepted: &[(ClientId, Reply)]) -> Result<(), Refusal>
-    ensures text { OnOk result (string_bytes out.new ≡ string_bytes out.old ++ texts_of (λ index pair. accepted_line pair.0 pair.1) (reverse accepted.now)) }
-    ensures refusal { IsOkUnless result Refusal.NoMemory }
+fn write_accepted(out: &mut Writer, accepted: &[(ClientId, Reply)])
+    ensures { out.new ≡ out.old ++ texts_of (λ index pair. accepted_line pair.0 pair.1) (reverse accepted.now) }
 {
     for (client, reply) in accepted {
-        write_reply(out, *client, reply)?;
+        write_reply(out, *client, reply);
     }
-    Ok(())
 }
