@@ -1,4 +1,4 @@
-ghost use Rattle.std.specs.Prelude.{◌≡◌, None, Some, if◌then◌else◌, Err, IfOk, IfErr, IsOk, OnOk, OnErr};
+ghost use Rattle.std.specs.Prelude.{◌≡◌, None, Some, if◌then◌else◌, Err, IfOk, IfErr, IfSome, IsOk, OnOk, OnErr, IsOkUnless};
 ghost use Rattle.dsr_base.specs.Growth.{Extends};
 ghost use Rattle.dsr_names.specs.Shape.{IsActor};
 ghost use Rattle.dsr_names.specs.declared.refusal.Refusal.{Refusal};
@@ -8,7 +8,7 @@ ghost use Rattle.dsr_envelope.specs.declared.entry.Entry.TheVariants.{Post, Take
 ghost use Rattle.dsr_envelope.specs.Limits.{IsEnvelope};
 ghost use Rattle.dsr_client.specs.State.{seen};
 ghost use Rattle.dsr_node.specs.Conduct.{post_of};
-ghost use Rattle.dsr_node.specs.Node.{IsReplicaNumber, TakesReply};
+ghost use Rattle.dsr_node.specs.Node.{IsReplicaNumber, TakesReply, post_refusal};
 ghost use Rattle.dsr_run.specs.Run.{IsRun};
 ghost use Rattle.dsr_run.specs.Step.{log_of};
 ghost use Rattle.dsr_boxes.specs.Moment.{IsMomentOf};
@@ -124,7 +124,7 @@ impl Loyal {
         if !self.seat.looks_empty(boxes, to) {
             return Err(Refusal::BoxFull);
         }
-        let Ok(envelope) = self.node.envelope_for(alloc, *to, *pick) else {
+        let Ok(envelope) = self.envelope_for(alloc, to, pick) else {
             return Err(Refusal::NoMemory);
         };
         match self.seat.post(alloc, boxes, to, envelope) {
@@ -214,6 +214,32 @@ impl Loyal {
         ensures past { Extends self.old.log (log_of moment.run self.old.actor) }
     {
         self.seat.recall(boxes, moment);
+    }
+
+    /// Makes the envelope of a post that the protocol allows. What the actor has just posted to a replica it posts to another as a copy, which shares
+    /// its chains or its request. `NoMemory` if memory runs out or one more handle is refused.
+    fn envelope_for(&self, alloc: Global, to: &Actor, pick: &Pick) -> Result<Envelope, Refusal>
+        requires { post_refusal self.now.shape self.now.log self.now.actor to.now pick.now ≡ None }
+        ensures given { IfOk result (λ x. post_of self.now.shape self.now.log self.now.actor to.now pick.now ≡ Some x) }
+        ensures refusal { IsOkUnless result Refusal.NoMemory }
+    {
+        match self.posted_before(to, pick) {
+            Some(envelope) => envelope.try_copy(alloc),
+            None => self.node.envelope_for(alloc, *to, *pick),
+        }
+    }
+
+    /// Returns the envelope that the actor has just posted to a replica, if this is a post to another. Requires that the protocol allows the post.
+    fn posted_before(&self, to: &Actor, _pick: &Pick) -> Option<&Envelope>
+        requires { post_refusal self.now.shape self.now.log self.now.actor to.now _pick.now ≡ None }
+        ensures { IfSome result (λ x. post_of self.now.shape self.now.log self.now.actor to.now _pick.now ≡ Some x.now) }
+    {
+        // For the proof: what its contract says.
+        let _n = self.seat.shape().n();
+        match to {
+            Actor::Replica(_) => self.seat.posted_last(),
+            Actor::Client(_) => None,
+        }
     }
 
     /// Returns the own log's refusal of a post to this actor by this choice, if any.

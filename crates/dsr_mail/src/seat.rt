@@ -1,7 +1,9 @@
-ghost use Rattle.std.specs.Prelude.{◌≡◌, ◌⊎◌, ◌<◌, [], ◌∷◌, vec_len, vec_capacity, reverse, IfOk, IfErr, IfNone, IsOk, OnOk, OnErr, IsOkUnless, None, Some, Ok, Err};
+ghost use Rattle.std.specs.Prelude.{◌≡◌, ◌⊎◌, ℕ, ◌<◌, [], ◌∷◌, List, vec_len, vec_capacity, reverse, IfOk, IfErr, IfSome, IfNone, IsOk, OnOk, OnErr, IsOkUnless, None, Some, Ok, Err};
 ghost use Rattle.dsr_base.specs.Growth.{Extends};
 ghost use Rattle.dsr_names.specs.Shape.{IsActor};
 ghost use Rattle.dsr_names.specs.declared.refusal.Refusal.{Refusal};
+ghost use Rattle.dsr_names.specs.declared.actor.Actor.TheVariants.{Replica};
+ghost use Rattle.dsr_envelope.specs.declared.entry.Entry.{Entry as AnEntry};
 ghost use Rattle.dsr_envelope.specs.declared.entry.Entry.TheVariants.{Post, Take};
 ghost use Rattle.dsr_envelope.specs.Limits.{IsEnvelope};
 ghost use Rattle.dsr_run.specs.OwnStep.{MayPost, HasPostsLeft};
@@ -113,6 +115,21 @@ impl Seat {
             }
         }
         false
+    }
+
+    /// Returns the envelope of the newest entry, if that is a post to a replica.
+    pub(crate) fn posted_last(&self) -> Option<&Envelope>
+        ensures { IfSome result (λ x. (q : ℕ) × (older : List AnEntry) × (self.now.log ≡ Post (Replica q) x.now ∷ older)) }
+    {
+        match self.entries.last() {
+            Some(
+                Entry::Post {
+                    to: Actor::Replica(_),
+                    envelope,
+                },
+            ) => Some(envelope.envelope()),
+            _ => None,
+        }
     }
 
     /// Posts the envelope to `to`. `NoMemory` if memory runs out or one more handle is refused, `BoxFull` if the box is not empty: then
