@@ -13,7 +13,7 @@ is a traitor; rounds in which nothing is asked, and such in which a request is a
 counted, must be flat but for what is kept, which is the same of each round: of twice the rounds the later ones take no more bytes each than the first
 ones, and a twentieth; and a round takes no more than is written here, a tenth more than when that was measured. Then services of 16 replicas and
 32 clients: without traitors, and with seven that tell each other's stories, lie to clients, and would forge. Each must serve all clients, and its
-report be right by tests/models/slow_texts.py.
+report be right by tests/models/slow_texts.py. So must a service of four replicas and 32 clients, which takes no more memory than is written here.
 
 transcripts: what `dsr check` does with transcripts of 16 MiB of the worst kinds.
 
@@ -26,7 +26,9 @@ transcripts: what `dsr check` does with transcripts of 16 MiB of the worst kinds
    rounds half as much again.
 """
 
+import os
 import re
+import subprocess
 import sys
 import tempfile
 import time
@@ -186,6 +188,9 @@ KINDS = [
 ]
 # How many operations each client of a large service has, and the traitors of these.
 OPERATIONS, OPERATIONS_SOAK = 25, 100
+# How many MiB of memory a service of four replicas and 32 clients of 100 operations may have in use. It had 19 to 23 when that was measured, the more the more
+# rounds it made, and 37 to 40 when each of the four posts of an ask, and of a replica's round, had a copy of its own.
+MOST_OF_SERVICE = 32
 LARGE = [("16 replicas and 32 clients", "-"), ("16 replicas, seven of them traitors, and 32 clients", "r1+r3+r5+r7+r9+r11+r13")]
 
 
@@ -238,10 +243,16 @@ def judge_kind(report, shim, kind, rounds):
 # ---- load: services
 
 
-def large_script(traitors, operations):
-    """A script of 16 replicas and 32 clients, each with so many operations, and these."""
+def script_of(shape, traitors, operations, more=()):
+    """A script of 32 clients, each with so many operations, and of these n, f and traitors; and its operations. `more` has its other lines."""
     asked = [[("write", f"a{client}", str(k)) if k % 2 else ("read", f"a{(client + k) % 32}") for k in range(operations)] for client in range(32)]
-    lines = [f"dsr-serve 1 16 7 32 {traitors}"] + [f"ask c{client} {' '.join(op)}" for client, of_one in enumerate(asked) for op in of_one]
+    lines = [f"dsr-serve 1 {shape} 32 {traitors}"] + [f"ask c{client} {' '.join(op)}" for client, of_one in enumerate(asked) for op in of_one]
+    return lines_text([*lines, *more]), asked
+
+
+def large_script(traitors, operations):
+    """A script of 16 replicas and 32 clients, each with so many operations, and these traitors; and its operations."""
+    lines = []
     masks = [] if traitors == "-" else [int(name[1:]) for name in traitors.split("+")]
     for t in range(64):
         for p in masks:
@@ -251,7 +262,36 @@ def large_script(traitors, operations):
                     lines.append(f"script r{p} {t} r{to} round {t} {t}/idle/r{p}")
                 elif t % 16 in masks:
                     lines.append(f"script r{p} {t} r{to} round {t} {t - 1}/idle/r{t % 16}+r{p}")
-    return lines_text(lines), asked
+    return script_of("16 7", traitors, operations, lines)
+
+
+def run_of_service(text):
+    """The run of a service of this script, and the most MiB of memory that it had in use at once."""
+    with tempfile.TemporaryFile() as given, tempfile.TemporaryFile() as written, tempfile.TemporaryFile() as complained:
+        given.write(text)
+        given.seek(0)
+        child = subprocess.Popen(["timeout", str(SECONDS), *command_of("serve")], stdin=given, stdout=written, stderr=complained)
+        _, status, used = os.wait4(child.pid, 0)
+        child.returncode = os.waitstatus_to_exitcode(status)
+        written.seek(0)
+        complained.seek(0)
+        return (child.returncode, written.read(), complained.read()), used.ru_maxrss // 1024
+
+
+def judge_memory_of_service(report):
+    """Judges the memory of a service whose clients' asks and replicas' chains are each posted to four replicas, and shared by these posts."""
+    text, asked = script_of("4 1", "-", OPERATIONS_SOAK)
+    used = []
+
+    def serve():
+        ran, memory = run_of_service(text)
+        used.append(memory)
+        return ran
+
+    fault = slow_texts.fault_of_served(asked, slow_texts.answered_run(serve))
+    if not fault and used[-1] > MOST_OF_SERVICE:
+        fault = f"it had {used[-1]} MiB of memory in use, and at most {MOST_OF_SERVICE} were allowed"
+    report.judge(f"4 replicas and 32 clients of {OPERATIONS_SOAK} operations, memory", fault, f", {used[-1]} MiB")
 
 
 def load(report, is_soak):
@@ -264,6 +304,7 @@ def load(report, is_soak):
         begun = time.monotonic()
         fault = slow_texts.fault_of_served(asked, slow_texts.answered_run(lambda text=text: program("serve", text, SECONDS)))
         report.judge(f"{what} of {operations} operations", fault, f", in {time.monotonic() - begun:.1f} seconds")
+    judge_memory_of_service(report)
 
 
 # ---- transcripts of 16 MiB

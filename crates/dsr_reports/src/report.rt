@@ -65,7 +65,7 @@ fn write_accepted(out: &mut Writer, stage: &Stage)
     ensures { out.new ≡ out.old ++ accepted_text stage.now.shape (log_of stage.now.run) }
 {
     for number in 0..stage.shape().m() {
-        let client = client(number);
+        let client = ClientId::of(number);
         let Ok(replies) = stage.accepted(client) else {
             unreachable!()
         };
@@ -102,7 +102,7 @@ fn write_seen(out: &mut Writer, stage: &Stage)
     ensures { out.new ≡ out.old ++ seen_text stage.now.shape (log_of stage.now.run) }
 {
     for number in 0..stage.shape().m() {
-        let client = client(number);
+        let client = ClientId::of(number);
         let Ok(seen) = stage.seen(client) else {
             unreachable!()
         };
@@ -139,7 +139,7 @@ fn write_decided(alloc: Global, out: &mut Writer, stage: &Stage) -> Result<(), R
     let _n = stage.shape().n();
     let mut spelled = spell(alloc, &[])?;
     for number in 0..stage.shape().n() {
-        let replica = replica(number);
+        let replica = ReplicaId::of(number);
         // A traitor is asked for nothing.
         if let Ok(decisions) = stage.decided(replica) {
             spelled = spelled_for(alloc, stage, replica, decisions, spelled)?;
@@ -230,26 +230,4 @@ fn write_place(out: &mut Writer, place: u64, request: &Request)
     out.put(" ");
     out.put_request(request);
     out.put("\n");
-}
-
-/// Returns the client with this number. Requires that a shape can have it: `number` is below 32.
-fn client(number: u8) -> ClientId
-    requires { number < 32 }
-    ensures { result ≡ number }
-{
-    let Ok(client) = ClientId::new(number) else {
-        unreachable!()
-    };
-    client
-}
-
-/// Returns the replica with this number. Requires that a shape can have it: `number` is below 16.
-fn replica(number: u8) -> ReplicaId
-    requires { number < 16 }
-    ensures { result ≡ number }
-{
-    let Ok(replica) = ReplicaId::new(number) else {
-        unreachable!()
-    };
-    replica
 }
