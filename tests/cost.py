@@ -13,7 +13,8 @@ is a traitor; rounds in which nothing is asked, and such in which a request is a
 counted, must be flat but for what is kept, which is the same of each round: of twice the rounds the later ones take no more bytes each than the first
 ones, and a twentieth; and a round takes no more than is written here, a tenth more than when that was measured. Then services of 16 replicas and
 32 clients: without traitors, and with seven that tell each other's stories, lie to clients, and would forge. Each must serve all clients, and its
-report be right by tests/models/slow_texts.py. So must a service of four replicas and 32 clients, which takes no more memory than is written here.
+report be right by tests/models/slow_texts.py. So must a service of four replicas and 32 clients, which asks for no more large pieces of memory than is written
+here: its posts share asks and chains.
 
 transcripts: what `dsr check` does with transcripts of 16 MiB of the worst kinds.
 
@@ -26,9 +27,7 @@ transcripts: what `dsr check` does with transcripts of 16 MiB of the worst kinds
    rounds half as much again.
 """
 
-import os
 import re
-import subprocess
 import sys
 import tempfile
 import time
@@ -188,9 +187,9 @@ KINDS = [
 ]
 # How many operations each client of a large service has, and the traitors of these.
 OPERATIONS, OPERATIONS_SOAK = 25, 100
-# How many MiB of memory a service of four replicas and 32 clients of 100 operations may have in use. It had 19 to 23 when that was measured, the more the more
-# rounds it made, and 37 to 40 when each of the four posts of an ask, and of a replica's round, had a copy of its own.
-MOST_OF_SERVICE = 32
+# How many large pieces of memory a service of four replicas and 32 clients may ask for, for each operation. It asked for 2.1 to 2.4, and for 5.1 to 5.7 when each of the
+# four posts of an ask, and of a replica's round, had a copy of its own.
+MOST_LARGE = 4
 LARGE = [("16 replicas and 32 clients", "-"), ("16 replicas, seven of them traitors, and 32 clients", "r1+r3+r5+r7+r9+r11+r13")]
 
 
@@ -265,46 +264,36 @@ def large_script(traitors, operations):
     return script_of("16 7", traitors, operations, lines)
 
 
-def run_of_service(text):
-    """The run of a service of this script, and the most MiB of memory that it had in use at once."""
-    with tempfile.TemporaryFile() as given, tempfile.TemporaryFile() as written, tempfile.TemporaryFile() as complained:
-        given.write(text)
-        given.seek(0)
-        child = subprocess.Popen(["timeout", str(SECONDS), *command_of("serve")], stdin=given, stdout=written, stderr=complained)
-        _, status, used = os.wait4(child.pid, 0)
-        child.returncode = os.waitstatus_to_exitcode(status)
-        written.seek(0)
-        complained.seek(0)
-        return (child.returncode, written.read(), complained.read()), used.ru_maxrss // 1024
-
-
-def judge_memory_of_service(report):
-    """Judges the memory of a service whose clients' asks and replicas' chains are each posted to four replicas, and shared by these posts."""
+def judge_sharing(report, shim):
+    """Judges how often a service asks for a large piece of memory: for an ask, or for the requests of a chain, which its posts to the replicas share."""
     text, asked = script_of("4 1", "-", OPERATIONS_SOAK)
-    used = []
+    noted = []
 
     def serve():
-        ran, memory = run_of_service(text)
-        used.append(memory)
+        with tempfile.TemporaryFile() as given:
+            given.write(text)
+            given.seek(0)
+            ran, counts = shim.run(command_of("serve"), None, SECONDS, stdin=given)
+        noted.append(int(counts.split()[4]) / (32 * OPERATIONS_SOAK))
         return ran
 
     fault = slow_texts.fault_of_served(asked, slow_texts.answered_run(serve))
-    if not fault and used[-1] > MOST_OF_SERVICE:
-        fault = f"it had {used[-1]} MiB of memory in use, and at most {MOST_OF_SERVICE} were allowed"
-    report.judge(f"4 replicas and 32 clients of {OPERATIONS_SOAK} operations, memory", fault, f", {used[-1]} MiB")
+    if not fault and noted[-1] > MOST_LARGE:
+        fault = f"it asked for {noted[-1]:.1f} large pieces of memory for each operation, and at most {MOST_LARGE} were allowed"
+    report.judge(f"4 replicas and 32 clients of {OPERATIONS_SOAK} operations, what posts share", fault, f", {noted[-1]:.1f} large pieces of memory an operation")
 
 
 def load(report, is_soak):
     with counting() as shim:
         for kind in KINDS:
             judge_kind(report, shim, kind, ROUNDS_SOAK if is_soak else ROUNDS)
+        judge_sharing(report, shim)
     operations = OPERATIONS_SOAK if is_soak else OPERATIONS
     for what, traitors in LARGE:
         text, asked = large_script(traitors, operations)
         begun = time.monotonic()
         fault = slow_texts.fault_of_served(asked, slow_texts.answered_run(lambda text=text: program("serve", text, SECONDS)))
         report.judge(f"{what} of {operations} operations", fault, f", in {time.monotonic() - begun:.1f} seconds")
-    judge_memory_of_service(report)
 
 
 # ---- transcripts of 16 MiB
