@@ -31,10 +31,12 @@ use Rattle.dsr_mail.proofs.Seating.{turned_more}
 
 -- ---- the newest entry
 
+-- a list whose last item is known
 last_split : {X : Type 0} (x : X) (xs : List X) (e : X) → slice_get (x ∷ xs) (length xs) ≡ Some e → (front : List X) × (x ∷ xs ≡ front ++ e ∷ [])
 last_split x [] e is = ([], ap (λ y. y ∷ []) (same_Some x e is))
 last_split x (y ∷ ys) e is = let rest = last_split y ys e is in (x ∷ rest.0, ap (λ l. x ∷ l) rest.1)
 
+-- the last item of a list is the newest of its reverse
 newest : {X : Type 0} (xs : List X) (e : X) → slice_get xs (length xs - 1) ≡ Some e → (older : List X) × (reverse xs ≡ e ∷ older)
 newest [] e is = absurd (none-some e is)
 newest (x ∷ xs) e is =
@@ -52,13 +54,14 @@ newest_post entries lent found last to q x y same at is post replica envelope =
     shown : last.now ≡ Post (Replica q) x
     shown = post ∙ (ap (λ a. Post a y) replica ∙ ap (Post (Replica q)) (sym envelope))
 
--- ---- posts that are made again
+-- ---- a post repeats the one before
 
 -- the post is due, and the choice gives its envelope
 record IsGiven (shape : Shape) (me : Actor) (log : List Entry) (q : ℕ) (pick : Pick) (x : Envelope) : Type 0 where
   now_due : due shape log ≡ PostTo q
   gives : chosen shape me log q pick ≡ Some x
 
+-- what a replica posts next is given
 given_of : (shape : Shape) (me : Actor) (log : List Entry) (q : ℕ) (pick : Pick) (x : Envelope) → envelope_to shape me log q pick ≡ Some x
     → IsGiven shape me log q pick x
 given_of shape me log q pick x e = by_due (due shape log) refl e
@@ -73,6 +76,7 @@ given_of shape me log q pick x e = by_due (due shape log) refl e
       | inr other ↦ absurd (none-some x (sym (cond-false (r == q) (chosen shape me log q pick) None other) ∙ given))
     ]
 
+-- and what is given it posts next
 due_gives : (shape : Shape) (me : Actor) (log : List Entry) (q : ℕ) (pick : Pick) (x : Envelope) → due shape log ≡ PostTo q
     → chosen shape me log q pick ≡ Some x → envelope_to shape me log q pick ≡ Some x
 due_gives shape me log q pick x is gives =
@@ -123,6 +127,7 @@ module _ (shape : Shape) (c : ℕ) (older : List Entry) (q : ℕ) (x : Envelope)
     is : x ≡ Ask ask
     current : outstanding shape (Post (Replica q) x ∷ older) ≡ Some ask
 
+  -- once it is posted, that request is outstanding
   ask_is : (ask : SignedRequest) → x ≡ Ask ask → (asked_beside (outstanding shape older) ask (state_after shape older)).outstanding ≡ Some ask → IsAsk
   ask_is ask is e = record {
     ask = ask;
@@ -130,6 +135,7 @@ module _ (shape : Shape) (c : ℕ) (older : List Entry) (q : ℕ) (x : Envelope)
     current = subst (λ z. (with_post z (state_after shape older)).outstanding ≡ Some ask) (sym is) e;
   }
 
+  -- whatever the choice was by which it was posted
   asked : (before : Pick) → ask_to shape c older before ≡ Some x → IsAsk
   asked before given = by_outstanding (outstanding shape older) refl before given
     where
@@ -145,6 +151,7 @@ module _ (shape : Shape) (c : ℕ) (older : List Entry) (q : ℕ) (x : Envelope)
       by_outstanding (Some ask) is (From clients) e = absurd (none-some x e)
       by_outstanding None is (From clients) e = absurd (none-some x e)
 
+  -- so it is the only ask that the client posts next
   asked_again : (before pick : Pick) (y : Envelope) → ask_to shape c older before ≡ Some x → ask_to shape c (Post (Replica q) x ∷ older) pick ≡ Some y
       → ask_to shape c (Post (Replica q) x ∷ older) pick ≡ Some x
   asked_again before pick y given e = subst (λ o. option_map Ask (chosen_beside o c number pick) ≡ Some x) (sym is.current)
