@@ -187,7 +187,7 @@ KINDS = [
 ]
 # How many operations each client of a large service has, and the traitors of these.
 OPERATIONS, OPERATIONS_SOAK = 25, 100
-# How many large pieces of memory a service of four replicas and 32 clients may ask for, for each operation. It asked for 2.1 to 2.5, also on a busy machine,
+# How many large pieces of memory a service of four replicas and 32 clients may ask for, for each operation. It asked for 1.7 to 2.5, most on a busy machine,
 # and for 5.1 and more when each of the four posts of an ask, and of a replica's round, had a copy of its own.
 MOST_LARGE = 4
 LARGE = [("16 replicas and 32 clients", "-"), ("16 replicas, seven of them traitors, and 32 clients", "r1+r3+r5+r7+r9+r11+r13")]
