@@ -1,6 +1,6 @@
 """Wrong bodies that the prover must refuse: the edits crates/NAME/wrong-bodies/*.edit, each tried by `rt must-fail`.
 
-tests/edits.py                   Tries the edits that tests/refused.txt does not have over these sources, but for comments and hints on inlining.
+tests/edits.py                   Tries the edits that tests/refused.txt does not have over these sources, as record.py tells them apart.
 tests/edits.py anew              Tries all, and compares with the record.
 tests/edits.py CRATE/EDIT ..     Tries these, or all of a CRATE, whatever the record has, and prints where each is refused.
 tests/edits.py --record ..       Does the same, and writes the record: a line for each edit that was refused now or before.
@@ -268,7 +268,7 @@ def judge(room, asked):
     tell_of_record(report, edits, asked)
     skipped = 0 if asked.names else len(edits) - len(its)
     if not asked.names:
-        say(f"{skipped} edits were refused before over exactly these sources, but for comments and hints on inlining, as tests/refused.txt records, and were not tried again")
+        say(f"{skipped} edits were refused before over these sources, as tests/refused.txt records, and were not tried again")
     return report.passed, report.failed, skipped
 
 

@@ -3,9 +3,10 @@ them, and tests/refused.txt. Nothing here runs a prover.
 
 The record has a line for each edit that was refused: CRATE/EDIT, a sum, and the place at which it was refused. The sum is a SHA-256
 over all that the refusal rests on: the logic in which the toolchain proves (`logic_of`), HANDLES, of the edit's crate and of each below it the
-row in crates.txt and every file of src/, specs/ and proofs/, the text of the edit, and what it makes of the files that it changes. Of a source
-counts what a prover reads of it (lexing.py). So an edit whose sum stands in the record was refused over exactly these sources, but for
-comments and hints on inlining, by a toolchain of this logic. A line with any other sum says nothing.
+row in crates.txt and the files of src/, specs/ and proofs/, the text of the edit, and what it makes of the files that it changes. Of a source
+counts what a prover reads of it (lexing.py). Of a crate below, the files with the proof of one function (`PROOFS_OF_ONE`) do not count: that proof is private
+to its function, and a crate above cites the contract alone. So an edit whose sum stands in the record was refused over exactly these sources, but for comments,
+hints on inlining and such proofs, by a toolchain of this logic. A line with any other sum says nothing.
 """
 
 import hashlib
@@ -20,6 +21,8 @@ FOLDER = "wrong-bodies"
 # Where rt itself looks for edits. `rt ci` would try them all, each time, and no record would be kept of them.
 FOLDER_OF_RT = "must-fail"
 PARTS = ("src", "specs", "proofs")
+# The files with the proof of one function, in a folder of its own below proofs/.
+PROOFS_OF_ONE = ("Answers.antt", "Invariants.antt", "Proof.antt")
 NAME = re.compile(r"[A-Za-z0-9_-][A-Za-z0-9_.-]*\.edit")
 LINE = re.compile(r"rt: must-fail (\S+): (.*)")
 REFUSED = "refused, as it must be"
@@ -115,20 +118,25 @@ class Repository:
     def lines_of(self, crate):
         return sum(bytes_of(path).count(b"\n") for path in self.files_of(crate))
 
-    def sum_of_crate(self, crate):
-        """The sum over the crate's own row and files."""
-        if crate not in self.sums:
+    def stated_by(self, crate):
+        """The files of a crate that a crate above it may rest on: all but the proofs of single functions."""
+        proofs = f"{self.top}/crates/{crate}/proofs/"
+        return [path for path in self.files_of(crate) if not (path.startswith(proofs) and os.path.basename(path) in PROOFS_OF_ONE)]
+
+    def sum_of_crate(self, crate, is_below):
+        """The sum over the crate's row and files: all of them, or if it is below the edit's crate those that a crate above may rest on."""
+        if (crate, is_below) not in self.sums:
             parts = [self.rows[crate][0].encode()]
-            for path in self.files_of(crate):
+            for path in self.stated_by(crate) if is_below else self.files_of(crate):
                 parts += [os.path.relpath(path, f"{self.top}/crates/{crate}").encode(), *read_of(path, bytes_of(path))]
-            self.sums[crate] = digest(parts)
-        return self.sums[crate]
+            self.sums[crate, is_below] = digest(parts)
+        return self.sums[crate, is_below]
 
     def sum_of(self, edit):
         """The sum over all that the refusal of this edit rests on."""
         parts = [self.logic.encode(), bytes_of(f"{self.top}/HANDLES", b"none")]
         for crate in sorted([*self.below(edit.crate), edit.crate]):
-            parts += [crate.encode(), self.sum_of_crate(crate).encode()]
+            parts += [crate.encode(), self.sum_of_crate(crate, crate != edit.crate).encode()]
         texts, fault = applied(edit.path, f"{self.top}/crates/{edit.crate}")
         for path, text in sorted((texts or {}).items()):
             parts += [path.encode(), *read_of(path, text.encode())]

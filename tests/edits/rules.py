@@ -85,6 +85,15 @@ class Sums(Made):
         for path in ("specs/A.antt", "proofs/low/B.antt", "src/tests.rt"):
             self.assertEqual(self.changed_by(f"crates/low/{path}", "-- new\n"), {"low", "high"}, path)
 
+    def test_the_proof_of_one_function_reaches_its_crate_alone(self):
+        for name in ("Answers.antt", "Invariants.antt", "Proof.antt"):
+            self.assertEqual(self.changed_by(f"crates/low/proofs/low/{name}", "-- new\na\n"), {"low"}, name)
+            self.assertEqual(self.changed_by(f"crates/low/proofs/low/{name}", None), {"low"}, name)
+
+    def test_lemmas_and_what_is_only_named_like_a_proof_reach_the_crates_above(self):
+        for path in ("proofs/Lemmas.antt", "proofs/low/AnswersOf.antt", "proofs/low/answers.antt", "specs/low/Answers.antt", "src/Proof.antt"):
+            self.assertEqual(self.changed_by(f"crates/low/{path}", "a\n"), {"low", "high"}, path)
+
     def test_a_file_that_goes_or_has_another_name_counts(self):
         self.write("crates/low/proofs/A.antt", "-- a\n")
         self.assertEqual(self.changed_by("crates/low/proofs/A.antt", None), {"low", "high"})
