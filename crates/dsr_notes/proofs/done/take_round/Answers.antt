@@ -53,3 +53,12 @@ returns-in_ok-note_closing-clause-noted c =
     subst (λ event. IsNoted w.shape w.run event after) (sym c.requires.event)
     (closing_noted w.shape later w.run c.args.replica c.args.from c.in_ok-reply.reply done last c.args.notes.now.items before after c.requires.empty loyal
     (λ envelope e. c.in_ok-kept.ensures.read envelope e) closed)
+
+pub returns-in_default-clause-stepped : goal.returns-in_default-clause-stepped
+returns-in_default-clause-stepped c = c.perform.ensures
+
+pub returns-in_ok-note_closing-clause-stepped : goal.returns-in_ok-note_closing-clause-stepped
+returns-in_ok-note_closing-clause-stepped c = c.in_ok-reply.ensures
+
+pub returns-else-is_last-clause-stepped : goal.returns-else-is_last-clause-stepped
+returns-else-is_last-clause-stepped c = c.in_ok-reply.ensures

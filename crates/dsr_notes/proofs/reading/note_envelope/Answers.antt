@@ -54,3 +54,6 @@ returns-then-number-n-clause-kept c log stands last closing =
     (ap₂ (λ k chains. keep r.shape (closed_slots r.shape k) (suc r.shape.f) (slot_kept r.shape log (closed_slots r.shape k) (suc r.shape.f)) chains) now chains_are
     ∙ closing_more r.shape log t (subst (HasCounts r.shape log) now stands.counts) c.args.from envelope (sym stands.due_is ∙ c.requires.due) closing)
     (c.note_kept.ensures.count log stands (ap (closes r.shape) now ∙ closing))
+
+pub returns-then-number-n-clause-refusal : goal.returns-then-number-n-clause-refusal
+returns-then-number-n-clause-refusal c = c.note_kept.ensures.refusal
