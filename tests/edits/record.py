@@ -120,8 +120,9 @@ class Repository:
 
     def stated_by(self, crate):
         """The files of a crate that a crate above it may rest on: all but the proofs of single functions."""
-        proofs = f"{self.top}/crates/{crate}/proofs/"
-        return [path for path in self.files_of(crate) if not (path.startswith(proofs) and os.path.basename(path) in PROOFS_OF_ONE)]
+        proofs = f"{self.top}/crates/{crate}/proofs"
+        return [path for path in self.files_of(crate)
+                if not (path.startswith(f"{proofs}/") and os.path.dirname(path) != proofs and os.path.basename(path) in PROOFS_OF_ONE)]
 
     def sum_of_crate(self, crate, is_below):
         """The sum over the crate's row and files: all of them, or if it is below the edit's crate those that a crate above may rest on."""

@@ -91,7 +91,7 @@ class Sums(Made):
             self.assertEqual(self.changed_by(f"crates/low/proofs/low/{name}", None), {"low"}, name)
 
     def test_lemmas_and_what_is_only_named_like_a_proof_reach_the_crates_above(self):
-        for path in ("proofs/Lemmas.antt", "proofs/low/AnswersOf.antt", "proofs/low/answers.antt", "specs/low/Answers.antt", "src/Proof.antt"):
+        for path in ("proofs/Lemmas.antt", "proofs/Answers.antt", "proofs/low/AnswersOf.antt", "proofs/low/answers.antt", "specs/low/Answers.antt", "src/Proof.antt"):
             self.assertEqual(self.changed_by(f"crates/low/{path}", "a\n"), {"low", "high"}, path)
 
     def test_a_file_that_goes_or_has_another_name_counts(self):
