@@ -4,9 +4,10 @@ them, and tests/refused.txt. Nothing here runs a prover.
 The record has a line for each edit that was refused: CRATE/EDIT, a sum, and the place at which it was refused. The sum is a SHA-256
 over all that the refusal rests on: the logic in which the toolchain proves (`logic_of`), HANDLES, of the edit's crate and of each below it the
 row in crates.txt and the files of src/, specs/ and proofs/, the text of the edit, and what it makes of the files that it changes. Of a source
-counts what a prover reads of it (lexing.py). Of a crate below, the files with the proof of one function (`PROOFS_OF_ONE`) do not count: that proof is private
-to its function, and a crate above cites the contract alone. So an edit whose sum stands in the record was refused over exactly these sources, but for comments,
-hints on inlining and such proofs, by a toolchain of this logic. A line with any other sum says nothing.
+counts what a prover reads of it (lexing.py). Of a crate below, proofs that no other crate names do not count: the files with the proof of one function
+(`PROOFS_OF_ONE`), which is private to its function, so that others cite the contract alone; and lemmas that serve their own crate alone (`own_lemmas`). So an
+edit whose sum stands in the record was refused over exactly these sources, but for comments, hints on inlining and such proofs, by a toolchain of this logic. A
+line with any other sum says nothing.
 """
 
 import hashlib
@@ -23,6 +24,11 @@ FOLDER_OF_RT = "must-fail"
 PARTS = ("src", "specs", "proofs")
 # The files with the proof of one function, in a folder of its own below proofs/.
 PROOFS_OF_ONE = ("Answers.antt", "Invariants.antt", "Proof.antt")
+# The file right in proofs/ that declares those with lemmas, one a line.
+DECLARES = "Lib.antt"
+DECLARED = re.compile(r"(?:pub )?mod (\w+)")
+# How a file of a crate is named in a `use` line, and in an attribute of a source.
+CITED = re.compile(r"\b(?:Rattle\.)?(\w+)(?:\.proofs\.|::proofs::)(\w+)")
 NAME = re.compile(r"[A-Za-z0-9_-][A-Za-z0-9_.-]*\.edit")
 LINE = re.compile(r"rt: must-fail (\S+): (.*)")
 REFUSED = "refused, as it must be"
@@ -103,6 +109,12 @@ class Repository:
         self.top, self.logic = top, logic
         self.rows = rows_of(f"{top}/crates.txt")
         self.sums = {}
+        # Which crates name which file of lemmas, by (crate, file).
+        self.citing = {}
+        for crate in self.rows:
+            for path in [*self.files_of(crate), *files_below(f"{top}/crates/{crate}/{FOLDER}")]:
+                for cited in CITED.findall(bytes_of(path).decode(errors="replace")):
+                    self.citing.setdefault(cited, set()).add(crate)
 
     def below(self, crate):
         """The crates below this one, each after those that it stands on itself."""
@@ -118,18 +130,37 @@ class Repository:
     def lines_of(self, crate):
         return sum(bytes_of(path).count(b"\n") for path in self.files_of(crate))
 
+    def own_lemmas(self, crate):
+        """The names of the files of lemmas right in the crate's proofs/ that serve the crate alone: no other crate names them, and no file of lemmas does that
+        another crate names."""
+        folder = f"{self.top}/crates/{crate}/proofs"
+        names = {os.path.basename(path).removesuffix(".antt") for path in files_below(folder) if os.path.dirname(path) == folder} - {DECLARES.removesuffix(".antt")}
+        for_others, new = set(), {name for name in names if self.citing.get((crate, name), set()) - {crate}}
+        while new:
+            for_others |= new
+            cited = {name for it in new for at, name in CITED.findall(text_of(f"{folder}/{it}.antt")) if at == crate}
+            new = (cited & names) - for_others
+        return names - for_others
+
     def stated_by(self, crate):
-        """The files of a crate that a crate above it may rest on: all but the proofs of single functions."""
-        proofs = f"{self.top}/crates/{crate}/proofs"
-        return [path for path in self.files_of(crate)
-                if not (path.startswith(f"{proofs}/") and os.path.dirname(path) != proofs and os.path.basename(path) in PROOFS_OF_ONE)]
+        """The files of a crate that a crate above it may rest on, with their bytes: all but the proofs of single functions and lemmas for the crate alone."""
+        proofs, own = f"{self.top}/crates/{crate}/proofs", self.own_lemmas(crate)
+        for path in self.files_of(crate):
+            folder, name = os.path.split(path)
+            if folder == proofs and name == DECLARES:
+                lines = bytes_of(path).decode(errors="replace").split("\n")
+                yield path, "\n".join(line for line in lines if not (DECLARED.fullmatch(line) and DECLARED.fullmatch(line)[1] in own)).encode()
+            elif folder == proofs and name.removesuffix(".antt") in own:
+                continue
+            elif folder == proofs or not path.startswith(f"{proofs}/") or name not in PROOFS_OF_ONE:
+                yield path, bytes_of(path)
 
     def sum_of_crate(self, crate, is_below):
         """The sum over the crate's row and files: all of them, or if it is below the edit's crate those that a crate above may rest on."""
         if (crate, is_below) not in self.sums:
             parts = [self.rows[crate][0].encode()]
-            for path in self.stated_by(crate) if is_below else self.files_of(crate):
-                parts += [os.path.relpath(path, f"{self.top}/crates/{crate}").encode(), *read_of(path, bytes_of(path))]
+            for path, read in self.stated_by(crate) if is_below else ((path, bytes_of(path)) for path in self.files_of(crate)):
+                parts += [os.path.relpath(path, f"{self.top}/crates/{crate}").encode(), *read_of(path, read)]
             self.sums[crate, is_below] = digest(parts)
         return self.sums[crate, is_below]
 

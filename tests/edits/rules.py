@@ -90,16 +90,44 @@ class Sums(Made):
             self.assertEqual(self.changed_by(f"crates/low/proofs/low/{name}", "-- new\na\n"), {"low"}, name)
             self.assertEqual(self.changed_by(f"crates/low/proofs/low/{name}", None), {"low"}, name)
 
-    def test_lemmas_and_what_is_only_named_like_a_proof_reach_the_crates_above(self):
-        for path in ("proofs/Lemmas.antt", "proofs/Answers.antt", "proofs/low/AnswersOf.antt", "proofs/low/answers.antt", "specs/low/Answers.antt", "src/Proof.antt"):
+    def test_what_is_only_named_like_a_proof_reaches_the_crates_above(self):
+        for path in ("proofs/low/AnswersOf.antt", "proofs/low/answers.antt", "specs/low/Answers.antt", "src/Proof.antt"):
             self.assertEqual(self.changed_by(f"crates/low/{path}", "a\n"), {"low", "high"}, path)
 
+    def test_lemmas_reach_the_crates_above_if_another_crate_names_them(self):
+        self.assertEqual(self.changed_by("crates/low/proofs/Lemmas.antt", "a\n"), {"low"})
+        for path, cites in (("high/proofs/Own.antt", "use Rattle.low.proofs.Lemmas.{a}"), ("high/src/lib.rt", "#[tactic(auto, using(low::proofs::Lemmas::a))]"),
+                            ("side/specs/A.antt", "use Rattle.low.proofs.Lemmas.{a}"), ("high/wrong-bodies/one.edit", "new: low::proofs::Lemmas::a")):
+            was = text_of(f"{self.top}/crates/{path}") if os.path.exists(f"{self.top}/crates/{path}") else None
+            self.write(f"crates/{path}", f"{cites}\n")
+            self.assertEqual(self.changed_by("crates/low/proofs/Lemmas.antt", f"{path}\n"), {"low", "high"}, path)
+            self.changed_by(f"crates/{path}", was)
+        self.assertEqual(self.changed_by("crates/low/proofs/Lemmas.antt", "b\n"), {"low"})
+
+    def test_lemmas_reach_the_crates_above_if_lemmas_that_another_crate_names_cite_them(self):
+        self.write("crates/low/proofs/Below.antt", "a\n")
+        self.write("crates/low/proofs/Lemmas.antt", "use Rattle.low.proofs.Middle.{a}\n")
+        self.write("crates/low/proofs/Middle.antt", "use Rattle.low.proofs.Below.{a}\n")
+        self.assertEqual(self.changed_by("crates/low/proofs/Below.antt", "b\n"), {"low"})
+        self.write("crates/high/proofs/Own.antt", "use Rattle.low.proofs.Lemmas.{a}\n")
+        self.assertEqual(self.changed_by("crates/low/proofs/Below.antt", "c\n"), {"low", "high"})
+
+    def test_a_line_that_declares_lemmas_counts_as_they_do(self):
+        self.write("crates/low/proofs/Lib.antt", "pub mod Lemmas\n")
+        self.write("crates/low/proofs/Lemmas.antt", "a\n")
+        self.write("crates/low/proofs/Own.antt", "a\n")
+        self.assertEqual(self.changed_by("crates/low/proofs/Lib.antt", "mod Own\npub mod Lemmas\n"), {"low"})
+        self.assertEqual(self.changed_by("crates/low/proofs/Lib.antt", "mod Own\nmod Lemmas\n"), {"low"})
+        self.write("crates/high/proofs/Own.antt", "use Rattle.low.proofs.Lemmas.{a}\n")
+        self.assertEqual(self.changed_by("crates/low/proofs/Lib.antt", "pub mod Lemmas\n"), {"low", "high"})
+        self.assertEqual(self.changed_by("crates/low/proofs/Lib.antt", "pub mod Lemmas\nuse a\n"), {"low", "high"})
+
     def test_a_file_that_goes_or_has_another_name_counts(self):
-        self.write("crates/low/proofs/A.antt", "-- a\n")
-        self.assertEqual(self.changed_by("crates/low/proofs/A.antt", None), {"low", "high"})
-        self.write("crates/low/proofs/A.antt", "-- a\n")
+        self.write("crates/low/specs/A.antt", "-- a\n")
+        self.assertEqual(self.changed_by("crates/low/specs/A.antt", None), {"low", "high"})
+        self.write("crates/low/specs/A.antt", "-- a\n")
         before = self.sums()
-        os.rename(f"{self.top}/crates/low/proofs/A.antt", f"{self.top}/crates/low/proofs/B.antt")
+        os.rename(f"{self.top}/crates/low/specs/A.antt", f"{self.top}/crates/low/specs/B.antt")
         self.assertNotEqual(before["low/one.edit"], self.sums()["low/one.edit"])
 
     def test_a_text_that_moves_to_the_next_file_counts(self):
