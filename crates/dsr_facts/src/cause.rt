@@ -25,6 +25,7 @@ use crate::undue::{Undue, undue_round};
 use dsr_client::Client;
 use dsr_envelope::{Due, Pick};
 use dsr_names::{Actor, ClientId, NUMBER_END, Refusal, ReplicaId, Shape};
+use dsr_node::{are_clients, is_own_client, is_traitor};
 use dsr_replica::Replica;
 use dsr_script::{Draft, Forged};
 use dsr_world::{Event, Stage};
@@ -376,34 +377,6 @@ fn is_inside(shape: &Shape, actor: &Actor) -> bool
     ensures inside { IsTrue result → IsActor shape.now actor.now }
 {
     shape.has(*actor)
-}
-
-/// Tells whether an actor of the shape is a traitor.
-fn is_traitor(shape: &Shape, actor: &Actor) -> bool
-    requires { IsActor shape.now actor.now }
-    ensures { result ≡ is_traitor_of shape.now actor.now }
-{
-    !shape.is_loyal(*actor)
-}
-
-/// Tells whether both are clients.
-fn are_clients(one: &Actor, other: &Actor) -> bool
-    ensures { result ≡ are_clients one.now other.now }
-{
-    match (one, other) {
-        (Actor::Client(_), Actor::Client(_)) => true,
-        _ => false,
-    }
-}
-
-/// Tells whether both are one client.
-fn is_own_client(one: &Actor, other: &Actor) -> bool
-    ensures { result ≡ is_own_client one.now other.now }
-{
-    match (one, other) {
-        (Actor::Client(client), Actor::Client(another)) => client.number() == another.number(),
-        _ => false,
-    }
 }
 
 /// Tells whether the box from one actor to another holds an envelope.

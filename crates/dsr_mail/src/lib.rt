@@ -1,7 +1,6 @@
 //! The mail: each actor posts and takes at a seat, by its own log and its own boxes alone, in several threads or in one.
 #![tactic(auto)]
 
-mod actors;
 mod asked;
 mod client_seat;
 mod laws;

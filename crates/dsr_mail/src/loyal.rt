@@ -17,13 +17,12 @@ ghost use Rattle.dsr_mail.specs.Loyal.{IsLoyalSeat, IsReplicaOf, IsClientOf, IsC
 ghost use Rattle.dsr_mail.specs.Seats.{KeepsLog};
 ghost use Rattle.dsr_mail.specs.Refusals.{IsRefusedBy, is_spent, post_refused, take_refused, tell_refused};
 
-use crate::actors::{are_clients, is_own_client, look_at};
 use crate::seat::Seat;
 use dsr_boxes::{Moment, SharedBoxes};
 use dsr_envelope::{Envelope, Pick};
 use dsr_ledger::Reply;
 use dsr_names::{Actor, Refusal};
-use dsr_node::Node;
+use dsr_node::{Node, are_clients, is_own_client, look_at};
 use dsr_replica::Replica;
 use std::alloc::Global;
 use std::marker::Model;

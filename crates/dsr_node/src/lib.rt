@@ -5,7 +5,9 @@
 mod customer;
 mod laws;
 mod node;
+mod roles;
 
 pub use customer::Customer;
 pub use laws::{choices_are_blind, choices_keep_conduct};
 pub use node::Node;
+pub use roles::{are_clients, is_own_client, is_traitor, look_at};

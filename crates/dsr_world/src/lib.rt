@@ -9,7 +9,6 @@ mod letters;
 mod local_letter;
 mod playing;
 mod replies;
-mod roles;
 mod run_end;
 mod stage;
 mod steps;

@@ -1,13 +1,15 @@
+//! What an actor may not do whatever its log is, and choices.
+
 ghost use Rattle.std.specs.Prelude.{◌≡◌};
 ghost use Rattle.dsr_names.specs.Shape.{IsActor};
-ghost use Rattle.dsr_node.specs.Conduct.{HasSpelledOp, are_clients, is_own_client, is_traitor_of};
 ghost use Rattle.dsr_envelope.specs.Pick.{IsPick};
+ghost use Rattle.dsr_node.specs.Conduct.{HasSpelledOp, are_clients, is_own_client, is_traitor_of};
 
 use dsr_envelope::Pick;
 use dsr_names::{Actor, Shape};
 
 /// Tells whether an actor of the shape is a traitor.
-pub(crate) fn is_traitor(shape: &Shape, actor: &Actor) -> bool
+pub fn is_traitor(shape: &Shape, actor: &Actor) -> bool
     requires { IsActor shape.now actor.now }
     ensures { result ≡ is_traitor_of shape.now actor.now }
 {
@@ -15,7 +17,7 @@ pub(crate) fn is_traitor(shape: &Shape, actor: &Actor) -> bool
 }
 
 /// Tells whether both are clients.
-pub(crate) fn are_clients(one: &Actor, other: &Actor) -> bool
+pub fn are_clients(one: &Actor, other: &Actor) -> bool
     ensures { result ≡ are_clients one.now other.now }
 {
     match (one, other) {
@@ -25,7 +27,7 @@ pub(crate) fn are_clients(one: &Actor, other: &Actor) -> bool
 }
 
 /// Tells whether both are one client.
-pub(crate) fn is_own_client(one: &Actor, other: &Actor) -> bool
+pub fn is_own_client(one: &Actor, other: &Actor) -> bool
     ensures { result ≡ is_own_client one.now other.now }
 {
     match (one, other) {
@@ -34,8 +36,8 @@ pub(crate) fn is_own_client(one: &Actor, other: &Actor) -> bool
     }
 }
 
-/// Looks at the choice, so that the prover knows it to be an allowed one.
-pub(crate) fn look_at(pick: &Pick)
+/// States that the choice is an allowed one, and that its operation has a text. It does nothing.
+pub fn look_at(pick: &Pick)
     ensures pick { IsPick pick.now }
     ensures spelled { HasSpelledOp pick.now }
 {
