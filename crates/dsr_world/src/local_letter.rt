@@ -7,7 +7,7 @@ use std::alloc::Global;
 use std::marker::Model;
 use std::rc::Rc;
 
-/// A letter that the boxes of one stage share. Its handles are counted without atomic instructions, which took a tenth of the time of a
+/// A letter that the boxes of one stage share. Its handles are counted without atomic instructions, which took up to 9 % of the time of a
 /// play: only entries, which may go to other threads, have handles of the letter itself.
 #[derive(Drop)]
 pub(crate) struct LocalLetter {

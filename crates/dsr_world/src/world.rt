@@ -1,38 +1,28 @@
 ghost use Rattle.std.specs.Prelude.{IfSome, IfNone, ◌⊎◌, ◌≡◌, ◌↔◌, ℕ, ◌<◌, ◌≤◌, ◌+◌, [], List, Option, Some, Err, length, reverse, IfOk, IsOk, OnErr, IsOkUnless};
-ghost use Rattle.std.specs.Option.{option_map};
-ghost use Rattle.dsr_names.specs.Shape.{IsActor, IsLoyal};
+ghost use Rattle.dsr_names.specs.Shape.{IsLoyal};
 ghost use Rattle.dsr_names.specs.declared.actor.Actor.TheVariants.{Replica as ReplicaNumber, Client as ClientNumber};
-ghost use Rattle.dsr_node.specs.Node.{PlaysReplica};
-ghost use Rattle.dsr_client.specs.Client.{StandsFor as StandsForClient};
-ghost use Rattle.dsr_envelope.specs.Log.{posted_to};
 ghost use Rattle.dsr_base.specs.Growth.{Extends};
 ghost use Rattle.dsr_base.specs.Member.{In};
 ghost use Rattle.dsr_history.specs.History.{IsLegal};
-ghost use Rattle.dsr_desk.specs.Signature.{Signature, signed};
-ghost use Rattle.dsr_envelope.specs.Envelope.{Carries};
-ghost use Rattle.dsr_names.specs.declared.actor.Actor.{Actor};
 ghost use Rattle.dsr_names.specs.declared.refusal.Refusal.{Refusal};
-ghost use Rattle.dsr_world.specs.Event.{in_box, HasDone, IsRefusedBy, IsForgedAtLast, refusal_of};
+ghost use Rattle.dsr_world.specs.Event.{HasDone, IsRefusedBy, IsForgedAtLast, refusal_of};
 ghost use Rattle.dsr_run.specs.History.{accepted_by, decided_at, history, seen_by};
 ghost use Rattle.dsr_world.specs.Outcome.{HasEnded};
 ghost use Rattle.dsr_run.specs.Agreement.{HasAgreement};
 ghost use Rattle.dsr_run.specs.Linearizable.{IsLinearization, IsLinearizable};
 ghost use Rattle.dsr_run.specs.Right.{IsRight, IsRightReply, TookAllReplies, HasReplyTo};
 ghost use Rattle.dsr_ledger.specs.declared.reply.Reply.{Reply as AReply};
-ghost use Rattle.dsr_run.specs.Run.{IsRun, IsTraitor, IsMadeOrPosted};
+ghost use Rattle.dsr_run.specs.Run.{IsRun};
 ghost use Rattle.dsr_run.specs.Step.{Step, log_of};
 
 use crate::entries::Entries;
 use crate::run_end::RunEnd;
 use crate::stage::Stage;
-use dsr_client::Client;
-use dsr_envelope::{Entry, Letter};
+use dsr_envelope::Entry;
 use dsr_ledger::Reply;
 use dsr_names::{Actor, ClientId, Refusal, ReplicaId, Shape};
 use dsr_play::Event;
-use dsr_replica::Replica;
 use dsr_request::Request;
-use dsr_script::{Draft, Forged};
 use dsr_slot::Decision;
 use std::alloc::Global;
 use std::marker::Model;
@@ -77,6 +67,14 @@ impl World {
         self.stage.shape()
     }
 
+    /// Returns its stage: the actors and the boxes as its run left them.
+    pub fn stage(&self) -> &Stage
+        ensures shape { result.now.shape ≡ self.now.shape }
+        ensures run { result.now.run ≡ self.now.run }
+    {
+        &self.stage
+    }
+
     /// Returns the steps of its run, in order: who took each, and the entry of that actor's log.
     pub fn entries(&self) -> &[(Actor, Entry)]
         ensures same { result.now ≡ reverse self.now.run }
@@ -108,58 +106,6 @@ impl World {
         ensures refusal { IsOkUnless result Refusal.NoActor }
     {
         self.stage.seen(client)
-    }
-
-    /// Returns a loyal replica. `NoActor` if it is not a replica of the shape, `WrongRole` if it is a traitor.
-    pub fn replica(&self, replica: ReplicaId) -> Result<&Replica, Refusal>
-        ensures plays { IfOk result (λ loyal. PlaysReplica self.now.shape replica (log_of self.now.run (ReplicaNumber replica)) loyal.now) }
-        ensures when { IsOk result ↔ IsLoyal self.now.shape (ReplicaNumber replica) }
-        ensures outside { (result ≡ Err Refusal.NoActor) ↔ self.now.shape.n ≤ replica }
-        ensures refusal { OnErr result (result ≡ Err Refusal.NoActor ⊎ result ≡ Err Refusal.WrongRole) }
-    {
-        self.stage.replica(replica)
-    }
-
-    /// Returns a client. `NoActor` if it is not a client of the shape.
-    pub fn client(&self, client: ClientId) -> Result<&Client, Refusal>
-        ensures stands { IfOk result (λ c. StandsForClient c.now (log_of self.now.run (ClientNumber client))) }
-        ensures me { IfOk result (λ c. c.now.me ≡ client) }
-        ensures shape { IfOk result (λ c. c.now.shape ≡ self.now.shape) }
-        ensures when { IsOk result ↔ client < self.now.shape.m }
-        ensures refusal { IsOkUnless result Refusal.NoActor }
-    {
-        self.stage.client(client)
-    }
-
-    /// Returns the letter in the box from one actor to another: the first that was posted there and not taken. Requires two actors of the shape.
-    pub fn in_box(&self, from: &Actor, to: &Actor) -> Option<&Letter>
-        requires from { IsActor self.now.shape from.now }
-        requires to { IsActor self.now.shape to.now }
-        ensures { option_map (λ letter. letter.now) result ≡ in_box (log_of self.now.run) from.now to.now }
-    {
-        self.stage.in_box(from, to)
-    }
-
-    /// Returns how many envelopes were posted into the box from one actor to another. Requires two actors of the shape.
-    pub fn posts(&self, from: &Actor, to: &Actor) -> u64
-        requires from { IsActor self.now.shape from.now }
-        requires to { IsActor self.now.shape to.now }
-        ensures { result ≡ length (posted_to to.now (log_of self.now.run from.now)) }
-    {
-        self.stage.posts(from, to)
-    }
-
-    /// Returns a signature in the draft for which the world would refuse a traitor's post of it as forged now: the signature is not a
-    /// traitor's, and its signer has not posted it. `None` exactly if the draft has no such signature. In a shape without traitors the
-    /// answer says nothing about forgery, because there the world does not note the posts.
-    pub fn forged_in(&self, draft: &Draft) -> Option<Forged>
-        ensures carried { IfSome result (λ forged. Carries draft.now (signed forged.signer forged.statement)) }
-        ensures forged { (p : ℕ) → IsTraitor self.now.shape (ReplicaNumber p)
-            → IfSome result (λ forged. ¬ IsMadeOrPosted self.now.shape (log_of self.now.run) (signed forged.signer forged.statement)) }
-        ensures none { (p : ℕ) → IsTraitor self.now.shape (ReplicaNumber p)
-            → IfNone result ((s : Signature) → Carries draft.now s → IsMadeOrPosted self.now.shape (log_of self.now.run) s) }
-    {
-        self.stage.forged_in(draft)
     }
 
     /// Returns what a loyal replica decided for its closed slots, in the order of the slots. `NoActor` if it is not a replica of the
