@@ -1,9 +1,8 @@
 -- What a choice gives keeps the protocol of its actor.
-use Rattle.std.proofs.Common.{◌≡◌, ℕ, ◌<◌, ◌^◌, not, nat_lt, Bool, true, false, List, Option, None, Some, if◌then◌else◌, refl, ap, sym, ◌∙◌, subst, arith}
+use Rattle.std.proofs.Common.{◌≡◌, ℕ, ◌<◌, ◌^◌, not, nat_lt, false, List, Option, None, Some, subst, arith}
 use Rattle.std.specs.Option.{option_map}
-use Rattle.std.proofs.lemmas.Bool.{true≢false}
-use Rattle.std.proofs.lemmas.Bool.Decides.{Decides-eqb, nat_tests}
-use Rattle.std.proofs.lemmas.Option.{none-some, same_Some}
+use Rattle.std.proofs.lemmas.Bool.Decides.{nat_tests}
+use Rattle.std.proofs.lemmas.Option.{same_Some}
 use Rattle.dsr_names.specs.Shape.{Shape, is_traitor, IsActor}
 use Rattle.dsr_names.specs.declared.actor.Actor.{Actor}
 use Rattle.dsr_names.specs.declared.actor.Actor.TheVariants.{Replica, Client}
@@ -13,17 +12,16 @@ use Rattle.dsr_envelope.specs.declared.envelope.Envelope.{Envelope}
 use Rattle.dsr_envelope.specs.declared.envelope.Envelope.TheVariants.{Ask}
 use Rattle.dsr_envelope.specs.declared.entry.Entry.{Entry}
 use Rattle.dsr_envelope.specs.declared.entry.Entry.TheVariants.{Post, Take}
-use Rattle.dsr_envelope.specs.declared.due.Due.{Due}
-use Rattle.dsr_envelope.specs.declared.due.Due.TheVariants.{Post as PostTo, Take as TakeFrom}
+use Rattle.dsr_envelope.specs.declared.due.Due.TheVariants.{Take as TakeFrom}
 use Rattle.dsr_envelope.specs.declared.pick.Pick.{Pick}
-use Rattle.dsr_envelope.specs.declared.pick.Pick.TheVariants.{Plain, From, Begin}
+use Rattle.dsr_envelope.specs.declared.pick.Pick.TheVariants.{Plain, Begin}
 use Rattle.dsr_envelope.specs.Limits.{IsEnvelope, IsSigned}
 use Rattle.dsr_envelope.specs.Log.{due, rounds}
 use Rattle.dsr_envelope.specs.Pick.{IsPick}
 use Rattle.dsr_replica.specs.Conduct.{IsNext}
 use Rattle.dsr_client.specs.Conduct.{ask_of, next_number, chosen_beside, IsNext as IsNextOfClient}
 use Rattle.dsr_client.specs.State.{outstanding}
-use Rattle.dsr_node.specs.Conduct.{post_of, is_exhausted, takes_from, is_undue, HasSpelledOp}
+use Rattle.dsr_node.specs.Conduct.{post_of, is_exhausted, is_undue, HasSpelledOp}
 
 below_not : (a b : ℕ) → not (nat_lt a b) ≡ false → a < b
 below_not a b e = grind (arith, nat_tests)
@@ -35,8 +33,7 @@ module _ (shape : Shape) (log : List Entry) where
       → post_of shape log (Replica p) to pick ≡ Some x → IsNext shape (Replica p) log (Post to x)
   replica_next p (Replica q) pick x inside good e = (pick, good, e)
   replica_next p (Client c) Plain x inside good e = (inside, e)
-  replica_next p (Client c) (From clients) x inside good e = absurd (none-some x e)
-  replica_next p (Client c) (Begin op) x inside good e = absurd (none-some x e)
+  replica_next p (Client c) pick x inside good e = cc
 
   pub round_below : (p q : ℕ) (pick : Pick) → is_exhausted shape log (Replica p) (Replica q) pick ≡ false → rounds shape log < 2 ^ 36
   round_below p q pick more = below_not (rounds shape log) (2 ^ 36) more
@@ -44,15 +41,12 @@ module _ (shape : Shape) (log : List Entry) where
   pub client_next : (c : ℕ) (to : Actor) (pick : Pick) (x : Envelope) → IsActor shape to → post_of shape log (Client c) to pick ≡ Some x
       → IsNextOfClient shape c log (Post to x)
   client_next c (Replica q) pick x inside e = (inside, (pick, e))
-  client_next c (Client d) pick x inside e = absurd (none-some x e)
+  client_next c (Client d) pick x inside e = cc
 
   -- a new request is within the limits
   new_within : (c : ℕ) → c < 32 → (o : Option SignedRequest) → o ≡ None → (to : Actor) (pick : Pick) → HasSpelledOp pick
       → is_exhausted shape log (Client c) to pick ≡ false → (x : Envelope)
       → option_map Ask (chosen_beside o c (next_number shape log) pick) ≡ Some x → IsEnvelope x
-  new_within c inside (Some ask) none to pick good more x e = absurd (none-some ask (sym none))
-  new_within c inside None none to Plain good more x e = absurd (none-some x e)
-  new_within c inside None none to (From clients) good more x e = absurd (none-some x e)
   new_within c inside None none to (Begin op) good more x e =
       let below : next_number shape log < 2 ^ 40 = below_not (next_number shape log) (2 ^ 40) more in
       let request : IsRequest (ask_of c (next_number shape log) op).request =
@@ -60,27 +54,18 @@ module _ (shape : Shape) (log : List Entry) where
       let signed : IsSigned (ask_of c (next_number shape log) op) =
       record { request = request; signature = record { signer = inside; statement = request } } in
       subst IsEnvelope (same_Some (Ask (ask_of c (next_number shape log) op)) x e) signed
+  new_within c inside o none to pick good more x e = cc
 
   pub new_request_within : (c : ℕ) (to : Actor) (pick : Pick) (x : Envelope) → c < 32 → HasSpelledOp pick → outstanding shape log ≡ None
       → post_of shape log (Client c) to pick ≡ Some x → is_exhausted shape log (Client c) to pick ≡ false → IsEnvelope x
-  new_request_within c (Client d) pick x inside good none e more = absurd (none-some x e)
+  new_request_within c (Client d) pick x inside good none e more = cc
   new_request_within c (Replica q) pick x inside good none e more =
       new_within c inside (outstanding shape log) none (Replica q) pick good more x e
 
   -- ---- takes
 
-  due_is : (d : Due) (p : ℕ) → takes_from d p ≡ true → d ≡ TakeFrom p
-  due_is (PostTo q) p e = absurd (true≢false (sym e))
-  due_is (TakeFrom q) p e = ap TakeFrom ((Decides-eqb q p).0 e)
-
-  not_undue : (b : Bool) → not b ≡ false → b ≡ true
-  not_undue true e = refl
-  not_undue false e = absurd (true≢false e)
-
   pub take_due : (p q : ℕ) → is_traitor shape p ≡ false → is_undue shape log (Replica p) (Replica q) ≡ false → due shape log ≡ TakeFrom q
-  take_due p q honest timely =
-      due_is (due shape log) q
-      (not_undue (takes_from (due shape log) q) (sym (ap (λ b. if b then false else not (takes_from (due shape log) q)) honest) ∙ timely))
+  take_due p q honest timely = grind (arith, nat_tests)
 
   pub take_next : (p : ℕ) (from : Actor) (x : Envelope) → IsActor shape from → is_traitor shape p ≡ false
       → is_undue shape log (Replica p) from ≡ false → IsNext shape (Replica p) log (Take from x)

@@ -1,5 +1,5 @@
 -- The lines of plays have no line feed in them, and whole plays.
-use Rattle.std.proofs.Common.{◌≡◌, ℕ, ◌<◌, ◌≤◌, List, [], ◌∷◌, ◌++◌, length, codes, refl, sym, ◌∙◌, ap, ap₂, arith, lit<}
+use Rattle.std.proofs.Common.{◌≡◌, ℕ, ◌<◌, ◌≤◌, List, [], ◌∷◌, ◌++◌, length, codes, refl, sym, ◌∙◌, ap₂, arith, lit<}
 use Rattle.dsr_base.specs.Joined.{joined}
 use Rattle.dsr_names.specs.Actor.{IsNumbered, actor_text, client_text, replica_text}
 use Rattle.dsr_names.specs.declared.actor.Actor.{Actor}
@@ -17,7 +17,7 @@ use Rattle.dsr_play.specs.declared.event.Event.{Event}
 use Rattle.dsr_play.specs.declared.event.Event.TheVariants.{Post, Plant, Take, Tell}
 use Rattle.dsr_play.specs.declared.play_line.PlayLine.{PlayLine}
 use Rattle.dsr_play.specs.declared.play_line.PlayLine.TheVariants.{One, Posts, PostsAll, Plants, Takes, TakesAll, Asks, Hears, Replies}
-use Rattle.dsr_play.specs.PlayText.{plays, line_text, line_rest, pick_text, ends_text, IsPlayLine, IsSpelledPick, all_events}
+use Rattle.dsr_play.specs.PlayText.{plays, line_text, line_word, line_rest, pick_text, IsPlayLine, IsSpelledPick, all_events}
 use Rattle.dsr_play.specs.Play.{Play, Spells}
 
 -- ---- no line feed is in a line
@@ -30,10 +30,9 @@ pick_clean Plain is = clean_nil
 pick_clean (From clients) is =
     clean_append (codes " from ") (joined 43 client_text clients) (word_clean (codes " from ") refl)
     (joined_clean (λ (c : ℕ). c < 32) client_text 43 (lit< tt) client_clean clients is.1)
-pick_clean (Begin op) is =
-    clean_append (codes " begin ") (op_text 32 op) (word_clean (codes " begin ") refl) (op_without 10 32 op refl (λ (e : ◌≡◌ {A = ℕ} 32 10). omega arith) is)
+pick_clean (Begin op) is = clean_append (codes " begin ") (op_text 32 op) (word_clean (codes " begin ") refl) (op_without 10 32 op refl (omega arith) is)
 
-ends_clean : (a b : Actor) → IsNumbered a → IsNumbered b → IsClean (ends_text a b)
+ends_clean : (a b : Actor) → IsNumbered a → IsNumbered b → IsClean (actor_text a ++ 32 ∷ actor_text b)
 ends_clean a b one other = field_clean 32 (actor_text a) (actor_text b) (lit< tt) (actor_clean a one) (actor_clean b other)
 
 rest_clean : (line : PlayLine) → IsPlayLine line → IsClean (line_rest line)
@@ -55,34 +54,24 @@ rest_clean (Asks by pick) is = clean_append (client_text by) (pick_text pick) (c
 rest_clean (Hears from) is = client_clean from is
 rest_clean (Replies to) is = client_clean to is
 
-after_word : (word : List ℕ) (line : PlayLine) → IsClean word → IsPlayLine line → IsClean (word ++ 32 ∷ line_rest line)
-after_word word line clean is = field_clean 32 word (line_rest line) (lit< tt) clean (rest_clean line is)
+first_clean : (line : PlayLine) → IsClean (line_word line)
+first_clean (One (Post from to pick)) = word_clean (codes "post") refl
+first_clean line = word_clean (line_word line) refl
 
 pub line_clean : (line : PlayLine) → IsPlayLine line → IsClean (line_text line)
-line_clean (One (Post from to pick)) is = after_word (codes "post") (One (Post from to pick)) (word_clean (codes "post") refl) is
-line_clean (One (Plant from to envelope)) is = after_word (codes "plant") (One (Plant from to envelope)) (word_clean (codes "plant") refl) is
-line_clean (One (Take at from)) is = after_word (codes "take") (One (Take at from)) (word_clean (codes "take") refl) is
-line_clean (One (Tell from to)) is = after_word (codes "tell") (One (Tell from to)) (word_clean (codes "tell") refl) is
-line_clean (Posts by pick) is = after_word (codes "posts") (Posts by pick) (word_clean (codes "posts") refl) is
-line_clean PostsAll is = after_word (codes "posts") PostsAll (word_clean (codes "posts") refl) is
-line_clean (Plants by envelope) is = after_word (codes "plants") (Plants by envelope) (word_clean (codes "plants") refl) is
-line_clean (Takes at) is = after_word (codes "takes") (Takes at) (word_clean (codes "takes") refl) is
-line_clean TakesAll is = after_word (codes "takes") TakesAll (word_clean (codes "takes") refl) is
-line_clean (Asks by pick) is = after_word (codes "asks") (Asks by pick) (word_clean (codes "asks") refl) is
-line_clean (Hears from) is = after_word (codes "hears") (Hears from) (word_clean (codes "hears") refl) is
-line_clean (Replies to) is = after_word (codes "replies") (Replies to) (word_clean (codes "replies") refl) is
+line_clean line is = field_clean 32 (line_word line) (line_rest line) (lit< tt) (first_clean line) (rest_clean line is)
 
 -- ---- whole plays
 
-abbrev pub make_play : Shape → List Event → Play
+abbrev make_play : Shape → List Event → Play
 make_play shape events = record { shape = shape; events = events }
 
 -- the play with the events that a text's lines represent is the play whose text it is
-pub same_play : (text : List ℕ) (play : Play) (s : Spells text play) (shape : Shape) → shape ≡ play.shape → (events : List Event)
-    → events ≡ all_events shape s.lines → make_play shape events ≡ play
-same_play text play s shape same events given = ap₂ make_play same (given ∙ (ap (λ x. all_events x s.lines) same ∙ sym s.events))
+pub same_play : (text : List ℕ) (other play : Play) → (s : Spells text other) → play.shape ≡ other.shape → play.events ≡ all_events other.shape s.lines
+    → play ≡ other
+same_play text other play s same given = ap₂ make_play same (given ∙ sym s.events)
 
 -- the events of lines of a play are at most 1,000,000
 pub few_events : (shape : Shape) (lines : List PlayLine) → AreLines plays shape lines → length (all_events shape lines) ≤ 1000000
 few_events shape [] each = omega arith
-few_events shape (line ∷ earlier) each = let next = each.0 in next.follows
+few_events shape (line ∷ earlier) each = each.0.follows

@@ -1,11 +1,7 @@
-use Rattle.std.proofs.Common.{codes, sym, subst}
-use Rattle.dsr_base.specs.Reads.{Reads}
-use Rattle.dsr_play.specs.PlayText.{line_rest}
-use Rattle.dsr_play.specs.Support.PlayParts.{IsLineOf}
-use Rattle.dsr_play.proofs.PlayLineLemmas.{reads_plant}
+use Rattle.std.proofs.Common.{arith}
+use Rattle.dsr_names.specs.declared.actor.Actor.{Actor}
+use Rattle.dsr_envelope.specs.declared.envelope.Envelope.{Envelope}
 use Rattle.dsr_play.proofs.play_line.read_plant.Goals as goal
 
 pub returns-clause-read : goal.returns-clause-read
-returns-clause-read c =
-    subst (Reads (IsLineOf (codes "plant")) line_rest c.args.rest.now) (sym c.plant_line.ensures)
-    (reads_plant c.args.rest.now c.in_ok-planted.planted c.in_ok-planted.ensures.read)
+returns-clause-read c = grind (arith, λ (from to : Actor) (envelope : Envelope). c.in_ok-planted.ensures.read (from, (to, envelope)))

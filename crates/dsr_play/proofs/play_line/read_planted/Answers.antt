@@ -1,15 +1,9 @@
-use Rattle.std.proofs.Common.{sym, subst}
-use Rattle.dsr_base.specs.Reads.{Reads}
-use Rattle.dsr_play.specs.Support.PlayParts.{IsEnd, IsPlanted, end_text, planted_text}
-use Rattle.dsr_names.specs.Actor.{IsNumbered, actor_text}
 use Rattle.dsr_play.proofs.PlayPartLemmas.{no_space, reads_zip, actor_spaceless}
 use Rattle.dsr_play.proofs.play_line.read_planted.Goals as goal
 
 pub returns-in-None-clause-read : goal.returns-in-None-clause-read
-returns-in-None-clause-read c = no_space IsNumbered actor_text IsEnd end_text actor_spaceless c.args.bytes.now c.in-None.ensures.absent
+returns-in-None-clause-read c = no_space _ _ _ _ actor_spaceless _ c.in-None.ensures.absent
 
 pub returns-in_ok-read_end-in-Some-clause-read : goal.returns-in_ok-read_end-in-Some-clause-read
 returns-in_ok-read_end-in-Some-clause-read c =
-    subst (Reads IsPlanted planted_text c.args.bytes.now) (sym c.zip.ensures)
-    (reads_zip IsNumbered actor_text IsEnd end_text actor_spaceless c.args.bytes.now c.in-Some.from.now c.in-Some.rest.now c.in-Some.ensures.found c.in-Some.ensures.first
-    c.read.result c.in_ok-read_end-in-Some.field-0 c.read.ensures c.in_ok-read_end-in-Some.ensures.read)
+    rw c.zip.ensures (reads_zip _ _ _ _ actor_spaceless _ _ _ c.in-Some.ensures.found c.in-Some.ensures.first _ _ c.read.ensures c.in_ok-read_end-in-Some.ensures.read)

@@ -1,11 +1,6 @@
-use Rattle.std.proofs.Common.{codes, sym, subst}
-use Rattle.dsr_base.specs.Reads.{Reads}
-use Rattle.dsr_play.specs.PlayText.{line_rest}
-use Rattle.dsr_play.specs.Support.PlayParts.{IsLineOf}
-use Rattle.dsr_play.proofs.PlayLineLemmas.{reads_plants}
+use Rattle.std.proofs.Common.{ℕ, arith}
+use Rattle.dsr_envelope.specs.declared.envelope.Envelope.{Envelope}
 use Rattle.dsr_play.proofs.play_line.read_plants.Goals as goal
 
 pub returns-clause-read : goal.returns-clause-read
-returns-clause-read c =
-    subst (Reads (IsLineOf (codes "plants")) line_rest c.args.rest.now) (sym c.plants_line.ensures)
-    (reads_plants c.args.rest.now c.in_ok-planted.planted c.in_ok-planted.ensures.read)
+returns-clause-read c = grind (arith, λ (by : ℕ) (envelope : Envelope). c.in_ok-planted.ensures.read (by, envelope))

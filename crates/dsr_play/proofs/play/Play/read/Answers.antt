@@ -1,4 +1,4 @@
-use Rattle.std.proofs.Common.{◌≤◌, length, refl, ap, sym, ◌∙◌, subst}
+use Rattle.std.proofs.Common.{refl, ap, sym, ◌∙◌, subst}
 use Rattle.dsr_text.specs.Header.{BeginsWithHeader}
 use Rattle.dsr_text.proofs.LinesLemmas.{header_refused, its_header, its_lines}
 use Rattle.dsr_play.specs.PlayText.{all_events, plays}
@@ -10,8 +10,7 @@ pub take_lines-requires-clause-clean : goal.take_lines-requires-clause-clean
 take_lines-requires-clause-clean c = line_clean
 
 pub returns-in-Err-clause-refused : goal.returns-in-Err-clause-refused
-returns-in-Err-clause-refused c =
-    header_refused plays c.as_slice.result.now c.args.text.now c.in-Err.refusal c.as_slice.ensures c.in-Err.ensures.refused
+returns-in-Err-clause-refused c = header_refused plays _ _ _ c.as_slice.ensures c.in-Err.ensures.refused
 
 -- a header that is refused begins no play
 pub returns-in-Err-clause-when : goal.returns-in-Err-clause-when
@@ -23,27 +22,20 @@ returns-in-Err-clause-when c other s =
 -- nor do lines follow it that are refused
 pub returns-in-Err-take_lines-clause-when : goal.returns-in-Err-take_lines-clause-when
 returns-in-Err-take_lines-clause-when c other s =
-    let lines =
-    its_lines plays c.as_slice.result.now c.args.text.now c.in-Ok.header.rest.now c.in-Ok.header.shape c.as_slice.ensures c.in-Ok.ensures.only
-    other.shape s.after s.header s.lines s.begins c.in-Ok.header.shape refl in
+    let lines = its_lines plays _ _ _ _ c.as_slice.ensures c.in-Ok.ensures.only _ _ s.header s.lines s.begins _ refl in
     c.in-Err-take_lines.ensures.when s.lines lines.0 lines.1
 
 -- and lines that are taken in are those of that play
 pub returns-in-Ok-take_lines-clause-only : goal.returns-in-Ok-take_lines-clause-only
 returns-in-Ok-take_lines-clause-only c other s =
-    let shape = c.in-Ok.header.shape in
-    let read = c.take_lines.new.taker in
-    let lines =
-    its_lines plays c.as_slice.result.now c.args.text.now c.in-Ok.header.rest.now shape c.as_slice.ensures c.in-Ok.ensures.only
-    other.shape s.after s.header s.lines s.begins shape refl in
-    let header =
-    its_header plays c.as_slice.result.now c.args.text.now c.in-Ok.header.rest.now shape c.as_slice.ensures c.in-Ok.ensures.only other.shape s.after s.header in
-    c.into_play.ensures
-    ∙ same_play c.args.text.now other s read.shape (c.in-Ok-take_lines.ensures.shape ∙ header.0) read.events (c.in-Ok-take_lines.ensures.only s.lines lines.0 lines.1)
+    let lines = its_lines plays _ _ _ _ c.as_slice.ensures c.in-Ok.ensures.only _ _ s.header s.lines s.begins _ refl in
+    let header = its_header plays _ _ _ _ c.as_slice.ensures c.in-Ok.ensures.only _ _ s.header in
+    let same = c.in-Ok-take_lines.ensures.shape ∙ header.0 in
+    let given = c.in-Ok-take_lines.ensures.only s.lines lines.0 lines.1 ∙ ap (λ shape. all_events shape s.lines) same in
+    c.into_play.ensures ∙ same_play _ other c.take_lines.new.taker s same given
 
 -- the events that were taken in are those of the text's lines, so they are few
 pub into_play-requires : goal.into_play-requires
 into_play-requires c =
     let taken = c.in-Ok-take_lines.ensures.taken in
-    let given = taken.gives ∙ ap (λ shape. all_events shape taken.lines) c.in-Ok-take_lines.ensures.shape in
-    subst (λ events. length events ≤ 1000000) (sym given) (few_events c.in-Ok.header.shape taken.lines taken.begins.each)
+    rw (taken.gives, c.in-Ok-take_lines.ensures.shape) (few_events _ taken.lines taken.begins.each)
