@@ -1,9 +1,8 @@
 -- How the kept steps go on with a run.
-use Rattle.std.proofs.Common.{◌≡◌, reverse, ap, sym, ◌∙◌}
+use Rattle.std.proofs.Common.{◌≡◌, sym, ◌∙◌}
 use Rattle.std.specs.Prelude.{Result, Ok, Err, OnOk, OnErr}
 use Rattle.dsr_names.specs.declared.refusal.Refusal.{Refusal}
 use Rattle.dsr_world.specs.Stage.{Stage}
-use Rattle.dsr_world.specs.World.{World}
 use Rattle.dsr_world.specs.Support.EntriesFields.{AreOf}
 use Rattle.dsr_world.specs.declared.entries.Entries.{Entries}
 
@@ -12,15 +11,4 @@ pub still_of : {X : Type 0} (r : Result X Refusal) (before after : Entries) (old
     → OnOk r (AreOf before older.run → AreOf after newer.run) → OnErr r (after.items.items ≡ before.items.items) → OnErr r (newer ≡ older)
     → AreOf before older.run → AreOf after newer.run
 still_of (Ok x) before after older newer kept added left same are is = added are is
-still_of (Err e) before after older newer kept added left same are is =
-    ap reverse left ∙ (are (sym kept ∙ is) ∙ sym (ap (λ (s : Stage). s.run) same))
-
--- the world of a stage
-abbrev world_at : Stage → World
-world_at stage = record { shape = stage.shape; run = stage.run }
-
--- a world whose stage an event left as it was is as it was
-pub still_world : {X : Type 0} (r : Result X Refusal) (newer older : Stage) (before : World) → world_at older ≡ before → OnErr r (newer ≡ older)
-    → OnErr r (world_at newer ≡ before)
-still_world (Ok x) newer older before is same = tt
-still_world (Err e) newer older before is same = ap world_at same ∙ is
+still_of (Err e) before after older newer kept added left same are is = rw (left, same) (are (sym kept ∙ is))

@@ -5,6 +5,7 @@ pub mod NextSteps
 mod Opening
 mod Playings
 mod Repeating
+mod StageLemmas
 mod Stepping
 mod WorldPosts
 pub mod WorldTakes

@@ -1,18 +1,9 @@
-use Rattle.std.proofs.Common.{◌≡◌, ◌<◌, ◌∙◌, Bor, Option, None, Some, length, ap, sym, subst, arith}
-use Rattle.std.specs.Option.{IfSome, option_copied}
-use Rattle.std.specs.Prelude.{slice_index_or}
-use Rattle.std.proofs.lemmas.List.{get_or_default}
-use Rattle.dsr_names.specs.declared.actor.Actor.{Actor}
+use Rattle.std.proofs.Common.{◌≡◌, ◌<◌, ◌∙◌, Bor, Option, None, Some, IfSome, option_copied, sym, arith}
 use Rattle.dsr_names.specs.declared.actor.Actor.TheVariants.{Replica}
-use Rattle.dsr_envelope.specs.declared.envelope.Envelope.{Envelope}
-use Rattle.dsr_envelope.specs.declared.pick.Pick.{Pick}
 use Rattle.dsr_envelope.specs.declared.pick.Pick.TheVariants.{Plain}
-use Rattle.dsr_play.specs.declared.event.Event.TheVariants.{Post}
-use Rattle.dsr_world.specs.Event.{refusal_of}
-use Rattle.dsr_node.specs.Conduct.{post_of}
 use Rattle.dsr_run.specs.Step.{log_of}
-use Rattle.dsr_world.specs.Stage.{Stage}
 use Rattle.dsr_world.proofs.Repeating.{again_posted}
+use Rattle.dsr_world.proofs.StageLemmas.{fields_of, stored_at}
 use Rattle.dsr_world.proofs.Worlds.{IsCleared, cleared}
 use Rattle.dsr_world.proofs.stage.Stage.posted_before.Goals as goal
 
@@ -23,28 +14,11 @@ if_held P (Some r) held e all = all r.now (sym e)
 
 pub returns-in-Replica-Replica-Plain : goal.returns-in-Replica-Replica-Plain
 returns-in-Replica-Replica-Plain c =
-    let a = c.self.inside in
-    let from = c.args.from.now in
-    let to = c.args.to.now in
-    let pick = c.args.pick.now in
-    let run = a.steps in
-    let p = c.in-Replica-Replica-Plain.poster in
-    let t = c.in-Replica-Replica-Plain.taker in
-    let none = subst (λ (w : Stage). refusal_of w.shape (log_of w.run) (Post from to pick) ≡ None) (sym c.self.view_is) c.requires in
-    let is = cleared a.shape (log_of run) from to pick none in
-    let of_replica : IsCleared a.shape (log_of run) (Replica p) (Replica t) Plain =
-    subst (λ (x : Pick). IsCleared a.shape (log_of run) (Replica p) (Replica t) x) c.in-Replica-Replica-Plain.is-2
-    (subst (λ (x : Actor). IsCleared a.shape (log_of run) (Replica p) x pick) c.in-Replica-Replica-Plain.is-1
-    (subst (λ (x : Actor). IsCleared a.shape (log_of run) x to pick) c.in-Replica-Replica-Plain.is-0 is)) in
-    let later : 0 < t = let same = c.number.ensures.same in let more = c.if-number-gt0.true in omega (arith, same, more) in
-    let inside : p < length a.letters.items = let below = of_replica.actor in let count = c.self.invariant.1.count in omega (arith, below, count) in
-    let stored : option_copied c.as_ref.result ≡ slice_index_or a.letters.items p None =
-    c.as_ref.ensures.value ∙ (c.index.ensures ∙ (ap (λ k. slice_index_or a.letters.items k c.index.result.now) c.number-in-Replica-Replica-Plain.ensures.same
-    ∙ get_or_default a.letters.items p c.index.result.now None inside)) in
-    if_held (λ (x : Envelope). post_of c.args.self.now.shape (log_of c.args.self.now.run from) from to pick ≡ Some x) c.as_ref.result
-    (slice_index_or a.letters.items p None) stored (λ x kept.
-    subst (λ (w : Stage). post_of w.shape (log_of w.run from) from to pick ≡ Some x) c.self.view_is
-    (subst (λ (y : Actor). post_of a.shape (log_of run y) y to pick ≡ Some x) (sym c.in-Replica-Replica-Plain.is-0)
-    (subst (λ (y : Actor). post_of a.shape (log_of run (Replica p)) (Replica p) y pick ≡ Some x) (sym c.in-Replica-Replica-Plain.is-1)
-    (subst (λ (y : Pick). post_of a.shape (log_of run (Replica p)) (Replica p) (Replica t) y ≡ Some x) (sym c.in-Replica-Replica-Plain.is-2)
-    (again_posted a.shape run a.letters.items c.self.invariant.1 c.self.invariant.0.is_run p t later of_replica x kept)))))
+    let w = c.args.self.now in
+    let i = c.in-Replica-Replica-Plain in
+    let is : IsCleared w.shape (log_of w.run) (Replica i.poster) (Replica i.taker) Plain =
+    rw (i.is-0, i.is-1, i.is-2) at (cleared w.shape (log_of w.run) c.args.from.now c.args.to.now c.args.pick.now c.requires) in
+    let later : 0 < i.taker = omega (arith, c.number.ensures.same, c.if-number-gt0.true) in
+    let fields = fields_of c.self.inside c.self.view_is c.self.invariant in
+    let stored = stored_at c.self.inside c.self.view_is c.self.invariant (Replica i.poster) is.actor c.number-in-Replica-Replica-Plain.ensures.same c.index.ensures in
+    rw (i.is-0, i.is-1, i.is-2) (if_held _ _ _ (c.as_ref.ensures.value ∙ sym stored) (again_posted _ _ _ fields.1 fields.0.is_run _ _ later is))

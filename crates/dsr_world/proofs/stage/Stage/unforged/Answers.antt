@@ -1,94 +1,46 @@
-use Rattle.std.proofs.Common.{◌≡◌, None, Err, inl, inr, ap, sym, ◌∙◌, subst}
-use Rattle.std.specs.Prelude.{Result}
-use Rattle.dsr_names.specs.Shape.{IsActor}
+use Rattle.std.proofs.Common.{◌≡◌, ◌↔◌, Err, inl, inr, ap, sym, ◌∙◌}
 use Rattle.dsr_names.specs.declared.actor.Actor.TheVariants.{Replica}
-use Rattle.dsr_names.specs.declared.refusal.Refusal.{Refusal}
-use Rattle.dsr_names.specs.declared.refusal.Refusal.TheVariants.{Forged, NoMemory}
 use Rattle.dsr_envelope.specs.declared.entry.Entry.TheVariants.{Post as PostEntry}
 use Rattle.dsr_script.specs.Held.{IsUnforged}
-use Rattle.dsr_play.specs.declared.event.Event.TheVariants.{Plant}
-use Rattle.dsr_world.specs.Event.{refusal_of}
 use Rattle.dsr_run.specs.Run.{IsTraitor, ForgesNothing}
 use Rattle.dsr_run.specs.Step.{log_of}
-use Rattle.dsr_world.specs.Stage.{Stage}
+use Rattle.dsr_world.proofs.StageLemmas.{fields_of}
 use Rattle.dsr_world.proofs.WorldPosts.{cleared_plant, unforged_made, made_unforged}
+use Rattle.dsr_world.proofs.stage.Stage.unforged.Goals.{After-as_slice}
 use Rattle.dsr_world.proofs.stage.Stage.unforged.Goals as goal
 
-same_refusal : {X : Type 0} (r s : Refusal) → ◌≡◌ {A = Result X Refusal} (Err r) (Err s) → r ≡ s
-same_refusal {X} r s e = cc
-
-not_forged : {X : Type 0} (r : Refusal) → r ≡ NoMemory → ◌≡◌ {A = Result X Refusal} (Err r) (Err Forged) → ⊥
-not_forged {X} r memory forged = let same = same_refusal r Forged forged in absurd cc
+-- the signatures of the draft are held or known exactly if it forges nothing
+forges_nothing : (c : After-as_slice) → let w = c.args.self.now in
+    IsUnforged c.as_slice.result.now c.self.inside.known.signatures c.args.draft.now ↔ ForgesNothing w.shape (log_of w.run) (PostEntry c.args.to.now c.args.draft.now)
+forges_nothing c =
+    let w = c.args.self.now in
+    let x = c.args.draft.now in
+    let is = cleared_plant w.shape (log_of w.run) c.args.from.now c.args.to.now x (sym c.plant_refusal.ensures ∙ c.in_default.is) in
+    let traitor : IsTraitor w.shape (Replica is.p) = (rw is.from_is at is.actor, is.traitor) in
+    let parts = (fields_of c.self.inside c.self.view_is c.self.invariant).0 in
+    rw c.as_slice.ensures.value (
+      unforged_made _ _ _ _ _ _ parts is.p traitor x,
+      made_unforged _ _ _ _ _ _ parts is.p traitor x,
+    )
 
 pub returns-in-Ok-clause-made : goal.returns-in-Ok-clause-made
-returns-in-Ok-clause-made c =
-    let a = c.self.inside in
-    let from = c.args.from.now in
-    let to = c.args.to.now in
-    let x = c.args.draft.now in
-    let run = a.steps in
-    let none_then = sym c.plant_refusal.ensures ∙ c.in_default.is in
-    let none = subst (λ (w : Stage). refusal_of w.shape (log_of w.run) (Plant from to x) ≡ None) (sym c.self.view_is) none_then in
-    let is = cleared_plant a.shape (log_of run) from to x none in
-    let traitor : IsTraitor a.shape (Replica is.p) = (subst (IsActor a.shape) is.from_is is.actor, is.traitor) in
-    let sound : IsUnforged a.keys.items a.known.signatures x =
-    subst (λ ks. IsUnforged ks a.known.signatures x) c.as_slice.ensures.value
-    (subst (IsUnforged c.as_slice.result.now a.known.signatures) c.in-Ok.ensures.same c.in-Ok.ensures.unforged) in
-    let made : ForgesNothing a.shape (log_of run) (PostEntry to x) =
-    unforged_made a.shape run a.nodes.items a.boxes a.keys.items a.known.signatures c.self.invariant.0 is.p traitor x sound in
-    subst (λ (w : Stage). ForgesNothing w.shape (log_of w.run) (PostEntry to x)) c.self.view_is made
+returns-in-Ok-clause-made c = (forges_nothing (goal.at.returns-in-Ok-clause-made c).After-as_slice).0 (rw c.in-Ok.ensures.same at c.in-Ok.ensures.unforged)
 
 pub returns-in-Ok-clause-forged : goal.returns-in-Ok-clause-forged
 returns-in-Ok-clause-forged c forged = absurd (forged.1 (returns-in-Ok-clause-made c))
 
 pub returns-in-Err-clause-last : goal.returns-in-Err-clause-last
 returns-in-Err-clause-last c refusal e =
-    let a = c.self.inside in
-    let from = c.args.from.now in
-    let to = c.args.to.now in
-    let x = c.args.draft.now in
-    let run = a.steps in
-    let none_then = sym c.plant_refusal.ensures ∙ c.in_default.is in
-    let none = subst (λ (w : Stage). refusal_of w.shape (log_of w.run) (Plant from to x) ≡ None) (sym c.self.view_is) none_then in
-    let is = cleared_plant a.shape (log_of run) from to x none in
-    let traitor : IsTraitor a.shape (Replica is.p) = (subst (IsActor a.shape) is.from_is is.actor, is.traitor) in
-    let made : IsUnforged c.as_slice.result.now a.known.signatures x → ForgesNothing c.args.self.now.shape (log_of c.args.self.now.run) (PostEntry to x) =
-    λ sound. subst (λ (w : Stage). ForgesNothing w.shape (log_of w.run) (PostEntry to x)) c.self.view_is
-    (unforged_made a.shape run a.nodes.items a.boxes a.keys.items a.known.signatures c.self.invariant.0 is.p traitor x
-    (subst (λ ks. IsUnforged ks a.known.signatures x) c.as_slice.ensures.value sound)) in
-    let sound : ForgesNothing c.args.self.now.shape (log_of c.args.self.now.run) (PostEntry to x) → IsUnforged c.as_slice.result.now a.known.signatures x =
-    λ forges. subst (λ ks. IsUnforged ks a.known.signatures x) (sym c.as_slice.ensures.value)
-    (made_unforged a.shape run a.nodes.items a.boxes a.keys.items a.known.signatures c.self.invariant.0 is.p traitor x
-    (subst (λ (w : Stage). ForgesNothing w.shape (log_of w.run) (PostEntry to x)) (sym c.self.view_is) forges)) in
-    let same = same_refusal c.in-Err.refusal refusal e in
-    elim c.in-Err.ensures.refusal [
-      | inl forged ↦ inr (inl (sym same ∙ forged, (none_then, λ forges. (c.in-Err.ensures.forged.0 (ap Err forged)) (sound forges))))
-      | inr memory ↦ inr (inr (
-        sym same ∙ memory,
-        (
-          none_then,
-          λ forged. not_forged c.in-Err.refusal memory (c.in-Err.ensures.forged.1 (λ unforged. forged (made unforged))),
-        ),
-      ))
+    let built = c.in-Err.ensures in
+    let none = sym c.plant_refusal.ensures ∙ c.in_default.is in
+    let made = forges_nothing (goal.at.returns-in-Err-clause-last c).After-as_slice in
+    let same : refusal ≡ c.in-Err.refusal = cc in
+    elim built.refusal [
+      | inl forged ↦ inr (inl (same ∙ forged, (none, λ forges. built.forged.0 (ap Err forged) (made.1 forges))))
+      | inr memory ↦ inr (inr (same ∙ memory, (none, λ forged. let bad = built.forged.1 (λ unforged. forged (made.0 unforged)) in absurd cc)))
     ]
 
 pub returns-in-Err-clause-forged : goal.returns-in-Err-clause-forged
 returns-in-Err-clause-forged c forged =
-    let a = c.self.inside in
-    let from = c.args.from.now in
-    let to = c.args.to.now in
-    let x = c.args.draft.now in
-    let run = a.steps in
-    let none_then = sym c.plant_refusal.ensures ∙ c.in_default.is in
-    let none = subst (λ (w : Stage). refusal_of w.shape (log_of w.run) (Plant from to x) ≡ None) (sym c.self.view_is) none_then in
-    let is = cleared_plant a.shape (log_of run) from to x none in
-    let traitor : IsTraitor a.shape (Replica is.p) = (subst (IsActor a.shape) is.from_is is.actor, is.traitor) in
-    let made : IsUnforged c.as_slice.result.now a.known.signatures x → ForgesNothing c.args.self.now.shape (log_of c.args.self.now.run) (PostEntry to x) =
-    λ sound. subst (λ (w : Stage). ForgesNothing w.shape (log_of w.run) (PostEntry to x)) c.self.view_is
-    (unforged_made a.shape run a.nodes.items a.boxes a.keys.items a.known.signatures c.self.invariant.0 is.p traitor x
-    (subst (λ ks. IsUnforged ks a.known.signatures x) c.as_slice.ensures.value sound)) in
-    let sound : ForgesNothing c.args.self.now.shape (log_of c.args.self.now.run) (PostEntry to x) → IsUnforged c.as_slice.result.now a.known.signatures x =
-    λ forges. subst (λ ks. IsUnforged ks a.known.signatures x) (sym c.as_slice.ensures.value)
-    (made_unforged a.shape run a.nodes.items a.boxes a.keys.items a.known.signatures c.self.invariant.0 is.p traitor x
-    (subst (λ (w : Stage). ForgesNothing w.shape (log_of w.run) (PostEntry to x)) (sym c.self.view_is) forges)) in
-    ap Err (same_refusal c.in-Err.refusal Forged (c.in-Err.ensures.forged.1 (λ unforged. forged.1 (made unforged))))
+    let made = forges_nothing (goal.at.returns-in-Err-clause-forged c).After-as_slice in
+    c.in-Err.ensures.forged.1 (λ unforged. forged.1 (made.0 unforged))
