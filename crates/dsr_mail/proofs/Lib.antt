@@ -1,4 +1,3 @@
-mod LogsLemmas
 pub mod Asking
 pub mod Clearing
 pub mod Closing
