@@ -1,5 +1,5 @@
 -- What a cause says refuses the event, over plain variables.
-use Rattle.std.proofs.Common.{◌≡◌, ℕ, true, List, Option, None, Some, ◌⊎◌, inl, inr, refl, ap}
+use Rattle.std.proofs.Common.{◌≡◌, ℕ, true, List, Option, None, Some, inl, inr, refl, ap}
 use Rattle.std.proofs.lemmas.Bool.{false≢true}
 use Rattle.std.specs.Prelude.{IfSome, IfNone}
 use Rattle.std.specs.Option.{is_none}

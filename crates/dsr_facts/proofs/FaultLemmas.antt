@@ -1,5 +1,5 @@
 -- What has a fault may not be posted.
-use Rattle.std.proofs.Common.{◌≡◌, ℕ, List, Option, None, Some, refl, sym, ◌∙◌, subst}
+use Rattle.std.proofs.Common.{◌≡◌, ℕ, List, Some, sym, ◌∙◌}
 use Rattle.std.proofs.lemmas.Option.{none-some, same_Some}
 use Rattle.dsr_names.specs.Shape.{Shape}
 use Rattle.dsr_names.specs.declared.actor.Actor.{Actor}

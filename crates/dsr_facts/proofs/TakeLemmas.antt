@@ -1,17 +1,15 @@
 -- When a take may follow, and when not.
-use Rattle.std.proofs.Common.{◌≡◌, ◌≢◌, ℕ, zero, suc, ◌<◌, ◌==◌, Bool, true, false, nat_lt, List, [], ◌∷◌, ◌++◌, Option, None, Some, length, length-append, ◌⊎◌, inl, inr, refl, ap, sym, ◌∙◌, subst, arith}
+use Rattle.std.proofs.Common.{◌≡◌, ℕ, zero, suc, ◌<◌, true, nat_lt, List, [], ◌∷◌, ◌++◌, None, Some, length, length-append, inl, inr, refl, ap, sym, ◌∙◌, arith}
 use Rattle.std.specs.Prelude.{slice_get}
 use Rattle.std.proofs.lemmas.Bool.{true≢false, false≢true}
 use Rattle.std.proofs.lemmas.Bool.Decides.{Decides-eqb, nat_tests}
 use Rattle.std.proofs.lemmas.Option.{none-some, same_Some}
 use Rattle.dsr_base.proofs.MemberLemmas.{In-from_place}
-use Rattle.dsr_names.specs.Shape.{Shape, is_traitor, IsActor, IsAllowed}
+use Rattle.dsr_names.specs.Shape.{Shape, IsActor, IsAllowed}
 use Rattle.dsr_names.specs.declared.actor.Actor.{Actor}
 use Rattle.dsr_names.specs.declared.actor.Actor.TheVariants.{Replica, Client}
-use Rattle.dsr_envelope.specs.declared.due.Due.{Due}
-use Rattle.dsr_envelope.specs.declared.due.Due.TheVariants.{Post as PostTo, Take as TakeFrom}
 use Rattle.dsr_envelope.specs.declared.envelope.Envelope.{Envelope}
-use Rattle.dsr_envelope.specs.declared.entry.Entry.TheVariants.{Post as PostEntry, Take as TakeEntry}
+use Rattle.dsr_envelope.specs.declared.entry.Entry.TheVariants.{Take as TakeEntry}
 use Rattle.dsr_envelope.specs.Limits.{IsEnvelope}
 use Rattle.dsr_envelope.specs.Log.{posted_to, taken_from}
 use Rattle.dsr_node.specs.Conduct.{is_actor, is_own_client, takes_from}
@@ -26,7 +24,6 @@ use Rattle.dsr_facts.specs.Cause.{IsOutsider, IsNoPart, IsUndue, IsWhy}
 use Rattle.dsr_facts.specs.TakeFault.{HoldsTakeFault}
 use Rattle.dsr_facts.specs.declared.cause.Cause.{Cause}
 use Rattle.dsr_facts.specs.declared.cause.Cause.TheVariants.{NoActor, WrongRole, NotDue, Exhausted, BoxFull, BoxEmpty, Forged}
-use Rattle.dsr_facts.specs.declared.cause.Limit.{Limit}
 use Rattle.dsr_facts.specs.declared.cause.Part.{Part}
 use Rattle.dsr_facts.specs.declared.cause.Part.TheVariants.{FromItself}
 use Rattle.dsr_facts.specs.declared.fault.Fault.{Fault}

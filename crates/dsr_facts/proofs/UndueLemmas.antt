@@ -1,7 +1,8 @@
 -- When a loyal replica has an envelope for a choice, and when none.
-use Rattle.std.proofs.Common.{◌≡◌, ℕ, zero, suc, ◌<◌, ◌==◌, Bool, true, false, nat_lt, List, [], ◌∷◌, length, Option, None, Some, if◌then◌else◌, refl, ap, sym, ◌∙◌, subst, arith}
+use Rattle.std.proofs.Common.{◌≡◌, ℕ, zero, suc, ◌+◌, ◌<◌, Bool, true, false, nat_lt, List, [], ◌∷◌, length, Option, None, Some, if◌then◌else◌, refl, ap, sym, ◌∙◌, subst, arith}
 use Rattle.std.specs.Prelude.{IsSome, IfNone, slice_get}
-use Rattle.std.specs.Option.{option_map}
+use Rattle.std.specs.Option.{is_some, option_map}
+use borrow.Author.Count.{below_more}
 use Rattle.std.proofs.lemmas.Bool.{true≢false, false≢true}
 use Rattle.std.proofs.lemmas.Bool.Decides.{Decides-eqb, nat_tests}
 use Rattle.std.proofs.lemmas.Option.{none-some, same_Some}
@@ -13,7 +14,6 @@ use Rattle.dsr_request.specs.declared.op.Op.{Op}
 use Rattle.dsr_chain.specs.Proper.{sender_of}
 use Rattle.dsr_chain.specs.declared.signed_request.SignedRequest.{SignedRequest}
 use Rattle.dsr_chain.specs.declared.slot_value.SlotValue.TheVariants.{Act}
-use Rattle.dsr_envelope.specs.declared.envelope.Envelope.{Envelope}
 use Rattle.dsr_envelope.specs.declared.entry.Entry.{Entry}
 use Rattle.dsr_envelope.specs.declared.due.Due.{Due}
 use Rattle.dsr_envelope.specs.declared.due.Due.TheVariants.{Post as PostTo, Take as TakeFrom}
@@ -54,6 +54,23 @@ unheld_none shape log (first ∷ more) zero client at none =
     ap (λ o. put_before o (all_held shape log more)) (ap (λ c. held shape c log) (same_Some first client at) ∙ none)
 unheld_none shape log (first ∷ more) (suc place) client at none =
     ap (put_before (held shape first log)) (unheld_none shape log more place client at none) ∙ put_none (held shape first log)
+
+-- each client before the next place has its ask held, if the one at this place has
+pub next_held : (shape : Shape) (log : List Entry) (clients : List ℕ) (k client : ℕ) → slice_get clients k ≡ Some client → IsSome (held shape client log)
+    → ((i c : ℕ) → i < k → slice_get clients i ≡ Some c → IsSome (held shape c log))
+    → (i c : ℕ) → i < k + 1 → slice_get clients i ≡ Some c → IsSome (held shape c log)
+next_held shape log clients k client here some each i c below =
+    below_more (λ j. slice_get clients j ≡ Some c → IsSome (held shape c log)) k (λ j less. each j c less)
+    (λ e. subst (λ d. IsSome (held shape d log)) (same_Some client c (sym here ∙ e)) some) i below
+
+-- an option is some exactly if the mapped one is
+pub mapped_some : {A B : Type 0} (f : A → B) (o : Option A) (r : Option B) (b : Bool) → r ≡ option_map f o → is_some r ≡ b → is_some o ≡ b
+mapped_some f None r b e is = sym (ap is_some e) ∙ is
+mapped_some f (Some x) r b e is = sym (ap is_some e) ∙ is
+
+pub not_some : {A : Type 0} (o : Option A) → is_some o ≡ false → o ≡ None
+not_some None e = refl
+not_some (Some x) e = absurd (true≢false e)
 
 -- if the mapped value is `None`, so is the value
 pub none_mapped : {A B : Type 0} (f : A → B) (o : Option A) → option_map f o ≡ None → o ≡ None

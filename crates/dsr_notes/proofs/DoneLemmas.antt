@@ -6,18 +6,19 @@ use Rattle.std.specs.Option.{option_map}
 use Rattle.std.proofs.lemmas.List.{append-nil, length_push}
 use Rattle.dsr_names.specs.Support.ActorEquality.{actor_eq}
 use Rattle.dsr_names.specs.declared.actor.Actor.{Actor}
-use Rattle.std.proofs.Common.{◌≡◌, ◌⊎◌, ℕ, suc, ◌<◌, ◌≤◌, ◌-◌, ◌==◌, ◌&&◌, not, Bool, true, false, List, [], ◌∷◌, ◌++◌, Option, None, Some, length, map, if◌then◌else◌, inl, inr, refl, ap, ap₂, sym, ◌∙◌, subst, append_assoc, arith}
+use Rattle.std.proofs.Common.{◌≡◌, ◌⊎◌, ℕ, suc, ◌<◌, ◌-◌, ◌==◌, ◌&&◌, not, Bool, true, false, List, [], ◌∷◌, ◌++◌, Option, None, Some, length, map, if◌then◌else◌, inl, inr, refl, ap, ap₂, sym, ◌∙◌, subst, append_assoc, arith}
 use Rattle.std.proofs.lemmas.Bool.{true≢false}
 use Rattle.std.proofs.lemmas.Bool.Decides.{nat_tests}
-use Rattle.std.specs.Result.{result_err}
+use Rattle.std.specs.Result.{IsErrAnd, result_err}
+use Rattle.std.proofs.lemmas.Result.{err_from_is_err_and}
 use Rattle.std.proofs.lemmas.Option.{none-some}
 use Rattle.dsr_names.specs.Shape.{Shape, IsLoyal, is_traitor}
 use Rattle.dsr_names.specs.declared.actor.Actor.TheVariants.{Replica}
 use Rattle.dsr_names.specs.declared.refusal.Refusal.{Refusal}
-use Rattle.dsr_names.specs.declared.refusal.Refusal.TheVariants.{Forged}
+use Rattle.dsr_names.specs.declared.refusal.Refusal.TheVariants.{Forged, NoMemory}
 use Rattle.dsr_history.specs.History.{acting, acted, requests_of}
 use Rattle.dsr_ledger.specs.declared.reply.Reply.{Reply as AReply}
-use Rattle.dsr_rotation.specs.Calendar.{closed_slots, last_round}
+use Rattle.dsr_rotation.specs.Calendar.{closed_slots}
 use Rattle.dsr_chain.specs.Content.{requests_in}
 use Rattle.dsr_envelope.specs.Log.{due, rounds, taken_from}
 use Rattle.dsr_envelope.specs.declared.due.Due.{Due}
@@ -27,18 +28,20 @@ use Rattle.dsr_envelope.specs.declared.entry.Entry.TheVariants.{Take as TakeEntr
 use Rattle.dsr_envelope.specs.declared.envelope.Envelope.{Envelope}
 use Rattle.dsr_play.specs.declared.event.Event.{Event}
 use Rattle.dsr_play.specs.declared.event.Event.TheVariants.{Take}
-use Rattle.dsr_replica.specs.Decided.{slot_kept, slot_decided, decided_requests, values}
-use Rattle.dsr_replica.proofs.Lemmas.{HasTaken, all_taken, values_same, decided_same}
+use Rattle.dsr_replica.specs.Decided.{slot_kept, slot_decided, decided_requests}
+use Rattle.dsr_replica.proofs.Lemmas.{all_taken, values_same, decided_same}
 use Rattle.dsr_rotation.proofs.Lemmas.{closed_below}
-use Rattle.dsr_node.specs.Conduct.{is_undue, takes_from}
+use Rattle.dsr_node.specs.Conduct.{takes_from}
 use Rattle.dsr_run.proofs.Lemmas.{log_cases, log_loyal}
 use Rattle.dsr_run.specs.Run.{IsRun, envelope_of}
 use Rattle.dsr_run.specs.Step.{Logs, Step, log_of}
-use Rattle.dsr_world.specs.Event.{HasDone, IsForgedAtLast, MayBeDone, in_box, refusal_of, step_of}
-use Rattle.dsr_world.proofs.WorldTakes.{IsTaken, cleared_take}
+use Rattle.dsr_world.specs.Event.{HasDone, IsForgedAtLast, MayBeDone, in_box, refusal_of}
+use Rattle.dsr_world.specs.Stage.{Stage}
+use Rattle.dsr_world.proofs.WorldTakes.{cleared_take}
 use Rattle.dsr_notes.specs.Closing.{AreTakeNotes, closes, closing, decision_notes, kept_notes, requests_before}
 use Rattle.dsr_notes.specs.Notes.{IsNoted}
 use Rattle.dsr_notes.specs.Reading.{IsRead}
+use Rattle.dsr_notes.specs.Stepped.{IsStepped}
 use Rattle.dsr_notes.specs.declared.note.Note.{Note}
 use Rattle.dsr_notes.specs.declared.note.Note.TheVariants.{Closed}
 
@@ -56,6 +59,17 @@ may_be_done shape logs event (Err refusal) given forged = tt
 may_be_done shape logs event (Ok reply) given forged =
     let none = not_refused (refusal_of shape logs event) (Ok reply) reply refl given in
     (none, λ is. absurd (none-some Forged (ap result_err (forged (none, is)))))
+
+-- what a `?` returns if the refusal is passed on
+pub passed_on : {T : Type 0} (result : Result T Refusal) (refusal : Refusal) → IsErrAnd result (λ found. found ≡ refusal) → result ≡ Err refusal
+passed_on result refusal is = let p = err_from_is_err_and result is in p.1 ∙ ap Err p.2
+
+-- lack of memory leaves a stage of the same shape, of which nothing else is said
+pub stopped : (later earlier : Stage) (event : Event) (result : Result (Option AReply) Refusal) → result ≡ Err NoMemory → later.shape ≡ earlier.shape
+    → IsStepped later earlier event result
+stopped later earlier event result is same =
+    subst (IsStepped later earlier event) (sym is)
+    (tt, tt, λ refusal other e. (let lack : refusal ≡ NoMemory = cc in absurd (other lack)), same)
 
 -- what is due if the take from this replica is
 takes_is : (next : Due) (q : ℕ) → takes_from next q ≡ true → next ≡ TakeFrom q
@@ -161,6 +175,12 @@ module _ (shape : Shape) (later run : List Step) (p q : ℕ) (reply : Option ARe
   later_rounds : rounds shape (log_of later (Replica p)) ≡ suc (rounds shape (log_of run (Replica p)))
   later_rounds = ap (rounds shape) later_log ∙ rounds_after shape q found.0 (log_of run (Replica p)) last
 
+  same_round : (t : ℕ) → rounds shape (log_of later (Replica p)) ≡ suc t → rounds shape (log_of run (Replica p)) ≡ t
+  same_round t closed = omega (arith, later_rounds, closed)
+
+  pub has_closed : 0 < rounds shape (log_of later (Replica p))
+  has_closed = omega (arith, later_rounds)
+
   -- as many requests acted before as were decided before
   pub acted_before : 0 < shape.n → IsRun shape run → is_traitor shape p ≡ false → (count : ℕ)
       → count ≡ length (acted (decided_requests shape (log_of run (Replica p))))
@@ -168,14 +188,24 @@ module _ (shape : Shape) (later run : List Step) (p q : ℕ) (reply : Option ARe
       → count ≡ length (acting (requests_before shape (log_of later (Replica p)) (closed_slots shape t)))
   acted_before some is loyal count counted t closed =
       let log = log_of run (Replica p) in
-      let round : rounds shape log ≡ t = suc_same (sym later_rounds ∙ closed) in
+      let round = same_round t closed in
       counted
       ∙ (sym (ap (λ requests. length (acting requests)) (requests_stay shape run p (TakeEntry (Replica q) found.0) some is loyal))
       ∙ (ap (λ l. length (acting (requests_before shape l (closed_slots shape (rounds shape log))))) (sym later_log)
       ∙ ap (λ r. length (acting (requests_before shape (log_of later (Replica p)) (closed_slots shape r)))) round))
-    where
-      suc_same : {a b : ℕ} → suc a ≡ suc b → a ≡ b
-      suc_same e = omega (arith, e)
+
+  -- as many chains are kept as were found before
+  pub kept_before : (count : ℕ)
+      → ((envelope : Envelope) → in_box (log_of run) (Replica q) (Replica p) ≡ Some envelope → suc q ≡ shape.n
+      → closes shape (rounds shape (log_of run (Replica p))) ≡ true
+      → count ≡ length (slot_kept shape (TakeEntry (Replica q) envelope ∷ log_of run (Replica p)) (closed_slots shape (rounds shape (log_of run (Replica p))))
+      (suc shape.f)))
+      → (t : ℕ) → rounds shape (log_of later (Replica p)) ≡ suc t → closes shape t ≡ true
+      → count ≡ length (slot_kept shape (log_of later (Replica p)) (closed_slots shape t) (suc shape.f))
+  kept_before count kept t closed closing =
+      let round = same_round t closed in
+      kept found.0 found.1 last (ap (closes shape) round ∙ closing)
+      ∙ ap₂ (λ l r. length (slot_kept shape l (closed_slots shape r) (suc shape.f))) (sym later_log) round
 
   -- the notes are those of a take that closes a round
   pub closing_noted : (start before after : List Note) → start ≡ [] → is_traitor shape p ≡ false

@@ -132,6 +132,10 @@ last_notes true true notes other e same = same refl
 last_notes true false notes other e same = refl
 last_notes false c notes other e same = absurd cc
 
+pub no_more : (b c : Bool) (other : List Note) → ¬ (b ≡ true) → [] ≡ (if b && c then other else [])
+no_more true c other not_last = absurd (not_last refl)
+no_more false c other not_last = refl
+
 -- the notes after each of the three calls, joined
 pub joined : (old one two three silence fates kept other : List Note) → one ≡ old ++ silence → two ≡ one ++ fates → three ≡ two ++ kept → kept ≡ other
     → three ≡ old ++ ((silence ++ fates) ++ other)

@@ -1,4 +1,4 @@
-use Rattle.std.proofs.Common.{◌≡◌, None, sym, subst}
+use Rattle.std.proofs.Common.{sym, subst}
 use Rattle.std.specs.Prelude.{IfNone}
 use Rattle.dsr_run.specs.Step.{log_of}
 use Rattle.dsr_world.specs.Event.{MayBeDone}

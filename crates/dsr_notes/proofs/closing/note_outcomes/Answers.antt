@@ -1,5 +1,8 @@
 use Rattle.std.proofs.Common.{◌≡◌, ◌∙◌, ap, sym, suc, ◌+◌, ◌++◌, take, drop, reverse}
+use Rattle.std.proofs.lemmas.List.{append-nil, take_all}
+use Rattle.std.proofs.lemmas.Result.{IfOk-from_err}
 use Rattle.dsr_history.specs.History.{acting, rises_above}
+use Rattle.dsr_notes.specs.Closing.{outcomes}
 use Rattle.dsr_notes.proofs.ClosingLemmas.{before_rest, next_place, same_place, notes_acted, notes_stale}
 use Rattle.dsr_notes.proofs.closing.note_outcomes.Goals as goal
 use Rattle.dsr_notes.proofs.closing.note_outcomes.Goals.{then-is_next+in_ok-push, else-is_next+in_ok-push-2}
@@ -31,3 +34,18 @@ loop-request-preserved c older acted history =
                 falls so_far.1 (ap (λ v. v.items) w.notes-is ∙ w.in_ok-push-2.ensures.items),
           )
     ]
+
+pub loop-request-init : goal.loop-request-init
+loop-request-init c older acted history = (acted, sym (append-nil c.args.notes.now.items))
+
+pub returns-in_err-push-clause-outcomes : goal.returns-in_err-push-clause-outcomes
+returns-in_err-push-clause-outcomes c older acted history = IfOk-from_err c.from_residual.result _ c.from_residual.ensures.0
+
+pub returns-in_err-push-2-clause-outcomes : goal.returns-in_err-push-2-clause-outcomes
+returns-in_err-push-2-clause-outcomes c older acted history = IfOk-from_err c.from_residual-in_err-push-2.result _ c.from_residual-in_err-push-2.ensures.0
+
+pub returns-clause-outcomes : goal.returns-clause-outcomes
+returns-clause-outcomes c older acted history =
+    (c.loop-request.invariant older acted history).1
+    ∙ ap (λ requests. c.args.notes.now.items ++ outcomes c.args.slot older requests)
+    (take_all c.loop-request.request-index c.args.requests.now c.loop-request-test.false)
