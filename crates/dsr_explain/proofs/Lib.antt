@@ -1,6 +1,7 @@
 mod BreakLemmas
 mod DecidedLemmas
 mod HeadLemmas
+mod LentLemmas
 mod LetterLemmas
 mod MisfitLemmas
 mod NoteLemmas

@@ -10,6 +10,10 @@ use Rattle.dsr_explain.specs.Outlet.{HasGoneOut}
 pub none_gone : (in_parts : Bool) (text : List ℕ) (sink : Output) → HasGoneOut in_parts text text sink sink
 none_gone in_parts text sink = record { first = []; went_out = Appends-nil sink.contents; whole = refl; at_once = λ e. refl }
 
+-- nothing went out
+pub nothing_sent : (text : List ℕ) (sink : Output) → SentPrefix text sink sink
+nothing_sent text sink = record { sent = 0; within = omega arith; appended = Appends-nil sink.contents }
+
 -- the text grew, and then some of the rest went out
 pub gone_on : (in_parts : Bool) (text rest more left : List ℕ) (before middle after : Output) → HasGoneOut in_parts text rest before middle
     → HasGoneOut in_parts (rest ++ more) left middle after → HasGoneOut in_parts (text ++ more) left before after

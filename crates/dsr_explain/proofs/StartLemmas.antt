@@ -1,5 +1,5 @@
 -- How the line of an event begins, by the hundreds of its number.
-use Rattle.std.proofs.Common.{◌≡◌, ◌≢◌, ◌∙◌, ℕ, Bool, true, false, ◌+◌, ◌/◌, ◌%◌, ◌<◌, ◌≤◌, ◌++◌, [], ◌∷◌, ap, append_assoc, arith, refl, subst, sym}
+use Rattle.std.proofs.Common.{◌≡◌, ◌≢◌, ◌∙◌, ℕ, Bool, true, false, ◌+◌, ◌/◌, ◌%◌, ◌<◌, ◌≤◌, ◌++◌, List, [], ◌∷◌, ap, append_assoc, arith, refl, subst, sym}
 use Rattle.std.specs.Prelude.{◌==◌, ◌^◌, if◌then◌else◌}
 use Rattle.std.specs.Fmt.{decimal}
 use Rattle.std.proofs.Math.Nat.{div-div-eq-div-mul}
@@ -25,10 +25,8 @@ by_hundreds hundreds n e fits = cases (hundreds == 0) refl
         let above : hundreds ≢ 0 = eqb-false hundreds 0 some in
         subst (λ h. decimal h ++ last_two n ≡ decimal n) (sym e) (with_hundreds n (omega (arith, e, above)) fits)
 
--- the beginning of the line of the event with this number
-pub start_is : (is_data as_data : Bool) (on line hundreds n : ℕ) → as_data ≡ is_data → on ≡ line → hundreds ≡ n / 100 → n < 2 ^ 64
-    → start_text as_data on hundreds ++ last_text hundreds n ≡ text_before is_data line ++ decimal n
-start_is is_data as_data on line hundreds n same_form same_line e fits =
-    append_assoc (text_before as_data on) (hundreds_text hundreds) (last_text hundreds n)
-    ∙ (ap (λ t. text_before as_data on ++ t) (by_hundreds hundreds n e fits)
-    ∙ (ap (λ d. text_before d on ++ decimal n) same_form ∙ ap (λ l. text_before is_data l ++ decimal n) same_line))
+-- the beginning of the line of the event with this number, written part after part
+pub start_is : (is_data : Bool) (line hundreds n : ℕ) (old mid new : List ℕ) → hundreds ≡ n / 100 → n < 2 ^ 64
+    → mid ≡ old ++ start_text is_data line hundreds → new ≡ mid ++ last_text hundreds n → new ≡ old ++ (text_before is_data line ++ decimal n)
+start_is is_data line hundreds n old mid new e fits first second =
+    rw (← by_hundreds hundreds n e fits) (simp (append_assoc, second, first) refl)

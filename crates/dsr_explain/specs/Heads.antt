@@ -3,11 +3,10 @@ use Rattle.std.specs.Prelude.{◌==◌, ◌++◌, ℕ, Bool, true, false, List, 
 use Rattle.std.specs.Fmt.{decimal}
 use Rattle.dsr_names.specs.Actor.{actor_text}
 use Rattle.dsr_names.specs.declared.actor.Actor.{Actor}
-use Rattle.dsr_play.specs.declared.event.Event.{Event}
 use Rattle.dsr_reasons.specs.Digits.{last_two}
-use Rattle.dsr_reasons.specs.Reason.{one_of, other_of}
+use Rattle.dsr_reasons.specs.Reason.{one_of}
 use Rattle.dsr_explain.specs.Told.{verb_text}
-use Rattle.dsr_explain.specs.declared.heads.Deed.{Deed}
+use Rattle.dsr_explain.specs.declared.verb.Verb.{Verb}
 
 -- ---- up to an event's number
 
@@ -29,12 +28,12 @@ start_text is_data line hundreds = text_before is_data line ++ hundreds_text hun
 
 -- ---- after it
 
--- the text between an event's number and the name of whom it concerns
-abbrev pub text_after : Deed → List ℕ
-text_after deed =
-    one_of deed.as_data
-    (codes " " ++ (decimal deed.line ++ (codes " " ++ (verb_text true deed.verb ++ (codes " " ++ (actor_text deed.actor ++ codes " "))))))
-    (codes ": " ++ (actor_text deed.actor ++ verb_text false deed.verb))
+-- the text between the number of an event whose actor does this and the name of whom it concerns
+abbrev pub text_after : Bool → ℕ → Verb → Actor → List ℕ
+text_after is_data line verb actor =
+    one_of is_data
+    (codes " " ++ (decimal line ++ (codes " " ++ (verb_text true verb ++ (codes " " ++ (actor_text actor ++ codes " "))))))
+    (codes ": " ++ (actor_text actor ++ verb_text false verb))
 
 -- the name of the other actor of an event that was done; in data, followed by "done"
 abbrev pub done_name : Bool → Actor → List ℕ
@@ -43,7 +42,3 @@ done_name is_data other = actor_text other ++ one_of is_data (codes " done") []
 -- the start of the data line for a chain that this actor took
 abbrev pub chain_name : Actor → List ℕ
 chain_name at = codes "chain " ++ actor_text at
-
--- the line of an event of this deed, which was done, after its number; `shown` is the envelope
-abbrev pub text_from : Deed → Event → List ℕ → List ℕ
-text_from deed event shown = text_after deed ++ (actor_text (other_of event) ++ (one_of deed.as_data (codes " done") [] ++ shown))

@@ -2,6 +2,7 @@ pub mod Heads
 pub mod Letters
 pub mod Lines
 pub mod Outlet
+pub mod Parts
 pub mod Telling
 pub mod Told
 pub mod Waiting

@@ -241,6 +241,13 @@ unproposed_line is_data at slot request =
 
 -- ---- what a client makes of a reply
 
+-- the beginning of a line about a reply: a word and both actors if data are wanted, otherwise the words, and both in the other order
+abbrev pub about_reply : Bool → List ℕ → Actor → List ℕ → Actor → List ℕ
+about_reply is_data word at words other =
+    if is_data
+    then word ++ (actor_text at ++ (codes " " ++ (actor_text other ++ codes " ")))
+    else words ++ (actor_text other ++ (codes " at " ++ (actor_text at ++ codes ": ")))
+
 -- that a reply is a vote: how many there are for it then, and how many are needed
 abbrev pub vote_line : Bool → Actor → Actor → ℕ → ℕ → List ℕ
 vote_line is_data at other count needed =

@@ -16,11 +16,14 @@ use Rattle.dsr_notes.specs.declared.standing.Standing.TheVariants.{Voted, IsTrai
 
 -- ---- what a replica does next
 
--- as data: the post or take that is due, and the round in progress
+-- as data: what is due at a replica with another one in this round
+abbrev pub due_data : ℕ → List ℕ → ℕ → ℕ → List ℕ
+due_data p word with round = codes "waits " ++ (replica_text p ++ (word ++ (replica_text with ++ (codes " " ++ (decimal round ++ codes "\n")))))
+
+-- the post or take that is due, and the round in progress
 abbrev pub next_data : ℕ → ℕ → Due → List ℕ
-next_data p round (PostTo to) = codes "waits " ++ (replica_text p ++ (codes " post " ++ (replica_text to ++ (codes " " ++ (decimal round ++ codes "\n")))))
-next_data p round (TakeFrom from) =
-    codes "waits " ++ (replica_text p ++ (codes " take " ++ (replica_text from ++ (codes " " ++ (decimal round ++ codes "\n")))))
+next_data p round (PostTo to) = due_data p (codes " post ") to round
+next_data p round (TakeFrom from) = due_data p (codes " take ") from round
 
 -- in words, after its name: that it posts, by whether the box of the post holds an envelope
 abbrev pub post_words : ℕ → Bool → ℕ → List ℕ

@@ -3,11 +3,14 @@
 ghost use Rattle.std.specs.Prelude.{◌≡◌, ◌++◌, [], codes, false, true, if◌then◌else◌, string_bytes};
 ghost use Rattle.std.specs.Option.{option_map};
 ghost use Rattle.dsr_names.specs.Actor.{actor_text};
-ghost use Rattle.dsr_chain.specs.Chain.{link_after};
-ghost use Rattle.dsr_explain.specs.Lines.{chain_line, chain_data, chain_data_end, chain_words, or_empty, chain_word, chain_end, read_end, round_of, fate_content, fate_detail, fate_text, fault_detail, fault_text, misfit_text, misfit_told, shown_data, shown_words};
+ghost use Rattle.dsr_desk.specs.ContentText.{content_text};
+ghost use Rattle.dsr_desk.specs.SignersText.{signers_text};
+ghost use Rattle.dsr_chain.specs.Chain.{link_after, signers_of};
+ghost use Rattle.dsr_chain.specs.Content.{content};
+ghost use Rattle.dsr_explain.specs.Lines.{chain_line, chain_data, chain_data_end, chain_words, or_empty, chain_word, chain_end, round_of, fate_content, fate_detail, fate_text, fault_detail, fault_text, misfit_text, misfit_told, shown_data, shown_words};
 
 use crate::chain_texts::{ChainText, end_if_not_new, shown_in};
-use crate::pieces::put_content;
+use crate::pieces::{put_content, put_named, put_numbered};
 use crate::tokens::{Tokens, put_chain};
 use dsr_chain::{Chain, ChainFault};
 use dsr_desk::{Signature, Signers, Statement};
@@ -57,11 +60,19 @@ fn write_not_new(out: &mut Writer, tokens: &Tokens, as_data: bool, at: Actor, en
 pub(crate) fn write_shown_data(out: &mut Writer, tokens: &mut Tokens, chain: &Chain)
     ensures { out.new ≡ out.old ++ shown_data chain.now }
 {
+    write_signed(out, tokens, chain);
+    out.put(" ");
+}
+
+/// Writes who signed a chain, and its content, as data.
+pub(crate) fn write_signed(out: &mut Writer, tokens: &mut Tokens, chain: &Chain)
+    ensures { out.new ≡ out.old
+        ++ (codes " " ++ (signers_text (signers_of chain.now.signatures) ++ (codes " " ++ content_text (content chain.now.value)))) }
+{
     out.put(" ");
     out.put_signers(chain.signers().as_slice());
     out.put(" ");
     put_content(out, tokens, chain);
-    out.put(" ");
 }
 
 /// Writes a text that describes a chain, in words: its signers.
@@ -94,10 +105,8 @@ fn write_data(out: &mut Writer, at: Actor, shown: Option<&String>, slot: u64, fa
 pub(crate) fn write_data_end(out: &mut Writer, shown: Option<&String>, slot: u64, fate: &ChainFate)
     ensures { out.new ≡ out.old ++ chain_data_end (or_empty (option_map (λ s. string_bytes s.now) shown.entry)) slot fate.now }
 {
-    out.put(" ");
-    out.put_number(slot);
-    out.put(" ");
-    out.put_number(round_of(fate));
+    put_numbered(out, " ", slot);
+    put_numbered(out, " ", round_of(fate));
     put_shown(out, shown);
     write_word(out, fate);
     out.put("\n");
@@ -136,8 +145,7 @@ pub(crate) fn write_words(
     ensures { out.new ≡ out.old
         ++ chain_words shape.now (option_map (λ c. c.now) chain.entry) (or_empty (option_map (λ s. string_bytes s.now) shown.entry)) slot fate.now }
 {
-    out.put("    chain of slot ");
-    out.put_number(slot);
+    put_numbered(out, "    chain of slot ", slot);
     put_shown(out, shown);
     write_end(out, tokens, shape, chain, fate);
     out.put("\n");
@@ -155,33 +163,15 @@ fn write_end(
         ++ chain_end shape.now (option_map (λ c. c.now) chain.entry) fate.now }
 {
     match fate {
-        ChainFate::NotInFlight => {
-            out.put(": dropped, as the slot is not in flight");
-        }
+        ChainFate::NotInFlight => out.put(": dropped, as the slot is not in flight"),
         ChainFate::Read { round, fate } => {
-            write_read_end(out, tokens, shape, chain, *round, fate)
+            write_fate_content(out, tokens, chain, fate);
+            put_numbered(out, ", in its round ", *round as u64);
+            out.put(": ");
+            out.put(fate_text(false, fate));
+            write_fate_detail(out, shape, chain, fate)
         }
     }
-}
-
-/// Writes what becomes of a chain that is read in this round of its slot, in words.
-fn write_read_end(
-    out: &mut Writer,
-    tokens: &mut Tokens,
-    shape: &Shape,
-    chain: Option<&Chain>,
-    round: u8,
-    fate: &Fate,
-)
-    ensures { out.new ≡ out.old
-        ++ read_end shape.now (option_map (λ c. c.now) chain.entry) round fate.now }
-{
-    write_fate_content(out, tokens, chain, fate);
-    out.put(", in its round ");
-    out.put_number(round as u64);
-    out.put(": ");
-    out.put(fate_text(false, fate));
-    write_fate_detail(out, shape, chain, fate)
 }
 
 /// Writes the content of a chain with this fate. Only the text of the envelope shows a content that is kept already.
@@ -286,13 +276,10 @@ fn write_fault_detail(out: &mut Writer, shape: &Shape, chain: &Chain, fault: &Ch
     ensures { out.new ≡ out.old ++ fault_detail shape.now chain.now fault.now }
 {
     match fault {
-        ChainFault::WrongCount => {
-            out.put(", but ");
-            out.put_number(chain.signature_count() as u64);
-        }
+        ChainFault::WrongCount => put_numbered(out, ", but ", chain.signature_count() as u64),
         ChainFault::WrongSender => {
-            out.put(", which is ");
-            out.put_name(Actor::Replica(shape.sender(chain.slot())));
+            let sender = Actor::Replica(shape.sender(chain.slot()));
+            put_named(out, ", which is ", sender)
         }
         ChainFault::Misfit => write_misfit(out, chain),
         ChainFault::OtherSlot
@@ -322,8 +309,7 @@ fn write_misfit(out: &mut Writer, chain: &Chain)
 fn tell_misfit(out: &mut Writer, signature: &Signature, link: &Statement)
     ensures { out.new ≡ out.old ++ misfit_told signature.now link.now }
 {
-    out.put(": ");
-    out.put_name(signature.signer());
+    put_named(out, ": ", signature.signer());
     out.put(" signed ");
     out.put_statement(signature.statement());
     out.put(", where ");

@@ -119,7 +119,9 @@ pub(crate) fn end_if_not_new<'a>(
     ensures { IfSome result (λ end. (round : ℕ) × (fate.now ≡ ReadIn round KeptBefore)
         × (string_bytes end.now ≡ not_new_end as_data (or_empty (option_map (λ t. string_bytes t.now.shown) text.entry)) slot round)) }
 {
-    let text = text?;
+    let Some(text) = text else {
+        return None;
+    };
     match fate {
         ChainFate::Read {
             round,

@@ -1,6 +1,8 @@
 //! What matters in a play although nothing is refused: how often it happened, and the line of the first time. Only the end of an explanation in words has
 //! it.
 
+use crate::parts::Part::{Number, Text};
+use crate::parts::put_parts;
 use dsr_base::Exact;
 use dsr_envelope::Envelope;
 use dsr_ledger::Reply;
@@ -16,35 +18,40 @@ pub(crate) type KeptBy = [Option<u8>; 16];
 
 /// How often something happened, and the line in which it did so first.
 #[derive(Clone, Copy)]
-struct Count {
-    number: u64,
+pub(crate) struct Count {
+    pub(crate) number: u64,
     first: u64,
 }
 
 impl Count {
     /// It has not happened yet.
-    const NONE: Count = Count {
+    pub(crate) const NONE: Count = Count {
         number: 0,
         first: 0,
     };
 
     /// Counts that it happened in this line.
-    fn add(&mut self, line: u64) {
+    pub(crate) fn add(&mut self, line: u64) {
         if self.number == 0 {
             self.first = line;
         }
         self.number = self.number.saturating_add(1);
     }
 
-    /// Writes the line that says how often it happened; none if it did not. `what` says what it is.
-    fn write(&self, out: &mut Writer, what: &'static str) {
+    /// Writes how often it happened, and then `end`; nothing if it did not. `what` says what it is.
+    pub(crate) fn write(&self, out: &mut Writer, what: &'static str, end: &'static str) {
         if self.number > 0 {
-            out.put(what);
-            out.put(": ");
-            out.put_number(self.number);
-            out.put(", the first in line ");
-            out.put_number(self.first);
-            out.put("\n");
+            put_parts(
+                out,
+                &[
+                    Text(what),
+                    Text(": "),
+                    Number(self.number),
+                    Text(", the first in line "),
+                    Number(self.first),
+                    Text(end),
+                ],
+            );
         }
     }
 }
@@ -71,7 +78,7 @@ pub(crate) struct NoteCounts {
     /// For each client, by its number, the first vote on its outstanding request.
     first_votes: [Option<FirstVote>; 32],
     /// By slot, how many contents replicas kept.
-    kept: Vec<KeptBy>,
+    pub(crate) kept: Vec<KeptBy>,
 }
 
 impl NoteCounts {
@@ -104,14 +111,28 @@ impl NoteCounts {
         for note in notes {
             match note {
                 Note::OtherRound { .. } => self.other_round.add(line),
-                Note::Chain { fate, .. } => self.add_chain(fate, line),
+                Note::Chain {
+                    fate: ChainFate::NotInFlight,
+                    ..
+                } => self.not_in_flight.add(line),
+                Note::Chain {
+                    fate: ChainFate::Read {
+                        fate: Fate::Improper(_),
+                        ..
+                    },
+                    ..
+                } => self.improper.add(line),
                 Note::Unproposed { .. } => has_proposed_nothing = true,
                 Note::Stale { .. } => self.stale.add(line),
                 Note::Vote { .. } => self.add_vote(actor, envelope, line),
                 Note::NoVote { .. } => self.add_no_vote(stage, actor, line),
                 Note::Accepted { .. } => self.forget_vote(actor),
                 Note::Decided { slot, kept } => self.add_kept(actor, *slot, *kept)?,
-                Note::Kept(_) | Note::Closed { .. } | Note::Acted { .. } | Note::Held { .. } => {}
+                Note::Chain { .. }
+                | Note::Kept(_)
+                | Note::Closed { .. }
+                | Note::Acted { .. }
+                | Note::Held { .. } => {}
             }
         }
         // A sender may hold several requests, each of which has a note.
@@ -121,25 +142,30 @@ impl NoteCounts {
         Ok(())
     }
 
-    /// Returns, by slot, how many contents replicas kept.
-    pub(crate) fn kept(&self) -> &[KeptBy] {
-        self.kept.as_slice()
-    }
-
     /// Writes the line of each of these things that happened.
     pub(crate) fn write(&self, out: &mut Writer) {
-        self.other_round.write(out, "taken envelopes that are not of the round in progress");
-        self.improper.write(out, "taken chains that are not proper");
+        self.other_round.write(
+            out,
+            "taken envelopes that are not of the round in progress",
+            "\n",
+        );
+        self.improper
+            .write(out, "taken chains that are not proper", "\n");
         self.not_in_flight
-            .write(out, "taken chains of a slot that is not in flight");
+            .write(out, "taken chains of a slot that is not in flight", "\n");
         self.unproposed.write(
             out,
             "slots in which the sender proposes nothing, though it holds a request",
+            "\n",
         );
-        self.stale.write(out, "decided requests that do not act");
+        self.stale
+            .write(out, "decided requests that do not act", "\n");
         self.write_unlike(out);
-        self.no_vote
-            .write(out, "taken envelopes that give a waiting client no vote");
+        self.no_vote.write(
+            out,
+            "taken envelopes that give a waiting client no vote",
+            "\n",
+        );
     }
 
     /// Stores how many contents the actor kept for a slot that it decided.
@@ -155,17 +181,6 @@ impl NoteCounts {
             self.kept[place][replica.number() as usize] = Some(count);
         }
         Ok(())
-    }
-
-    /// Counts a chain with this fate, if it is not proper or its slot is not in flight.
-    fn add_chain(&mut self, fate: &ChainFate, line: u64) {
-        match fate {
-            ChainFate::NotInFlight => self.not_in_flight.add(line),
-            ChainFate::Read { fate, .. } => match fate {
-                Fate::Improper(_) => self.improper.add(line),
-                Fate::First | Fate::Second | Fate::NotNew | Fate::OneTooMany => {}
-            },
-        }
     }
 
     /// Counts the vote that this envelope is, if it differs from the first vote on the client's request.
@@ -199,21 +214,24 @@ impl NoteCounts {
 
     /// Writes how many votes differ from the first one on the same request; nothing if none does.
     fn write_unlike(&self, out: &mut Writer) {
+        self.unlike.write(
+            out,
+            "votes that differ from the first vote on the same request",
+            "; it differs from a vote in line ",
+        );
         if self.unlike.number > 0 {
-            out.put("votes that differ from the first vote on the same request: ");
-            out.put_number(self.unlike.number);
-            out.put(", the first in line ");
-            out.put_number(self.unlike.first);
-            out.put("; it differs from a vote in line ");
-            out.put_number(self.unlike_which);
-            out.put("\n");
+            put_parts(out, &[Number(self.unlike_which), Text("\n")]);
         }
     }
 
     /// Counts an envelope that is no vote, if a request of the client is outstanding.
     fn add_no_vote(&mut self, stage: &Stage, actor: &Actor, line: u64) {
-        if is_waiting(stage, actor) {
-            self.no_vote.add(line);
+        let Actor::Client(client) = actor else {
+            return;
+        };
+        match stage.client(*client) {
+            Ok(client) if client.outstanding().is_some() => self.no_vote.add(line),
+            _ => {}
         }
     }
 
@@ -222,16 +240,5 @@ impl NoteCounts {
         if let Actor::Client(client) = actor {
             self.first_votes[client.number() as usize] = None;
         }
-    }
-}
-
-/// Tells whether the actor is a client with an outstanding request.
-fn is_waiting(stage: &Stage, actor: &Actor) -> bool {
-    let Actor::Client(client) = actor else {
-        return false;
-    };
-    match stage.client(*client) {
-        Ok(client) => client.outstanding().is_some(),
-        Err(_) => false,
     }
 }

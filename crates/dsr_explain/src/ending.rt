@@ -6,8 +6,10 @@ ghost use Rattle.dsr_explain.specs.Waits.{AreBelow, IsWaitOfClient, IsWaitOfRepl
 
 use crate::counts::KeptBy;
 use crate::nothing::write_nothing;
+use crate::parts::Part::{Name, Number, Text};
+use crate::parts::put_parts;
 use crate::standing::content_of;
-use crate::story::Story;
+use crate::story::{Story, letter_in_box};
 use crate::waiting::{write_next, write_waits};
 use crate::wanted::Wanted;
 use dsr_names::{Actor, ClientId, Refusal, ReplicaId};
@@ -43,38 +45,17 @@ impl Story {
         if self.wanted.data {
             return out.finish();
         }
-        self.write_refused(&mut out);
-        self.write_noticed(&mut out);
-        self.write_slots(&mut out);
-        out.finish()
-    }
-
-    /// Writes how many events were refused, and the line of the first.
-    fn write_refused(&self, out: &mut Writer) {
-        if self.refused > 0 && self.wanted.is_of_all() {
-            out.put("refused: ");
-            out.put_number(self.refused);
-            out.put(", the first in line ");
-            out.put_number(self.first_refused);
-            out.put("; those after it may follow from it\n");
-        }
-    }
-
-    /// Writes what mattered although it was not refused, if all events are wanted.
-    fn write_noticed(&self, out: &mut Writer) {
         if self.wanted.is_of_all() {
-            self.summary.write_noticed(out);
+            self.refused.write(&mut out, "refused", "; those after it may follow from it\n");
+            self.summary.counts.write(&mut out);
         }
-    }
-
-    /// Writes the outcome of each slot.
-    fn write_slots(&self, out: &mut Writer) {
-        let kept = self.summary.kept();
+        let kept = self.summary.counts.kept.as_slice();
         for slot in 0..kept.len() {
             if self.wanted.has_end_of(slot as u64) {
-                write_slot(out, &self.stage, slot, &kept[slot]);
+                write_slot(&mut out, &self.stage, slot, &kept[slot]);
             }
         }
+        out.finish()
     }
 
     /// Returns, in words, for each actor who has not taken what it posted; and, if there is no other text, that no event is what was wanted.
@@ -86,10 +67,9 @@ impl Story {
         if self.wanted.data {
             return out.finish();
         }
-        let shape = *self.stage.shape();
+        let shape = self.stage.shape();
         for place in 0..shape.size() {
-            let poster = shape.actor_at(place);
-            write_untaken(&mut out, &self.stage, &self.wanted, &poster);
+            write_untaken(&mut out, &self.stage, &self.wanted, &shape.actor_at(place));
         }
         if !self.outflow.has_begun() && self.out.is_empty() && out.is_empty() {
             write_nothing(
@@ -97,7 +77,7 @@ impl Story {
                 &self.stage,
                 &self.wanted,
                 events as u64,
-                self.refused,
+                self.refused.number,
             );
         }
         out.finish()
@@ -169,14 +149,15 @@ fn write_untaken(out: &mut Writer, stage: &Stage, wanted: &Wanted, poster: &Acto
     let mut has_begun = false;
     for place in 0..shape.size() {
         let taker = shape.actor_at(place);
-        if is_full(stage, poster, &taker) {
+        if letter_in_box(stage, poster, &taker).is_some() {
             if has_begun {
-                out.put(", ");
+                put_parts(out, &[Text(", "), Name(taker)]);
             } else {
-                out.put_name(*poster);
-                out.put(": what it posted to ");
+                put_parts(
+                    out,
+                    &[Name(*poster), Text(": what it posted to "), Name(taker)],
+                );
             }
-            out.put_name(taker);
             has_begun = true;
         }
     }
@@ -191,54 +172,50 @@ fn has_wanted(stage: &Stage, wanted: &Wanted, poster: &Actor) -> bool {
     let mut is_wanted = wanted.has_wait_of(*poster);
     for place in 0..shape.size() {
         let taker = shape.actor_at(place);
-        is_wanted = is_wanted || (wanted.has_wait_of(taker) && is_full(stage, poster, &taker));
+        is_wanted = is_wanted
+            || (wanted.has_wait_of(taker) && letter_in_box(stage, poster, &taker).is_some());
     }
     is_wanted
 }
 
-/// Tells whether the box from one actor to another holds an envelope; false if one of them is not in the shape.
-fn is_full(stage: &Stage, from: &Actor, to: &Actor) -> bool {
-    stage.shape().has(*from) && stage.shape().has(*to) && stage.in_box(from, to).is_some()
-}
-
 /// Writes the outcome of a slot.
 fn write_slot(out: &mut Writer, stage: &Stage, slot: usize, kept: &KeptBy) {
-    let sender = stage.shape().sender(slot as u64);
-    out.put("slot ");
-    out.put_number(slot as u64);
-    out.put(", sent by ");
-    out.put_name(Actor::Replica(sender));
-    if !stage.shape().is_loyal(Actor::Replica(sender)) {
-        out.put(", a traitor");
-    }
-    out.put(": ");
-    write_content(out, &decided_content(stage, slot));
-    write_counts(out, stage.shape().n(), kept);
+    let shape = stage.shape();
+    let sender = shape.sender(slot as u64);
+    let traitor = if shape.is_loyal(Actor::Replica(sender)) {
+        ""
+    } else {
+        ", a traitor"
+    };
+    put_parts(
+        out,
+        &[
+            Text("slot "),
+            Number(slot as u64),
+            Text(", sent by "),
+            Name(Actor::Replica(sender)),
+            Text(traitor),
+            Text(": "),
+        ],
+    );
+    out.put_content(&decided_content(stage, slot));
+    write_counts(out, kept);
     out.put("\n");
 }
 
-/// Writes the content: its requests, joined by commas, or that it is idle.
-fn write_content(out: &mut Writer, content: &Option<Requests>) {
-    let Some(requests) = content else {
-        out.put("idle");
-        return;
-    };
-    for place in 0..requests.as_slice().len() {
-        if place > 0 {
-            out.put(",");
-        }
-        out.put_request(&requests.as_slice()[place]);
-    }
-}
-
-/// Writes, for each of the first `replicas` replicas that decided the slot, how many contents it kept.
-fn write_counts(out: &mut Writer, replicas: u8, kept: &KeptBy) {
-    for number in 0..replicas {
-        if let Some(Some(count)) = kept.get(number as usize) {
-            out.put("; r");
-            out.put_number(number as u64);
-            out.put(" kept ");
-            out.put(kept_word(*count));
+/// Writes, for each replica that decided the slot, how many contents it kept.
+fn write_counts(out: &mut Writer, kept: &KeptBy) {
+    for number in 0..kept.len() {
+        if let Some(count) = kept[number] {
+            put_parts(
+                out,
+                &[
+                    Text("; r"),
+                    Number(number as u64),
+                    Text(" kept "),
+                    Text(kept_word(count)),
+                ],
+            );
         }
     }
 }
@@ -255,10 +232,8 @@ fn kept_word(count: u8) -> &'static str {
 /// Returns the requests that the first loyal replica with any decided for the slot; `None` if no loyal replica decided any.
 fn decided_content(stage: &Stage, slot: usize) -> Option<Requests> {
     for number in 0..stage.shape().n() {
-        let Ok(replica) = ReplicaId::new(number) else {
-            continue;
-        };
-        let content = content_of(stage, &Actor::Replica(replica), slot as u64);
+        let replica = Actor::Replica(ReplicaId::of(number));
+        let content = content_of(stage, &replica, slot as u64);
         if content.is_some() {
             return content;
         }

@@ -1,10 +1,11 @@
 //! The line of an event: its number, the line of the play that represents it, and who does what to whom.
 
-ghost use Rattle.std.specs.Prelude.{◌≡◌, ◌++◌, None, false, IfOk, IfSome, IsTrue, OnOk, IsOkUnless, string_bytes};
+ghost use Rattle.std.specs.Prelude.{◌≡◌, ◌++◌, IfOk, IfSome, OnOk, IsOkUnless, string_bytes};
 ghost use Rattle.dsr_reasons.specs.Reason.{actor_of};
-ghost use Rattle.dsr_explain.specs.Heads.{text_after, text_from};
+ghost use Rattle.dsr_explain.specs.Heads.{text_after};
 ghost use Rattle.dsr_explain.specs.Told.{doing, done_line, place_text, refusal_text, refused_line, verb_of};
 
+use crate::pieces::{put_named, put_numbered};
 use crate::starts::{Start, write_start};
 use crate::tokens::Tokens;
 use crate::verb::Verb;
@@ -16,71 +17,15 @@ use std::alloc::Global;
 /// Initial buffer size in bytes; most texts fit.
 const ROOM: usize = 48;
 
-/// What several events may share: whether they are written as data, the line of the play that represents them, the actor, and what it does.
-#[derive(Clone, Copy)]
-pub struct Deed {
-    pub(crate) as_data: bool,
-    pub(crate) line: u64,
-    pub(crate) verb: Verb,
-    pub(crate) actor: Actor,
-}
-
-impl Deed {
-    /// Returns what the event, which this line of the play represents, may share with others.
-    fn of(as_data: bool, line: u64, event: &Event) -> Deed
-        ensures as_data { result.as_data ≡ as_data }
-        ensures line { result.line ≡ line }
-        ensures verb { result.verb ≡ verb_of event.now }
-        ensures actor { result.actor ≡ actor_of event.now }
-    {
-        Deed {
-            as_data,
-            line,
-            verb: Verb::of(event),
-            actor: actor_of(event),
-        }
-    }
-
-    /// Tells whether `of` would return this deed, without making one: it is called for each event.
-    fn is_of(&self, as_data: bool, line: u64, event: &Event) -> bool
-        ensures as_data { IsTrue result → self.now.as_data ≡ as_data }
-        ensures line { IsTrue result → self.now.line ≡ line }
-        ensures verb { IsTrue result → self.now.verb ≡ verb_of event.now }
-        ensures actor { IsTrue result → self.now.actor ≡ actor_of event.now }
-    {
-        self.line == line
-            && self.as_data == as_data
-            && self.verb == Verb::of(event)
-            && self.actor == actor_of(event)
-    }
-}
-
-/// The text between an event's number and the name of whom it concerns, for the events of a deed.
+/// The text between an event's number and the name of whom it concerns, for all events that one line of the play represents and whose actor does the same.
 #[derive(Drop)]
 struct Head {
-    deed: Deed,
-    after: String,
-    ghost is: { string_bytes after ≡ text_after deed },
-}
-
-impl Head {
-    /// Writes the text. `NoMemory` if memory runs out.
-    fn of(alloc: Global, deed: &Deed) -> Result<Head, Refusal>
-        ensures same { IfOk result (λ head. head.deed ≡ deed.now) }
-        ensures refusal { IsOkUnless result Refusal.NoMemory }
-    {
-        let after = text_after(alloc, deed)?;
-        Ok(Head { deed: *deed, after })
-    }
-
-    /// Writes the line of an event of this deed, which was done, from its number on; `shown` is the envelope that it posted or took.
-    fn write(&self, out: &mut Writer, tokens: &Tokens, event: &Event, shown: &String)
-        ensures { out.new ≡ out.old ++ text_from self.now.deed event.now (string_bytes shown.now) }
-    {
-        out.put_text(&self.after);
-        tokens.put_done(out, self.deed.as_data, other_of(event));
-        out.put_text(shown);
-    }
+    as_data: bool,
+    line: u64,
+    verb: Verb,
+    actor: Actor,
+    text: String,
+    ghost is: { string_bytes text ≡ text_after as_data line verb actor },
 }
 
 /// The texts that the lines of several events share, each written once for all of them.
@@ -116,68 +61,95 @@ impl Heads {
         ensures refusal { IsOkUnless result Refusal.NoMemory }
     {
         write_start(out, self.alloc, &mut self.start, as_data, line, number)?;
-        let head = head_of(self.alloc, &mut self.head, as_data, line, event)?;
-        head.write(out, tokens, event, shown);
+        put_head(out, self.alloc, &mut self.head, as_data, line, event)?;
+        tokens.put_done(out, as_data, other_of(event));
+        out.put_text(shown);
         Ok(())
     }
 }
 
-/// Returns the text of the event's deed: the last one if it is that, otherwise a new one, which becomes the last. `NoMemory` if memory runs out.
-fn head_of<'a>(
+/// Appends the text between the event's number and the name of whom it concerns: `last` if it is the event's, otherwise a new one, which becomes the last.
+/// `NoMemory` if memory runs out.
+fn put_head(
+    out: &mut Writer,
     alloc: Global,
-    last: &'a mut Option<Head>,
+    last: &mut Option<Head>,
     as_data: bool,
     line: u64,
     event: &Event,
-) -> Result<&'a Head, Refusal>
-    ensures as_data { IfOk result (λ head. head.now.deed.as_data ≡ as_data) }
-    ensures line { IfOk result (λ head. head.now.deed.line ≡ line) }
-    ensures verb { IfOk result (λ head. head.now.deed.verb ≡ verb_of event.now) }
-    ensures actor { IfOk result (λ head. head.now.deed.actor ≡ actor_of event.now) }
+) -> Result<(), Refusal>
+    ensures text { OnOk result (out.new ≡ out.old ++ text_after as_data line (verb_of event.now) (actor_of event.now)) }
     ensures refusal { IsOkUnless result Refusal.NoMemory }
 {
-    if !is_of(last, as_data, line, event) {
-        *last = Some(Head::of(alloc, &Deed::of(as_data, line, event))?);
-    }
-    match last {
-        Some(head) => Ok(head),
-        None => unreachable!(),
+    match text_of(last, as_data, line, event) {
+        Some(text) => {
+            out.put_text(text);
+            Ok(())
+        }
+        None => put_anew(out, alloc, last, as_data, line, event),
     }
 }
 
-/// Tells whether there is a text and it is that of the event's deed.
-fn is_of(last: &Option<Head>, as_data: bool, line: u64, event: &Event) -> bool
-    ensures as_data { IfSome last.now (λ head. IsTrue result → head.deed.as_data ≡ as_data) }
-    ensures line { IfSome last.now (λ head. IsTrue result → head.deed.line ≡ line) }
-    ensures verb { IfSome last.now (λ head. IsTrue result → head.deed.verb ≡ verb_of event.now) }
-    ensures actor { IfSome last.now (λ head. IsTrue result → head.deed.actor ≡ actor_of event.now) }
-    ensures none { last.now ≡ None → result ≡ false }
+/// Returns the text if it is that of the event.
+fn text_of<'a>(
+    last: &'a Option<Head>,
+    as_data: bool,
+    line: u64,
+    event: &Event,
+) -> Option<&'a String>
+    ensures { IfSome result (λ text. string_bytes text.now ≡ text_after as_data line (verb_of event.now) (actor_of event.now)) }
 {
     match last {
-        Some(head) => head.deed.is_of(as_data, line, event),
-        None => false,
+        Some(head)
+            if head.line == line
+                && head.as_data == as_data
+                && head.verb == Verb::of(event)
+                && head.actor == actor_of(event) => Some(&head.text),
+        _ => None,
     }
 }
 
-/// Returns the text between the number of such an event and the name of whom it concerns. `NoMemory` if memory runs out.
-fn text_after(alloc: Global, deed: &Deed) -> Result<String, Refusal>
-    ensures text { IfOk result (λ text. string_bytes text ≡ text_after deed.now) }
+/// Writes the text of the event, appends it, and keeps it as the last. `NoMemory` if memory runs out.
+fn put_anew(
+    out: &mut Writer,
+    alloc: Global,
+    last: &mut Option<Head>,
+    as_data: bool,
+    line: u64,
+    event: &Event,
+) -> Result<(), Refusal>
+    ensures text { OnOk result (out.new ≡ out.old ++ text_after as_data line (verb_of event.now) (actor_of event.now)) }
+    ensures refusal { IsOkUnless result Refusal.NoMemory }
+{
+    let text = spell(alloc, as_data, line, event)?;
+    out.put_text(&text);
+    *last = Some(Head {
+        as_data,
+        line,
+        verb: Verb::of(event),
+        actor: actor_of(event),
+        text,
+    });
+    Ok(())
+}
+
+/// Writes the text between an event's number and the name of whom it concerns. `NoMemory` if memory runs out.
+fn spell(alloc: Global, as_data: bool, line: u64, event: &Event) -> Result<String, Refusal>
+    ensures text { IfOk result (λ text. string_bytes text ≡ text_after as_data line (verb_of event.now) (actor_of event.now)) }
     ensures refusal { IsOkUnless result Refusal.NoMemory }
 {
     let mut text = Writer::new(alloc);
     text.reserve(ROOM);
-    if deed.as_data {
+    let verb = Verb::of(event).text(as_data);
+    if as_data {
+        put_numbered(&mut text, " ", line);
         text.put(" ");
-        text.put_number(deed.line);
-        text.put(" ");
-        text.put(deed.verb.text(true));
-        text.put(" ");
-        text.put_name(deed.actor);
+        text.put(verb);
+        put_named(&mut text, " ", actor_of(event));
         text.put(" ");
     } else {
-        text.put(": ");
-        text.put_name(deed.actor);
-        text.put(deed.verb.text(false));
+        put_named(&mut text, ": ", actor_of(event));
+        text.put(verb);
     }
     text.finish()
 }
@@ -204,13 +176,12 @@ pub(crate) fn write_refused(
 fn write_refusal(out: &mut Writer, as_data: bool, event: &Event, refusal: &Refusal)
     ensures { out.new ≡ out.old ++ refusal_text as_data event.now refusal.now }
 {
+    let code = refusal.code() as u64;
     if as_data {
         write_doing(out, true, event);
-        out.put(" E");
-        out.put_number(refusal.code() as u64);
+        put_numbered(out, " E", code);
     } else {
-        out.put(": refused, E");
-        out.put_number(refusal.code() as u64);
+        put_numbered(out, ": refused, E", code);
         out.put(" ");
         out.put(refusal.word());
         write_doing(out, false, event);
@@ -222,16 +193,12 @@ fn write_place(out: &mut Writer, as_data: bool, number: u64, line: u64)
     ensures { out.new ≡ out.old ++ place_text as_data number line }
 {
     if as_data {
-        out.put("event ");
-        out.put_number(number);
-        out.put(" ");
-        out.put_number(line);
+        put_numbered(out, "event ", number);
+        put_numbered(out, " ", line);
         out.put(" ");
     } else {
-        out.put("line ");
-        out.put_number(line);
-        out.put(", event ");
-        out.put_number(number);
+        put_numbered(out, "line ", line);
+        put_numbered(out, ", event ", number);
     }
 }
 
@@ -239,16 +206,15 @@ fn write_place(out: &mut Writer, as_data: bool, number: u64, line: u64)
 fn write_doing(out: &mut Writer, as_data: bool, event: &Event)
     ensures { out.new ≡ out.old ++ doing as_data event.now }
 {
+    let verb = Verb::of(event).text(as_data);
+    let actor = actor_of(event);
+    let other = other_of(event);
     if as_data {
-        out.put(Verb::of(event).text(true));
-        out.put(" ");
-        out.put_name(actor_of(event));
-        out.put(" ");
-        out.put_name(other_of(event));
+        out.put(verb);
+        put_named(out, " ", actor);
+        put_named(out, " ", other);
     } else {
-        out.put(": ");
-        out.put_name(actor_of(event));
-        out.put(Verb::of(event).text(false));
-        out.put_name(other_of(event));
+        put_named(out, ": ", actor);
+        put_named(out, verb, other);
     }
 }

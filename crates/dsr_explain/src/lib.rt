@@ -13,6 +13,7 @@ mod heads;
 mod lines;
 mod nothing;
 mod outlet;
+mod parts;
 mod pieces;
 mod places;
 mod posts;

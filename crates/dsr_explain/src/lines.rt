@@ -1,27 +1,23 @@
 //! The line of each note: data if `as_data`, otherwise words. `specs/Lines` says which line; each kind of note has its words at one place.
 
-ghost use Rattle.std.specs.Prelude.{◌≡◌, ◌++◌, map, codes, slice_get, string_bytes};
-ghost use Rattle.std.specs.Fmt.{decimal};
+ghost use Rattle.std.specs.Prelude.{◌≡◌, ◌++◌, if◌then◌else◌, map, codes, slice_get, string_bytes};
 ghost use Rattle.std.specs.Option.{option_map};
-ghost use Rattle.dsr_names.specs.Actor.{actor_text};
+ghost use Rattle.dsr_request.specs.RequestText.{request_token};
 ghost use Rattle.dsr_desk.specs.ContentText.{content_text};
-ghost use Rattle.dsr_desk.specs.SignersText.{signers_text};
-ghost use Rattle.dsr_chain.specs.Chain.{signers_of};
-ghost use Rattle.dsr_chain.specs.Content.{content};
 ghost use Rattle.dsr_run.specs.Step.{log_of};
 ghost use Rattle.dsr_reasons.specs.Reason.{actor_of, other_of};
-ghost use Rattle.dsr_explain.specs.Lines.{about, kept_data, kept_words, note_line, other_round_line, kept_line, closed_line, decided_content, decided_line, kept_text, acted_line, stale_line, held_line, unproposed_line, vote_line, no_vote_text, no_vote_line, accepted_line};
+ghost use Rattle.dsr_explain.specs.Lines.{about, about_reply, kept_data, kept_words, note_line, other_round_line, kept_line, closed_line, decided_content, decided_line, kept_text, acted_line, stale_line, held_line, unproposed_line, vote_line, no_vote_text, no_vote_line, accepted_line};
 
-use crate::chain_lines::write_chain;
+use crate::chain_lines::{write_chain, write_shown_words, write_signed};
 use crate::chain_texts::ChainText;
-use crate::pieces::{put_content, put_decision};
+use crate::pieces::{put_content, put_decision, put_named, put_numbered};
 use crate::standing::decision_of;
 use crate::tokens::Tokens;
 use dsr_chain::Chain;
 use dsr_ledger::Reply;
 use dsr_names::Actor;
 use dsr_notes::{NoVote, Note};
-use dsr_reasons::{Writer, actor_of, other_of};
+use dsr_reasons::{Writer, actor_of, one_of, other_of};
 use dsr_request::Request;
 use dsr_slot::Kept;
 use dsr_world::{Event, Stage};
@@ -107,23 +103,13 @@ pub(crate) fn put_about(
     out.put_number(number);
 }
 
-/// Writes two actors between three texts.
-fn put_two(
-    out: &mut Writer,
-    before: &'static str,
-    one: Actor,
-    between: &'static str,
-    two: Actor,
-    after: &'static str,
-)
-    ensures { out.new ≡ out.old
-        ++ (before.now ++ (actor_text one ++ (between.now ++ (actor_text two ++ after.now)))) }
+/// Ends a line with the text and the request.
+fn end_with(out: &mut Writer, tokens: &mut Tokens, text: &'static str, request: &Request)
+    ensures { out.new ≡ out.old ++ (text.now ++ (request_token request.now ++ codes "\n")) }
 {
-    out.put(before);
-    out.put_name(one);
-    out.put(between);
-    out.put_name(two);
-    out.put(after);
+    out.put(text);
+    tokens.put_request(out, request);
+    out.put("\n");
 }
 
 /// Writes that an envelope is not one of the round in progress.
@@ -144,44 +130,24 @@ fn write_kept(out: &mut Writer, tokens: &mut Tokens, as_data: bool, at: Actor, k
 {
     let slot = kept.chain.slot();
     put_about(out, as_data, "kept ", at, " has kept of slot ", slot);
-    if as_data {
-        write_kept_data(out, tokens, kept);
-    } else {
-        write_kept_words(out, tokens, kept);
-    }
+    put_kept(out, tokens, as_data, kept);
     out.put("\n");
 }
 
-/// Writes how a chain was kept, as data: the round of its slot in which it was read, its signers and its content.
-fn write_kept_data(out: &mut Writer, tokens: &mut Tokens, kept: &Kept)
-    ensures { out.new ≡ out.old ++ kept_data kept.now }
+/// Appends how a chain was kept: the round of its slot in which it was read, its signers and its content.
+fn put_kept(out: &mut Writer, tokens: &mut Tokens, as_data: bool, kept: &Kept)
+    ensures { out.new ≡ out.old ++ (if as_data then kept_data kept.now else kept_words kept.now) }
 {
-    out.put(" ");
-    out.put_number(kept.round as u64);
-    write_signed(out, tokens, &kept.chain)
-}
-
-/// Writes who signed a chain, and its content, as data.
-fn write_signed(out: &mut Writer, tokens: &mut Tokens, chain: &Chain)
-    ensures { out.new ≡ out.old
-        ++ (codes " " ++ (signers_text (signers_of chain.now.signatures) ++ (codes " " ++ content_text (content chain.now.value)))) }
-{
-    out.put(" ");
-    out.put_signers(chain.signers().as_slice());
-    out.put(" ");
-    put_content(out, tokens, chain)
-}
-
-/// Writes how a chain was kept, in words.
-fn write_kept_words(out: &mut Writer, tokens: &mut Tokens, kept: &Kept)
-    ensures { out.new ≡ out.old ++ kept_words kept.now }
-{
-    out.put(": ");
-    put_content(out, tokens, &kept.chain);
-    out.put(", read in the slot's round ");
-    out.put_number(kept.round as u64);
-    out.put(", signed by ");
-    out.put_signers(kept.chain.signers().as_slice());
+    let round = kept.round as u64;
+    if as_data {
+        put_numbered(out, " ", round);
+        write_signed(out, tokens, &kept.chain);
+    } else {
+        out.put(": ");
+        put_content(out, tokens, &kept.chain);
+        put_numbered(out, ", read in the slot's round ", round);
+        write_shown_words(out, &kept.chain);
+    }
 }
 
 /// Writes that a round is closed.
@@ -208,54 +174,29 @@ fn write_decided(
 {
     put_about(out, as_data, "decide ", at, " decides slot ", slot);
     if as_data {
-        write_decided_data(out, tokens, stage, &at, slot, kept)
+        put_numbered(out, " ", kept as u64);
+        put_decided(out, tokens, " ", stage, &at, slot);
+        out.put("\n");
     } else {
-        write_decided_words(out, tokens, stage, &at, slot, kept)
+        put_decided(out, tokens, ": ", stage, &at, slot);
+        out.put(reason_of(kept));
+        out.put("\n");
     }
 }
 
-/// Writes what was decided for a slot, as data: for how many chains that were kept, and the content.
-fn write_decided_data(
+/// Appends the text and the content that the actor decided for the slot.
+fn put_decided(
     out: &mut Writer,
     tokens: &mut Tokens,
+    text: &'static str,
     stage: &Stage,
     at: &Actor,
     slot: u64,
-    kept: u8,
 )
     ensures { out.new ≡ out.old
-        ++ (codes " " ++ (decimal kept ++ (codes " " ++ (content_text (decided_content stage.now.shape (log_of stage.now.run) at.now slot) ++ codes "\n")))) }
+        ++ (text.now ++ content_text (decided_content stage.now.shape (log_of stage.now.run) at.now slot)) }
 {
-    out.put(" ");
-    out.put_number(kept as u64);
-    out.put(" ");
-    put_decided(out, tokens, stage, at, slot);
-    out.put("\n");
-}
-
-/// Writes what was decided for a slot, in words: the content, and why.
-fn write_decided_words(
-    out: &mut Writer,
-    tokens: &mut Tokens,
-    stage: &Stage,
-    at: &Actor,
-    slot: u64,
-    kept: u8,
-)
-    ensures { out.new ≡ out.old
-        ++ (codes ": " ++ (content_text (decided_content stage.now.shape (log_of stage.now.run) at.now slot) ++ (kept_text kept ++ codes "\n"))) }
-{
-    out.put(": ");
-    put_decided(out, tokens, stage, at, slot);
-    out.put(reason_of(kept));
-    out.put("\n");
-}
-
-/// Appends the content that the actor decided for the slot.
-fn put_decided(out: &mut Writer, tokens: &mut Tokens, stage: &Stage, at: &Actor, slot: u64)
-    ensures { out.new ≡ out.old
-        ++ content_text (decided_content stage.now.shape (log_of stage.now.run) at.now slot) }
-{
+    out.put(text);
     match decision_of(stage, at, slot) {
         Some(decision) => put_decision(out, tokens, decision),
         None => out.put("idle"),
@@ -286,18 +227,14 @@ fn write_acted(
 {
     if as_data {
         put_about(out, true, "act ", at, "", place);
-        out.put(" ");
+        end_with(out, tokens, " ", request);
+    } else {
+        out.put("    ");
         tokens.put_request(out, request);
-        out.put("\n");
-        return;
+        put_named(out, " acts at ", at);
+        put_numbered(out, ", at place ", place);
+        out.put(" of the history\n");
     }
-    out.put("    ");
-    tokens.put_request(out, request);
-    out.put(" acts at ");
-    out.put_name(at);
-    out.put(", at place ");
-    out.put_number(place);
-    out.put(" of the history\n");
 }
 
 /// Writes that a request did not act.
@@ -305,29 +242,23 @@ fn write_stale(out: &mut Writer, tokens: &mut Tokens, as_data: bool, at: Actor, 
     ensures { out.new ≡ out.old ++ stale_line as_data at request.now }
 {
     if as_data {
-        out.put("stale ");
-        out.put_name(at);
-        out.put(" ");
+        put_named(out, "stale ", at);
+        end_with(out, tokens, " ", request);
+    } else {
+        out.put("    ");
         tokens.put_request(out, request);
-        out.put("\n");
-        return;
+        put_named(out, " does not act at ", at);
+        out.put(": a request of its client with this number or a greater one has acted already\n");
     }
-    out.put("    ");
-    tokens.put_request(out, request);
-    out.put(" does not act at ");
-    out.put_name(at);
-    out.put(": a request of its client with this number or a greater one has acted already\n");
 }
 
 /// Writes that a replica holds a request.
 fn write_held(out: &mut Writer, tokens: &mut Tokens, as_data: bool, at: Actor, request: &Request)
     ensures { out.new ≡ out.old ++ held_line as_data at request.now }
 {
-    out.put_one(as_data, "hold ", "    ");
-    out.put_name(at);
-    out.put_one(as_data, " ", " holds the request ");
-    tokens.put_request(out, request);
-    out.put("\n");
+    put_named(out, one_of(as_data, "hold ", "    "), at);
+    let text = one_of(as_data, " ", " holds the request ");
+    end_with(out, tokens, text, request);
 }
 
 /// Writes that a replica proposes nothing in a slot, though it holds a request.
@@ -345,30 +276,39 @@ fn write_unproposed(out: &mut Writer, as_data: bool, at: Actor, slot: u64, reque
 fn write_vote(out: &mut Writer, as_data: bool, at: Actor, other: Actor, count: u8, needed: u8)
     ensures { out.new ≡ out.old ++ vote_line as_data at other count needed }
 {
-    if as_data {
-        put_two(out, "vote ", at, " ", other, " ");
-        out.put_number(count as u64);
-        out.put(" ");
-        out.put_number(needed as u64);
-        out.put("\n");
-        return;
-    }
-    put_two(out, "    a vote of ", other, " at ", at, ": ");
+    put_reply(out, as_data, "vote ", at, "    a vote of ", other);
     out.put_number(count as u64);
-    out.put(" of ");
-    out.put_number(needed as u64);
-    out.put(" needed\n");
+    put_numbered(out, one_of(as_data, " ", " of "), needed as u64);
+    out.put_one(as_data, "\n", " needed\n");
+}
+
+/// Writes the beginning of a line about the reply of `other`: the word and both actors if `as_data`, otherwise the words, and both in the other order.
+fn put_reply(
+    out: &mut Writer,
+    as_data: bool,
+    word: &'static str,
+    at: Actor,
+    words: &'static str,
+    other: Actor,
+)
+    ensures { out.new ≡ out.old ++ about_reply as_data word.now at words.now other }
+{
+    if as_data {
+        put_named(out, word, at);
+        put_named(out, " ", other);
+        out.put(" ");
+    } else {
+        put_named(out, words, other);
+        put_named(out, " at ", at);
+        out.put(": ");
+    }
 }
 
 /// Writes that an envelope is not a vote.
 fn write_no_vote(out: &mut Writer, as_data: bool, at: Actor, other: Actor, why: NoVote)
     ensures { out.new ≡ out.old ++ no_vote_line as_data at other why }
 {
-    if as_data {
-        put_two(out, "no-vote ", at, " ", other, " ");
-    } else {
-        put_two(out, "    no vote of ", other, " at ", at, ": ");
-    }
+    put_reply(out, as_data, "no-vote ", at, "    no vote of ", other);
     write_why_not(out, as_data, why);
     out.put("\n");
 }
@@ -404,16 +344,14 @@ fn write_accepted(out: &mut Writer, as_data: bool, at: Actor, reply: &Reply)
     let verb = " accepts the reply to its request ";
     put_about(out, as_data, "accept ", at, verb, reply.number);
     if as_data {
-        out.put(" ");
-        out.put_number(reply.place);
+        put_numbered(out, " ", reply.place);
         out.put(" ");
         out.put_answer(&reply.answer);
         out.put("\n");
     } else {
         out.put(": ");
         out.put_answer(&reply.answer);
-        out.put(", at place ");
-        out.put_number(reply.place);
+        put_numbered(out, ", at place ", reply.place);
         out.put("\n");
     }
 }

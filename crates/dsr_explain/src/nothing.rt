@@ -1,5 +1,7 @@
 //! What an explanation says if no event is what was wanted.
 
+use crate::parts::Part::{Name, Number, Text};
+use crate::parts::put_parts;
 use crate::wanted::Wanted;
 use dsr_names::{ReplicaId, Shape};
 use dsr_reasons::Writer;
@@ -18,71 +20,68 @@ pub(crate) fn write_nothing(
         return;
     }
     if wanted.refused && refused == 0 {
-        out.put("no event was refused: all ");
-        out.put_number(events);
-        out.put(" were done\n");
+        put_parts(
+            out,
+            &[
+                Text("no event was refused: all "),
+                Number(events),
+                Text(" were done\n"),
+            ],
+        );
         return;
     }
-    out.put("none of the ");
-    if wanted.refused {
-        out.put_number(refused);
-        out.put(" refused events is");
+    let (count, kind) = if wanted.refused {
+        (refused, " refused events is")
     } else {
-        out.put_number(events);
-        out.put(" events is");
-    }
+        (events, " events is")
+    };
+    put_parts(out, &[Text("none of the "), Number(count), Text(kind)]);
     write_wanted(out, wanted);
-    write_existing(out, stage, wanted);
+    write_actors(out, stage.shape(), wanted);
+    if wanted.slot.is_some() {
+        put_parts(
+            out,
+            &[
+                Text("; the slots that have begun are 0 to "),
+                Number(last_slot(stage)),
+            ],
+        );
+    }
     out.put("\n");
 }
 
 /// Writes which actor and which slot were wanted.
 fn write_wanted(out: &mut Writer, wanted: &Wanted) {
     if let Some(actor) = wanted.actor {
-        out.put(" by ");
-        out.put_name(actor);
+        put_parts(out, &[Text(" by "), Name(actor)]);
     }
     if let Some(slot) = wanted.slot {
-        out.put(" of slot ");
-        out.put_number(slot);
+        put_parts(out, &[Text(" of slot "), Number(slot)]);
     }
 }
 
-/// Writes which actors there are, if the wanted one is not in the shape, and which slots, if a slot was wanted.
-fn write_existing(out: &mut Writer, stage: &Stage, wanted: &Wanted) {
-    if is_outside(stage.shape(), wanted) {
-        write_actors(out, stage.shape());
-    }
-    if wanted.slot.is_some() {
-        out.put("; the slots that have begun are 0 to ");
-        out.put_number(last_slot(stage));
-    }
-}
-
-/// Tells whether an actor was wanted that is not in the shape.
-fn is_outside(shape: &Shape, wanted: &Wanted) -> bool {
+/// Writes which actors are in the shape, if the wanted one is not.
+fn write_actors(out: &mut Writer, shape: &Shape, wanted: &Wanted) {
     match wanted.actor {
-        Some(actor) => !shape.has(actor),
-        None => false,
+        Some(actor) if !shape.has(actor) => put_parts(
+            out,
+            &[
+                Text("; the replicas are r0 to r"),
+                Number(shape.n().saturating_sub(1) as u64),
+                Text(", and the clients c0 to c"),
+                Number(shape.m().saturating_sub(1) as u64),
+            ],
+        ),
+        _ => {}
     }
-}
-
-/// Writes which actors are in the shape.
-fn write_actors(out: &mut Writer, shape: &Shape) {
-    out.put("; the replicas are r0 to r");
-    out.put_number(shape.n().saturating_sub(1) as u64);
-    out.put(", and the clients c0 to c");
-    out.put_number(shape.m().saturating_sub(1) as u64);
 }
 
 /// Returns the newest slot that has begun at a loyal replica: one begins with each round.
 fn last_slot(stage: &Stage) -> u64 {
     let mut last: u64 = 0;
     for number in 0..stage.shape().n() {
-        if let Ok(replica) = ReplicaId::new(number) {
-            if let Ok(loyal) = stage.replica(replica) {
-                last = last.max(loyal.round());
-            }
+        if let Ok(loyal) = stage.replica(ReplicaId::of(number)) {
+            last = last.max(loyal.round());
         }
     }
     last

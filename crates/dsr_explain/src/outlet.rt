@@ -80,12 +80,16 @@ impl Outflow {
         ensures refusal { IfErr result (λ refusal. ((refusal ≡ Refusal.NoMemory) × (sink.new ≡ sink.old)) ⊎ (refusal ≡ Refusal.WriteFailed)) }
         ensures calls { (K.output sink.new).calls + self.new.calls ≤ (K.output sink.old).calls + self.old.calls }
     {
-        let whole = text.whole()?;
+        let Ok(whole) = text.whole() else {
+            return Err(Refusal::NoMemory);
+        };
         if !self.in_parts || whole.len() < PART {
             return Ok(());
         }
         self.has_begun = true;
-        send(sink, whole.as_bytes(), &mut self.calls)?;
+        let Ok(_) = send(sink, whole.as_bytes(), &mut self.calls) else {
+            return Err(Refusal::WriteFailed);
+        };
         text.clear();
         Ok(())
     }

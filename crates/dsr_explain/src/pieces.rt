@@ -1,7 +1,9 @@
 //! Pieces of lines that name several things.
 
 ghost use Rattle.std.specs.Prelude.{◌≡◌, ◌++◌, map};
+ghost use Rattle.std.specs.Fmt.{decimal};
 ghost use Rattle.dsr_base.specs.Joined.{more_joined};
+ghost use Rattle.dsr_names.specs.Actor.{actor_text};
 ghost use Rattle.dsr_request.specs.RequestText.{request_token};
 ghost use Rattle.dsr_request.specs.RequestsText.{requests_text};
 ghost use Rattle.dsr_desk.specs.ContentText.{content_text};
@@ -25,6 +27,22 @@ pub(crate) fn place_of(actor: Actor) -> usize {
         Actor::Replica(replica) => replica.number() as usize,
         Actor::Client(client) => client.number() as usize + MOST_REPLICAS,
     }
+}
+
+/// Appends the text and the actor's name.
+pub(crate) fn put_named(out: &mut Writer, text: &'static str, actor: Actor)
+    ensures { out.new ≡ out.old ++ (text.now ++ actor_text actor) }
+{
+    out.put(text);
+    out.put_name(actor);
+}
+
+/// Appends the text and the number.
+pub(crate) fn put_numbered(out: &mut Writer, text: &'static str, number: u64)
+    ensures { out.new ≡ out.old ++ (text.now ++ decimal number) }
+{
+    out.put(text);
+    out.put_number(number);
 }
 
 /// Appends the content of the chain: its requests, joined by commas, or that it is idle.

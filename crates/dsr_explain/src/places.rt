@@ -18,14 +18,19 @@ impl Line<'_> {
     /// Returns the text of the envelope that this line plants: what follows the actors in `plant A B ENVELOPE`, or the actor in `plants A ENVELOPE`. For a
     /// line of another kind the result means nothing.
     pub(crate) fn envelope(&self) -> Option<&str> {
-        let (word, rest) = split_once(self.text, b' ')?;
-        let (_, rest) = split_once(rest, b' ')?;
-        let envelope = if word == b"plants".as_slice() {
-            rest
+        let words = if self.text.starts_with(b"plants ".as_slice()) {
+            2
         } else {
-            split_once(rest, b' ')?.1
+            3
         };
-        str::from_utf8(envelope).ok()
+        let mut rest = self.text;
+        for _ in 0..words {
+            let Some((_, after)) = split_once(rest, b' ') else {
+                return None;
+            };
+            rest = after;
+        }
+        str::from_utf8(rest).ok()
     }
 }
 
@@ -44,10 +49,7 @@ pub(crate) struct Places<'a> {
 impl<'a> Places<'a> {
     /// Reads the header of the play's text.
     pub(crate) fn new(text: &'a [u8]) -> Places<'a> {
-        let (header, lines) = match split_once(text, b'\n') {
-            Some((header, lines)) => (header, lines),
-            None => (text, text),
-        };
+        let (header, lines) = split_once(text, b'\n').unwrap_or((text, text));
         Places {
             counts: Counts::new(header),
             rest: lines,
@@ -74,13 +76,16 @@ impl<'a> Places<'a> {
 
     /// Reads the next line, if there is one.
     fn read_line(&mut self, alloc: Global) -> Result<(), Refusal> {
-        if let Some((text, rest)) = split_once(self.rest, b'\n') {
-            let count = self.counts.count(alloc, text)?;
-            self.number = self.number.saturating_add(1);
-            self.text = text;
-            self.end = self.end.saturating_add(count);
-            self.rest = rest;
-        }
+        let Some((text, rest)) = split_once(self.rest, b'\n') else {
+            return Ok(());
+        };
+        let Ok(count) = self.counts.count(alloc, text) else {
+            return Err(Refusal::NoMemory);
+        };
+        self.number = self.number.saturating_add(1);
+        self.text = text;
+        self.end = self.end.saturating_add(count);
+        self.rest = rest;
         Ok(())
     }
 }

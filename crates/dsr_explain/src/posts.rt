@@ -1,7 +1,8 @@
 //! In which line of a play the post is that fills a box.
 
 use crate::pieces::{MOST_ACTORS, place_of};
-use dsr_names::{Actor, Refusal};
+use dsr_names::Refusal;
+use dsr_reasons::{actor_of, other_of};
 use dsr_world::Event;
 use std::alloc::Global;
 
@@ -14,48 +15,33 @@ pub(crate) struct PostLines {
 impl PostLines {
     /// Creates the lines before any event. `NoMemory` if memory runs out.
     pub(crate) fn new(alloc: Global) -> Result<PostLines, Refusal> {
-        let mut lines = Vec::with_capacity(alloc, MOST_ACTORS * MOST_ACTORS)?;
-        for _ in 0..MOST_ACTORS * MOST_ACTORS {
-            lines.push(0)?;
-        }
+        let lines = vec![in alloc; 0; MOST_ACTORS * MOST_ACTORS]?;
         Ok(PostLines { lines })
     }
 
     /// Notes the line of an event, which was done, if it filled a box.
     pub(crate) fn note(&mut self, event: &Event, line: u64) {
-        let Some((from, to)) = box_to_fill(event) else {
+        if let Event::Take { .. } = event {
             return;
-        };
-        if let Some(place) = self.lines.get_mut(place_of_box(from, to)) {
+        }
+        if let Some(place) = self.lines.get_mut(place_of_box(event)) {
             *place = line;
         }
     }
 
-    /// Returns the line of the post that fills the event's box, if the event was refused because the box is full.
+    /// Returns the line of the post that fills the event's box, if the event was refused because the box is full. It is right only for words: for data no
+    /// post is noted.
     pub(crate) fn full_since(&self, event: &Event, refusal: &Refusal) -> Option<u64> {
-        let Refusal::BoxFull = refusal else {
-            return None;
-        };
-        let (from, to) = box_to_fill(event)?;
-        match self.lines.get(place_of_box(from, to)) {
-            Some(line) => Some(*line),
-            None => None,
+        match refusal {
+            Refusal::BoxFull => self.lines.get(place_of_box(event)).copied(),
+            _ => None,
         }
     }
 }
 
-/// Returns whose box the event is to fill; `None` for a take.
-fn box_to_fill(event: &Event) -> Option<(Actor, Actor)> {
-    match event {
-        Event::Post { from, to, .. } | Event::Plant { from, to, .. } | Event::Tell { from, to } =>
-            Some((*from, *to)),
-        Event::Take { .. } => None,
-    }
-}
-
-/// Returns the place of the box from one actor to another.
-fn place_of_box(from: Actor, to: Actor) -> usize {
-    place_of(from)
+/// Returns the place of the box that the event, which is no take, is to fill.
+fn place_of_box(event: &Event) -> usize {
+    place_of(actor_of(event))
         .saturating_mul(MOST_ACTORS)
-        .saturating_add(place_of(to))
+        .saturating_add(place_of(other_of(event)))
 }

@@ -1,6 +1,7 @@
 //! The text of an envelope, put together from the texts of its requests. It is the one that a draft of the envelope has, for which there is no need to make
 //! the draft: most envelopes have no signature on a statement that does not fit its place.
 
+use crate::pieces::{put_named, put_numbered};
 use crate::tokens::Tokens;
 use dsr_chain::{Chain, SignedRequest};
 use dsr_desk::Statement;
@@ -11,17 +12,30 @@ use dsr_reasons::Writer;
 /// Tells whether a text writes each signature of the envelope as its signer alone, because all are on the statements that fit their places.
 pub(crate) fn is_short(envelope: &Envelope) -> bool {
     match envelope {
-        Envelope::Round { chains, .. } => {
-            chains.as_slice().iter().all(|chain| is_short_chain(chain))
-        }
+        Envelope::Round { chains, .. } => are_short(chains.as_slice()),
         Envelope::Ask(ask) => is_short_ask(ask.signed()),
         Envelope::Empty | Envelope::Reply(_) | Envelope::Seen(_) => true,
     }
 }
 
-/// Tells whether a text writes each signature of the chain as its signer alone.
-fn is_short_chain(chain: &Chain) -> bool {
-    !chain.has_misfit() && chain.signed().iter().all(|ask| is_short_ask(ask))
+/// Tells whether a text writes each signature of these chains as its signer alone.
+fn are_short(chains: &[Chain]) -> bool {
+    for chain in chains {
+        if chain.has_misfit() || !are_short_asks(chain.signed()) {
+            return false;
+        }
+    }
+    true
+}
+
+/// Tells whether a text writes the signature beside each of these requests as its signer alone.
+fn are_short_asks(asks: &[SignedRequest]) -> bool {
+    for ask in asks {
+        if !is_short_ask(ask) {
+            return false;
+        }
+    }
+    true
 }
 
 /// Tells whether a text writes the signature beside the request as its signer alone.
@@ -37,8 +51,7 @@ pub(crate) fn write_short(out: &mut Writer, tokens: &mut Tokens, envelope: &Enve
     match envelope {
         Envelope::Empty => out.put("empty"),
         Envelope::Round { round, chains } => {
-            out.put("round ");
-            out.put_number(*round);
+            put_numbered(out, "round ", *round);
             for chain in chains.as_slice() {
                 put_chain(out, tokens, chain);
             }
@@ -48,27 +61,21 @@ pub(crate) fn write_short(out: &mut Writer, tokens: &mut Tokens, envelope: &Enve
             put_ask(out, tokens, ask.signed());
         }
         Envelope::Reply(reply) => put_reply(out, reply),
-        Envelope::Seen(front) => {
-            out.put("seen ");
-            out.put_number(*front);
-        }
+        Envelope::Seen(front) => put_numbered(out, "seen ", *front),
     }
 }
 
 /// Writes the reply.
 fn put_reply(out: &mut Writer, reply: &Reply) {
-    out.put("reply ");
-    out.put_number(reply.number);
-    out.put(" ");
-    out.put_number(reply.place);
+    put_numbered(out, "reply ", reply.number);
+    put_numbered(out, " ", reply.place);
     out.put(" ");
     out.put_answer(&reply.answer);
 }
 
 /// Writes the chain, with a space before it.
 fn put_chain(out: &mut Writer, tokens: &mut Tokens, chain: &Chain) {
-    out.put(" ");
-    out.put_number(chain.slot());
+    put_numbered(out, " ", chain.slot());
     out.put("/");
     match chain.signed() {
         [] => out.put("idle"),
@@ -87,6 +94,5 @@ fn put_chain(out: &mut Writer, tokens: &mut Tokens, chain: &Chain) {
 /// Writes the request with who signed it.
 fn put_ask(out: &mut Writer, tokens: &mut Tokens, ask: &SignedRequest) {
     tokens.put_request(out, &ask.request);
-    out.put("~");
-    out.put_name(ask.signature.signer());
+    put_named(out, "~", ask.signature.signer());
 }

@@ -1,9 +1,10 @@
 //! The beginning of an event's line: the line of the play that represents the event, and the event's number.
 
-ghost use Rattle.std.specs.Prelude.{◌≡◌, ◌/◌, ◌++◌, None, false, IfOk, IfSome, IsTrue, OnOk, IsOkUnless, string_bytes};
+ghost use Rattle.std.specs.Prelude.{◌≡◌, ◌/◌, ◌++◌, IfSome, OnOk, IsOkUnless, string_bytes};
 ghost use Rattle.std.specs.Fmt.{decimal};
 ghost use Rattle.dsr_explain.specs.Heads.{hundreds_text, last_text, start_text, text_before};
 
+use crate::pieces::put_numbered;
 use dsr_names::Refusal;
 use dsr_reasons::Writer;
 use std::alloc::Global;
@@ -22,36 +23,6 @@ pub(crate) struct Start {
     ghost is: { string_bytes text ≡ start_text as_data line hundreds },
 }
 
-impl Start {
-    /// Writes the text. `NoMemory` if memory runs out.
-    fn of(alloc: Global, as_data: bool, line: u64, hundreds: u64) -> Result<Start, Refusal>
-        ensures as_data { IfOk result (λ start. start.as_data ≡ as_data) }
-        ensures line { IfOk result (λ start. start.line ≡ line) }
-        ensures hundreds { IfOk result (λ start. start.hundreds ≡ hundreds) }
-        ensures refusal { IsOkUnless result Refusal.NoMemory }
-    {
-        let mut text = Writer::new(alloc);
-        text.reserve(ROOM);
-        write_before(&mut text, as_data, line);
-        put_hundreds(&mut text, hundreds);
-        let text = text.finish()?;
-        Ok(Start {
-            as_data,
-            line,
-            hundreds,
-            text,
-        })
-    }
-
-    /// Writes the text, and then the digits that follow the hundreds in the event's number.
-    fn write(&self, out: &mut Writer, number: u64)
-        ensures { out.new ≡ out.old ++ (start_text self.now.as_data self.now.line self.now.hundreds ++ last_text self.now.hundreds number) }
-    {
-        out.put_text(&self.text);
-        put_last(out, self.hundreds, number);
-    }
-}
-
 /// Writes how the line of the event with this number begins, up to its number. `last` has the text of the line before it. `NoMemory` if memory runs out.
 pub(crate) fn write_start(
     out: &mut Writer,
@@ -64,44 +35,71 @@ pub(crate) fn write_start(
     ensures text { OnOk result (out.new ≡ out.old ++ (text_before as_data line ++ decimal number)) }
     ensures refusal { IsOkUnless result Refusal.NoMemory }
 {
-    let start = start_of(alloc, last, as_data, line, number / 100)?;
-    start.write(out, number);
+    let hundreds = number / 100;
+    put_start(out, alloc, last, as_data, line, hundreds)?;
+    put_last(out, hundreds, number);
     Ok(())
 }
 
-/// Returns the text of these events: the last one if it is theirs, otherwise a new one, which becomes the last. `NoMemory` if memory runs out.
-fn start_of(
+/// Appends the text of these events: `last` if it is theirs, otherwise a new one, which becomes the last. `NoMemory` if memory runs out.
+fn put_start(
+    out: &mut Writer,
     alloc: Global,
     last: &mut Option<Start>,
     as_data: bool,
     line: u64,
     hundreds: u64,
-) -> Result<&Start, Refusal>
-    ensures as_data { IfOk result (λ start. start.now.as_data ≡ as_data) }
-    ensures line { IfOk result (λ start. start.now.line ≡ line) }
-    ensures hundreds { IfOk result (λ start. start.now.hundreds ≡ hundreds) }
+) -> Result<(), Refusal>
+    ensures text { OnOk result (out.new ≡ out.old ++ start_text as_data line hundreds) }
     ensures refusal { IsOkUnless result Refusal.NoMemory }
 {
-    if !is_of(last, as_data, line, hundreds) {
-        *last = Some(Start::of(alloc, as_data, line, hundreds)?);
-    }
-    match last {
-        Some(start) => Ok(start),
-        None => unreachable!(),
+    match text_of(last, as_data, line, hundreds) {
+        Some(text) => {
+            out.put_text(text);
+            Ok(())
+        }
+        None => put_anew(out, alloc, last, as_data, line, hundreds),
     }
 }
 
-/// Tells whether there is a text and it is that of these events.
-fn is_of(last: &Option<Start>, as_data: bool, line: u64, hundreds: u64) -> bool
-    ensures as_data { IfSome last.now (λ start. IsTrue result → start.as_data ≡ as_data) }
-    ensures line { IfSome last.now (λ start. IsTrue result → start.line ≡ line) }
-    ensures hundreds { IfSome last.now (λ start. IsTrue result → start.hundreds ≡ hundreds) }
-    ensures none { last.now ≡ None → result ≡ false }
+/// Returns the text if it is that of these events.
+fn text_of(last: &Option<Start>, as_data: bool, line: u64, hundreds: u64) -> Option<&String>
+    ensures { IfSome result (λ text. string_bytes text.now ≡ start_text as_data line hundreds) }
 {
     match last {
-        Some(start) => start.as_data == as_data && start.line == line && start.hundreds == hundreds,
-        None => false,
+        Some(start)
+            if start.as_data == as_data && start.line == line && start.hundreds == hundreds => Some(
+            &start.text,
+        ),
+        _ => None,
     }
+}
+
+/// Writes the text of these events, appends it, and keeps it as the last. `NoMemory` if memory runs out.
+fn put_anew(
+    out: &mut Writer,
+    alloc: Global,
+    last: &mut Option<Start>,
+    as_data: bool,
+    line: u64,
+    hundreds: u64,
+) -> Result<(), Refusal>
+    ensures text { OnOk result (out.new ≡ out.old ++ start_text as_data line hundreds) }
+    ensures refusal { IsOkUnless result Refusal.NoMemory }
+{
+    let mut text = Writer::new(alloc);
+    text.reserve(ROOM);
+    write_before(&mut text, as_data, line);
+    put_hundreds(&mut text, hundreds);
+    let text = text.finish()?;
+    out.put_text(&text);
+    *last = Some(Start {
+        as_data,
+        line,
+        hundreds,
+        text,
+    });
+    Ok(())
 }
 
 /// Writes the text before the number of an event of this line of the play.
@@ -111,8 +109,7 @@ fn write_before(out: &mut Writer, as_data: bool, line: u64)
     if as_data {
         out.put("event ");
     } else {
-        out.put("line ");
-        out.put_number(line);
+        put_numbered(out, "line ", line);
         out.put(", event ");
     }
 }

@@ -8,11 +8,12 @@ ghost use Rattle.dsr_explain.specs.Lines.{note_line, note_lines};
 ghost use Rattle.dsr_explain.specs.Letters.{box_of, handled};
 ghost use Rattle.dsr_names.specs.Streams.{SentAll};
 ghost use Rattle.dsr_explain.specs.Outlet.{HasGoneOut, IsUnsure};
-ghost use Rattle.dsr_explain.specs.Telling.{GoesOn};
+ghost use Rattle.dsr_explain.specs.Telling.{GoesOn, HasBegun};
 ghost use Rattle.dsr_explain.specs.Told.{HasBrokenOff, LeftOfExplanation, TellsEvents, TellsNotes, TellsPlay, TellsRefusal, TellsWanted, chains_in_some, first_line, last_chains, last_envelope, refused_line};
 ghost use Rattle.dsr_explain.specs.Wanted.{wants_note};
 
 use crate::chain_texts::ChainText;
+use crate::counts::Count;
 use crate::heads::{Heads, write_refused};
 use crate::lines::write_note;
 use crate::outlet::Outflow;
@@ -40,9 +41,8 @@ pub(crate) struct Story {
     /// The text so far, but for the parts that went out.
     pub(crate) out: Writer,
     pub(crate) outflow: Outflow,
-    /// The number of refused events, and the line of the first.
-    pub(crate) refused: u64,
-    pub(crate) first_refused: u64,
+    /// The refused events.
+    pub(crate) refused: Count,
     /// What else was counted in the events so far.
     pub(crate) summary: Summary,
     texts: Texts,
@@ -55,20 +55,18 @@ pub(crate) struct Story {
 }
 
 impl Story {
-    /// Creates the story before any event. `NoMemory` if memory runs out.
+    /// Creates the story before any of so many events. `NoMemory` if memory runs out.
     pub(crate) fn begin(
         alloc: Global,
         shape: Shape,
         wanted: &Wanted,
         outflow: Outflow,
+        events: usize,
     ) -> Result<Story, Refusal>
-        ensures out { IfOk result (λ story. story.out ≡ first_line wanted.now.data shape) }
-        ensures wanted { IfOk result (λ story. story.wanted ≡ wanted.now) }
-        ensures shape { IfOk result (λ story. story.stage.shape ≡ shape) }
-        ensures empty { IfOk result (λ story. story.stage.run ≡ []) }
-        ensures outflow { IfOk result (λ story. story.outflow ≡ outflow) }
+        ensures { IfOk result (HasBegun wanted.now shape outflow) }
     {
-        let out = write_first_line(alloc, shape, wanted.data)?;
+        let mut out = write_first_line(alloc, shape, wanted.data)?;
+        make_room(&mut out, wanted, &outflow, events);
         let texts = Texts::new(alloc, wanted.data)?;
         let summary = Summary::new(alloc, wanted.data)?;
         let tokens = Tokens::new(alloc, wanted.data)?;
@@ -78,8 +76,7 @@ impl Story {
             wanted: *wanted,
             out,
             outflow,
-            refused: 0,
-            first_refused: 0,
+            refused: Count::NONE,
             summary,
             texts,
             tokens,
@@ -97,7 +94,6 @@ impl Story {
             out: _out,
             outflow: _outflow,
             refused: _refused,
-            first_refused: _first_refused,
             summary: _summary,
             texts: _texts,
             tokens: _tokens,
@@ -160,7 +156,6 @@ impl Story {
         ensures parts { self.new.outflow.in_parts ≡ self.old.outflow.in_parts }
         ensures calls { (K.output sink.new).calls + self.new.outflow.calls ≤ (K.output sink.old).calls + self.old.outflow.calls }
     {
-        self.make_room(events.len());
         let mut places = Places::new(text);
         for place in 0..events.len() {
             let Ok(line) = places.line_of(alloc, place) else {
@@ -177,18 +172,6 @@ impl Story {
         Ok(())
     }
 
-    /// Reserves room for the text about `events` events, if all of it is wanted and it is to go out at once.
-    fn make_room(&mut self, events: usize)
-        ensures same { self.new.out ≡ self.old.out }
-        ensures stage { self.new.stage ≡ self.old.stage }
-        ensures wanted { self.new.wanted ≡ self.old.wanted }
-        ensures outflow { self.new.outflow ≡ self.old.outflow }
-    {
-        if self.wanted.is_of_all() && !self.wanted.refused && !self.outflow.is_in_parts() {
-            self.out.reserve(events.saturating_mul(ROOM_OF_AN_EVENT));
-        }
-    }
-
     /// Makes the event with this number, which this line represents, happen, and explains it. `NoMemory` if memory runs out.
     fn tell(
         &mut self,
@@ -200,9 +183,16 @@ impl Story {
         ensures { GoesOn number event.now result self.old self.new }
     {
         if self.wanted.refused {
-            self.tell_briefly(alloc, number, line, event)
-        } else {
-            self.tell_noted(alloc, number, line, event)
+            return self.tell_briefly(alloc, number, line, event);
+        }
+        match step_noted(alloc, &mut self.stage, event, &mut self.notes) {
+            Ok(_) => {
+                // For the proof: the letter is that of the last step of a run.
+                self.stage.steps_are_a_run();
+                self.tell_done(alloc, number, line, event)
+            }
+            Err(Refusal::NoMemory) => Err(Refusal::NoMemory),
+            Err(refusal) => self.tell_refusal(alloc, number, line, event, &refusal),
         }
     }
 
@@ -221,28 +211,6 @@ impl Story {
             Ok(_) => {
                 self.summary.add_briefly(event, line.number);
                 Ok(())
-            }
-            Err(Refusal::NoMemory) => Err(Refusal::NoMemory),
-            Err(refusal) => self.tell_refusal(alloc, number, line, event, &refusal),
-        }
-    }
-
-    /// Makes the event happen, and explains what came of it.
-    fn tell_noted(
-        &mut self,
-        alloc: Global,
-        number: u64,
-        line: &Line,
-        event: &Event,
-    ) -> Result<(), Refusal>
-        requires { self.old.wanted.refused ≡ false }
-        ensures { GoesOn number event.now result self.old self.new }
-    {
-        match step_noted(alloc, &mut self.stage, event, &mut self.notes) {
-            Ok(_) => {
-                // For the proof: the letter is that of the last step of a run.
-                self.stage.steps_are_a_run();
-                self.tell_done(alloc, number, line, event)
             }
             Err(Refusal::NoMemory) => Err(Refusal::NoMemory),
             Err(refusal) => self.tell_refusal(alloc, number, line, event, &refusal),
@@ -314,11 +282,10 @@ impl Story {
         ensures outflow { self.new.outflow ≡ self.old.outflow }
         ensures stage { self.new.stage ≡ self.old.stage }
     {
-        self.first_refused = first_line_of(self.refused, self.first_refused, line.number);
-        self.refused = self.refused.saturating_add(1);
+        self.refused.add(line.number);
         if self.wanted.has_refused(event) {
             let as_data = self.wanted.data;
-            let since = self.summary.full_since(event, refusal);
+            let since = self.summary.posts.full_since(event, refusal);
             write_refusal(
                 &mut self.out,
                 &mut self.refused_end,
@@ -359,6 +326,15 @@ fn write_refusal(
     write_refused(out, as_data, number, line.number, event, refusal, shown)?;
     write_why(out, as_data, stage, event);
     Ok(())
+}
+
+/// Reserves room for the text about `events` events, if all of it is wanted and it is to go out at once.
+fn make_room(out: &mut Writer, wanted: &Wanted, outflow: &Outflow, events: usize)
+    ensures { out.new ≡ out.old }
+{
+    if wanted.is_of_all() && !wanted.refused && !outflow.is_in_parts() {
+        out.reserve(events.saturating_mul(ROOM_OF_AN_EVENT));
+    }
 }
 
 /// Writes the lines of those notes of the event that are wanted; `chains` are those of its envelope, and `texts` describe them.
@@ -405,7 +381,7 @@ fn write_if_wanted(
 }
 
 /// Returns the letter in the box from one actor to another; `None` if the box is empty or one of them is not in the shape.
-fn letter_in_box<'a>(stage: &'a Stage, from: &Actor, to: &Actor) -> Option<&'a Letter>
+pub(crate) fn letter_in_box<'a>(stage: &'a Stage, from: &Actor, to: &Actor) -> Option<&'a Letter>
     ensures { option_map (λ letter. letter.now) result ≡ box_of stage.now.shape (log_of stage.now.run) from.now to.now }
 {
     if stage.shape().has(*from) && stage.shape().has(*to) {
@@ -453,15 +429,8 @@ fn write_first_line(alloc: Global, shape: Shape, as_data: bool) -> Result<Writer
     let mut out = Writer::new(alloc);
     if as_data {
         let mut text = String::new(alloc);
-        write!(text, "{shape}")?;
-        out.put("dsr-explain 1 ");
+        write!(text, "dsr-explain 1 {shape}\n")?;
         out.put_text(&text);
-        out.put("\n");
     }
     Ok(out)
-}
-
-/// Returns the line of the first refused event: this line if none was refused before, otherwise the line of the first one before.
-fn first_line_of(refused: u64, first: u64, line: u64) -> u64 {
-    if refused == 0 { line } else { first }
 }

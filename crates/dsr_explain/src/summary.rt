@@ -1,12 +1,12 @@
 //! What an explanation in words says at its end about all events: what mattered although nothing was refused, and how many contents were kept. Also the
 //! lines since which boxes are full.
 
-use crate::counts::{KeptBy, NoteCounts};
+use crate::counts::NoteCounts;
 use crate::posts::PostLines;
 use dsr_envelope::Envelope;
 use dsr_names::Refusal;
 use dsr_notes::Note;
-use dsr_reasons::{Writer, actor_of};
+use dsr_reasons::actor_of;
 use dsr_world::{Event, Stage};
 use std::alloc::Global;
 
@@ -14,8 +14,8 @@ use std::alloc::Global;
 #[derive(Drop)]
 pub(crate) struct Summary {
     as_data: bool,
-    counts: NoteCounts,
-    posts: PostLines,
+    pub(crate) counts: NoteCounts,
+    pub(crate) posts: PostLines,
 }
 
 impl Summary {
@@ -50,21 +50,5 @@ impl Summary {
         if !self.as_data {
             self.posts.note(event, line);
         }
-    }
-
-    /// Returns the line of the post that fills the event's box, if the event was refused because the box is full. It is right only for words: for data no
-    /// post is noted.
-    pub(crate) fn full_since(&self, event: &Event, refusal: &Refusal) -> Option<u64> {
-        self.posts.full_since(event, refusal)
-    }
-
-    /// Writes what mattered in the events although nothing was refused.
-    pub(crate) fn write_noticed(&self, out: &mut Writer) {
-        self.counts.write(out);
-    }
-
-    /// Returns, by slot, how many contents replicas kept.
-    pub(crate) fn kept(&self) -> &[KeptBy] {
-        self.counts.kept()
     }
 }

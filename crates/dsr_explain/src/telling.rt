@@ -72,7 +72,8 @@ fn tell_play<K: Outlet>(
     ensures refused { IfErr result (λ refusal. LeftOfExplanation wanted.now play.now refusal (K.output sink.old) (K.output sink.new)) }
     ensures calls { (K.output sink.new).calls ≤ (K.output sink.old).calls + most_calls }
 {
-    let Ok(mut story) = Story::begin(alloc, play.shape(), wanted, Outflow::to(sink)) else {
+    let (events, outflow) = (play.events().len(), Outflow::to(sink));
+    let Ok(mut story) = Story::begin(alloc, play.shape(), wanted, outflow, events) else {
         return Err(Refusal::NoMemory);
     };
     let told = story.tell_play(alloc, text, play, sink);

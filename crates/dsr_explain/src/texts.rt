@@ -1,7 +1,7 @@
 //! The texts about envelopes, written once for all events that post or take one.
 
 use crate::chain_texts::ChainText;
-use crate::pieces::{MOST_ACTORS, place_of};
+use crate::pieces::{MOST_ACTORS, place_of, put_numbered};
 use crate::places::Line;
 use crate::short::{is_short, write_short};
 use crate::tokens::Tokens;
@@ -43,7 +43,7 @@ impl Told {
     /// Writes the texts about no envelope. `NoMemory` if memory runs out.
     fn of_none(alloc: Global, as_data: bool) -> Result<Told, Refusal> {
         let mut end = Writer::new(alloc);
-        end.put(end_of_none(as_data));
+        put_none(&mut end, as_data);
         Ok(Told {
             end: end.finish()?,
             chains: Vec::new(alloc),
@@ -71,9 +71,9 @@ fn end_of(
     let mut end = Writer::new(alloc);
     end.reserve(ROOM);
     if !envelope.fits() {
-        end.put(end_of_none(as_data));
+        put_none(&mut end, as_data);
     } else if is_short(envelope) {
-        end.put(before_draft(as_data));
+        put_between(&mut end, as_data);
         write_short(&mut end, tokens, envelope);
         end.put("\n");
     } else {
@@ -117,7 +117,7 @@ impl RefusedEnd {
             Event::Post { pick, .. } if !as_data => {
                 write_choice(&mut self.end, alloc, &pick.pick())?
             }
-            _ => self.end.put(end_of_none(as_data)),
+            _ => put_none(&mut self.end, as_data),
         }
         Ok(&self.end)
     }
@@ -145,17 +145,16 @@ impl RefusedEnd {
 fn write_since(out: &mut Writer, as_data: bool, since: Option<u64>) {
     match since {
         Some(line) if !as_data => {
-            out.put(" (the box is full since line ");
-            out.put_number(line);
+            put_numbered(out, " (the box is full since line ", line);
             out.put(")");
         }
         _ => {}
     }
 }
 
-/// Returns the end of an event's line that shows no envelope.
-fn end_of_none(as_data: bool) -> &'static str {
-    if as_data { " -\n" } else { "\n" }
+/// Writes the end of an event's line that shows no envelope.
+fn put_none(out: &mut Writer, as_data: bool) {
+    out.put_one(as_data, " -\n", "\n")
 }
 
 /// Writes the end of an event's line: the envelope of this draft. `NoMemory` if memory runs out.
@@ -173,14 +172,14 @@ fn write_draft(
 
 /// Writes the end of an event's line: the envelope with this text.
 fn write_envelope(out: &mut Writer, text: &String, as_data: bool) {
-    out.put(before_draft(as_data));
+    put_between(out, as_data);
     out.put_text(text);
     out.put("\n");
 }
 
-/// Returns what is between an event and its envelope.
-fn before_draft(as_data: bool) -> &'static str {
-    if as_data { " " } else { ": " }
+/// Writes what is between an event and its envelope.
+fn put_between(out: &mut Writer, as_data: bool) {
+    out.put_one(as_data, " ", ": ")
 }
 
 /// Writes the end of the line of a post that was refused: the post's choice. `NoMemory` if memory runs out.
@@ -253,26 +252,23 @@ impl Posted {
         self.count = self.count.saturating_add(1);
     }
 
-    /// Returns the place of the texts about the envelope with this number, counted from 1; `None` if there are none, or none any more. `poster` is the
-    /// actor's place.
-    fn place_of(&self, poster: usize, number: u64) -> Option<Place> {
-        if number == self.count && self.last.is_some() {
-            return Some(Place::Last(poster));
+    /// Returns the texts about the envelope with this number, counted from 1; `None` if there are none, or none any more.
+    fn told(&self, number: u64) -> Option<&Told> {
+        if number == self.count {
+            self.last.as_ref()
+        } else if number.saturating_add(1) == self.count {
+            self.before.as_ref()
+        } else {
+            None
         }
-        if number.saturating_add(1) == self.count && self.before.is_some() {
-            return Some(Place::Before(poster));
-        }
-        None
     }
 }
 
 /// The place of the texts about an envelope.
 #[derive(Clone, Copy)]
 enum Place {
-    /// The envelope is the last one that the actor at this place posted to replicas.
-    Last(usize),
-    /// The envelope is the one before the last.
-    Before(usize),
+    /// The envelope has this number among those that the actor at this place posted to replicas.
+    Posted(usize, u64),
     /// The envelope was posted only to this box.
     InBox(usize),
 }
@@ -366,7 +362,7 @@ impl Texts {
     ) -> Result<Place, Refusal> {
         let (as_data, poster) = (self.as_data, poster_of(event));
         let Some(posted) = self.posted.get_mut(poster) else {
-            return Ok(Place::Last(poster));
+            return Ok(Place::Posted(poster, 0));
         };
         if !is_again(event) {
             posted.put(Some(Told::of(alloc, tokens, shape, envelope, as_data)?));
@@ -375,28 +371,37 @@ impl Texts {
         }
         let number = posted.count;
         self.lay(box_of(event, poster), Lying::Posted(number));
-        Ok(Place::Last(poster))
+        Ok(Place::Posted(poster, number))
     }
 
     /// Returns the place of the texts about the envelope that this event took; `None` if there are none.
     fn place_of_taken(&self, event: &Event) -> Option<Place> {
         let poster = poster_of(event);
         let place = box_of(event, poster);
-        match self.boxes.get(place)? {
-            Lying::Nothing => None,
-            Lying::Posted(number) => self.posted.get(poster)?.place_of(poster, *number),
-            Lying::Alone(_) => Some(Place::InBox(place)),
+        match self.boxes.get(place) {
+            Some(Lying::Posted(number)) => {
+                let posted = Place::Posted(poster, *number);
+                if self.at(posted).is_some() {
+                    Some(posted)
+                } else {
+                    None
+                }
+            }
+            Some(Lying::Alone(_)) => Some(Place::InBox(place)),
+            _ => None,
         }
     }
 
     /// Returns the texts at this place; `None` if there are none.
     fn at(&self, place: Place) -> Option<&Told> {
         match place {
-            Place::Last(poster) => self.posted.get(poster)?.last.as_ref(),
-            Place::Before(poster) => self.posted.get(poster)?.before.as_ref(),
-            Place::InBox(place) => match self.boxes.get(place)? {
-                Lying::Alone(told) => Some(told),
-                Lying::Nothing | Lying::Posted(_) => None,
+            Place::Posted(poster, number) => match self.posted.get(poster) {
+                Some(posted) => posted.told(number),
+                None => None,
+            },
+            Place::InBox(place) => match self.boxes.get(place) {
+                Some(Lying::Alone(told)) => Some(told),
+                _ => None,
             },
         }
     }

@@ -78,11 +78,9 @@ impl Tokens {
     fn name_of(&self, actor: &Actor) -> Option<&Name>
         ensures { IfSome result (λ name. name.now.actor ≡ actor.now) }
     {
-        let name = self.names.get(place_of(*actor))?;
-        if name.actor == *actor {
-            Some(name)
-        } else {
-            None
+        match self.names.get(place_of(*actor)) {
+            Some(name) if name.actor == *actor => Some(name),
+            _ => None,
         }
     }
 
@@ -100,8 +98,8 @@ impl Tokens {
     fn text_of(&self, request: &Request) -> Option<&String>
         ensures { IfSome result (λ text. string_bytes text.now ≡ request_token request.now) }
     {
-        match self.requests.get(request.client().number() as usize)? {
-            Some(spelled) if spelled.request == *request => Some(&spelled.text),
+        match self.requests.get(request.client().number() as usize) {
+            Some(Some(spelled)) if spelled.request == *request => Some(&spelled.text),
             _ => None,
         }
     }

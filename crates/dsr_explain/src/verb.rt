@@ -6,7 +6,7 @@ ghost use Rattle.dsr_explain.specs.Told.{verb_of, verb_text};
 use dsr_world::Event;
 
 /// What an actor does in an event.
-#[derive(Clone, Copy, PartialEq, Eq)]
+#[derive(Clone, Copy, PartialEq)]
 pub enum Verb {
     Posts,
     Plants,

@@ -7,8 +7,10 @@ ghost use Rattle.std.specs.Option.{option_map};
 ghost use Rattle.dsr_names.specs.declared.actor.Actor.TheVariants.{Client as ClientNumber};
 ghost use Rattle.dsr_client.specs.State.{outstanding};
 ghost use Rattle.dsr_run.specs.Step.{log_of};
-ghost use Rattle.dsr_explain.specs.Waiting.{next_data, next_line, next_words, post_words, standing_part, standing_text, standings_text, take_words, waits_begin, waits_line, waits_line_for};
+ghost use Rattle.dsr_explain.specs.Waiting.{due_data, next_line, post_words, standing_part, standing_text, standings_text, take_words, waits_begin, waits_line, waits_line_for};
 
+use crate::parts::Part::{Name, Number, Text};
+use crate::parts::put_parts;
 use dsr_envelope::Due;
 use dsr_names::{Actor, ClientId, ReplicaId};
 use dsr_notes::{Next, Standing, standing_of};
@@ -19,82 +21,96 @@ use dsr_world::Stage;
 pub(crate) fn write_next(out: &mut Writer, as_data: bool, replica: ReplicaId, next: &Next)
     ensures { out.new ≡ out.old ++ next_line as_data replica next.now }
 {
-    if as_data {
-        write_next_data(out, replica, next.round, next.due)
-    } else {
-        write_next_words(out, replica, next.round, next.is_there, next.due)
+    match next.due {
+        Due::Post(to) if as_data => write_due(out, replica, " post ", to, next.round),
+        Due::Take(from) if as_data => write_due(out, replica, " take ", from, next.round),
+        Due::Post(to) => write_post(out, replica, next.round, next.is_there, to),
+        Due::Take(from) => write_take(out, replica, next.round, next.is_there, from),
     }
 }
 
-/// Writes what is due at a replica in this round, as data.
-fn write_next_data(out: &mut Writer, replica: ReplicaId, round: u64, due: Due)
-    ensures { out.new ≡ out.old ++ next_data replica round due }
+/// Writes, as data, what is due at a replica with this other one in this round.
+fn write_due(out: &mut Writer, replica: ReplicaId, word: &'static str, with: ReplicaId, round: u64)
+    ensures { out.new ≡ out.old ++ due_data replica word.now with round }
 {
-    out.put("waits ");
-    out.put_name(Actor::Replica(replica));
-    match due {
-        Due::Post(to) => write_due(out, " post ", to, round),
-        Due::Take(from) => write_due(out, " take ", from, round),
-    }
+    let (replica, with) = (Actor::Replica(replica), Actor::Replica(with));
+    put_parts(
+        out,
+        &[
+            Text("waits "),
+            Name(replica),
+            Text(word),
+            Name(with),
+            Text(" "),
+            Number(round),
+            Text("\n"),
+        ],
+    )
 }
 
-/// Writes the end of a line of data: what is due with this replica in this round.
-fn write_due(out: &mut Writer, word: &'static str, with: ReplicaId, round: u64)
-    ensures { out.new ≡ out.old ++ (word.now ++ (replica_text with ++ (codes " " ++ (decimal round ++ codes "\n")))) }
+/// Writes that a replica posts its envelope of this round to this replica, at once or when its box is empty.
+fn write_post(out: &mut Writer, replica: ReplicaId, round: u64, is_there: bool, to: ReplicaId)
+    ensures { out.new ≡ out.old ++ (replica_text replica ++ post_words round is_there to) }
 {
-    out.put(word);
-    out.put_name(Actor::Replica(with));
-    out.put(" ");
-    out.put_number(round);
-    out.put("\n");
-}
-
-/// Writes what a replica does next, or for whom it waits, by whether the box of the post or take holds an envelope.
-fn write_next_words(out: &mut Writer, replica: ReplicaId, round: u64, is_there: bool, due: Due)
-    ensures { out.new ≡ out.old ++ next_words replica round is_there due }
-{
-    out.put_name(Actor::Replica(replica));
-    match due {
-        Due::Post(to) => write_post_words(out, round, is_there, to),
-        Due::Take(from) => write_take_words(out, round, is_there, from),
-    }
-}
-
-/// Writes, after the name of a replica, that it posts its envelope of this round to this replica, at once or when its box is empty.
-fn write_post_words(out: &mut Writer, round: u64, is_there: bool, to: ReplicaId)
-    ensures { out.new ≡ out.old ++ post_words round is_there to }
-{
+    let replica = Actor::Replica(replica);
     if is_there {
-        out.put(": posts its envelope of round ");
-        out.put_number(round);
-        out.put(" to ");
-        out.put_name(Actor::Replica(to));
-        out.put(" once ");
-        out.put_name(Actor::Replica(to));
-        out.put(" has taken the one before\n");
+        put_parts(
+            out,
+            &[
+                Name(replica),
+                Text(": posts its envelope of round "),
+                Number(round),
+                Text(" to "),
+                Name(Actor::Replica(to)),
+                Text(" once "),
+                Name(Actor::Replica(to)),
+                Text(" has taken the one before\n"),
+            ],
+        )
     } else {
-        out.put(": next it posts its envelope of round ");
-        out.put_number(round);
-        out.put(" to ");
-        out.put_name(Actor::Replica(to));
-        out.put("\n");
+        put_parts(
+            out,
+            &[
+                Name(replica),
+                Text(": next it posts its envelope of round "),
+                Number(round),
+                Text(" to "),
+                Name(Actor::Replica(to)),
+                Text("\n"),
+            ],
+        )
     }
 }
 
-/// Writes, after the name of a replica, that it takes what this replica posted to it in this round, or waits for it.
-fn write_take_words(out: &mut Writer, round: u64, is_there: bool, from: ReplicaId)
-    ensures { out.new ≡ out.old ++ take_words round is_there from }
+/// Writes that a replica takes what this replica posted to it in this round, or waits for it.
+fn write_take(out: &mut Writer, replica: ReplicaId, round: u64, is_there: bool, from: ReplicaId)
+    ensures { out.new ≡ out.old ++ (replica_text replica ++ take_words round is_there from) }
 {
-    out.put(": in round ");
-    out.put_number(round);
+    let (replica, from) = (Actor::Replica(replica), Actor::Replica(from));
     if is_there {
-        out.put(", next it takes what ");
-        out.put_name(Actor::Replica(from));
-        out.put(" posted to it, which is there\n");
+        put_parts(
+            out,
+            &[
+                Name(replica),
+                Text(": in round "),
+                Number(round),
+                Text(", next it takes what "),
+                Name(from),
+                Text(" posted to it, which is there\n"),
+            ],
+        )
     } else {
-        out.put(", it waits for ");
-        out.put_name(Actor::Replica(from));
-        out.put(" to post to it\n");
+        put_parts(
+            out,
+            &[
+                Name(replica),
+                Text(": in round "),
+                Number(round),
+                Text(", it waits for "),
+                Name(from),
+                Text(" to post to it\n"),
+            ],
+        )
     }
 }
 
@@ -103,50 +119,40 @@ pub(crate) fn write_waits(out: &mut Writer, stage: &Stage, client: ClientId)
     requires { client < stage.now.shape.m }
     ensures { out.new ≡ out.old ++ waits_line stage.now.shape (log_of stage.now.run) client }
 {
-    match outstanding_of(stage, client) {
-        Some(number) => write_wait(out, stage, client, number),
-        None => {}
+    match stage.client(client) {
+        Ok(waiting) => write_wait(out, stage, client, waiting.outstanding()),
+        Err(_) => unreachable!(),
     }
 }
 
-/// Writes what a client waits for whose outstanding request has this number.
-fn write_wait(out: &mut Writer, stage: &Stage, client: ClientId, number: u64)
+/// Writes what a client waits for whose outstanding request has this number, if one is outstanding.
+fn write_wait(out: &mut Writer, stage: &Stage, client: ClientId, outstanding: Option<u64>)
     requires { client < stage.now.shape.m }
     ensures { out.new ≡ out.old
-        ++ waits_line_for stage.now.shape (log_of stage.now.run) client (Some number) }
+        ++ waits_line_for stage.now.shape (log_of stage.now.run) client outstanding }
 {
-    write_wait_begin(out, client, needed_in(stage), number);
+    let Some(number) = outstanding else {
+        return;
+    };
+    write_wait_begin(out, client, stage.shape().f(), number);
     write_standings(out, stage, client, number);
     out.put("\n");
 }
 
-/// Returns how many matching replies a client needs.
-fn needed_in(stage: &Stage) -> u8
-    ensures { result ≡ stage.now.shape.f + 1 }
+/// Writes that a client waits for matching replies to its request, one more than there may be traitors.
+fn write_wait_begin(out: &mut Writer, client: ClientId, most_traitors: u8, number: u64)
+    ensures { out.new ≡ out.old ++ waits_begin client (most_traitors + 1) number }
 {
-    stage.shape().f() + 1
-}
-
-/// Writes that a client waits for this many matching replies to its request.
-fn write_wait_begin(out: &mut Writer, client: ClientId, needed: u8, number: u64)
-    ensures { out.new ≡ out.old ++ waits_begin client needed number }
-{
-    out.put_name(Actor::Client(client));
-    out.put(": waits for ");
-    out.put_number(needed as u64);
-    out.put(" matching replies to request ");
-    out.put_number(number);
-}
-
-/// Returns the number of the outstanding request of a client of the shape.
-fn outstanding_of(stage: &Stage, client: ClientId) -> Option<u64>
-    requires { client < stage.now.shape.m }
-    ensures { result ≡ option_map (λ ask. ask.request.number) (outstanding stage.now.shape (log_of stage.now.run (ClientNumber client))) }
-{
-    match stage.client(client) {
-        Ok(client) => client.outstanding(),
-        Err(_) => unreachable!(),
-    }
+    put_parts(
+        out,
+        &[
+            Name(Actor::Client(client)),
+            Text(": waits for "),
+            Number(most_traitors as u64 + 1),
+            Text(" matching replies to request "),
+            Number(number),
+        ],
+    )
 }
 
 /// Writes how far each replica is with the client's outstanding request, which has this number.
@@ -173,10 +179,16 @@ fn write_standing(
     ensures { out.new ≡ out.old
         ++ standing_part stage.now.shape (log_of stage.now.run) client number replica }
 {
-    out.put("; ");
-    out.put_name(Actor::Replica(replica));
-    out.put(" ");
-    out.put(standing_words(&standing_of(stage, client, number, replica)));
+    let words = standing_words(&standing_of(stage, client, number, replica));
+    put_parts(
+        out,
+        &[
+            Text("; "),
+            Name(Actor::Replica(replica)),
+            Text(" "),
+            Text(words),
+        ],
+    )
 }
 
 /// Returns the words for how far a replica is with a request.

@@ -1,5 +1,10 @@
-use Rattle.std.proofs.Common.{append_assoc, refl}
+use Rattle.std.proofs.Common.{append_assoc, inl, inr, refl}
+use Rattle.std.proofs.lemmas.Bool.{cases_Bool}
 use Rattle.dsr_explain.proofs.lines.write_vote.Goals as goal
 
 pub returns : goal.returns
-returns c = simp (append_assoc, c.if-as_data.false, c.put-3.ensures, c.put_number-3.ensures, c.put-2.ensures, c.put_number-2.ensures, c.put_two-2.ensures) refl
+returns c =
+    elim (cases_Bool c.args.as_data) [
+      | inl e ↦ simp (append_assoc, e, c.put_one.ensures, c.put_numbered.ensures, c.one_of.ensures, c.put_number.ensures, c.put_reply.ensures) refl
+      | inr e ↦ simp (append_assoc, e, c.put_one.ensures, c.put_numbered.ensures, c.one_of.ensures, c.put_number.ensures, c.put_reply.ensures) refl
+    ]

@@ -10,7 +10,7 @@ tell_play-told-requires g c = record {
   empty = c.in-Ok.ensures.empty;
   begun = c.in-Ok.ensures.out
       ∙ (ap (first_line c.args.wanted.now.data) c.shape.ensures ∙ ap (λ w. first_line w.data c.args.play.now.shape) (sym c.in-Ok.ensures.wanted));
-  unsure = λ yes. c.to.ensures.parts (subst (λ f. IsTrue f.in_parts) c.in-Ok.ensures.outflow yes);
+  unsure = λ yes. c.to-outflow.ensures.parts (subst (λ f. IsTrue f.in_parts) c.in-Ok.ensures.outflow yes);
 }
 
 -- the filter of the story is the one that is wanted
@@ -24,5 +24,5 @@ returns g c =
           c.tell_play-told.ensures.told;
       refused = subst (λ w. IfErr c.tell_play-told.result (λ refusal. LeftOfExplanation w play refusal s0 s1)) c.in-Ok.ensures.wanted
           c.tell_play-told.ensures.refused;
-      calls = omega (arith, c.tell_play-told.ensures.calls, ap (λ f. f.calls) c.in-Ok.ensures.outflow, c.to.ensures.calls);
+      calls = omega (arith, c.tell_play-told.ensures.calls, ap (λ f. f.calls) c.in-Ok.ensures.outflow, c.to-outflow.ensures.calls);
     }

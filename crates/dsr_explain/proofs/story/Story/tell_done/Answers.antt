@@ -8,20 +8,26 @@ use Rattle.dsr_explain.specs.Told.{done_line, last_chains}
 use Rattle.dsr_explain.specs.Wanted.{WantsDone, wants_note}
 use Rattle.dsr_explain.proofs.story.Story.tell_done.Goals as goal
 
-pub returns-then-not-has_done-clause-told : goal.returns-then-not-has_done-clause-told
-returns-then-not-has_done-clause-told c =
+pub returns-then-not-has_done : goal.returns-then-not-has_done
+returns-then-not-has_done c =
     let wanted = c.args.self.now.wanted in
-    let notes = sym c.as_slice-notes.ensures.value in (
-      [],
-      record {
-        told = λ wants. absurd (false≢true (c.if-not-has_done.ensures.1 (subst (WantsDone wanted c.args.event.now) notes wants)));
-        other = λ unwanted. refl;
-      },
-      sym (append-nil c.args.self.now.out),
-    )
+    let notes = sym c.as_slice-notes.ensures.value in
+    record {
+      told = (
+        [],
+        record {
+          told = λ wants. absurd (false≢true (c.if-not-has_done.ensures.1 (subst (WantsDone wanted c.args.event.now) notes wants)));
+          other = λ unwanted. refl;
+        },
+        sym (append-nil c.args.self.now.out),
+      );
+      wanted = refl;
+      outflow = refl;
+      stage = refl;
+    }
 
-pub returns-clause-told : goal.returns-clause-told
-returns-clause-told c =
+pub returns : goal.returns
+returns c =
     let me = c.args.self.now in
     let event = c.args.event.now in
     let line = c.args.line.now.number in
@@ -33,11 +39,17 @@ returns-clause-told c =
     let is = c.as_slice-notes.ensures.value in
     let wants = subst (WantsDone me.wanted event) is (c.if-not-has_done.ensures.0 refl) in
     let written = c.write_wanted.ensures ∙ (ap (λ text. text ++ more c.as_slice-notes.result.now) c.in_ok-write_done.ensures.text
-    ∙ (append_assoc me.out first (more c.as_slice-notes.result.now) ∙ ap (λ notes. me.out ++ (first ++ more notes)) is)) in (
-      first ++ more me.notes.items,
-      record {
-        told = λ _. record { line = line; shown = shown; texts = texts; told = refl };
-        other = λ unwanted. absurd (unwanted wants);
-      },
-      written,
-    )
+    ∙ (append_assoc me.out first (more c.as_slice-notes.result.now) ∙ ap (λ notes. me.out ++ (first ++ more notes)) is)) in
+    record {
+      told = (
+        first ++ more me.notes.items,
+        record {
+          told = λ _. record { line = line; shown = shown; texts = texts; told = refl };
+          other = λ unwanted. absurd (unwanted wants);
+        },
+        written,
+      );
+      wanted = refl;
+      outflow = refl;
+      stage = refl;
+    }

@@ -1,9 +1,9 @@
 use Rattle.std.proofs.Common.{◌≡◌, ◌++◌, ◌∙◌, ℕ, List, ap, arith, refl, subst, sym}
-use Rattle.std.specs.Prelude.{IsTrue, OnErr, false, length}
+use Rattle.std.specs.Prelude.{OnErr, false, length}
 use Rattle.dsr_names.specs.Streams.{CanFailToTake, SentAll}
 use Rattle.dsr_names.specs.declared.refusal.Refusal.TheVariants.{NoMemory}
 use Rattle.dsr_explain.specs.Outlet.{HasGoneOut}
-use Rattle.dsr_explain.specs.Told.{TellsPlay, first_line}
+use Rattle.dsr_explain.specs.Told.{TellsPlay}
 use Rattle.dsr_explain.proofs.BreakLemmas.{left_broken, of_play, starved, unsent}
 use Rattle.dsr_explain.proofs.PartLemmas.{all_gone, gone_on, none_gone}
 use Rattle.dsr_explain.proofs.ToldLemmas.{on_ok, told_whole}

@@ -1,18 +1,23 @@
-use Rattle.std.proofs.Common.{◌≡◌, ◌++◌, ℕ, List}
+use Rattle.std.proofs.Common.{◌≡◌, ◌++◌, ℕ, List, refl}
 use Rattle.dsr_run.specs.Step.{log_of}
 use Rattle.dsr_reasons.specs.Reason.{TellsCause}
 use Rattle.dsr_explain.specs.Told.{TellsRefusal, refused_line}
 use Rattle.dsr_explain.proofs.ToldLemmas.{on_ok, refusal_told}
 use Rattle.dsr_explain.proofs.story.Story.tell_refusal.Goals as goal
 
-pub returns-then-has_refused-clause-told : goal.returns-then-has_refused-clause-told
-returns-then-has_refused-clause-told c =
+pub returns-then-has_refused : goal.returns-then-has_refused
+returns-then-has_refused c =
     let s = c.args.self.now in
-    on_ok c.write_refusal.result
-    ((shown : List ℕ) × TellsCause s.stage.shape (log_of s.stage.run) c.args.event.now s.wanted.data
-    (s.out ++ refused_line s.wanted.data c.args.number c.args.line.now.number c.args.event.now c.args.refusal.now shown) c.write_refusal.new.out)
-    ((text : List ℕ) × TellsRefusal s.wanted c.args.number s.stage.shape s.stage.run c.args.event.now c.args.refusal.now text
-    × (c.write_refusal.new.out ≡ s.out ++ text))
-    (λ cause. refusal_told s.wanted c.args.number c.args.line.now.number s.stage.shape s.stage.run c.args.event.now c.args.refusal.now
-    s.out c.write_refusal.new.out (c.has_refused.ensures.0 c.if-has_refused.true) cause)
-    c.write_refusal.ensures
+    record {
+      told = on_ok c.write_refusal.result
+          ((shown : List ℕ) × TellsCause s.stage.shape (log_of s.stage.run) c.args.event.now s.wanted.data
+          (s.out ++ refused_line s.wanted.data c.args.number c.args.line.now.number c.args.event.now c.args.refusal.now shown) c.write_refusal.new.out)
+          ((text : List ℕ) × TellsRefusal s.wanted c.args.number s.stage.shape s.stage.run c.args.event.now c.args.refusal.now text
+          × (c.write_refusal.new.out ≡ s.out ++ text))
+          (λ cause. refusal_told s.wanted c.args.number c.args.line.now.number s.stage.shape s.stage.run c.args.event.now c.args.refusal.now
+          s.out c.write_refusal.new.out (c.has_refused.ensures.0 c.if-has_refused.true) cause)
+          c.write_refusal.ensures;
+      wanted = refl;
+      outflow = refl;
+      stage = refl;
+    }

@@ -6,7 +6,7 @@ use Rattle.dsr_explain.specs.Letters.{handled}
 use Rattle.dsr_explain.specs.Told.{TellsRefusal, last_envelope}
 use Rattle.dsr_explain.proofs.LetterLemmas.{letter_is}
 use Rattle.dsr_explain.proofs.ToldLemmas.{refused_told}
-use Rattle.dsr_explain.proofs.story.Story.tell_noted.Goals as goal
+use Rattle.dsr_explain.proofs.story.Story.tell.Goals as goal
 
 pub tell_done-requires : goal.tell_done-requires
 tell_done-requires c =
