@@ -100,7 +100,7 @@ told_plays : (shape : Shape) (c d : ℕ) (log : List Entry) (x : Envelope) (node
 told_plays shape c d log x (ClientNode y) plays = assumption
 told_plays shape c d log x other plays = elim plays [ ]
 
--- the front that is told is the seen one, the client may tell it, and its node plays it after that
+-- the client may post its seen front, and its node plays the client with this post added to the log
 pub record Tells (seat : Pass) (node : Node) (to : Actor) (front : ℕ) : Type 0 where
   pub front_is : front ≡ seen seat.shape seat.log
   pub may : MayPost seat.shape seat.actor seat.log to (Seen front)

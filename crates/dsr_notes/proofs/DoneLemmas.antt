@@ -64,7 +64,7 @@ may_be_done shape logs event (Ok reply) given forged =
 pub passed_on : {T : Type 0} (result : Result T Refusal) (refusal : Refusal) → IsErrAnd result (λ found. found ≡ refusal) → result ≡ Err refusal
 passed_on result refusal is = let p = err_from_is_err_and result is in p.1 ∙ ap Err p.2
 
--- lack of memory leaves a stage of the same shape, of which nothing else is said
+-- if memory runs out, the stage keeps its shape, and nothing else is claimed
 pub stopped : (later earlier : Stage) (event : Event) (result : Result (Option AReply) Refusal) → result ≡ Err NoMemory → later.shape ≡ earlier.shape
     → IsStepped later earlier event result
 stopped later earlier event result is same =

@@ -97,7 +97,7 @@ module _ (a : Inside) {w : Stage} (is : stage_of a ≡ w) (fields : IsStageField
       let place_here : place_of w.shape who ≡ place = rw (← is) (sym place_is) in
       get_or_default a.letters.items (place_of w.shape who) None x (omega (arith, below, count)) ∙ rw place_here (sym here)
 
--- entries that keep the steps of a run keep one more, after room was made for it
+-- once there is room for one more step, entries that hold the steps of a run also hold the next one
 pub one_more : {shape : Shape} {steps newer : List Step} {w : Stage} {step : Step} {before room after : Bool} {items more now : List Step}
     → ◌≡◌ {A = Stage} (record { shape = shape; run = steps }) w → newer ≡ step ∷ steps → after ≡ room → room ≡ before → more ≡ items
     → (room ≡ true → before ≡ true → now ≡ step ∷ reverse more) → (before ≡ true → reverse items ≡ w.run) → after ≡ true → now ≡ newer

@@ -38,7 +38,7 @@ loop-place-preserved g c =
       omega (arith, passed.calls, kept.6, ap (λ flow. flow.calls) c.in-Ok-tell.ensures.outflow),
     )
 
--- memory ran out before the next event, or while it was told
+-- memory runs out before the next event happens, or while it is explained
 pub returns-in_default : goal.returns-in_default
 returns-in_default g c =
     let kept = c.loop-place.invariant in
