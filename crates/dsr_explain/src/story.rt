@@ -25,7 +25,7 @@ use crate::wanted::Wanted;
 use dsr_chain::Chain;
 use dsr_envelope::{Envelope, Letter};
 use dsr_names::{Actor, Refusal, Shape, Sink};
-use dsr_notes::{Note, step_noted};
+use dsr_notes::{Note, Notes, step_noted};
 use dsr_reasons::{Writer, write_why};
 use dsr_world::{Event, Play, Stage};
 use std::alloc::Global;
@@ -51,7 +51,7 @@ pub(crate) struct Story {
     heads: Heads,
     refused_end: RefusedEnd,
     /// The notes of the last event; the next event uses their room.
-    notes: Vec<Note>,
+    notes: Notes,
 }
 
 impl Story {
@@ -82,7 +82,7 @@ impl Story {
             tokens,
             heads: Heads::new(alloc),
             refused_end: RefusedEnd::new(alloc),
-            notes: Vec::new(alloc),
+            notes: Notes::new(alloc),
         })
     }
 

@@ -1,5 +1,5 @@
 -- What a replica takes from a client is the client's own ask, with a number that is not below that of the ask which it holds; so it then holds this one.
-use Rattle.std.proofs.Common.{◌≡◌, ℕ, ◌<◌, ◌≤◌, ◌&&◌, not, nat_lt, true, List, [], ◌∷◌, ◌++◌, Option, None, Some, length, if◌then◌else◌, inl, inr, refl, ap, ap₂, sym, ◌∙◌, subst, arith}
+use Rattle.std.proofs.Common.{◌≡◌, ◌≢◌, ℕ, ◌<◌, ◌≤◌, ◌&&◌, not, nat_lt, true, List, [], ◌∷◌, ◌++◌, Option, None, Some, length, if◌then◌else◌, inl, inr, refl, ap, ap₂, sym, ◌∙◌, subst, arith}
 use Rattle.std.specs.Prelude.{slice_get}
 use Rattle.std.proofs.lemmas.Bool.Decides.{Decides-eqb, nat_tests}
 use Rattle.std.proofs.lemmas.Option.{none-some, same_Some, slice_get_within}
@@ -29,6 +29,8 @@ use Rattle.dsr_run.specs.Run.{IsRun}
 use Rattle.dsr_run.specs.Step.{Step, log_of}
 use Rattle.dsr_run.proofs.Lemmas.{log_client, posted_entry, IsBox, boxes}
 use Rattle.dsr_world.specs.Event.{in_box}
+use Rattle.dsr_notes.specs.Ask.{AreAskNotes}
+use Rattle.dsr_notes.specs.declared.note.Note.TheVariants.{Held}
 
 -- ---- lists
 
@@ -171,25 +173,42 @@ module _ (shape : Shape) (client : ℕ) where
       (way_test (held shape client log) ask.request.number most)
 
 -- an ask, which is held once the envelope is taken
-pub record WillHold (shape : Shape) (client : ℕ) (log : List Entry) (x : Envelope) : Type 0 where
+record WillHold (shape : Shape) (client : ℕ) (log : List Entry) (x : Envelope) : Type 0 where
   pub ask : SignedRequest
   pub is_ask : x ≡ Ask ask
   pub is_held : held shape client (Take (Client client) x ∷ log) ≡ Some ask
 
--- what lies in the box from a client to a replica
-pub box_will_hold : (shape : Shape) (run : List Step) → IsRun shape run → (client replica : ℕ) → client < shape.m → (x : Envelope)
-    → in_box (log_of run) (Client client) (Replica replica) ≡ Some x → WillHold shape client (log_of run (Replica replica)) x
-box_will_hold shape run is client replica inside x holds =
-    let log = log_of run (Replica replica) in
-    let taken = taken_from (Client client) log in
-    let posted = posted_to (Replica replica) (log_of run (Client client)) in
-    let parts = box_parts posted taken x (boxes shape run is (Client client) (Replica replica)) holds in
-    let newest = last_newest shape client replica (log_of run (Client client)) (log_client shape client run is) taken x parts in
-    record {
-      ask = newest.ask;
-      is_ask = newest.is;
-      is_held =
-          ap (λ z. held shape client (Take (Client client) z ∷ log)) newest.is
-          ∙ newest_held shape client log newest.ask inside newest.own
-          (λ before e. newest.most before (taken_listed (Client client) log (Ask before) (held_from shape client log before e).taken));
-    }
+module _ (shape : Shape) (run : List Step) (is : IsRun shape run) (client replica : ℕ) (inside : client < shape.m) (x : Envelope)
+    (holds : in_box (log_of run) (Client client) (Replica replica) ≡ Some x) where
+  -- what lies in the box from a client to a replica
+  box_will_hold : WillHold shape client (log_of run (Replica replica)) x
+  box_will_hold =
+      let log = log_of run (Replica replica) in
+      let taken = taken_from (Client client) log in
+      let posted = posted_to (Replica replica) (log_of run (Client client)) in
+      let parts = box_parts posted taken x (boxes shape run is (Client client) (Replica replica)) holds in
+      let newest = last_newest shape client replica (log_of run (Client client)) (log_client shape client run is) taken x parts in
+      record {
+        ask = newest.ask;
+        is_ask = newest.is;
+        is_held =
+            ap (λ z. held shape client (Take (Client client) z ∷ log)) newest.is
+            ∙ newest_held shape client log newest.ask inside newest.own
+            (λ before e. newest.most before (taken_listed (Client client) log (Ask before) (held_from shape client log before e).taken));
+      }
+
+  -- is an ask
+  pub box_asks : (y : Envelope) → y ≡ x → ((ask : SignedRequest) → y ≢ Ask ask) → ⊥
+  box_asks y same none = none box_will_hold.ask (same ∙ box_will_hold.is_ask)
+
+  -- and the notes are that it is held
+  pub box_held : (ask : SignedRequest) → x ≡ Ask ask → AreAskNotes shape (log_of run (Replica replica)) client x (Held ask.request ∷ [])
+  box_held ask asks = record {
+    ask = box_will_hold.ask;
+    is_ask = box_will_hold.is_ask;
+    is_held = box_will_hold.is_held;
+    are = ap (λ (a : SignedRequest). Held a.request ∷ []) (same_ask ask box_will_hold.ask (sym asks ∙ box_will_hold.is_ask));
+  }
+    where
+      same_ask : (one other : SignedRequest) → Ask one ≡ Ask other → one ≡ other
+      same_ask one other e = cc

@@ -1,14 +1,13 @@
 -- What becomes of the requests of a decision, by the history after it.
 use Rattle.std.proofs.Common.{◌≡◌, ℕ, zero, suc, ◌+◌, ◌-◌, ◌<◌, ◌≤◌, Bool, true, false, cond, not, ◌&&◌, ◌||◌, nat_eq, nat_lt, ◌==◌, List, [], ◌∷◌, ◌++◌, length, reverse, get_or, refl, sym, ◌∙◌, ap, subst, arith, append_assoc, length-append, append-nil, take, drop, map, slice_get, None, Some}
 use Rattle.std.specs.Bool.{Decides}
-use Rattle.std.specs.Prelude.{All, OnOk, Result, if◌then◌else◌}
+use Rattle.std.specs.Prelude.{All, if◌then◌else◌}
 use Rattle.std.proofs.lemmas.Bool.Decides.{Decides-eqb, nat_tests}
 use Rattle.std.proofs.lemmas.List.{length-reverse, reverse-append, take_more}
 use Rattle.std.proofs.lemmas.Option.{none-some, same_Some}
 use Rattle.std.proofs.Math.Seq.{get_or-append_seam}
 use Rattle.std.proofs.lemmas.List.Elements.{All-append, All-nil}
 use Rattle.dsr_names.specs.Shape.{Shape}
-use Rattle.dsr_names.specs.declared.refusal.Refusal.{Refusal}
 use Rattle.dsr_request.specs.Request.{Request}
 use Rattle.dsr_history.specs.History.{acting, acted, rises_above, requests_of}
 use Rattle.dsr_rotation.specs.Calendar.{first_round, closed_slots}
@@ -21,11 +20,14 @@ use Rattle.dsr_envelope.specs.declared.entry.Entry.{Entry}
 use Rattle.dsr_envelope.specs.declared.due.Due.{Due}
 use Rattle.dsr_envelope.specs.declared.due.Due.TheVariants.{Post as PostTo, Take as TakeFrom}
 use Rattle.dsr_replica.specs.Counts.{HasCounts, takes_at}
-use Rattle.dsr_replica.specs.Decided.{slot_kept, slot_decided, values, decided_values, decided_requests}
+use Rattle.dsr_replica.specs.Decided.{slot_decided, values, decided_values, decided_requests}
 use Rattle.dsr_replica.proofs.Lemmas.{HasTaken, values_same, decided_same}
-use Rattle.dsr_notes.specs.Closing.{closes, outcomes, decision_notes, requests_before}
-use Rattle.dsr_notes.specs.declared.note.Note.{Note}
+use Rattle.dsr_notes.specs.Closing.{closes, outcomes, requests_before}
+use Rattle.dsr_notes.specs.Noting.{Notes, Adds}
+use Rattle.dsr_notes.specs.Support.Rest.{closing_notes}
+use Rattle.dsr_notes.specs.declared.closing.Closing.{Closing}
 use Rattle.dsr_notes.specs.declared.note.Note.TheVariants.{Acted, Stale, Closed, Decided}
+use Rattle.dsr_notes.proofs.NotingLemmas.{adds_then}
 
 -- ---- the history goes on
 
@@ -220,22 +222,20 @@ module _ (slot : ℕ) (requests older : List Request) (i : ℕ) (request : Reque
       ++ (if b then Acted slot (length (acting (reverse (take i requests) ++ older))) request else Stale slot request) ∷ []) falls
 
   -- the notes after it
-  pub notes_acted : (start notes items : List Note) (place : ℕ) → rises_above request (reverse (take i requests) ++ older) ≡ true
-      → place ≡ length (acting (reverse (take i requests) ++ older)) → notes ≡ start ++ outcomes slot older (take i requests)
-      → items ≡ notes ++ Acted slot place request ∷ [] → items ≡ start ++ outcomes slot older (take (i + 1) requests)
-  notes_acted start notes items place rises place_is notes_are items_are =
-      items_are ∙ ap (λ l. l ++ Acted slot place request ∷ []) notes_are
-      ∙ append_assoc start (outcomes slot older (take i requests)) (Acted slot place request ∷ [])
-      ∙ ap (λ n. start ++ (outcomes slot older (take i requests) ++ Acted slot n request ∷ [])) place_is
-      ∙ ap (λ l. start ++ l) (sym (acted_noted rises))
+  pub notes_acted : (start notes later : Notes) (place : ℕ) → rises_above request (reverse (take i requests) ++ older) ≡ true
+      → place ≡ length (acting (reverse (take i requests) ++ older)) → Adds start notes (outcomes slot older (take i requests))
+      → Adds notes later (Acted slot place request ∷ []) → Adds start later (outcomes slot older (take (i + 1) requests))
+  notes_acted start notes later place rises place_is so_far adds =
+      subst (Adds start later)
+      (ap (λ n. outcomes slot older (take i requests) ++ Acted slot n request ∷ []) place_is ∙ sym (acted_noted rises))
+      (adds_then start notes later (outcomes slot older (take i requests)) (Acted slot place request ∷ []) so_far adds)
 
-  pub notes_stale : (start notes items : List Note) → rises_above request (reverse (take i requests) ++ older) ≡ false
-      → notes ≡ start ++ outcomes slot older (take i requests)
-      → items ≡ notes ++ Stale slot request ∷ [] → items ≡ start ++ outcomes slot older (take (i + 1) requests)
-  notes_stale start notes items falls notes_are items_are =
-      items_are ∙ ap (λ l. l ++ Stale slot request ∷ []) notes_are
-      ∙ append_assoc start (outcomes slot older (take i requests)) (Stale slot request ∷ [])
-      ∙ ap (λ l. start ++ l) (sym (stale_noted falls))
+  pub notes_stale : (start notes later : Notes) → rises_above request (reverse (take i requests) ++ older) ≡ false
+      → Adds start notes (outcomes slot older (take i requests))
+      → Adds notes later (Stale slot request ∷ []) → Adds start later (outcomes slot older (take (i + 1) requests))
+  notes_stale start notes later falls so_far adds =
+      subst (Adds start later) (sym (stale_noted falls))
+      (adds_then start notes later (outcomes slot older (take i requests)) (Stale slot request ∷ []) so_far adds)
 
 -- ---- the slot that closes with a round
 
@@ -284,59 +284,55 @@ latest_at values v older values_are list list_is =
     at_end [] = refl
     at_end (x ∷ xs) = at_end xs
 
-module _ (shape : Shape) (log : List Entry) (t : ℕ) (closed : rounds shape log ≡ suc t) (all : List SlotValue) (all_is : all ≡ decided_values shape log)
-    (list : List SlotValue) (list_is : list ≡ reverse all)
-    (round : ℕ) (round_is : round ≡ t) (start pushed : List Note) (pushed_round : pushed ≡ start ++ Closed round ∷ []) where
-  pushed_is : pushed ≡ start ++ Closed t ∷ []
-  pushed_is = pushed_round ∙ ap (λ n. start ++ Closed n ∷ []) round_is
+module _ (shape : Shape) (log : List Entry) (closing : Closing) (closed : rounds shape log ≡ suc closing.round)
+    (all : List SlotValue) (all_is : all ≡ decided_values shape log) (list : List SlotValue) (list_is : list ≡ reverse all)
+    (start told : Notes) (adds : Adds start told (Closed closing.round ∷ [])) where
+  with_latest : closes shape closing.round ≡ true
+      → all ≡ slot_decided shape log (closed_slots shape closing.round) ∷ values (slot_decided shape log) (closed_slots shape closing.round)
+  with_latest is = all_is ∙ closed_with shape log closing.round closed is
 
-  with_latest : closes shape t ≡ true → all ≡ slot_decided shape log (closed_slots shape t) ∷ values (slot_decided shape log) (closed_slots shape t)
-  with_latest is = all_is ∙ closed_with shape log t closed is
+  abbrev slot : ℕ
+  slot = closed_slots shape closing.round
+
+  abbrev older : List SlotValue
+  older = values (slot_decided shape log) slot
+
+  abbrev Told : Notes → Bool → Type 0
+  Told later b = Adds start later (Closed closing.round ∷ (if b
+      then Decided slot closing.kept ∷ outcomes slot (requests_before shape log slot) (requests_in (slot_decided shape log slot))
+      else []))
 
   -- if nothing is decided, no slot closes
-  pub none_noted : None ≡ slice_get list (length list - 1)
-      → pushed ≡ start ++ Closed t ∷ (if closes shape t then decision_notes shape log (closed_slots shape t) else [])
-  none_noted none = by_closes (closes shape t) refl
+  pub none_noted : None ≡ slice_get list (length list - 1) → Adds start told (closing_notes shape log closing)
+  none_noted none = by_closes (closes shape closing.round) refl
     where
-      by_closes : (b : Bool) → closes shape t ≡ b → pushed ≡ start ++ Closed t ∷ (if b then decision_notes shape log (closed_slots shape t) else [])
-      by_closes true is =
-          absurd (none-some (slot_decided shape log (closed_slots shape t))
-          (none ∙ latest_at all (slot_decided shape log (closed_slots shape t)) (values (slot_decided shape log) (closed_slots shape t)) (with_latest is) list list_is))
-      by_closes false is = pushed_is
+      by_closes : (b : Bool) → closes shape closing.round ≡ b → Told told b
+      by_closes true is = absurd (none-some (slot_decided shape log slot) (none ∙ latest_at all (slot_decided shape log slot) older (with_latest is) list list_is))
+      by_closes false is = adds
 
   -- the notes of the latest decision are those of the slot that closes
-  pub decision_noted : (kept acted_before : ℕ) (decision : SlotValue) → Some decision ≡ slice_get list (length list - 1)
-      → (closes shape t ≡ true → kept ≡ length (slot_kept shape log (closed_slots shape t) (suc shape.f)))
-      → (closes shape t ≡ true → acted_before ≡ length (acting (requests_before shape log (closed_slots shape t))))
-      → (result : Result (Unit {0}) Refusal) (items : List Note)
-      → ((older : List SlotValue) → all ≡ decision ∷ older → acted_before ≡ length (acting (requests_of (map requests_in older)))
-      → OnOk result (items ≡ pushed ++ Decided (length older) kept ∷ outcomes (length older) (requests_of (map requests_in older)) (requests_in decision)))
-      → OnOk result (items ≡ start ++ Closed t ∷ (if closes shape t then decision_notes shape log (closed_slots shape t) else []))
-  decision_noted kept acted_before decision some kept_is acted_is result items noted = by_closes (closes shape t) refl
+  pub decision_noted : (decision : SlotValue) → Some decision ≡ slice_get list (length list - 1)
+      → (closes shape closing.round ≡ true → closing.acted ≡ length (acting (requests_before shape log slot))) → (later : Notes)
+      → ((older : List SlotValue) → all ≡ decision ∷ older → closing.acted ≡ length (acting (requests_of (map requests_in older)))
+      → Adds told later (Decided (length older) closing.kept ∷ outcomes (length older) (requests_of (map requests_in older)) (requests_in decision)))
+      → Adds start later (closing_notes shape log closing)
+  decision_noted decision some acted_is later noted = by_closes (closes shape closing.round) refl
     where
-      slot : ℕ
-      slot = closed_slots shape t
-
-      older : List SlotValue
-      older = values (slot_decided shape log) slot
-
-      by_closes : (b : Bool) → closes shape t ≡ b
-          → OnOk result (items ≡ start ++ Closed t ∷ (if b then decision_notes shape log (closed_slots shape t) else []))
+      by_closes : (b : Bool) → closes shape closing.round ≡ b → Told later b
       by_closes true is =
           let value = slot_decided shape log slot in
           let same : decision ≡ value = same_Some decision value (some ∙ latest_at all value older (with_latest is) list list_is) in
-          subst (λ l. OnOk result (items ≡ l))
-          (ap (λ l. l ++ Decided (length older) kept ∷ outcomes (length older) (requests_of (map requests_in older)) (requests_in decision)) pushed_is
-          ∙ append_assoc start (Closed t ∷ []) (Decided (length older) kept ∷ outcomes (length older) (requests_of (map requests_in older)) (requests_in decision))
-          ∙ ap (λ n. start ++ Closed t ∷ Decided n kept ∷ outcomes n (requests_of (map requests_in older)) (requests_in decision)) (values_count (slot_decided shape log) slot)
-          ∙ ap (λ k. start ++ Closed t ∷ Decided slot k ∷ outcomes slot (requests_of (map requests_in older)) (requests_in decision)) (kept_is is)
-          ∙ ap (λ d. start ++ Closed t ∷ Decided slot (length (slot_kept shape log slot (suc shape.f)))
-          ∷ outcomes slot (requests_of (map requests_in older)) (requests_in d)) same)
-          (noted older (with_latest is ∙ ap (λ d. d ∷ older) (sym same)) (acted_is is))
+          let before = requests_of (map requests_in older) in
+          subst (Adds start later)
+          (ap (λ n. Closed closing.round ∷ Decided n closing.kept ∷ outcomes n before (requests_in decision)) (values_count (slot_decided shape log) slot)
+          ∙ ap (λ d. Closed closing.round ∷ Decided slot closing.kept ∷ outcomes slot before (requests_in d)) same)
+          (adds_then start told later (Closed closing.round ∷ [])
+          (Decided (length older) closing.kept ∷ outcomes (length older) before (requests_in decision)) adds
+          (noted older (with_latest is ∙ ap (λ d. d ∷ older) (sym same)) (acted_is is)))
       by_closes false is = absurd (none-some decision (sym (some ∙ empty)))
         where
           nothing : list ≡ []
-          nothing = list_is ∙ ap reverse (all_is ∙ closed_without shape log t closed is)
+          nothing = list_is ∙ ap reverse (all_is ∙ closed_without shape log closing.round closed is)
 
           empty : slice_get list (length list - 1) ≡ None
           empty = ap (λ l. slice_get l (length l - 1)) nothing
@@ -364,9 +360,6 @@ acted_still shape entry log counts =
     (closed_below shape slot (rounds shape log) closed))))
 
 -- ---- what a replica of the shape says of its log, by the shape itself
-
-pub round_before : (shape own : Shape) → own ≡ shape → (log : List Entry) (t round : ℕ) → rounds shape log ≡ suc t → round ≡ rounds own log → round - 1 ≡ t
-round_before shape own same log t round closed is = let counted : round ≡ suc t = is ∙ ap (λ s. rounds s log) same ∙ closed in omega (arith, counted)
 
 pub values_by : (shape own : Shape) → own ≡ shape → (log : List Entry) (all : List SlotValue) → all ≡ decided_values own log → all ≡ decided_values shape log
 values_by shape own same log all is = is ∙ ap (λ s. decided_values s log) same

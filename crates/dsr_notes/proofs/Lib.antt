@@ -1,6 +1,7 @@
 mod AskLemmas
 mod ClosingLemmas
 pub mod DoneLemmas
+mod NotingLemmas
 mod ReadingLemmas
 mod ReadingLemmasOfTakes
 mod UnproposedLemmas

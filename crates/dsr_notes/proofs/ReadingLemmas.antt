@@ -213,7 +213,7 @@ module _ (r : Replica) (log : List Entry) (stands : StandsFor r log) (now : r.ro
       none found.0 found.1 found.2
 
   -- what is kept for the slot that closes, once these chains are read
-  pub kept_closing : (s : SlotState) → In s r.slots → s.slot ≡ closed_slots r.shape r.round → closes r.shape r.round ≡ true → (chains : List AChain)
+  kept_closing : (s : SlotState) → In s r.slots → s.slot ≡ closed_slots r.shape r.round → closes r.shape r.round ≡ true → (chains : List AChain)
       → keep s.shape s.slot (suc s.closed) s.kept chains
       ≡ keep r.shape (closed_slots r.shape r.round) (suc r.shape.f) (slot_kept r.shape log (closed_slots r.shape r.round) (suc r.shape.f)) chains
   kept_closing s h oldest closing chains =
@@ -222,6 +222,17 @@ module _ (r : Replica) (log : List Entry) (stands : StandsFor r log) (now : r.ro
       let rest : rounds r.shape log - first_round r.shape s.slot ≡ r.shape.f = closed_of s h ∙ (last ∙ ap (λ (z : Shape). z.f) (shape_of s h)) in
       kept_is s h chains
       ∙ ap₂ (λ slot k. keep r.shape slot (suc k) (slot_kept r.shape log slot (suc k)) chains) oldest rest
+
+  -- and what the state keeps for it then
+  pub closing_kept : (s after : SlotState) (chains : List AChain) → In s r.slots → s.slot ≡ closed_slots r.shape r.round → closes r.shape r.round ≡ true
+      → after ≡ after_chains s chains
+      → after.kept ≡ keep r.shape (closed_slots r.shape r.round) (suc r.shape.f) (slot_kept r.shape log (closed_slots r.shape r.round) (suc r.shape.f)) chains
+  closing_kept s after chains h oldest closing is = ap (λ (a : SlotState). a.kept) is ∙ kept_closing s h oldest closing chains
+
+-- notes that are told if a slot closes
+pub if_closes : (b : Bool) (notes : List Note) → b ≡ true → notes ≡ (if b then notes else [])
+if_closes true notes is = refl
+if_closes false notes is = absurd (false≢true is)
 
 -- ---- the notes of the chains
 

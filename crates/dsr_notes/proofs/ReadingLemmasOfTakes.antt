@@ -1,5 +1,5 @@
 -- What is kept for a slot after the take that closes it: what was kept before, and then what is kept of the chains that were taken.
-use Rattle.std.proofs.Common.{◌≡◌, ◌≢◌, ℕ, zero, suc, ◌+◌, ◌<◌, ◌≤◌, ◌==◌, ◌&&◌, Bool, true, false, List, [], ◌∷◌, ◌++◌, length, Some, None, if◌then◌else◌, inl, inr, refl, ap, ap₂, sym, ◌∙◌, subst, append_assoc, arith}
+use Rattle.std.proofs.Common.{◌≡◌, ◌≢◌, ℕ, zero, suc, ◌+◌, ◌<◌, ◌≤◌, ◌==◌, Bool, true, false, List, [], ◌∷◌, ◌++◌, length, Some, None, if◌then◌else◌, inl, inr, refl, ap, ap₂, sym, ◌∙◌, subst, append_assoc, arith}
 use Rattle.std.specs.Prelude.{slice_get}
 use Rattle.std.proofs.lemmas.Bool.{cases_lt, false_from_ne_true}
 use Rattle.std.proofs.lemmas.Bool.Decides.{nat_tests, Decides-eqb}
@@ -125,16 +125,10 @@ module _ (shape : Shape) (log : List Entry) (t : ℕ) (counts : HasCounts shape 
 
 -- ---- notes
 
--- from the last replica, what a slot that closes adds to the notes
-pub last_notes : (b c : Bool) (notes other : List Note) → b ≡ true → (c ≡ true → notes ≡ other)
-    → (if c then notes else []) ≡ (if b && c then other else [])
-last_notes true true notes other e same = same refl
-last_notes true false notes other e same = refl
-last_notes false c notes other e same = absurd cc
-
-pub no_more : (b c : Bool) (other : List Note) → ¬ (b ≡ true) → [] ≡ (if b && c then other else [])
-no_more true c other not_last = absurd (not_last refl)
-no_more false c other not_last = refl
+-- what a slot that closes adds to the notes
+pub if_closing : (c : Bool) (notes other : List Note) → (c ≡ true → notes ≡ other) → (if c then notes else []) ≡ (if c then other else [])
+if_closing true notes other same = same refl
+if_closing false notes other same = refl
 
 -- the notes after each of the three calls, joined
 pub joined : (old one two three silence fates kept other : List Note) → one ≡ old ++ silence → two ≡ one ++ fates → three ≡ two ++ kept → kept ≡ other

@@ -2,7 +2,8 @@ pub mod Ask
 pub mod Closing
 pub mod End
 pub mod Notes
+pub mod Noting
 pub mod Reading
-pub mod Stepped
+pub mod Support
 pub mod Unproposed
 pub mod Vote

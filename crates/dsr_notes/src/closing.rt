@@ -1,116 +1,104 @@
 //! What a loyal replica decides when it closes a round, found after the take that closes it.
 
-ghost use Rattle.std.specs.Prelude.{◌≡◌, ◌<◌, ◌++◌, ◌∷◌, ℕ, suc, true, [], List, length, map, reverse, OnOk, IsTrue, IsOkUnless, if◌then◌else◌};
-ghost use Rattle.dsr_names.specs.Shape.{IsLoyal};
+ghost use Rattle.std.specs.Prelude.{◌≡◌, ◌<◌, ◌++◌, ◌∷◌, List, length, map, reverse, IsTrue};
 ghost use Rattle.dsr_names.specs.declared.actor.Actor.TheVariants.{Replica as ReplicaNumber};
 ghost use Rattle.dsr_request.specs.Request.{Request as ARequest};
 ghost use Rattle.dsr_history.specs.History.{acting, requests_of, rises_above};
-ghost use Rattle.dsr_rotation.specs.Calendar.{closed_slots};
 ghost use Rattle.dsr_chain.specs.Content.{requests_in};
 ghost use Rattle.dsr_chain.specs.declared.slot_value.SlotValue.{SlotValue};
-ghost use Rattle.dsr_envelope.specs.Log.{rounds};
-ghost use Rattle.dsr_replica.specs.Decided.{slot_kept};
 ghost use Rattle.dsr_run.specs.Step.{log_of};
-ghost use Rattle.dsr_notes.specs.Closing.{closes, decision_notes, outcomes, requests_before};
-ghost use Rattle.dsr_notes.specs.declared.note.Note.TheVariants.{Closed as ClosedNote, Decided as DecidedNote};
+ghost use Rattle.dsr_notes.specs.Closing.{outcomes};
+ghost use Rattle.dsr_notes.specs.Noting.{Adds};
+ghost use Rattle.dsr_notes.specs.Support.Rest.{HasClosed, closing_notes};
+ghost use Rattle.dsr_notes.specs.declared.note.Note.TheVariants.{Decided as DecidedNote};
 
 use crate::note::Note;
-use dsr_names::{Refusal, ReplicaId};
+use crate::notes::Notes;
+use dsr_names::ReplicaId;
 use dsr_replica::Replica;
 use dsr_request::Request;
 use dsr_slot::Decision;
 use dsr_world::Stage;
 
-/// Notes the round that a loyal replica closed last, and, if a slot closed with it, what the replica decided and which of the requests acted. Requires that
-/// it closed a round; and if a slot closed with it, the number of chains that the replica kept for that slot, and of requests that acted before it.
-/// `NoMemory` if memory runs out.
-pub(crate) fn note_closing(
-    stage: &Stage,
-    replica: ReplicaId,
-    kept: u8,
-    acted: usize,
-    notes: &mut Vec<Note>,
-) -> Result<(), Refusal>
-    requires loyal { IsLoyal stage.now.shape (ReplicaNumber replica) }
-    requires closed { 0 < rounds stage.now.shape (log_of stage.now.run (ReplicaNumber replica)) }
-    requires kept { (t : ℕ) → rounds stage.now.shape (log_of stage.now.run (ReplicaNumber replica)) ≡ suc t → closes stage.now.shape t ≡ true
-        → kept ≡ length (slot_kept stage.now.shape (log_of stage.now.run (ReplicaNumber replica)) (closed_slots stage.now.shape t) (suc stage.now.shape.f)) }
-    requires acted { (t : ℕ) → rounds stage.now.shape (log_of stage.now.run (ReplicaNumber replica)) ≡ suc t → closes stage.now.shape t ≡ true
-        → acted ≡ length (acting (requests_before stage.now.shape (log_of stage.now.run (ReplicaNumber replica)) (closed_slots stage.now.shape t))) }
-    ensures closed { (t : ℕ) → rounds stage.now.shape (log_of stage.now.run (ReplicaNumber replica)) ≡ suc t
-        → OnOk result (notes.new.items ≡ notes.old.items ++ (ClosedNote t ∷
-        (if closes stage.now.shape t
-        then decision_notes stage.now.shape (log_of stage.now.run (ReplicaNumber replica)) (closed_slots stage.now.shape t)
-        else []))) }
-    ensures refusal { IsOkUnless result Refusal.NoMemory }
+/// The round that a loyal replica closes with a take, as it is known before the take.
+#[derive(Clone, Copy)]
+pub(crate) struct Closing {
+    pub(crate) replica: ReplicaId,
+    pub(crate) round: u64,
+    /// How many chains the replica will have kept for the slot that closes with the round; 0 if none does.
+    pub(crate) kept: u8,
+    /// How many requests have acted.
+    pub(crate) acted: usize,
+}
+
+/// Notes the round, which was just closed, and, if a slot closed with it, what the replica decided and which of the requests acted.
+pub(crate) fn note_closing(stage: &Stage, closing: &Closing, notes: &mut Notes)
+    requires { HasClosed stage.now.shape (log_of stage.now.run) closing.now }
+    ensures { Adds notes.old notes.new (closing_notes stage.now.shape (log_of stage.now.run (ReplicaNumber closing.now.replica)) closing.now) }
 {
-    let Ok(loyal) = stage.replica(replica) else {
+    let Ok(loyal) = stage.replica(closing.replica) else {
         unreachable!()
     };
-    notes.push(Note::Closed {
-        round: loyal.round() - 1,
-    })?;
+    notes.add(Note::Closed {
+        round: closing.round,
+    });
     // Once a slot has closed, one closes with every round.
-    match loyal.decided().last() {
-        Some(decision) => note_decision(loyal, decision, kept, acted, notes),
-        None => Ok(()),
+    if let Some(decision) = loyal.decided().last() {
+        note_decision(loyal, decision, closing, notes);
     }
 }
 
-/// Notes the replica's last decision, for whose slot it kept this many chains, and which of the requests acted, if this many acted before. `NoMemory` if
-/// memory runs out.
-fn note_decision(
-    loyal: &Replica,
-    decision: &Decision,
-    kept: u8,
-    acted: usize,
-    notes: &mut Vec<Note>,
-) -> Result<(), Refusal>
-    ensures decided { (older : List SlotValue) → loyal.now.values ≡ decision.now ∷ older → acted ≡ length (acting (requests_of (map requests_in older)))
-        → OnOk result (notes.new.items ≡ notes.old.items ++ DecidedNote (length older) kept
+/// Notes the replica's last decision, and which of the requests acted, if as many acted before as `closing` says.
+fn note_decision(loyal: &Replica, decision: &Decision, closing: &Closing, notes: &mut Notes)
+    ensures { (older : List SlotValue) → loyal.now.values ≡ decision.now ∷ older
+        → closing.now.acted ≡ length (acting (requests_of (map requests_in older)))
+        → Adds notes.old notes.new (DecidedNote (length older) closing.now.kept
         ∷ outcomes (length older) (requests_of (map requests_in older)) (requests_in decision.now)) }
-    ensures refusal { IsOkUnless result Refusal.NoMemory }
 {
     let slot = loyal.decided().len().saturating_sub(1) as u64;
-    notes.push(Note::Decided { slot, kept })?;
-    match decision.content() {
-        Some(requests) => {
-            note_outcomes(slot, requests.as_slice(), loyal.history(), acted, notes)
-        }
-        None => Ok(()),
+    notes.add(Note::Decided {
+        slot,
+        kept: closing.kept,
+    });
+    if let Some(requests) = decision.content() {
+        note_outcomes(
+            slot,
+            requests.as_slice(),
+            loyal.history(),
+            closing.acted,
+            notes,
+        );
     }
 }
 
 /// Notes for each of these requests, which were decided for the slot, whether it acted, if this many acted before. Those that acted are the last in the
-/// history, in their order. `NoMemory` if memory runs out.
+/// history, in their order.
 fn note_outcomes(
     slot: u64,
     requests: &[Request],
     history: &[Request],
     acted: usize,
-    notes: &mut Vec<Note>,
-) -> Result<(), Refusal>
-    ensures outcomes { (older : List ARequest) → acted ≡ length (acting older) → history.now ≡ reverse (acting (reverse requests.now ++ older))
-        → OnOk result (notes.new.items ≡ notes.old.items ++ outcomes slot older requests.now) }
-    ensures refusal { IsOkUnless result Refusal.NoMemory }
+    notes: &mut Notes,
+)
+    ensures { (older : List ARequest) → acted ≡ length (acting older) → history.now ≡ reverse (acting (reverse requests.now ++ older))
+        → Adds notes.old notes.new (outcomes slot older requests.now) }
 {
     let mut place = acted;
     for request in requests {
         if is_next(history, place, request) {
-            notes.push(Note::Acted {
+            notes.add(Note::Acted {
                 slot,
                 place: place as u64,
                 request: *request,
-            })?;
+            });
             place += 1;
         } else {
-            notes.push(Note::Stale {
+            notes.add(Note::Stale {
                 slot,
                 request: *request,
-            })?;
+            });
         }
     }
-    Ok(())
 }
 
 /// Tells whether the request acted, if this many acted before: it is at that place of the history. A request that did not act is not there, because what

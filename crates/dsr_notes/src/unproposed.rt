@@ -1,80 +1,87 @@
 //! What a loyal replica could propose, and does not.
 
-ghost use Rattle.std.specs.Prelude.{◌≡◌, ◌↔◌, ◌++◌, false, List, Any, IsTrue, IfSome, IfNone, OnOk, IsOkUnless};
-ghost use Rattle.dsr_names.specs.Shape.{IsLoyal};
+ghost use Rattle.std.specs.Prelude.{◌≡◌, ◌↔◌, [], false, List, Any, IsTrue, IfSome, IfNone};
 ghost use Rattle.dsr_names.specs.declared.actor.Actor.TheVariants.{Replica as ReplicaNumber};
 ghost use Rattle.dsr_request.specs.Request.{Request as ARequest};
 ghost use Rattle.dsr_history.specs.History.{reply};
 ghost use Rattle.dsr_chain.specs.Content.{signed_in};
 ghost use Rattle.dsr_envelope.specs.Log.{rounds};
 ghost use Rattle.dsr_envelope.specs.declared.entry.Entry.{Entry};
+ghost use Rattle.dsr_envelope.specs.declared.pick.Pick.TheVariants.{Plain};
+ghost use Rattle.dsr_play.specs.declared.event.Event.TheVariants.{Post};
 ghost use Rattle.dsr_replica.specs.Decided.{decided_requests};
 ghost use Rattle.dsr_replica.specs.Replica.{StandsFor};
-ghost use Rattle.dsr_run.specs.Step.{log_of};
-ghost use Rattle.dsr_notes.specs.Unproposed.{has_passed, IsKept, IsWaiting, IsNoteOf, AreWaiting, AreUnproposed};
+ghost use Rattle.dsr_notes.specs.Noting.{Adds};
+ghost use Rattle.dsr_notes.specs.Support.Rest.{Foretells};
+ghost use Rattle.dsr_notes.specs.Unproposed.{has_passed, IsKept, IsWaiting, IsNoteOf, AreWaiting};
 ghost use Rattle.dsr_notes.specs.declared.note.Note.{Note as ANote};
+ghost use Rattle.dsr_notes.specs.declared.rest.Rest.TheVariants.{Nothing};
 
 use crate::note::Note;
+use crate::notes::Notes;
 use dsr_chain::SignedRequest;
-use dsr_envelope::Envelope;
-use dsr_names::{ClientId, Refusal, ReplicaId};
+use dsr_envelope::{Envelope, Pick};
+use dsr_names::{ClientId, ReplicaId};
+use dsr_play::Choice;
 use dsr_replica::Replica;
 use dsr_request::Request;
 use dsr_slot::{Kept, SlotState};
 use dsr_world::Stage;
 
-/// Notes which requests a loyal replica could propose in the slot that begins, if that slot is its own. `NoMemory` if memory runs out.
+/// Notes which requests a replica could propose with its post by this choice, if it is loyal, the slot that begins is its own, and it chooses to
+/// propose nothing.
 pub(crate) fn note_unproposed(
     stage: &Stage,
     replica: ReplicaId,
-    notes: &mut Vec<Note>,
-) -> Result<(), Refusal>
-    requires loyal { IsLoyal stage.now.shape (ReplicaNumber replica) }
-    ensures unproposed { OnOk result ((waiting : List ANote)
-        × AreUnproposed stage.now.shape (ReplicaNumber replica) (log_of stage.now.run (ReplicaNumber replica)) waiting
-        × (notes.new.items ≡ notes.old.items ++ waiting)) }
-    ensures refusal { IsOkUnless result Refusal.NoMemory }
+    to: ReplicaId,
+    pick: &Choice,
+    notes: &mut Notes,
+)
+    requires { notes.old.items ≡ [] }
+    ensures { Foretells stage.now.shape stage.now.run (Post (ReplicaNumber replica) (ReplicaNumber to) pick.now) notes.new Nothing }
 {
+    if !proposes_nothing(to, pick) {
+        return;
+    }
     let Ok(loyal) = stage.replica(replica) else {
-        unreachable!()
+        return;
     };
     let slot = loyal.round();
-    if loyal.shape().sender(slot) != replica {
-        return Ok(());
+    if loyal.shape().sender(slot) == replica {
+        note_waiting(loyal, slot, notes);
     }
-    note_waiting(loyal, slot, notes)
 }
 
-/// Notes the waiting requests of all clients, in the clients' order. Requires the slot that begins with the round. `NoMemory` if memory runs
-/// out.
-fn note_waiting(loyal: &Replica, slot: u64, notes: &mut Vec<Note>) -> Result<(), Refusal>
-    requires slot { (log : List Entry) → StandsFor loyal.now log → rounds loyal.now.shape log ≡ slot }
-    ensures waiting { (log : List Entry) → StandsFor loyal.now log → OnOk result ((waiting : List ANote)
-        × AreWaiting loyal.now.shape log loyal.now.shape.m waiting × (notes.new.items ≡ notes.old.items ++ waiting)) }
-    ensures refusal { IsOkUnless result Refusal.NoMemory }
+/// Tells whether a loyal replica's post to this replica by this choice proposes nothing in the slot that begins: it is the post to replica 0, and plain.
+fn proposes_nothing(to: ReplicaId, pick: &Choice) -> bool
+    ensures { IsTrue result ↔ (to ≡ 0) × (pick.now ≡ Plain) }
+{
+    match pick.pick() {
+        Pick::Plain => to.number() == 0,
+        Pick::From(_) | Pick::Begin(_) => false,
+    }
+}
+
+/// Notes the waiting requests of all clients, in the clients' order. Requires the slot that begins with the round.
+fn note_waiting(loyal: &Replica, slot: u64, notes: &mut Notes)
+    requires { (log : List Entry) → StandsFor loyal.now log → rounds loyal.now.shape log ≡ slot }
+    ensures { (log : List Entry) → StandsFor loyal.now log
+        → (waiting : List ANote) × AreWaiting loyal.now.shape log loyal.now.shape.m waiting × Adds notes.old notes.new waiting }
 {
     for number in 0..loyal.shape().m() {
-        note_client(loyal, slot, ClientId::of(number), notes)?;
+        note_client(loyal, slot, ClientId::of(number), notes);
     }
-    Ok(())
 }
 
-/// Notes the client's request that waits, if one does. Requires what `note_waiting` requires. `NoMemory` if memory runs out.
-fn note_client(
-    loyal: &Replica,
-    slot: u64,
-    client: ClientId,
-    notes: &mut Vec<Note>,
-) -> Result<(), Refusal>
-    requires slot { (log : List Entry) → StandsFor loyal.now log → rounds loyal.now.shape log ≡ slot }
-    ensures waiting { (log : List Entry) → StandsFor loyal.now log → OnOk result ((waiting : List ANote)
-        × IsNoteOf loyal.now.shape log client waiting × (notes.new.items ≡ notes.old.items ++ waiting)) }
-    ensures refusal { IsOkUnless result Refusal.NoMemory }
+/// Notes the client's request that waits, if one does. Requires what `note_waiting` requires.
+fn note_client(loyal: &Replica, slot: u64, client: ClientId, notes: &mut Notes)
+    requires { (log : List Entry) → StandsFor loyal.now log → rounds loyal.now.shape log ≡ slot }
+    ensures { (log : List Entry) → StandsFor loyal.now log
+        → (waiting : List ANote) × IsNoteOf loyal.now.shape log client waiting × Adds notes.old notes.new waiting }
 {
     if let Some(request) = waiting_of(loyal, client) {
-        notes.push(Note::Unproposed { slot, request })?;
+        notes.add(Note::Unproposed { slot, request });
     }
-    Ok(())
 }
 
 /// Returns the client's request that the replica holds. `None` if the replica holds none, or if the request, or a later one of the client, acted there, or

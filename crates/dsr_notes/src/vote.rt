@@ -1,47 +1,40 @@
 //! What a client does with what it takes from a replica.
 
-ghost use Rattle.std.specs.Prelude.{◌≡◌, ◌<◌, ◌++◌, ◌∷◌, List, [], None, Some, OnOk, IsOkUnless};
+ghost use Rattle.std.specs.Prelude.{◌≡◌, ◌<◌, List, [], None};
 ghost use Rattle.dsr_names.specs.declared.actor.Actor.TheVariants.{Replica as ReplicaNumber, Client as ClientNumber};
 ghost use Rattle.dsr_envelope.specs.declared.entry.Entry.{Entry};
-ghost use Rattle.dsr_envelope.specs.declared.envelope.Envelope.{Envelope as AnEnvelope};
+ghost use Rattle.dsr_play.specs.declared.event.Event.TheVariants.{Take};
 ghost use Rattle.dsr_quorum.specs.Votes.{first_of};
 ghost use Rattle.dsr_client.specs.Client.{StandsFor};
 ghost use Rattle.dsr_client.specs.State.{state_after, outstanding};
-ghost use Rattle.dsr_run.specs.Step.{log_of};
-ghost use Rattle.dsr_world.specs.Event.{in_box};
+ghost use Rattle.dsr_notes.specs.Support.Rest.{Foretells};
 ghost use Rattle.dsr_notes.specs.Vote.{no_vote, vote_note, vote_or};
+ghost use Rattle.dsr_notes.specs.declared.rest.Rest.TheVariants.{Reply as TheReply};
 
 use crate::note::{NoVote, Note};
+use crate::notes::Notes;
 use dsr_client::Client;
 use dsr_envelope::Envelope;
 use dsr_ledger::Reply;
-use dsr_names::{Actor, ClientId, Refusal, ReplicaId, Shape};
+use dsr_names::{Actor, ClientId, ReplicaId, Shape};
 use dsr_world::Stage;
 
-/// Notes whether the envelope that a client is about to take from a replica is a vote. Notes nothing if the box is empty. `NoMemory` if memory runs
-/// out.
-pub(crate) fn note_vote(
-    stage: &Stage,
-    client: ClientId,
-    replica: ReplicaId,
-    notes: &mut Vec<Note>,
-) -> Result<(), Refusal>
-    requires client { client < stage.now.shape.m }
-    requires replica { replica < stage.now.shape.n }
-    ensures vote { (envelope : AnEnvelope) → in_box (log_of stage.now.run) (ReplicaNumber replica) (ClientNumber client) ≡ Some envelope
-        → OnOk result (notes.new.items ≡ notes.old.items
-        ++ (vote_note stage.now.shape (state_after stage.now.shape (log_of stage.now.run (ClientNumber client))) replica envelope ∷ [])) }
-    ensures refusal { IsOkUnless result Refusal.NoMemory }
+/// Notes whether the envelope that a client is about to take from a replica is a vote. The reply that it may accept remains to be noted.
+pub(crate) fn note_vote(stage: &Stage, client: ClientId, replica: ReplicaId, notes: &mut Notes)
+    requires { notes.old.items ≡ [] }
+    ensures { Foretells stage.now.shape stage.now.run (Take (ClientNumber client) (ReplicaNumber replica)) notes.new TheReply }
 {
-    let Some(letter) = stage.in_box(&Actor::Replica(replica), &Actor::Client(client)) else {
-        return Ok(());
+    let from = Actor::Replica(replica);
+    let shape = stage.shape();
+    let Ok(taker) = stage.client(client) else {
+        return;
     };
-    let note = match stage.client(client) {
-        Ok(taker) => vote_in(stage.shape(), taker, replica, letter.envelope()),
-        Err(_) => unreachable!(),
-    };
-    notes.push(note)?;
-    Ok(())
+    if !shape.has(from) {
+        return;
+    }
+    if let Some(letter) = stage.in_box(&from, &Actor::Client(client)) {
+        notes.add(vote_in(shape, taker, replica, letter.envelope()));
+    }
 }
 
 /// Returns the note of an envelope from a replica, for a client that has not taken it yet: whether it is a vote.

@@ -7,8 +7,8 @@ use Rattle.dsr_notes.specs.declared.note.ChainFate.TheVariants.{Read}
 use Rattle.dsr_notes.proofs.ReadingLemmas.{is_state_of, found_in, found_none, open_round, fate_read, fate_unread}
 use Rattle.dsr_notes.proofs.reading.fate_of.Goals as goal
 
-pub returns-in_default-clause-fate : goal.returns-in_default-clause-fate
-returns-in_default-clause-fate c log stands =
+pub returns-in_default : goal.returns-in_default
+returns-in_default c log stands =
     let r = c.args.loyal.now in
     let slot = c.args.chain.now.slot in
     let are = subst (λ states. AreInFlight r.shape r.round states (closed_slots r.shape r.round)) c.in_flight.ensures.same c.in_flight.ensures.slots in
@@ -21,8 +21,8 @@ fate_after-requires c =
     let found = found_in c.slot.result c.in_flight.result.now c.in-Some.state.now c.in-Some.ensures in
     record { within = open_round r.shape r.round c.in_flight.result.now c.in_flight.ensures.slots c.in-Some.state.now found.0 }
 
-pub returns-clause-fate : goal.returns-clause-fate
-returns-clause-fate c log stands =
+pub returns : goal.returns
+returns c log stands =
     let r = c.args.loyal.now in
     let chain = c.args.chain.now in
     let before = c.args.before.now in
@@ -33,4 +33,4 @@ returns-clause-fate c log stands =
     subst (λ round. IsChainFate r.shape log before chain (Read round c.in_ok-fate.fate))
     (sym (ap (λ k. k + 1) c.closed_rounds-round.ensures.same ∙ add-one s.closed))
     (fate_read r log stands (sym c.round-round.ensures.same ∙ c.round-round.ensures.stands log stands) are s found.0 before chain found.1 c.in_ok-fate.fate
-    c.in_ok-fate.ensures.fate)
+    c.in_ok-fate.ensures)

@@ -1,12 +1,17 @@
-use Rattle.std.proofs.Common.{◌≡◌, ◌++◌, [], suc, if◌then◌else◌, sym, ◌∙◌, ap, subst}
-use Rattle.std.specs.Prelude.{IfOk, OnOk, length, map}
+use Rattle.std.proofs.Common.{◌≡◌, List, [], suc, length, map, if◌then◌else◌, sym, ◌∙◌, ap, subst}
+use Rattle.std.proofs.lemmas.Bool.{true≢false}
 use Rattle.dsr_rotation.specs.Calendar.{closed_slots}
 use Rattle.dsr_slot.specs.Keeping.{keep}
 use Rattle.dsr_replica.specs.Decided.{slot_kept}
-use Rattle.dsr_replica.specs.Replica.{AreInFlight}
+use Rattle.dsr_envelope.specs.declared.entry.Entry.{Entry}
+use Rattle.dsr_replica.specs.Replica.{AreInFlight, StandsFor}
+use Rattle.dsr_notes.specs.Closing.{closes}
+use Rattle.dsr_notes.specs.Noting.{Adds}
 use Rattle.dsr_notes.specs.declared.note.Note.TheVariants.{Kept}
-use Rattle.dsr_notes.proofs.ReadingLemmas.{open_round, kept_closing}
+use Rattle.dsr_notes.proofs.NotingLemmas.{adds_none}
+use Rattle.dsr_notes.proofs.ReadingLemmas.{open_round, closing_kept, if_closes}
 use Rattle.dsr_notes.proofs.reading.note_kept.Goals as goal
+use Rattle.dsr_notes.proofs.reading.note_kept.Goals.{In-Ok}
 
 pub after_reading-requires : goal.after_reading-requires
 after_reading-requires c =
@@ -14,28 +19,40 @@ after_reading-requires c =
     let are = subst (λ states. AreInFlight r.shape r.round states (closed_slots r.shape r.round)) c.in_flight-states.ensures.same c.in_flight-states.ensures.slots in
     record { within = open_round r.shape r.round r.slots are c.in-Some.state.now c.in-Some.ensures.some.0 }
 
-pub returns-in_ok-closing-in-Some-clause-kept : goal.returns-in_ok-closing-in-Some-clause-kept
-returns-in_ok-closing-in-Some-clause-kept c log stands =
+pub returns-in_default-clause-kept : goal.returns-in_default-clause-kept
+returns-in_default-clause-kept c log stands =
     let r = c.args.loyal.now in
-    let s = c.in-Some.state.now in
     let slot = closed_slots r.shape r.round in
-    let chains = c.args.chains.now in
-    let are = subst (λ states. AreInFlight r.shape r.round states slot) c.in_flight-states.ensures.same c.in_flight-states.ensures.slots in
-    let now = sym c.round-round.ensures.same ∙ c.round-round.ensures.stands log stands in
-    let closing = c.in-Some.ensures.some in
-    let kept = ap (λ state. map Kept state.kept) c.in_ok-closing-in-Some.ensures.read
-    ∙ (ap (map Kept) (kept_closing r log stands now are s closing.0 closing.1 closing.2 chains)
-    ∙ sym (ap (λ b. if b then map Kept (keep r.shape slot (suc r.shape.f) (slot_kept r.shape log slot (suc r.shape.f)) chains) else []) closing.2)) in
-    subst (λ ns. OnOk c.note_each.result (c.note_each.new.notes.items ≡ c.args.notes.now.items ++ ns)) kept c.note_each.ensures.kept
+    let n = c.args.notes.now in
+    subst (λ b. Adds n n (if b then map Kept (keep r.shape slot (suc r.shape.f) (slot_kept r.shape log slot (suc r.shape.f)) c.args.chains.now) else []))
+    (sym c.in_default.ensures.none) (adds_none n)
 
-pub returns-in_ok-closing-in-Some-clause-count : goal.returns-in_ok-closing-in-Some-clause-count
-returns-in_ok-closing-in-Some-clause-count c log stands closes_now =
+pub returns-in_default-clause-count : goal.returns-in_default-clause-count
+returns-in_default-clause-count c log stands closing whole = absurd (true≢false (sym closing ∙ c.in_default.ensures.none))
+
+kept_is : (c : In-Ok) (log : List Entry) → StandsFor c.args.loyal.now log
+    → c.in-Ok.closing.kept ≡ keep c.args.loyal.now.shape (closed_slots c.args.loyal.now.shape c.args.loyal.now.round) (suc c.args.loyal.now.shape.f)
+    (slot_kept c.args.loyal.now.shape log (closed_slots c.args.loyal.now.shape c.args.loyal.now.round) (suc c.args.loyal.now.shape.f)) c.args.chains.now
+kept_is c log stands =
     let r = c.args.loyal.now in
-    let slot = closed_slots r.shape r.round in
-    let are = subst (λ states. AreInFlight r.shape r.round states slot) c.in_flight-states.ensures.same c.in_flight-states.ensures.slots in
+    let are = subst (λ states. AreInFlight r.shape r.round states (closed_slots r.shape r.round)) c.in_flight-states.ensures.same c.in_flight-states.ensures.slots in
     let now = sym c.round-round.ensures.same ∙ c.round-round.ensures.stands log stands in
-    let closing = c.in-Some.ensures.some in
-    subst (λ kept. IfOk c.note_each.result (λ count. count ≡ length kept))
-    (ap (λ state. state.kept) c.in_ok-closing-in-Some.ensures.read
-    ∙ kept_closing r log stands now are c.in-Some.state.now closing.0 closing.1 closing.2 c.args.chains.now)
-    c.note_each.ensures.count
+    let is = c.in-Some.ensures.some in
+    closing_kept r log stands now are c.in-Some.state.now c.in-Ok.closing c.args.chains.now is.0 is.1 is.2 c.in-Ok.ensures
+
+pub returns-in-Ok-clause-kept : goal.returns-in-Ok-clause-kept
+returns-in-Ok-clause-kept c log stands =
+    let r = c.args.loyal.now in
+    subst (Adds c.args.notes.now c.note_each.new.notes)
+    (ap (map Kept) (kept_is (goal.at.returns-in-Ok-clause-kept c).In-Ok log stands) ∙ if_closes (closes r.shape r.round) _ c.in-Some.ensures.some.2)
+    c.note_each.ensures.kept
+
+pub returns-in-Ok-clause-count : goal.returns-in-Ok-clause-count
+returns-in-Ok-clause-count c log stands closing whole =
+    c.note_each.ensures.count ∙ ap length (kept_is (goal.at.returns-in-Ok-clause-count c).In-Ok log stands)
+
+pub returns-in-Err-clause-kept : goal.returns-in-Err-clause-kept
+returns-in-Err-clause-kept c log stands whole = absurd (true≢false (sym c.break_off.ensures ∙ whole))
+
+pub returns-in-Err-clause-count : goal.returns-in-Err-clause-count
+returns-in-Err-clause-count c log stands closing whole = absurd (true≢false (sym c.break_off.ensures ∙ whole))
