@@ -1,6 +1,6 @@
 //! The texts about a chain, each written once for all that take it.
 
-ghost use Rattle.std.specs.Prelude.{◌≡◌, ◌++◌, ℕ, IfOk, IfSome, IsOkUnless, string_bytes};
+ghost use Rattle.std.specs.Prelude.{◌≡◌, ◌++◌, ℕ, IfSome, string_bytes};
 ghost use Rattle.std.specs.Option.{option_map};
 ghost use Rattle.dsr_explain.specs.Lines.{not_new_end, or_empty};
 ghost use Rattle.dsr_notes.specs.declared.note.ChainFate.TheVariants.{Read as ReadIn};
@@ -41,9 +41,9 @@ impl ChainText {
         chain: &Chain,
         as_data: bool,
     ) -> Result<ChainText, Refusal> {
-        let shown = show(alloc, tokens, chain, as_data)?;
+        let shown = show(alloc, tokens, chain, as_data).finish()?;
         let (slot, round) = (chain.slot(), chain.signature_count() as u8);
-        let not_new = end_of_not_new(alloc, tokens, shape, as_data, &shown, slot, round)?;
+        let not_new = end_of_not_new(alloc, tokens, shape, as_data, &shown, slot, round).finish()?;
         Ok(ChainText {
             as_data,
             shown,
@@ -54,13 +54,8 @@ impl ChainText {
     }
 }
 
-/// Writes the text that describes the chain. `NoMemory` if memory runs out.
-fn show(
-    alloc: Global,
-    tokens: &mut Tokens,
-    chain: &Chain,
-    as_data: bool,
-) -> Result<String, Refusal> {
+/// Writes the text that describes the chain.
+fn show(alloc: Global, tokens: &mut Tokens, chain: &Chain, as_data: bool) -> Writer {
     let mut shown = Writer::new(alloc);
     shown.reserve(ROOM);
     if as_data {
@@ -68,10 +63,10 @@ fn show(
     } else {
         write_shown_words(&mut shown, chain);
     }
-    shown.finish()
+    shown
 }
 
-/// Writes the end of the line of a chain that is not new in this round of its slot, and that `shown` describes. `NoMemory` if memory runs out.
+/// Writes the end of the line of a chain that is not new in this round of its slot, and that `shown` describes.
 fn end_of_not_new(
     alloc: Global,
     tokens: &mut Tokens,
@@ -80,9 +75,8 @@ fn end_of_not_new(
     shown: &String,
     slot: u64,
     round: u8,
-) -> Result<String, Refusal>
-    ensures text { IfOk result (λ text. string_bytes text ≡ not_new_end as_data (string_bytes shown.now) slot round) }
-    ensures refusal { IsOkUnless result Refusal.NoMemory }
+) -> Writer
+    ensures { result ≡ not_new_end as_data (string_bytes shown.now) slot round }
 {
     let mut end = Writer::new(alloc);
     end.reserve(ROOM);
@@ -95,7 +89,7 @@ fn end_of_not_new(
     } else {
         write_words(&mut end, tokens, shape, None, Some(shown), slot, &fate);
     }
-    end.finish()
+    end
 }
 
 /// Returns what describes the chain, if there is a text that does.

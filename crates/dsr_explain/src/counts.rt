@@ -75,7 +75,7 @@ pub(crate) struct NoteCounts {
     /// The line of the vote from which the first unlike one differs.
     unlike_which: u64,
     no_vote: Count,
-    /// For each client, by its number, the first vote on its outstanding request.
+    /// For each client, by its number, the first vote on its last request that has one.
     first_votes: [Option<FirstVote>; 32],
     /// By slot, how many contents replicas kept.
     pub(crate) kept: Vec<KeptBy>,
@@ -126,12 +126,12 @@ impl NoteCounts {
                 Note::Stale { .. } => self.stale.add(line),
                 Note::Vote { .. } => self.add_vote(actor, envelope, line),
                 Note::NoVote { .. } => self.add_no_vote(stage, actor, line),
-                Note::Accepted { .. } => self.forget_vote(actor),
                 Note::Decided { slot, kept } => self.add_kept(actor, *slot, *kept)?,
                 Note::Chain { .. }
                 | Note::Kept(_)
                 | Note::Closed { .. }
                 | Note::Acted { .. }
+                | Note::Accepted { .. }
                 | Note::Held { .. } => {}
             }
         }
@@ -183,33 +183,26 @@ impl NoteCounts {
         Ok(())
     }
 
-    /// Counts the vote that this envelope is, if it differs from the first vote on the client's request.
+    /// Counts the vote that this envelope is, if it differs from the first vote on the same request.
     fn add_vote(&mut self, actor: &Actor, envelope: Option<&Envelope>, line: u64) {
         let (Actor::Client(client), Some(Envelope::Reply(reply))) = (actor, envelope) else {
             return;
         };
         let place = client.number() as usize;
-        match self.first_votes[place] {
-            None => {
-                let vote = FirstVote {
-                    reply: *reply,
-                    line,
-                };
-                self.first_votes[place] = Some(vote);
+        let first = match self.first_votes[place] {
+            Some(first) if first.reply.number == reply.number => first,
+            _ => FirstVote {
+                reply: *reply,
+                line,
+            },
+        };
+        self.first_votes[place] = Some(first);
+        if !first.reply.same(reply) {
+            if self.unlike.number == 0 {
+                self.unlike_which = first.line;
             }
-            Some(first) => self.compare(&first, reply, line),
+            self.unlike.add(line);
         }
-    }
-
-    /// Counts a vote for this reply, if it differs from the first vote on the same request.
-    fn compare(&mut self, first: &FirstVote, reply: &Reply, line: u64) {
-        if first.reply.same(reply) {
-            return;
-        }
-        if self.unlike.number == 0 {
-            self.unlike_which = first.line;
-        }
-        self.unlike.add(line);
     }
 
     /// Writes how many votes differ from the first one on the same request; nothing if none does.
@@ -232,13 +225,6 @@ impl NoteCounts {
         match stage.client(*client) {
             Ok(client) if client.outstanding().is_some() => self.no_vote.add(line),
             _ => {}
-        }
-    }
-
-    /// Forgets the first vote on the client's request, which is answered.
-    fn forget_vote(&mut self, actor: &Actor) {
-        if let Actor::Client(client) = actor {
-            self.first_votes[client.number() as usize] = None;
         }
     }
 }

@@ -1,6 +1,6 @@
 //! Pieces of lines that name several things.
 
-ghost use Rattle.std.specs.Prelude.{◌≡◌, ◌++◌, map};
+ghost use Rattle.std.specs.Prelude.{◌≡◌, ◌<◌, ◌++◌, map};
 ghost use Rattle.std.specs.Fmt.{decimal};
 ghost use Rattle.dsr_base.specs.Joined.{more_joined};
 ghost use Rattle.dsr_names.specs.Actor.{actor_text};
@@ -22,7 +22,9 @@ pub(crate) const MOST_REPLICAS: usize = 16;
 pub(crate) const MOST_ACTORS: usize = 48;
 
 /// Returns the place of an actor, the same for every shape: the clients come after 16 replicas.
-pub(crate) fn place_of(actor: Actor) -> usize {
+pub(crate) fn place_of(actor: Actor) -> usize
+    ensures { result < 48 }
+{
     match actor {
         Actor::Replica(replica) => replica.number() as usize,
         Actor::Client(client) => client.number() as usize + MOST_REPLICAS,

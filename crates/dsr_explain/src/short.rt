@@ -12,30 +12,27 @@ use dsr_reasons::Writer;
 /// Tells whether a text writes each signature of the envelope as its signer alone, because all are on the statements that fit their places.
 pub(crate) fn is_short(envelope: &Envelope) -> bool {
     match envelope {
-        Envelope::Round { chains, .. } => are_short(chains.as_slice()),
+        Envelope::Round { chains, .. } => {
+            for chain in chains.as_slice() {
+                if !is_short_chain(chain) {
+                    return false;
+                }
+            }
+            true
+        }
         Envelope::Ask(ask) => is_short_ask(ask.signed()),
         Envelope::Empty | Envelope::Reply(_) | Envelope::Seen(_) => true,
     }
 }
 
-/// Tells whether a text writes each signature of these chains as its signer alone.
-fn are_short(chains: &[Chain]) -> bool {
-    for chain in chains {
-        if chain.has_misfit() || !are_short_asks(chain.signed()) {
-            return false;
-        }
-    }
-    true
-}
-
-/// Tells whether a text writes the signature beside each of these requests as its signer alone.
-fn are_short_asks(asks: &[SignedRequest]) -> bool {
-    for ask in asks {
+/// Tells whether a text writes each signature of the chain as its signer alone.
+fn is_short_chain(chain: &Chain) -> bool {
+    for ask in chain.signed() {
         if !is_short_ask(ask) {
             return false;
         }
     }
-    true
+    !chain.has_misfit()
 }
 
 /// Tells whether a text writes the signature beside the request as its signer alone.

@@ -192,7 +192,7 @@ impl Story {
                 self.tell_done(alloc, number, line, event)
             }
             Err(Refusal::NoMemory) => Err(Refusal::NoMemory),
-            Err(refusal) => self.tell_refusal(alloc, number, line, event, &refusal),
+            Err(refusal) => self.tell_refusal(number, line, event, &refusal),
         }
     }
 
@@ -213,7 +213,7 @@ impl Story {
                 Ok(())
             }
             Err(Refusal::NoMemory) => Err(Refusal::NoMemory),
-            Err(refusal) => self.tell_refusal(alloc, number, line, event, &refusal),
+            Err(refusal) => self.tell_refusal(number, line, event, &refusal),
         }
     }
 
@@ -238,11 +238,11 @@ impl Story {
         self.summary
             .add(&self.stage, event, envelope, line.number, notes)?;
         if !self.wanted.has_done(event, notes) {
-            self.texts.forget(event);
             return Ok(());
         }
-        let (tokens, shape) = (&mut self.tokens, self.stage.shape());
-        let told = self.texts.told(alloc, tokens, shape, event, envelope)?;
+        let told = self
+            .texts
+            .told(alloc, &mut self.tokens, &self.stage, event, envelope)?;
         self.heads.write_done(
             &mut self.out,
             &self.tokens,
@@ -250,7 +250,7 @@ impl Story {
             number,
             line.number,
             event,
-            told.end(),
+            &told.end,
         )?;
         write_wanted(
             &mut self.out,
@@ -259,7 +259,7 @@ impl Story {
             &self.stage,
             event,
             chains_in(envelope),
-            told.chains(),
+            told.chains.as_slice(),
             notes,
         );
         Ok(())
@@ -268,7 +268,6 @@ impl Story {
     /// Counts the event, which was refused, and writes it and why, if the filter wants it.
     fn tell_refusal(
         &mut self,
-        alloc: Global,
         number: u64,
         line: &Line,
         event: &Event,
@@ -289,7 +288,6 @@ impl Story {
             write_refusal(
                 &mut self.out,
                 &mut self.refused_end,
-                alloc,
                 as_data,
                 &self.stage,
                 number,
@@ -309,7 +307,6 @@ impl Story {
 fn write_refusal(
     out: &mut Writer,
     end: &mut RefusedEnd,
-    alloc: Global,
     as_data: bool,
     stage: &Stage,
     number: u64,
@@ -322,7 +319,7 @@ fn write_refusal(
     ensures { OnOk result ((shown : List ℕ) × TellsCause stage.now.shape (log_of stage.now.run) event.now as_data
         (out.old ++ refused_line as_data number line.now.number event.now refusal.now shown) out.new) }
 {
-    let shown = end.write(alloc, event, line, as_data, since)?;
+    let shown = end.write(event, line, as_data, since)?;
     write_refused(out, as_data, number, line.number, event, refusal, shown)?;
     write_why(out, as_data, stage, event);
     Ok(())

@@ -24,7 +24,7 @@ impl Summary {
         Ok(Summary {
             as_data,
             counts: NoteCounts::new(alloc),
-            posts: PostLines::new(alloc)?,
+            posts: PostLines::new(alloc, as_data)?,
         })
     }
 

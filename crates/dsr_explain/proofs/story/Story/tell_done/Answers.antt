@@ -31,8 +31,8 @@ returns c =
     let me = c.args.self.now in
     let event = c.args.event.now in
     let line = c.args.line.now.number in
-    let shown = string_bytes c.end.result.now in
-    let texts = map (λ text. string_bytes text.shown) c.chains.result.now in
+    let shown = string_bytes c.in_ok-told.told.now.end in
+    let texts = map (λ text. string_bytes text.shown) c.as_slice.result.now in
     let first = done_line me.wanted.data c.args.number line event shown in
     let more : List Note → List ℕ = λ notes. note_lines me.wanted.data me.stage.shape (log_of me.stage.run) (actor_of event) (other_of event)
     (last_chains me.stage.run) texts (filter (wants_note me.wanted) notes) in
