@@ -1,6 +1,6 @@
 -- How the line of an event begins, by the hundreds of its number.
 use Rattle.std.proofs.Common.{◌≡◌, ◌≢◌, ◌∙◌, ℕ, Bool, true, false, ◌+◌, ◌/◌, ◌%◌, ◌<◌, ◌≤◌, ◌++◌, List, [], ◌∷◌, ap, append_assoc, arith, refl, subst, sym}
-use Rattle.std.specs.Prelude.{◌==◌, ◌^◌, if◌then◌else◌}
+use Rattle.std.specs.Prelude.{◌==◌, ◌^◌, Option, if◌then◌else◌}
 use Rattle.std.specs.Fmt.{decimal}
 use Rattle.std.proofs.Math.Nat.{div-div-eq-div-mul}
 use Rattle.std.proofs.lemmas.Bool.{eqb-false}
@@ -26,7 +26,7 @@ by_hundreds hundreds n e fits = cases (hundreds == 0) refl
         subst (λ h. decimal h ++ last_two n ≡ decimal n) (sym e) (with_hundreds n (omega (arith, e, above)) fits)
 
 -- the beginning of the line of the event with this number, written part after part
-pub start_is : (is_data : Bool) (line hundreds n : ℕ) (old mid new : List ℕ) → hundreds ≡ n / 100 → n < 2 ^ 64
-    → mid ≡ old ++ start_text is_data line hundreds → new ≡ mid ++ last_text hundreds n → new ≡ old ++ (text_before is_data line ++ decimal n)
-start_is is_data line hundreds n old mid new e fits first second =
+pub start_is : (line : Option ℕ) (hundreds n : ℕ) (old mid new : List ℕ) → hundreds ≡ n / 100 → n < 2 ^ 64
+    → mid ≡ old ++ start_text line hundreds → new ≡ mid ++ last_text hundreds n → new ≡ old ++ (text_before line ++ decimal n)
+start_is line hundreds n old mid new e fits first second =
     rw (← by_hundreds hundreds n e fits) (simp (append_assoc, second, first) refl)

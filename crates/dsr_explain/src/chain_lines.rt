@@ -11,7 +11,8 @@ ghost use Rattle.dsr_explain.specs.Lines.{chain_line, chain_data, chain_data_end
 
 use crate::chain_texts::{ChainText, end_if_not_new, shown_in};
 use crate::pieces::{put_content, put_named, put_numbered};
-use crate::tokens::{Tokens, put_chain};
+use crate::shared::Shared;
+use crate::tokens::Tokens;
 use dsr_chain::{Chain, ChainFault};
 use dsr_desk::{Signature, Signers, Statement};
 use dsr_names::{Actor, Shape};
@@ -39,19 +40,19 @@ pub(crate) fn write_chain(
     }
     let shown = shown_in(text);
     if as_data {
-        write_data(out, at, shown, slot, fate)
+        write_data(out, tokens, at, shown, slot, fate)
     } else {
         write_words(out, tokens, shape, chain, shown, slot, fate)
     }
 }
 
 /// Writes the line of a chain that is not new, which ends so; words are all in this end.
-fn write_not_new(out: &mut Writer, tokens: &Tokens, as_data: bool, at: Actor, end: &String)
+fn write_not_new(out: &mut Writer, tokens: &mut Tokens, as_data: bool, at: Actor, end: &String)
     ensures { out.new ≡ out.old
         ++ (if as_data then codes "chain " ++ (actor_text at ++ string_bytes end.now) else string_bytes end.now) }
 {
     if as_data {
-        tokens.put_chain(out, at);
+        tokens.put(out, &Shared::Chain(at));
     }
     out.put_text(end);
 }
@@ -94,10 +95,17 @@ fn put_shown(out: &mut Writer, shown: Option<&String>)
 }
 
 /// Writes what becomes of a chain that this actor took, as data.
-fn write_data(out: &mut Writer, at: Actor, shown: Option<&String>, slot: u64, fate: &ChainFate)
+fn write_data(
+    out: &mut Writer,
+    tokens: &mut Tokens,
+    at: Actor,
+    shown: Option<&String>,
+    slot: u64,
+    fate: &ChainFate,
+)
     ensures { out.new ≡ out.old ++ chain_data at (or_empty (option_map (λ s. string_bytes s.now) shown.entry)) slot fate.now }
 {
-    put_chain(out, at);
+    tokens.put(out, &Shared::Chain(at));
     write_data_end(out, shown, slot, fate)
 }
 

@@ -1,157 +1,65 @@
 //! The line of an event: its number, the line of the play that represents it, and who does what to whom.
 
-ghost use Rattle.std.specs.Prelude.{◌≡◌, ◌++◌, IfOk, IfSome, OnOk, IsOkUnless, string_bytes};
-ghost use Rattle.dsr_reasons.specs.Reason.{actor_of};
-ghost use Rattle.dsr_explain.specs.Heads.{text_after};
-ghost use Rattle.dsr_explain.specs.Told.{doing, done_line, place_text, refusal_text, refused_line, verb_of};
+ghost use Rattle.std.specs.Prelude.{◌≡◌, ◌++◌, OnOk, IsOkUnless, string_bytes};
+ghost use Rattle.dsr_explain.specs.Heads.{last_text};
+ghost use Rattle.dsr_explain.specs.Told.{doing, done_line, place_text, refusal_text, refused_line};
 
 use crate::pieces::{put_named, put_numbered};
-use crate::starts::{Start, write_start};
+use crate::shared::Shared;
 use crate::tokens::Tokens;
 use crate::verb::Verb;
-use dsr_names::{Actor, Refusal};
+use dsr_names::Refusal;
 use dsr_reasons::{Writer, actor_of, other_of};
 use dsr_world::Event;
-use std::alloc::Global;
 
-/// Initial buffer size in bytes; most texts fit.
-const ROOM: usize = 48;
-
-/// The text between an event's number and the name of whom it concerns, for all events that one line of the play represents and whose actor does the same.
-#[derive(Drop)]
-struct Head {
-    as_data: bool,
-    line: u64,
-    verb: Verb,
-    actor: Actor,
-    text: String,
-    ghost is: { string_bytes text ≡ text_after as_data line verb actor },
-}
-
-/// The texts that the lines of several events share, each written once for all of them.
-#[derive(Drop)]
-pub(crate) struct Heads {
-    alloc: Global,
-    start: Option<Start>,
-    head: Option<Head>,
-}
-
-impl Heads {
-    /// Begins without any text.
-    pub(crate) fn new(alloc: Global) -> Heads {
-        Heads {
-            alloc,
-            start: None,
-            head: None,
-        }
-    }
-
-    /// Writes the line of the event with this number, which was done; `shown` is the envelope that it posted or took. `NoMemory` if memory runs out.
-    pub(crate) fn write_done(
-        &mut self,
-        out: &mut Writer,
-        tokens: &Tokens,
-        as_data: bool,
-        number: u64,
-        line: u64,
-        event: &Event,
-        shown: &String,
-    ) -> Result<(), Refusal>
-        ensures text { OnOk result (out.new ≡ out.old ++ done_line as_data number line event.now (string_bytes shown.now)) }
-        ensures refusal { IsOkUnless result Refusal.NoMemory }
-    {
-        write_start(out, self.alloc, &mut self.start, as_data, line, number)?;
-        put_head(out, self.alloc, &mut self.head, as_data, line, event)?;
-        tokens.put_done(out, as_data, other_of(event));
-        out.put_text(shown);
-        Ok(())
-    }
-}
-
-/// Appends the text between the event's number and the name of whom it concerns: `last` if it is the event's, otherwise a new one, which becomes the last.
-/// `NoMemory` if memory runs out.
-fn put_head(
+/// Writes the line of the event with this number, which was done; `shown` is the envelope that it posted or took.
+pub(crate) fn write_done(
     out: &mut Writer,
-    alloc: Global,
-    last: &mut Option<Head>,
+    tokens: &mut Tokens,
     as_data: bool,
+    number: u64,
     line: u64,
     event: &Event,
-) -> Result<(), Refusal>
-    ensures text { OnOk result (out.new ≡ out.old ++ text_after as_data line (verb_of event.now) (actor_of event.now)) }
-    ensures refusal { IsOkUnless result Refusal.NoMemory }
+    shown: &String,
+)
+    ensures { out.new ≡ out.old ++ done_line as_data number line event.now (string_bytes shown.now) }
 {
-    match text_of(last, as_data, line, event) {
-        Some(text) => {
-            out.put_text(text);
-            Ok(())
-        }
-        None => put_anew(out, alloc, last, as_data, line, event),
-    }
+    let hundreds = number / 100;
+    tokens.put(
+        out,
+        &Shared::Start {
+            line: (!as_data).then_some(line),
+            hundreds,
+        },
+    );
+    put_last(out, hundreds, number);
+    tokens.put(
+        out,
+        &Shared::Between {
+            line: as_data.then_some(line),
+            verb: Verb::of(event),
+            actor: actor_of(event),
+        },
+    );
+    tokens.put(
+        out,
+        &Shared::Other {
+            as_data,
+            actor: other_of(event),
+        },
+    );
+    out.put_text(shown);
 }
 
-/// Returns the text if it is that of the event.
-fn text_of<'a>(
-    last: &'a Option<Head>,
-    as_data: bool,
-    line: u64,
-    event: &Event,
-) -> Option<&'a String>
-    ensures { IfSome result (λ text. string_bytes text.now ≡ text_after as_data line (verb_of event.now) (actor_of event.now)) }
+/// Writes the digits of the number that follow its hundreds, which are `hundreds`.
+fn put_last(out: &mut Writer, hundreds: u64, number: u64)
+    ensures { out.new ≡ out.old ++ last_text hundreds number }
 {
-    match last {
-        Some(head)
-            if head.line == line
-                && head.as_data == as_data
-                && head.verb == Verb::of(event)
-                && head.actor == actor_of(event) => Some(&head.text),
-        _ => None,
-    }
-}
-
-/// Writes the text of the event, appends it, and keeps it as the last. `NoMemory` if memory runs out.
-fn put_anew(
-    out: &mut Writer,
-    alloc: Global,
-    last: &mut Option<Head>,
-    as_data: bool,
-    line: u64,
-    event: &Event,
-) -> Result<(), Refusal>
-    ensures text { OnOk result (out.new ≡ out.old ++ text_after as_data line (verb_of event.now) (actor_of event.now)) }
-    ensures refusal { IsOkUnless result Refusal.NoMemory }
-{
-    let text = spell(alloc, as_data, line, event)?;
-    out.put_text(&text);
-    *last = Some(Head {
-        as_data,
-        line,
-        verb: Verb::of(event),
-        actor: actor_of(event),
-        text,
-    });
-    Ok(())
-}
-
-/// Writes the text between an event's number and the name of whom it concerns. `NoMemory` if memory runs out.
-fn spell(alloc: Global, as_data: bool, line: u64, event: &Event) -> Result<String, Refusal>
-    ensures text { IfOk result (λ text. string_bytes text ≡ text_after as_data line (verb_of event.now) (actor_of event.now)) }
-    ensures refusal { IsOkUnless result Refusal.NoMemory }
-{
-    let mut text = Writer::new(alloc);
-    text.reserve(ROOM);
-    let verb = Verb::of(event).text(as_data);
-    if as_data {
-        put_numbered(&mut text, " ", line);
-        text.put(" ");
-        text.put(verb);
-        put_named(&mut text, " ", actor_of(event));
-        text.put(" ");
+    if hundreds == 0 {
+        out.put_number(number);
     } else {
-        put_named(&mut text, ": ", actor_of(event));
-        text.put(verb);
+        out.put_two_digits(number);
     }
-    text.finish()
 }
 
 /// Writes the line of a refused event; `shown` is its end. `NoMemory` if memory ran out while `shown` was written.

@@ -14,7 +14,7 @@ ghost use Rattle.dsr_explain.specs.Wanted.{wants_note};
 
 use crate::chain_texts::ChainText;
 use crate::counts::Count;
-use crate::heads::{Heads, write_refused};
+use crate::heads::{write_done, write_refused};
 use crate::lines::write_note;
 use crate::outlet::Outflow;
 use crate::places::{Line, Places};
@@ -46,16 +46,15 @@ pub(crate) struct Story {
     /// What else was counted in the events so far.
     pub(crate) summary: Summary,
     texts: Texts,
+    /// The texts that lines had last, for the lines after them.
     tokens: Tokens,
-    /// What the lines of the last event that was done and of the next may share.
-    heads: Heads,
     refused_end: RefusedEnd,
     /// The notes of the last event; the next event uses their room.
     notes: Notes,
 }
 
 impl Story {
-    /// Creates the story before any of so many events. `NoMemory` if memory runs out.
+    /// Creates the story before any event; `events` is how many there will be, for the room. `NoMemory` if memory runs out.
     pub(crate) fn begin(
         alloc: Global,
         shape: Shape,
@@ -69,7 +68,7 @@ impl Story {
         make_room(&mut out, wanted, &outflow, events);
         let texts = Texts::new(alloc, wanted.data)?;
         let summary = Summary::new(alloc, wanted.data)?;
-        let tokens = Tokens::new(alloc, wanted.data)?;
+        let tokens = Tokens::new(alloc)?;
         let stage = Stage::open(alloc, shape)?;
         Ok(Story {
             stage,
@@ -80,7 +79,6 @@ impl Story {
             summary,
             texts,
             tokens,
-            heads: Heads::new(alloc),
             refused_end: RefusedEnd::new(alloc),
             notes: Notes::new(alloc),
         })
@@ -97,7 +95,6 @@ impl Story {
             summary: _summary,
             texts: _texts,
             tokens: _tokens,
-            heads: _heads,
             refused_end: _refused_end,
             notes: _notes,
         } = self;
@@ -243,15 +240,15 @@ impl Story {
         let told = self
             .texts
             .told(alloc, &mut self.tokens, &self.stage, event, envelope)?;
-        self.heads.write_done(
+        write_done(
             &mut self.out,
-            &self.tokens,
+            &mut self.tokens,
             self.wanted.data,
             number,
             line.number,
             event,
             &told.end,
-        )?;
+        );
         write_wanted(
             &mut self.out,
             &mut self.tokens,

@@ -1,86 +1,109 @@
-//! The texts of names and of requests, each written once for the lines that have it.
+//! The texts that several lines share, each kept for the lines after the one that has it first.
 
-ghost use Rattle.std.specs.Prelude.{◌≡◌, ◌<◌, ◌++◌, IfOk, IfSome, string_bytes};
+ghost use Rattle.std.specs.Prelude.{◌≡◌, ◌++◌, IfSome, string_bytes};
 ghost use Rattle.dsr_request.specs.RequestText.{request_token};
-ghost use Rattle.dsr_explain.specs.Heads.{chain_name, done_name};
+ghost use Rattle.dsr_explain.specs.Heads.{shared_text};
 
-use crate::pieces::{MOST_ACTORS, MOST_REPLICAS, place_of};
-use dsr_names::{Actor, ClientId, Refusal, ReplicaId};
-use dsr_reasons::{Writer, one_of};
+use crate::pieces::{MOST_ACTORS, place_of};
+use crate::shared::Shared;
+use dsr_names::Refusal;
+use dsr_reasons::Writer;
 use dsr_request::Request;
 use std::alloc::Global;
+
+/// Initial buffer size in bytes; most texts fit.
+const ROOM: usize = 48;
 
 /// The maximum number of clients.
 const MOST_CLIENTS: usize = 32;
 
-/// An actor, and two texts that have its name.
-#[derive(Drop)]
-struct Name {
-    actor: Actor,
-    /// The start of the data line for a chain that it took.
-    chain: String,
-    ghost is_chain: { string_bytes chain ≡ chain_name actor },
-    as_data: bool,
-    /// Its name as the other actor of an event that was done; in data, followed by `done`.
-    done: String,
-    ghost is_done: { string_bytes done ≡ done_name as_data actor },
-}
+/// The number of verbs.
+const VERBS: usize = 4;
 
-/// A request with its text.
+/// The first place of the texts between an event's number and the name of whom it concerns, after the one place of a start.
+const BETWEEN: usize = 1;
+
+/// The first place of the names of whom events concern.
+const OTHER: usize = BETWEEN + VERBS * MOST_ACTORS;
+
+/// The first place of the starts of data lines for chains.
+const CHAIN: usize = OTHER + MOST_ACTORS;
+
+/// The number of places.
+const PLACES: usize = CHAIN + MOST_ACTORS;
+
+/// A text with what it says.
 #[derive(Drop)]
 struct Spelled {
+    what: Shared,
+    text: String,
+    ghost is: { string_bytes text ≡ shared_text what },
+}
+
+/// A request with its text. It is no `Shared`, since requests are large: each other text would take as much room.
+#[derive(Drop)]
+struct SpelledRequest {
     request: Request,
     text: String,
     ghost is: { string_bytes text ≡ request_token request },
 }
 
-/// The names of all actors, and the texts of requests that lines had last.
+/// The texts that lines had last, at most one at each place: most lines share each of theirs with a line not long before.
 #[derive(Drop)]
 pub(crate) struct Tokens {
     alloc: Global,
-    /// The names, by the actors' places.
-    names: Vec<Name>,
-    /// For each client the request that a line had last, with its text: most lines have one that the line before them had, or another replica's.
-    requests: Vec<Option<Spelled>>,
+    texts: Vec<Option<Spelled>>,
+    /// For each client the request that a line had last.
+    requests: Vec<Option<SpelledRequest>>,
 }
 
 impl Tokens {
-    /// Writes the names, for data or for words; there is no request yet. `NoMemory` if memory runs out.
-    pub(crate) fn new(alloc: Global, as_data: bool) -> Result<Tokens, Refusal> {
+    /// Creates the places, without any text. `NoMemory` if memory runs out.
+    pub(crate) fn new(alloc: Global) -> Result<Tokens, Refusal> {
         Ok(Tokens {
             alloc,
-            names: all_names(alloc, as_data)?,
-            requests: no_requests(alloc)?,
+            texts: none_of(alloc, PLACES)?,
+            requests: none_of(alloc, MOST_CLIENTS)?,
         })
     }
 
-    /// Appends the start of the data line for a chain that the actor took.
-    pub(crate) fn put_chain(&self, out: &mut Writer, actor: Actor)
-        ensures { out.new ≡ out.old ++ chain_name actor }
+    /// Appends the text. This and what it calls are inlined where the kind of the text is known: only one branch of each is left there.
+    #[inline(always)]
+    pub(crate) fn put(&mut self, out: &mut Writer, what: &Shared)
+        ensures { out.new ≡ out.old ++ shared_text what.now }
     {
-        match self.name_of(&actor) {
-            Some(name) => out.put_text(&name.chain),
-            None => put_chain(out, actor),
+        let place = place_of_text(what);
+        match self.text_at(place, what) {
+            Some(text) => out.put_text(text),
+            None => self.put_anew(out, place, what),
         }
     }
 
-    /// Appends the name of the other actor of an event that was done; in data, followed by `done`.
-    pub(crate) fn put_done(&self, out: &mut Writer, as_data: bool, actor: Actor)
-        ensures { out.new ≡ out.old ++ done_name as_data actor }
+    /// Returns the text at this place if it is this one.
+    #[inline(always)]
+    fn text_at(&self, place: usize, what: &Shared) -> Option<&String>
+        ensures { IfSome result (λ text. string_bytes text.now ≡ shared_text what.now) }
     {
-        match self.name_of(&actor) {
-            Some(name) if name.as_data == as_data => out.put_text(&name.done),
-            _ => put_done(out, as_data, actor),
-        }
-    }
-
-    /// Returns the texts of the actor; `None` if they are not there.
-    fn name_of(&self, actor: &Actor) -> Option<&Name>
-        ensures { IfSome result (λ name. name.now.actor ≡ actor.now) }
-    {
-        match self.names.get(place_of(*actor)) {
-            Some(name) if name.actor == *actor => Some(name),
+        match self.texts.get(place) {
+            Some(Some(spelled)) if spelled.what.same(what) => Some(&spelled.text),
             _ => None,
+        }
+    }
+
+    /// Appends the text, and keeps it at this place if there is memory for it.
+    #[inline(never)]
+    fn put_anew(&mut self, out: &mut Writer, place: usize, what: &Shared)
+        ensures { out.new ≡ out.old ++ shared_text what.now }
+    {
+        let mut text = Writer::new(self.alloc);
+        text.reserve(ROOM);
+        what.write(&mut text);
+        let Ok(text) = text.finish() else {
+            return what.write(out);
+        };
+        out.put_text(&text);
+        if let Some(kept) = self.texts.get_mut(place) {
+            *kept = Some(Spelled { what: *what, text });
         }
     }
 
@@ -90,7 +113,7 @@ impl Tokens {
     {
         match self.text_of(request) {
             Some(text) => out.put_text(text),
-            None => self.put_anew(out, request),
+            None => self.put_request_anew(out, request),
         }
     }
 
@@ -104,90 +127,45 @@ impl Tokens {
         }
     }
 
-    /// Appends the request, and keeps its text as that of its client's last one, if there is memory for it.
-    fn put_anew(&mut self, out: &mut Writer, request: &Request)
+    /// Appends the request, and keeps it as its client's last one if there is memory for it.
+    #[inline(never)]
+    fn put_request_anew(&mut self, out: &mut Writer, request: &Request)
         ensures { out.new ≡ out.old ++ request_token request.now }
     {
-        let Ok(spelled) = spell(self.alloc, request) else {
-            out.put_request(request);
-            return;
+        let mut text = Writer::new(self.alloc);
+        text.reserve(ROOM);
+        text.put_request(request);
+        let Ok(text) = text.finish() else {
+            return out.put_request(request);
         };
-        out.put_text(&spelled.text);
-        if let Some(place) = self.requests.get_mut(request.client().number() as usize) {
-            *place = Some(spelled);
+        out.put_text(&text);
+        if let Some(kept) = self.requests.get_mut(request.client().number() as usize) {
+            *kept = Some(SpelledRequest {
+                request: *request,
+                text,
+            });
         }
     }
 }
 
-/// Writes the names of all actors. `NoMemory` if memory runs out.
-fn all_names(alloc: Global, as_data: bool) -> Result<Vec<Name>, Refusal> {
-    let mut names = Vec::with_capacity(alloc, MOST_ACTORS)?;
-    for place in 0..MOST_ACTORS {
-        names.push(write_name(alloc, as_data, &actor_at(place))?)?;
+/// Creates this many places with nothing at any. `NoMemory` if memory runs out.
+fn none_of<T: Drop>(alloc: Global, places: usize) -> Result<Vec<Option<T>>, Refusal> {
+    let mut none = Vec::with_capacity(alloc, places)?;
+    for _ in 0..places {
+        none.push(None)?;
     }
-    Ok(names)
+    Ok(none)
 }
 
-/// Writes the actor's texts. `NoMemory` if memory runs out.
-fn write_name(alloc: Global, as_data: bool, actor: &Actor) -> Result<Name, Refusal> {
-    let mut chain = Writer::new(alloc);
-    put_chain(&mut chain, *actor);
-    let mut done = Writer::new(alloc);
-    put_done(&mut done, as_data, *actor);
-    let (chain, done) = (chain.finish()?, done.finish()?);
-    Ok(Name {
-        actor: *actor,
-        chain,
-        as_data,
-        done,
-    })
-}
-
-/// Appends the start of the data line for a chain that the actor took.
-pub(crate) fn put_chain(out: &mut Writer, actor: Actor)
-    ensures { out.new ≡ out.old ++ chain_name actor }
-{
-    out.put("chain ");
-    out.put_name(actor);
-}
-
-/// Appends the name of the other actor of an event that was done; in data, followed by `done`.
-fn put_done(out: &mut Writer, as_data: bool, actor: Actor)
-    ensures { out.new ≡ out.old ++ done_name as_data actor }
-{
-    out.put_name(actor);
-    out.put(one_of(as_data, " done", ""));
-}
-
-/// Returns the actor at this place: a client after the last place of a replica.
-fn actor_at(place: usize) -> Actor
-    requires { place < 48 }
-{
-    if place < MOST_REPLICAS {
-        Actor::Replica(ReplicaId::of(place as u8))
-    } else {
-        Actor::Client(ClientId::of((place - MOST_REPLICAS) as u8))
+/// Returns the place of the text: each of its kind, verb and actor has one.
+#[inline(always)]
+fn place_of_text(what: &Shared) -> usize {
+    match what {
+        Shared::Start { .. } => 0,
+        Shared::Between { verb, actor, .. } => {
+            BETWEEN + *verb as usize * MOST_ACTORS + place_of(*actor)
+        }
+        Shared::Other { actor, .. } => OTHER + place_of(*actor),
+        Shared::Chain(actor) => CHAIN + place_of(*actor),
     }
-}
-
-/// Creates a place for each client's last request, with none there. `NoMemory` if memory runs out.
-fn no_requests(alloc: Global) -> Result<Vec<Option<Spelled>>, Refusal> {
-    let mut requests = Vec::with_capacity(alloc, MOST_CLIENTS)?;
-    for _ in 0..MOST_CLIENTS {
-        requests.push(None)?;
-    }
-    Ok(requests)
-}
-
-/// Writes the text of the request. `NoMemory` if memory runs out.
-fn spell(alloc: Global, request: &Request) -> Result<Spelled, Refusal>
-    ensures same { IfOk result (λ spelled. spelled.request ≡ request.now) }
-{
-    let mut text = Writer::new(alloc);
-    text.put_request(request);
-    let text = text.finish()?;
-    Ok(Spelled {
-        request: *request,
-        text,
-    })
 }

@@ -3,6 +3,7 @@
 ghost use Rattle.std.specs.Prelude.{◌≡◌};
 ghost use Rattle.dsr_explain.specs.Told.{verb_of, verb_text};
 
+use dsr_reasons::one_of;
 use dsr_world::Event;
 
 /// What an actor does in an event.
@@ -31,15 +32,11 @@ impl Verb {
     pub(crate) fn text(self, as_data: bool) -> &'static str
         ensures { result.now ≡ verb_text as_data self }
     {
-        match (self, as_data) {
-            (Verb::Posts, true) => "post",
-            (Verb::Posts, false) => " posts to ",
-            (Verb::Plants, true) => "plant",
-            (Verb::Plants, false) => " plants for ",
-            (Verb::Takes, true) => "take",
-            (Verb::Takes, false) => " takes from ",
-            (Verb::Tells, true) => "tell",
-            (Verb::Tells, false) => " tells ",
+        match self {
+            Verb::Posts => one_of(as_data, "post", " posts to "),
+            Verb::Plants => one_of(as_data, "plant", " plants for "),
+            Verb::Takes => one_of(as_data, "take", " takes from "),
+            Verb::Tells => one_of(as_data, "tell", " tells "),
         }
     }
 }

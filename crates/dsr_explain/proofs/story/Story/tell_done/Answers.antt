@@ -38,7 +38,7 @@ returns c =
     (last_chains me.stage.run) texts (filter (wants_note me.wanted) notes) in
     let is = c.as_slice-notes.ensures.value in
     let wants = subst (WantsDone me.wanted event) is (c.if-not-has_done.ensures.0 refl) in
-    let written = c.write_wanted.ensures ∙ (ap (λ text. text ++ more c.as_slice-notes.result.now) c.in_ok-write_done.ensures.text
+    let written = c.write_wanted.ensures ∙ (ap (λ text. text ++ more c.as_slice-notes.result.now) c.write_done.ensures
     ∙ (append_assoc me.out first (more c.as_slice-notes.result.now) ∙ ap (λ notes. me.out ++ (first ++ more notes)) is)) in
     record {
       told = (
