@@ -1,6 +1,6 @@
 //! The texts about a chain, each written once for all that take it.
 
-ghost use Rattle.std.specs.Prelude.{◌≡◌, ◌++◌, ℕ, IfSome, string_bytes};
+ghost use Rattle.std.specs.Prelude.{◌≡◌, ℕ, IfSome, string_bytes};
 ghost use Rattle.std.specs.Option.{option_map};
 ghost use Rattle.dsr_explain.specs.Lines.{not_new_end, or_empty};
 ghost use Rattle.dsr_notes.specs.declared.note.ChainFate.TheVariants.{Read as ReadIn};

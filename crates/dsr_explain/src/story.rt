@@ -1,6 +1,6 @@
 //! Explains a play event by event, in a new stage.
 
-ghost use Rattle.std.specs.Prelude.{◌≡◌, ◌≢◌, ◌+◌, ◌≤◌, ◌++◌, ℕ, List, Err, IfErr, IfOk, OnErr, OnOk, IsOkUnless, IsTrue, string_bytes, filter, length, map, [], true, false, option_map};
+ghost use Rattle.std.specs.Prelude.{◌≡◌, ◌+◌, ◌≤◌, ◌++◌, ℕ, List, Err, IfErr, IfOk, OnOk, IsOkUnless, IsTrue, string_bytes, filter, map, [], true, false, option_map};
 ghost use Rattle.dsr_reasons.specs.Reason.{TellsCause, actor_of, other_of};
 ghost use Rattle.dsr_run.specs.Step.{log_of};
 ghost use Rattle.dsr_world.specs.Event.{MayBeDone};
@@ -9,7 +9,7 @@ ghost use Rattle.dsr_explain.specs.Letters.{box_of, handled};
 ghost use Rattle.dsr_names.specs.Streams.{SentAll};
 ghost use Rattle.dsr_explain.specs.Outlet.{HasGoneOut, IsUnsure};
 ghost use Rattle.dsr_explain.specs.Telling.{GoesOn, HasBegun};
-ghost use Rattle.dsr_explain.specs.Told.{HasBrokenOff, LeftOfExplanation, TellsEvents, TellsNotes, TellsPlay, TellsRefusal, TellsWanted, chains_in_some, first_line, last_chains, last_envelope, refused_line};
+ghost use Rattle.dsr_explain.specs.Told.{HasBrokenOff, LeftOfExplanation, TellsEvents, TellsPlay, TellsRefusal, TellsWanted, chains_in_some, first_line, last_chains, last_envelope, refused_line};
 ghost use Rattle.dsr_explain.specs.Wanted.{wants_note};
 
 use crate::chain_texts::ChainText;

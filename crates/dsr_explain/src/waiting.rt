@@ -1,10 +1,7 @@
 //! Who waits for whom at the end of a play, as lines. `specs/Waiting` says which lines.
 
-ghost use Rattle.std.specs.Prelude.{◌≡◌, ◌+◌, ◌<◌, ◌++◌, Some, codes};
-ghost use Rattle.std.specs.Fmt.{decimal};
+ghost use Rattle.std.specs.Prelude.{◌≡◌, ◌+◌, ◌<◌, ◌++◌, Some};
 ghost use Rattle.dsr_names.specs.Actor.{replica_text};
-ghost use Rattle.std.specs.Option.{option_map};
-ghost use Rattle.dsr_names.specs.declared.actor.Actor.TheVariants.{Client as ClientNumber};
 ghost use Rattle.dsr_client.specs.State.{outstanding};
 ghost use Rattle.dsr_run.specs.Step.{log_of};
 ghost use Rattle.dsr_explain.specs.Waiting.{due_data, next_line, post_words, standing_part, standing_text, standings_text, take_words, waits_begin, waits_line, waits_line_for};
