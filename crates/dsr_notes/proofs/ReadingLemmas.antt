@@ -229,7 +229,7 @@ module _ (r : Replica) (log : List Entry) (stands : StandsFor r log) (now : r.ro
       → after.kept ≡ keep r.shape (closed_slots r.shape r.round) (suc r.shape.f) (slot_kept r.shape log (closed_slots r.shape r.round) (suc r.shape.f)) chains
   closing_kept s after chains h oldest closing is = ap (λ (a : SlotState). a.kept) is ∙ kept_closing s h oldest closing chains
 
--- notes that are told if a slot closes
+-- if a slot closes, the notes that depend on it are there
 pub if_closes : (b : Bool) (notes : List Note) → b ≡ true → notes ≡ (if b then notes else [])
 if_closes true notes is = refl
 if_closes false notes is = absurd (false≢true is)
