@@ -32,7 +32,7 @@ pub(crate) enum Shared {
 }
 
 impl Shared {
-    /// Tells whether both are the same text. Unlike a derived `==` this is inlined, which leaves a single comparison wherever the kind of `other` is known.
+    /// Tells whether it is the same text. This is inlined, as a derived `==` is not: where the kind of `other` is known, only one case is left.
     #[inline(always)]
     pub(crate) fn same(&self, other: &Shared) -> bool
         ensures { IsTrue result → self.now ≡ other.now }

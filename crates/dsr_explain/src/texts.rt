@@ -181,7 +181,7 @@ fn put_choice(out: &mut Writer, shown: &mut String, pick: &Pick) -> Result<(), R
 /// The texts about the last envelope of those whose texts have the same place.
 #[derive(Drop)]
 struct Kept {
-    /// Identifies the envelope among those with this place; `None` before the first one.
+    /// Tells the envelope from the others; `None` if there was none yet.
     key: Option<u64>,
     told: Told,
 }

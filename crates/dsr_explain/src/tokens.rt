@@ -67,7 +67,7 @@ impl Tokens {
         })
     }
 
-    /// Appends the text. Always inlined: each caller knows the kind of the text, so the compiler drops the other branches.
+    /// Appends the text. This and what it calls are inlined where the kind of the text is known: only one branch of each is left there.
     #[inline(always)]
     pub(crate) fn put(&mut self, out: &mut Writer, what: &Shared)
         ensures { out.new ≡ out.old ++ shared_text what.now }
